@@ -1,0 +1,3 @@
+mod DigitLemmas
+mod Powers
+mod PriceLemmas

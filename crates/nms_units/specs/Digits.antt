@@ -1,0 +1,13 @@
+-- Numbers written in decimal digits. This product's own rule.
+use Rattle.std.specs.Prelude.{ℕ, Bool, ◌&&◌, List, length, nat_lt, nat_le, Option, Some, None, if◌then◌else◌}
+use Rattle.std.specs.Char.{is_ascii_digit}
+use Rattle.std.specs.List.{list_all}
+use Rattle.std.specs.Str.Parse.{digits_value}
+
+-- one to `most` digits, and nothing else
+abbrev pub is_digits : ℕ → List ℕ → Bool
+is_digits most text = nat_lt 0 (length text) && nat_le (length text) most && list_all is_ascii_digit text
+
+-- the number that such a text writes
+abbrev pub number_in : ℕ → List ℕ → Option ℕ
+number_in most text = if is_digits most text then Some (digits_value 10 text) else None

@@ -1,0 +1,23 @@
+ghost use Rattle.std.specs.Prelude.{◌≡◌, ◌^◌, ◌<◌, ◌≤◌, IfSome, OnSome, length};
+ghost use Rattle.nms_units.specs.Digits.{number_in};
+
+/// The number that a text of 1 to `most` decimal digits writes, or `None` where the text is not that.
+pub fn parse_digits(text: &[u8], most: usize) -> Option<u64>
+    requires { most ≤ 19 }
+    ensures number { result ≡ number_in most text.now }
+    ensures within { OnSome result (length text.now ≤ most) }
+    ensures small { IfSome result (λ n. n < 10 ^ most) }
+    ensures by_length { IfSome result (λ n. n < 10 ^ length text.now) }
+{
+    if text.is_empty() || text.len() > most {
+        return None;
+    }
+    let mut number = 0u64;
+    for digit in text {
+        if !digit.is_ascii_digit() {
+            return None;
+        }
+        number = number * 10 + u64::from(*digit - b'0');
+    }
+    Some(number)
+}
