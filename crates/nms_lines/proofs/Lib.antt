@@ -1,0 +1,2 @@
+pub mod FieldFacts
+pub mod ReadFacts

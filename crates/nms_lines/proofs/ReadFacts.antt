@@ -1,0 +1,29 @@
+-- What a reader has read, before the first record and after one more.
+use Rattle.std.proofs.Common.{◌≡◌, ℕ, true, List, [], ◌∷◌, ◌++◌, refl, sym}
+use Rattle.std.specs.Prelude.{Option, Some, None, option_map}
+use Rattle.csv.specs.Reading.{ReadRecord, Reached, default_config, reader_config, reader_state, source_of, strip_bom}
+use Rattle.csv.specs.declared.parser.State.TheVariants as state
+use Rattle.csv.specs.declared.reader.Reader.{Reader}
+use Rattle.csv.proofs.ReadFacts.{rows-more}
+use Rattle.nms_lines.specs.Layout.{Record}
+use Rattle.nms_lines.specs.Records.{BeginRecords, ReadsFrom, StandsAfter}
+
+-- before the first record
+pub stands_first : {R : Type 0} (remaining : R → Option (List ℕ)) (reader : Reader R) (bytes : Option (List ℕ))
+    → source_of remaining reader ≡ option_map strip_bom bytes → reader_state reader ≡ state.StartRecord → StandsAfter remaining reader bytes []
+unfolding Reached
+stands_first remaining reader None source start = tt
+stands_first remaining reader (Some text) source start = (strip_bom text, source, (sym start, refl))
+
+-- after one more
+pub stands_more : {R : Type 0} (remaining : R → Option (List ℕ)) (old new : Reader R) (bytes : Option (List ℕ)) (seen : List Record) (fields : Record)
+    → reader_config old ≡ default_config → StandsAfter remaining old bytes seen → ReadRecord remaining old new true fields → StandsAfter remaining new bytes (seen ++ fields ∷ [])
+stands_more remaining old new None seen fields config stands read = tt
+stands_more remaining old new (Some text) seen fields config stands read =
+    rows-more remaining old new fields default_config state.StartRecord (strip_bom text) stands.0 seen config stands.1 stands.2 read
+
+-- what was read begins the text
+pub begins_read : {R : Type 0} (remaining : R → Option (List ℕ)) (reader : Reader R) (bytes : Option (List ℕ)) (seen : List Record)
+    → ReadsFrom remaining reader bytes seen → BeginRecords bytes seen
+begins_read remaining reader None seen reads = tt
+begins_read remaining reader (Some text) seen reads = (reader_state reader, reads.stands.0, reads.stands.2)

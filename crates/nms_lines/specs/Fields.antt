@@ -1,0 +1,60 @@
+-- What one field says, or its fault. This product's own rule.
+use Rattle.std.specs.Prelude.{ℕ, ◌==◌, Bool, true, false, List, length, codes, Option, Some, None, Result, Ok, Err, if◌then◌else◌}
+use Rattle.std.specs.Option.{ok_or}
+use Rattle.nms_units.specs.Price.{price_number}
+use Rattle.nms_units.specs.Digits.{number_in}
+use Rattle.nms_quote.specs.Roster.{Listing, place_in}
+use Rattle.nms_quote.specs.declared.quotes.QState.{QState}
+use Rattle.nms_quote.specs.declared.quotes.QState.TheVariants as state
+use Rattle.nms_quote.specs.declared.orders.OrderSide.{OrderSide}
+use Rattle.nms_quote.specs.declared.orders.OrderSide.TheVariants as side
+use Rattle.nms_lines.specs.Layout.{Record, field, is_text}
+use Rattle.nms_lines.specs.Numbers.{above_zero, below, shares_number}
+use Rattle.nms_lines.specs.declared.line_faults.LineFault.{LineFault}
+use Rattle.nms_lines.specs.declared.line_faults.LineFault.TheVariants as fault
+
+-- the participant of that name
+abbrev pub part_in : Listing → List ℕ → Result ℕ LineFault
+part_in roster text = ok_or (place_in roster.parts text) fault.UnknownParticipant
+
+-- the symbol of that name
+abbrev pub symbol_in : Listing → List ℕ → Result ℕ LineFault
+symbol_in roster text = ok_or (place_in roster.syms text) fault.UnknownSymbol
+
+-- the state that a letter names
+abbrev pub state_named : List ℕ → Option QState
+state_named text =
+    if is_text (codes "A") text then Some state.Automated
+    else (if is_text (codes "M") text then Some state.Manual
+    else (if is_text (codes "H") text then Some state.Halted else None))
+
+abbrev pub state_in : List ℕ → Result QState LineFault
+state_in text = ok_or (state_named text) fault.BadState
+
+-- the side of an order that a letter names
+abbrev pub side_named : List ℕ → Option OrderSide
+side_named text =
+    if is_text (codes "B") text then Some side.Buy
+    else (if is_text (codes "S") text then Some side.Sell else None)
+
+abbrev pub side_in : List ℕ → Result OrderSide LineFault
+side_in text = ok_or (side_named text) fault.BadState
+
+-- the flag `M`, where there is a seventh field, allows manual quotations
+abbrev pub flag_in : Record → Result Bool LineFault
+flag_in fields =
+    if length fields == 7
+    then (if is_text (codes "M") (field fields 6) then Ok true else Err fault.BadState)
+    else Ok false
+
+-- a price that an order or a trade-through test needs
+abbrev pub price_in : List ℕ → Result ℕ LineFault
+price_in text = ok_or (above_zero (price_number text)) fault.BadPrice
+
+-- the shares of an order
+abbrev pub shares_in : List ℕ → Result ℕ LineFault
+shares_in text = ok_or (above_zero (shares_number text)) fault.BadShares
+
+-- a desk: 1 or 2 digits, below the number of desks
+abbrev pub desk_in : ℕ → List ℕ → Result ℕ LineFault
+desk_in desks text = ok_or (below desks (number_in 2 text)) fault.BadDesk

@@ -1,0 +1,56 @@
+-- Records, their fields and their kinds. This product's own rule.
+use Rattle.std.specs.Prelude.{ℕ, ◌==◌, ◌||◌, Bool, true, false, List, [], slice_get, unwrap_or, Option, Some, None, codes, if◌then◌else◌}
+use Rattle.std.specs.Str.{bytes_eq}
+use Rattle.nms_lines.specs.declared.lines.Kind.{Kind}
+use Rattle.nms_lines.specs.declared.lines.Kind.TheVariants as kind
+
+-- a record: its fields, each a list of bytes
+abbrev pub Record : Type 0
+Record = List (List ℕ)
+
+-- the field at a place, empty past the last
+abbrev pub field : Record → ℕ → List ℕ
+field fields place = unwrap_or (slice_get fields place) []
+
+abbrev pub is_text : List ℕ → List ℕ → Bool
+is_text word text = bytes_eq text word
+
+-- the kind that a first field names
+abbrev pub kind_named : List ℕ → Option Kind
+kind_named text =
+    if is_text (codes "Q") text then Some kind.Quote
+    else (if is_text (codes "S") text then Some kind.State
+    else (if is_text (codes "X") text then Some kind.Withdraw
+    else (if is_text (codes "T") text then Some kind.TakeOne
+    else (if is_text (codes "F") text then Some kind.TakeAll
+    else (if is_text (codes "P") text then Some kind.Publish
+    else (if is_text (codes "L") text then Some kind.Tell
+    else (if is_text (codes "N") text then Some kind.Best
+    else (if is_text (codes "E") text then Some kind.Through
+    else (if is_text (codes "O") text then Some kind.Sweep else None)))))))))
+
+-- what a feed brings
+abbrev pub is_change_kind : Kind → Bool
+is_change_kind kind.Quote = true
+is_change_kind kind.State = true
+is_change_kind kind.Withdraw = true
+is_change_kind kind.TakeOne = false
+is_change_kind kind.TakeAll = false
+is_change_kind kind.Publish = false
+is_change_kind kind.Tell = false
+is_change_kind kind.Best = false
+is_change_kind kind.Through = false
+is_change_kind kind.Sweep = false
+
+-- how many fields a record of the kind has. An order may have one more, its flag
+abbrev pub is_count : Kind → ℕ → Bool
+is_count kind.Quote n = n == 8
+is_count kind.State n = n == 4
+is_count kind.Withdraw n = n == 2
+is_count kind.TakeOne n = n == 1
+is_count kind.TakeAll n = n == 1
+is_count kind.Publish n = n == 1
+is_count kind.Tell n = n == 2
+is_count kind.Best n = n == 3
+is_count kind.Through n = n == 4
+is_count kind.Sweep n = (n == 6) || (n == 7)

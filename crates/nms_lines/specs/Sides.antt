@@ -1,0 +1,47 @@
+-- A side of a quotation: its price field and its shares field. This product's own rule.
+use Rattle.std.specs.Prelude.{ℕ, ◌==◌, ◌&&◌, ◌||◌, not, Bool, List, length, Option, Some, None, Result, Ok}
+use Rattle.nms_units.specs.Price.{price_number}
+use Rattle.nms_quote.specs.Content.{Content}
+use Rattle.nms_lines.specs.Faults.{◌>>=◌, refused}
+use Rattle.nms_lines.specs.Layout.{Record, field}
+use Rattle.nms_lines.specs.Numbers.{above_zero, is_there, is_zero, shares_number}
+use Rattle.nms_lines.specs.declared.line_faults.LineFault.{LineFault}
+use Rattle.nms_lines.specs.declared.line_faults.LineFault.TheVariants as fault
+
+-- a field with nothing in it
+abbrev pub is_empty : List ℕ → Bool
+is_empty text = length text == 0
+
+-- no price, or zero beside shares that do not read as 0
+abbrev pub is_unfit : Option ℕ → Option ℕ → Bool
+is_unfit price shares = not (is_there price) || (is_zero price && not (is_zero shares))
+
+-- a price that is there has the form; it may be zero only beside shares that read as 0
+abbrev pub is_bad_price : List ℕ → List ℕ → Bool
+is_bad_price price shares = not (is_empty price) && is_unfit (price_number price) (shares_number shares)
+
+-- shares that are there have the form
+abbrev pub is_bad_shares : List ℕ → Bool
+is_bad_shares shares = not (is_empty shares) && not (is_there (shares_number shares))
+
+-- one of the two is there without the other
+abbrev pub is_half : List ℕ → List ℕ → Bool
+is_half price shares = (is_empty price && not (is_empty shares)) || (not (is_empty price) && is_empty shares)
+
+-- a quote where both are there
+abbrev pub content_from : Option ℕ → Option ℕ → Option Content
+content_from None shares = None
+content_from (Some price) None = None
+content_from (Some price) (Some shares) = Some (record { price = price; shares = shares })
+
+-- what a side says that has no fault: nothing where both fields are empty or the shares are 0
+abbrev pub side_content : List ℕ → List ℕ → Option Content
+side_content price shares = content_from (above_zero (price_number price)) (above_zero (shares_number shares))
+
+-- both sides: a fault of a price comes before one of shares, and that before half a side
+abbrev pub sides_in : Record → Result (Option Content × Option Content) LineFault
+sides_in fields = do
+  prices ← refused fault.BadPrice (is_bad_price (field fields 4) (field fields 5) || is_bad_price (field fields 6) (field fields 7))
+  shares ← refused fault.BadShares (is_bad_shares (field fields 5) || is_bad_shares (field fields 7))
+  whole ← refused fault.HalfSide (is_half (field fields 4) (field fields 5) || is_half (field fields 6) (field fields 7))
+  Ok (side_content (field fields 4) (field fields 5), side_content (field fields 6) (field fields 7))

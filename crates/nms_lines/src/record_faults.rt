@@ -1,0 +1,12 @@
+use thiserror::Error;
+
+/// Why no record was read. The reader gives none from then on.
+#[derive(Clone, Copy, Debug, PartialEq, Eq, Error)]
+pub enum RecordFault {
+    /// The reader underneath failed.
+    #[error("a read failed")]
+    Failed,
+    /// Memory ran out.
+    #[error("out of memory")]
+    NoMemory,
+}
