@@ -1,0 +1,67 @@
+-- The rows that a board shows are of its own participants.
+use Rattle.std.proofs.Common.{ℕ, zero, suc, ◌≡◌, ◌+◌, ◌<◌, Bool, true, false, cond, List, [], ◌∷◌, Option, Some, None, arith, refl, subst, ap}
+use Rattle.std.specs.Prelude.{All, IfSome, slice_get, slice_index, ◌==◌}
+use Rattle.std.specs.List.{AllByRecursion, cons_option, filter_map, range_with_len}
+use Rattle.std.specs.Option.{option_and_then}
+use Rattle.std.proofs.lemmas.List.Elements.{All-from_recursion, All-contains}
+use Rattle.nms_units.specs.Lot.{displayed_size}
+use Rattle.nms_quote.specs.Content.{Content}
+use Rattle.nms_quote.specs.declared.quotes.Side.{Side}
+use Rattle.nms_quote.specs.declared.quotes.Side.TheVariants.{Bid, Offer}
+use Rattle.nms_quote.specs.declared.quotes.QState.{QState}
+use Rattle.nms_board.specs.Quotation.{quotation, is_halted}
+use Rattle.nms_board.specs.Cells.{Contents, place_of}
+use Rattle.nms_board.specs.Shown.{row_of_cell, row_held, rows_held, seen_on}
+use Rattle.nms_board.specs.History.{on_side}
+use Rattle.nms_board.specs.View.{Seen, rows_on}
+use Rattle.nms_board.specs.declared.cells.Cell.{Cell}
+use Rattle.nms_board.specs.declared.rows.Row.{Row}
+
+-- a quotation is of the participant that it is asked of
+quotation_part : (lot part : ℕ) (state : Option QState) (receipt : ℕ) (content : Option Content) (row : Row) → quotation lot part state receipt content ≡ Some row → row.part ≡ part
+quotation_part lot part state receipt None row e = absurd (cc)
+quotation_part lot part state receipt (Some content) row e = by (is_halted state) (displayed_size lot content.shares == 0) _ refl e
+  where
+    by : (halted nothing : Bool) (shown : Row) → shown.part ≡ part → cond halted None (cond nothing None (Some shown)) ≡ Some row → row.part ≡ part
+    by true nothing shown p h = absurd (cc)
+    by false true shown p h = absurd (cc)
+    by false false shown p h = let same : shown ≡ row = cc in subst (λ (r : Row). r.part ≡ part) same p
+
+held_part : (board : Contents) (sym : ℕ) (side : Side) (part : ℕ) (row : Row) → row_held board sym side part ≡ Some row → row.part ≡ part
+held_part board sym side part row e = by (slice_get board.cells (place_of part sym)) e
+  where
+    by : (cell : Option Cell) → option_and_then (row_of_cell (slice_index board.sizes.lots sym) part side) cell ≡ Some row → row.part ≡ part
+    by None h = absurd (cc)
+    by (Some cell) h = quotation_part (slice_index board.sizes.lots sym) part cell.state (on_side side cell.bid cell.offer).receipt (on_side side cell.bid cell.offer).quote row h
+
+rows_below : (f : ℕ → Option Row) → ((part : ℕ) (row : Row) → f part ≡ Some row → row.part ≡ part) → (from n : ℕ) → AllByRecursion (λ (row : Row). row.part < from + n) (filter_map f (range_with_len from n))
+rows_below f own from zero = tt
+rows_below f own from (suc n) = by (f from) refl (rows_below f own (from + 1) n)
+  where
+    step : (xs : List Row) → AllByRecursion (λ (row : Row). row.part < (from + 1) + n) xs → AllByRecursion (λ (row : Row). row.part < from + suc n) xs
+    step [] h = tt
+    step (x ∷ xs) h = (omega (arith, h.0), step xs h.1)
+
+    by : (found : Option Row) → f from ≡ found → AllByRecursion (λ (row : Row). row.part < (from + 1) + n) (filter_map f (range_with_len (from + 1) n))
+        → AllByRecursion (λ (row : Row). row.part < from + suc n) (cons_option found (filter_map f (range_with_len (from + 1) n)))
+    by None e rest = step _ rest
+    by (Some row) e rest = (omega (arith, own from row e), step _ rest)
+
+all_below : (rows : List Row) (parts : ℕ) → AllByRecursion (λ (row : Row). row.part < 0 + parts) rows → All (λ (row : Row). row.part < parts) rows
+all_below rows parts h = All-from_recursion (λ (row : Row). row.part < parts) rows (step rows h)
+  where
+    step : (xs : List Row) → AllByRecursion (λ (row : Row). row.part < 0 + parts) xs → AllByRecursion (λ (row : Row). row.part < parts) xs
+    step [] h = tt
+    step (x ∷ xs) h = (omega (arith, h.0), step xs h.1)
+
+-- each row that is shown is of one of the board's participants
+pub shown_parts : (board : Contents) (sym : ℕ) (side : Side) → All (λ (row : Row). row.part < board.sizes.parts) (rows_on side (seen_on board sym))
+shown_parts board sym Bid = all_below (rows_held board sym Bid) board.sizes.parts (rows_below (row_held board sym Bid) (held_part board sym Bid) 0 board.sizes.parts)
+shown_parts board sym Offer = all_below (rows_held board sym Offer) board.sizes.parts (rows_below (row_held board sym Offer) (held_part board sym Offer) 0 board.sizes.parts)
+
+-- the same of what is seen
+pub seen_parts : (board : Contents) (sym : ℕ) (seen : Seen) → seen ≡ seen_on board sym → (side : Side) → All (λ (row : Row). row.part < board.sizes.parts) (rows_on side seen)
+seen_parts board sym seen e side = subst (λ (s : Seen). All (λ (row : Row). row.part < board.sizes.parts) (rows_on side s)) (sym_of e) (shown_parts board sym side)
+  where
+    sym_of : {a b : Seen} → a ≡ b → b ≡ a
+    sym_of p = Rattle.std.proofs.Common.sym p

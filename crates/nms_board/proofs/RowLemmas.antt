@@ -1,0 +1,97 @@
+-- What a board's rows are like: each of its participant and of a size, in order of place.
+use Rattle.std.proofs.Common.{◌≡◌, ℕ, zero, suc, ◌+◌, ◌<◌, ◌≤◌, ◌==◌, Bool, true, false, All, List, [], ◌∷◌, ◌++◌, length, map, Option, Some, None, IfSome, get_or, slice_get, slice_index, option_and_then, if◌then◌else◌, refl, ap, ◌∙◌, arith, add-one}
+use Rattle.std.specs.List.{filter_map, cons_option, range_with_len}
+use Rattle.std.proofs.lemmas.Bool.{eqb-false}
+use Rattle.std.proofs.lemmas.Option.{get_or_from_slice_get, slice_get_read, slice_get_within}
+use Rattle.nms_units.specs.Lot.{displayed_size}
+use Rattle.nms_quote.specs.Content.{Content}
+use Rattle.nms_quote.specs.declared.quotes.Side.{Side}
+use Rattle.nms_quote.specs.declared.quotes.QState.{QState}
+use Rattle.nms_board.specs.History.{on_side}
+use Rattle.nms_board.specs.Quotation.{is_halted, is_automated, quotation}
+use Rattle.nms_board.specs.View.{AreRows}
+use Rattle.nms_board.specs.Cells.{Contents, IsInShape, place_of}
+use Rattle.nms_board.specs.Shown.{row_held, row_of_cell, rows_held}
+use Rattle.nms_board.specs.declared.cells.Cell.{Cell}
+use Rattle.nms_board.specs.declared.rows.Row.{Row}
+use Rattle.nms_board.proofs.ListLemmas.{filter_map_more}
+
+-- a row of that participant, of a size
+abbrev IsRowOf : ℕ → Row → Type 0
+IsRowOf part row = (row.part ≡ part) × (0 < row.size)
+
+-- rows in order of place, from a place on
+abbrev IsFrom : ℕ → List Row → Type 0
+IsFrom place [] = Unit {0}
+IsFrom place (row ∷ rows) = (place ≤ row.part) × (0 < row.size) × IsFrom (row.part + 1) rows
+
+IsFrom-later : (a b : ℕ) (rows : List Row) → a ≤ b → IsFrom b rows → IsFrom a rows
+IsFrom-later a b [] le from = tt
+IsFrom-later a b (row ∷ rows) le from = (omega (arith, from.0), from.1, from.2)
+
+rising : (place : ℕ) (rows : List Row) → IsFrom place rows → (k : ℕ) → suc k < length (map (λ row. row.part) rows) → slice_index (map (λ row. row.part) rows) k < slice_index (map (λ row. row.part) rows) (suc k)
+rising place [] from k below = absurd (omega arith)
+rising place (row ∷ []) from k below = absurd (omega arith)
+rising place (row ∷ next ∷ rows) from zero below = omega (arith, from.2.0)
+rising place (row ∷ next ∷ rows) from (suc k) below = rising (row.part + 1) (next ∷ rows) from.2 k (omega arith)
+
+sizes : (place : ℕ) (rows : List Row) → IsFrom place rows → All (λ row. 0 < row.size) rows
+sizes place [] from k d below = absurd (omega arith)
+sizes place (row ∷ rows) from zero d below = from.1
+sizes place (row ∷ rows) from (suc k) d below = sizes (row.part + 1) rows from.2 k d (omega arith)
+
+AreRows-from : (place : ℕ) (rows : List Row) → IsFrom place rows → AreRows rows
+AreRows-from place rows from = record {
+  rising = λ k below. rw add-one (rising place rows from k (omega arith));
+  sizes = sizes place rows from;
+}
+
+quotation_is_row : (lot part : ℕ) (state : Option QState) (receipt : ℕ) (content : Option Content) → IfSome (quotation lot part state receipt content) (IsRowOf part)
+quotation_is_row lot part state receipt None = tt
+quotation_is_row lot part state receipt (Some content) = by_tests (is_halted state) (displayed_size lot content.shares == 0) refl
+  where
+    by_tests : (halted nothing : Bool) → displayed_size lot content.shares == 0 ≡ nothing
+        → IfSome (if halted then None else (if nothing then None else Some (record { part = part; price = content.price; size = displayed_size lot content.shares; receipt = receipt; protected = is_automated state }))) (IsRowOf part)
+    by_tests true nothing e = tt
+    by_tests false true e = tt
+    by_tests false false e = (refl, omega (arith, eqb-false (displayed_size lot content.shares) 0 e))
+
+row_held_is_row : (board : Contents) (sym : ℕ) (side : Side) (part : ℕ) → IfSome (row_held board sym side part) (IsRowOf part)
+row_held_is_row board symbol side part = by_read (slice_get board.cells (place_of part symbol))
+  where
+    by_read : (read : Option Cell) → IfSome (option_and_then (row_of_cell (slice_index board.sizes.lots symbol) part side) read) (IsRowOf part)
+    by_read None = tt
+    by_read (Some cell) = quotation_is_row (slice_index board.sizes.lots symbol) part cell.state (on_side side cell.bid cell.offer).receipt (on_side side cell.bid cell.offer).quote
+
+IsFrom-cons : (place : ℕ) (row : Option Row) (rows : List Row) → IfSome row (IsRowOf place) → IsFrom (place + 1) rows → IsFrom place (cons_option row rows)
+IsFrom-cons place None rows is from = IsFrom-later place (place + 1) rows (omega arith) from
+IsFrom-cons place (Some row) rows is from = (omega (arith, is.0), is.1, rw is.0 from)
+
+IsFrom-range : (f : ℕ → Option Row) → ((part : ℕ) → IfSome (f part) (IsRowOf part)) → (place n : ℕ) → IsFrom place (filter_map f (range_with_len place n))
+IsFrom-range f each place zero = tt
+IsFrom-range f each place (suc n) = IsFrom-cons place (f place) (filter_map f (range_with_len (place + 1) n)) (each place) (IsFrom-range f each (place + 1) n)
+
+-- a board's rows are in order, each of a size
+pub rows_held_are_rows : (board : Contents) (sym : ℕ) (side : Side) → AreRows (rows_held board sym side)
+rows_held_are_rows board symbol side = AreRows-from 0 (rows_held board symbol side) (IsFrom-range (row_held board symbol side) (row_held_is_row board symbol side) 0 board.sizes.parts)
+
+length-cons_option : {Y : Type 0} (o : Option Y) (ys : List Y) → length (cons_option o ys) ≤ length ys + 1
+length-cons_option None ys = omega arith
+length-cons_option (Some y) ys = omega arith
+
+-- no more rows than participants
+pub length-filter_map-range : {Y : Type 0} (f : ℕ → Option Y) (place n : ℕ) → length (filter_map f (range_with_len place n)) ≤ n
+length-filter_map-range f place zero = omega arith
+length-filter_map-range f place (suc n) = omega (arith, length-cons_option (f place) (filter_map f (range_with_len (place + 1) n)), length-filter_map-range f (place + 1) n)
+
+-- the rows of one more participant, whose cell was read
+pub rows_more : (board : Contents) (sym : ℕ) (side : Side) (part lot i : ℕ) (cell : Cell) → IsInShape board → slice_get board.sizes.lots sym ≡ Some lot → part < board.sizes.parts
+    → i ≡ place_of part sym → cell ≡ get_or board.cells i cell
+    → filter_map (row_held board sym side) (range_with_len 0 (part + 1)) ≡ filter_map (row_held board sym side) (range_with_len 0 part) ++ cons_option (row_of_cell lot part side cell) []
+rows_more board symbol side part lot i cell shape listed in_parts at read =
+    let in_syms = slice_get_within board.sizes.lots symbol lot listed in
+    let lot_is : slice_index board.sizes.lots symbol ≡ lot = get_or_from_slice_get board.sizes.lots symbol lot 0 listed in
+    let there : slice_get board.cells (place_of part symbol) ≡ Some cell =
+    rw (← at) (slice_get_read board.cells (length board.cells) i cell refl (omega (arith, shape.parts, shape.cells)) read) in
+    let row : row_held board symbol side part ≡ row_of_cell lot part side cell = rw (lot_is, there) refl in
+    filter_map_more (row_held board symbol side) part ∙ ap (λ row. filter_map (row_held board symbol side) (range_with_len 0 part) ++ cons_option row []) row

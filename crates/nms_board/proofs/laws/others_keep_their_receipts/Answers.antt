@@ -1,0 +1,5 @@
+use Rattle.nms_board.proofs.LawLemmas.{others_keep, unsaid_keeps}
+use Rattle.nms_board.proofs.laws.others_keep_their_receipts.Goals as goal
+
+pub returns : goal.returns
+returns c = record { unsaid = unsaid_keeps; others = others_keep }

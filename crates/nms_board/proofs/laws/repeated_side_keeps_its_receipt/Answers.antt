@@ -1,0 +1,5 @@
+use Rattle.nms_board.proofs.LawLemmas.{repeat_keeps}
+use Rattle.nms_board.proofs.laws.repeated_side_keeps_its_receipt.Goals as goal
+
+pub returns : goal.returns
+returns c = repeat_keeps

@@ -1,0 +1,20 @@
+use Rattle.std.proofs.Common.{refl}
+use Rattle.nms_board.specs.History.{before_equal_end}
+use Rattle.nms_board.proofs.laws.worked_examples.Goals as goal
+
+pub returns : goal.returns
+unfolding before_equal_end
+returns c = record {
+  part_of_a_lot_is_no_offer = refl;
+  whole_lots_show = refl;
+  more_shares_renew_the_receipt = refl;
+  another_price_renews_the_receipt = refl;
+  a_repeated_side_keeps_its_receipt = refl;
+  a_halt_hides = refl;
+  the_end_of_a_halt_shows_again = refl;
+  a_manual_quotation_is_not_protected = refl;
+  a_withdrawal_leaves_no_bid = refl;
+  a_withdrawal_leaves_no_offer = refl;
+  a_bid_after_a_withdrawal_is_new = refl;
+  an_offer_after_a_withdrawal_is_new = refl;
+}

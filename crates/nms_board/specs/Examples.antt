@@ -1,0 +1,89 @@
+-- Worked examples of the definitions: four participants N, P, Y and Z, one symbol, round lots of 100.
+use Rattle.std.specs.Prelude.{ℕ, ◌≡◌, true, false, List, [], ◌∷◌, ◌++◌, Option, Some, None}
+use Rattle.nms_quote.specs.Content.{Content}
+use Rattle.nms_quote.specs.Roster.{Sizes}
+use Rattle.nms_quote.specs.Tape.{Tape}
+use Rattle.nms_quote.specs.declared.quotes.Side.TheVariants.{Bid, Offer}
+use Rattle.nms_quote.specs.declared.quotes.QState.TheVariants.{Automated, Manual, Halted}
+use Rattle.nms_quote.specs.declared.changes.Change.{Change}
+use Rattle.nms_quote.specs.declared.changes.Change.TheVariants as change
+use Rattle.nms_board.specs.Quotation.{quotations}
+use Rattle.nms_board.specs.declared.rows.Row.{Row}
+
+abbrev pub four : Sizes
+four = record { parts = 4; lots = 100 ∷ [] }
+
+-- their places, and the symbol's
+abbrev pub n : ℕ
+n = 0
+
+abbrev pub p : ℕ
+p = 1
+
+abbrev pub abc : ℕ
+abc = 0
+
+-- so many shares at a price in 1/10,000 dollar
+abbrev pub at : ℕ → ℕ → Option Content
+at price shares = Some (record { price = price; shares = shares })
+
+-- an automated quote of both sides
+abbrev pub quote : ℕ → Option Content → Option Content → Change
+quote part bid offer = change.Quote part abc Automated bid offer
+
+-- a protected row
+abbrev pub row : ℕ → ℕ → ℕ → ℕ → Row
+row part price size receipt = record { part = part; price = price; size = size; receipt = receipt; protected = true }
+
+-- 99 shares, less than a lot
+abbrev pub odd_lot : Tape
+odd_lot = quote n None (at 100000 99) ∷ []
+
+abbrev pub round_lot : Tape
+round_lot = odd_lot ++ quote n None (at 100000 250) ∷ []
+
+-- P gives more shares and loses its place in time to N
+abbrev pub larger_later : Tape
+larger_later = quote p None (at 100000 300) ∷ quote n None (at 100000 500) ∷ quote p None (at 100000 500) ∷ []
+
+-- N repeats both sides, then lowers its bid alone
+abbrev pub repeated : Tape
+repeated =
+    quote n (at 99900 100) (at 100000 300) ∷ quote p None (at 100000 300)
+    ∷ quote n (at 99900 100) (at 100000 300) ∷ quote n (at 99800 100) (at 100000 300) ∷ []
+
+abbrev pub halted : Tape
+halted = quote n (at 99900 100) None ∷ change.State n abc Halted ∷ []
+
+abbrev pub lifted : Tape
+lifted = halted ++ change.State n abc Automated ∷ []
+
+abbrev pub manual : Tape
+manual = halted ++ change.State n abc Manual ∷ []
+
+abbrev pub withdrawn : Tape
+withdrawn = quote n (at 99900 100) (at 100000 300) ∷ change.Withdraw n ∷ []
+
+abbrev pub requoted : Tape
+requoted = withdrawn ++ quote n (at 99900 100) (at 100000 300) ∷ []
+
+abbrev pub bids : Tape → List Row
+bids tape = quotations four tape abc Bid
+
+abbrev pub offers : Tape → List Row
+offers tape = quotations four tape abc Offer
+
+-- what each of the tapes shows
+pub record ExamplesHold : Type 0 where
+  pub part_of_a_lot_is_no_offer : offers odd_lot ≡ []
+  pub whole_lots_show : offers round_lot ≡ row n 100000 200 2 ∷ []
+  pub more_shares_renew_the_receipt : offers larger_later ≡ row n 100000 500 2 ∷ row p 100000 500 3 ∷ []
+  pub another_price_renews_the_receipt : bids repeated ≡ row n 99800 100 4 ∷ []
+  pub a_repeated_side_keeps_its_receipt : offers repeated ≡ row n 100000 300 1 ∷ row p 100000 300 2 ∷ []
+  pub a_halt_hides : bids halted ≡ []
+  pub the_end_of_a_halt_shows_again : bids lifted ≡ row n 99900 100 1 ∷ []
+  pub a_manual_quotation_is_not_protected : bids manual ≡ record (row n 99900 100 1) { protected = false } ∷ []
+  pub a_withdrawal_leaves_no_bid : bids withdrawn ≡ []
+  pub a_withdrawal_leaves_no_offer : offers withdrawn ≡ []
+  pub a_bid_after_a_withdrawal_is_new : bids requoted ≡ row n 99900 100 3 ∷ []
+  pub an_offer_after_a_withdrawal_is_new : offers requoted ≡ row n 100000 300 3 ∷ []

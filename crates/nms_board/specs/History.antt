@@ -1,0 +1,55 @@
+-- What a tape says of one side of one participant in one symbol, looking back over the whole of it.
+-- This product's own rule, after the tape's order of changes.
+use Rattle.std.specs.Prelude.{ℕ, ◌+◌, ◌==◌, ◌&&◌, Bool, true, false, List, [], ◌∷◌, map, Option, Some, None, unwrap_or, if◌then◌else◌}
+use Rattle.std.specs.List.{filter_map, last_or, list_all}
+use Rattle.nms_quote.specs.Content.{Content}
+use Rattle.nms_quote.specs.Tape.{Tape, versions}
+use Rattle.nms_quote.specs.declared.quotes.Side.{Side}
+use Rattle.nms_quote.specs.declared.quotes.Side.TheVariants.{Bid, Offer}
+use Rattle.nms_quote.specs.declared.quotes.QState.{QState}
+use Rattle.nms_quote.specs.declared.changes.Change.{Change}
+use Rattle.nms_quote.specs.declared.changes.Change.TheVariants as change
+
+abbrev pub on_side : {X : Type 0} → Side → X → X → X
+on_side Bid bid offer = bid
+on_side Offer bid offer = offer
+
+-- what a change says of the side: nothing, or its content from then on. A withdrawal concerns every symbol
+abbrev pub said_of : ℕ → ℕ → Side → Change → Option (Option Content)
+said_of part sym side (change.Quote p s state bid offer) = if p == part && s == sym then Some (on_side side bid offer) else None
+said_of part sym side (change.State p s state) = None
+said_of part sym side (change.Withdraw p) = if p == part then Some None else None
+
+-- the side's content: what the last change that concerns it says, and nothing where there is none
+abbrev pub content_at : ℕ → ℕ → Side → Tape → Option Content
+content_at part sym side tape = unwrap_or (last_or None (filter_map (said_of part sym side) tape)) None
+
+-- what a change says of the participant's state in the symbol
+abbrev pub state_said : ℕ → ℕ → Change → Option QState
+state_said part sym (change.Quote p s state bid offer) = if p == part && s == sym then Some state else None
+state_said part sym (change.State p s state) = if p == part && s == sym then Some state else None
+state_said part sym (change.Withdraw p) = None
+
+-- the state: that of the last quote or change of state that concerns the participant in the symbol
+abbrev pub state_at : ℕ → ℕ → Tape → Option QState
+state_at part sym tape = last_or None (filter_map (state_said part sym) tape)
+
+-- the same price and shares, or nothing twice
+abbrev pub same_content : Option Content → Option Content → Bool
+same_content None None = true
+same_content None (Some y) = false
+same_content (Some x) None = false
+same_content (Some x) (Some y) = x.price == y.price && x.shares == y.shares
+
+-- how many entries stand before the equal ones at the end
+unfoldable pub before_equal_end : List (Option Content) → ℕ
+before_equal_end [] = 0
+before_equal_end (x ∷ xs) = if list_all (same_content x) xs then 0 else before_equal_end xs + 1
+
+-- the side's content in each version, from the empty tape to the whole one
+abbrev pub contents_over : ℕ → ℕ → Side → Tape → List (Option Content)
+contents_over part sym side tape = map (content_at part sym side) (versions tape)
+
+-- the side's receipt: the least version from which on every version has the same content
+abbrev pub receipt_of : ℕ → ℕ → Side → Tape → ℕ
+receipt_of part sym side tape = before_equal_end (contents_over part sym side tape)

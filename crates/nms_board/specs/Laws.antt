@@ -1,0 +1,46 @@
+-- Laws above the definitions: what the rules say of them. This product's own rule, but for the
+-- quotations that 17 CFR 242.600 defines.
+use Rattle.std.specs.Prelude.{ℕ, ◌≡◌, ◌≢◌, ◌≤◌, All, [], ◌∷◌, ◌++◌, length, slice_index, Some, None}
+use Rattle.nms_quote.specs.Roster.{Sizes}
+use Rattle.nms_quote.specs.Tape.{Tape, version}
+use Rattle.nms_quote.specs.declared.quotes.Side.{Side}
+use Rattle.nms_quote.specs.declared.quotes.QState.TheVariants.{Automated, Halted}
+use Rattle.nms_quote.specs.declared.changes.Change.{Change}
+use Rattle.nms_quote.specs.declared.changes.Change.TheVariants as change
+use Rattle.nms_board.specs.History.{content_at, receipt_of}
+use Rattle.nms_board.specs.Quotation.{quotation, quotation_of}
+
+-- who sends a change
+abbrev pub participant_of : Change → ℕ
+participant_of (change.Quote part sym state bid offer) = part
+participant_of (change.State part sym state) = part
+participant_of (change.Withdraw part) = part
+
+-- from version n on, the side has the content that it has at the end
+abbrev pub StaysFrom : ℕ → ℕ → Side → Tape → ℕ → Type 0
+StaysFrom part sym side tape n =
+    (k : ℕ) → n ≤ k → k ≤ length tape → content_at part sym side (version k tape) ≡ content_at part sym side tape
+
+-- n is the least version from which on the side's content stays
+pub record IsReceipt (part sym : ℕ) (side : Side) (tape : Tape) (n : ℕ) : Type 0 where
+  pub within : n ≤ length tape
+  pub stays : StaysFrom part sym side tape n
+  pub least : (m : ℕ) → StaysFrom part sym side tape m → n ≤ m
+
+-- the change leaves the side's content and receipt
+pub record KeepsSide (part sym : ℕ) (side : Side) (tape : Tape) (change : Change) : Type 0 where
+  pub content : content_at part sym side (tape ++ change ∷ []) ≡ content_at part sym side tape
+  pub receipt : receipt_of part sym side (tape ++ change ∷ []) ≡ receipt_of part sym side tape
+
+-- the participant halts the symbol, others send changes, and it lifts the halt
+abbrev pub lifted_after : ℕ → ℕ → Tape → Tape → Tape
+lifted_after part sym tape others =
+    tape ++ change.State part sym Halted ∷ [] ++ others ++ change.State part sym Automated ∷ []
+
+-- a halt hides the participant's quotations in the symbol and alters no side; lifted, they show with the receipts that they had
+pub record HidesAndKeeps (sizes : Sizes) (part sym : ℕ) (tape : Tape) : Type 0 where
+  pub keeps : (p s : ℕ) (side : Side) → KeepsSide p s side tape (change.State part sym Halted)
+  pub hides : (side : Side) → quotation_of sizes (tape ++ change.State part sym Halted ∷ []) sym side part ≡ None
+  pub shows_again : (side : Side) (others : Tape) → All (λ change. participant_of change ≢ part) others
+      → quotation_of sizes (lifted_after part sym tape others) sym side part
+      ≡ quotation (slice_index sizes.lots sym) part (Some Automated) (receipt_of part sym side tape) (content_at part sym side tape)

@@ -1,0 +1,11 @@
+pub use Rattle.nms_quote.specs.Content as Content
+pub use Rattle.nms_quote.specs.Lot as Lot
+pub use Rattle.nms_quote.specs.Roster as Roster
+pub use Rattle.nms_quote.specs.Tape as Tape
+pub mod Cells
+pub mod Examples
+pub mod History
+pub mod Laws
+pub mod Quotation
+pub mod Shown
+pub mod View

@@ -1,0 +1,64 @@
+//! Laws above the definitions of the board. Each function does nothing: its contract is the law.
+ghost use Rattle.std.specs.Prelude.{◌≡◌, ◌≢◌, ℕ, ◌≤◌, All, AllPairs, [], ◌∷◌, ◌++◌, length, Option, Some, None};
+ghost use Rattle.nms_quote.specs.Content.{Content};
+ghost use Rattle.nms_quote.specs.Roster.{Sizes};
+ghost use Rattle.nms_quote.specs.Tape.{Tape};
+ghost use Rattle.nms_quote.specs.declared.changes.Change.{Change};
+ghost use Rattle.nms_quote.specs.declared.changes.Change.TheVariants.{Quote};
+ghost use Rattle.nms_quote.specs.declared.quotes.QState.{QState};
+ghost use Rattle.nms_quote.specs.declared.quotes.Side.{Side};
+ghost use Rattle.nms_board.specs.Examples.{ExamplesHold};
+ghost use Rattle.nms_board.specs.History.{content_at, on_side, receipt_of, said_of};
+ghost use Rattle.nms_board.specs.Laws.{participant_of, HidesAndKeeps, IsReceipt, KeepsSide};
+ghost use Rattle.nms_board.specs.Quotation.{quotation_of, quotations};
+ghost use Rattle.nms_board.specs.declared.rows.Row.{Row};
+
+/// A side's receipt is the least version from which on every version has the side's content.
+pub fn receipt_is_least()
+    ensures { (part sym : ℕ) (side : Side) (tape : Tape)
+        → IsReceipt part sym side tape (receipt_of part sym side tape) }
+{}
+
+/// A change that says nothing of a side, as every change of another participant, leaves its content
+/// and its receipt.
+pub fn others_keep_their_receipts()
+    ensures unsaid { (part sym : ℕ) (side : Side) (tape : Tape) (change : Change)
+        → said_of part sym side change ≡ None → KeepsSide part sym side tape change }
+    ensures others { (part sym : ℕ) (side : Side) (tape : Tape) (change : Change)
+        → participant_of change ≢ part → KeepsSide part sym side tape change }
+{}
+
+/// A quote that gives a side the price and shares that it has leaves its receipt.
+pub fn repeated_side_keeps_its_receipt()
+    ensures { (part sym : ℕ) (side : Side) (tape : Tape) (state : QState)
+        (bid offer : Option Content)
+        → content_at part sym side tape ≡ on_side side bid offer
+        → KeepsSide part sym side tape (Quote part sym state bid offer) }
+{}
+
+/// A halt hides the participant's quotations in the symbol and alters nothing; when it is lifted
+/// they stand again with the receipts that they had.
+pub fn halting_hides_and_keeps()
+    ensures { (sizes : Sizes) (part sym : ℕ) (tape : Tape) → HidesAndKeeps sizes part sym tape }
+{}
+
+/// Two quotations on one side of a symbol never have one receipt, and each receipt is the number of
+/// a change.
+pub fn receipts_differ()
+    ensures participants { (sizes : Sizes) (tape : Tape) (sym : ℕ) (side : Side)
+        (p q : ℕ) (row other : Row) → p ≢ q
+        → quotation_of sizes tape sym side p ≡ Some row
+        → quotation_of sizes tape sym side q ≡ Some other
+        → row.receipt ≢ other.receipt }
+    ensures rows { (sizes : Sizes) (tape : Tape) (sym : ℕ) (side : Side)
+        → AllPairs (λ row other. row.receipt ≢ other.receipt)
+        (quotations sizes tape sym side) }
+    ensures within { (sizes : Sizes) (tape : Tape) (sym : ℕ) (side : Side)
+        → All (λ row. (1 ≤ row.receipt) × (row.receipt ≤ length tape))
+        (quotations sizes tape sym side) }
+{}
+
+/// The definitions give what the worked examples say.
+pub fn worked_examples()
+    ensures { ExamplesHold }
+{}
