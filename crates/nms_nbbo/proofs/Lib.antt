@@ -1,0 +1,4 @@
+mod ListLemmas
+mod PairLemmas
+mod WalkLemmas
+pub mod RankingLemmas

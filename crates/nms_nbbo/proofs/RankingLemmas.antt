@@ -1,0 +1,114 @@
+-- That rows are ranked in a strict order, and what follows for the best of them.
+use Rattle.std.proofs.Common.{◌≡◌, ◌≢◌, ℕ, true, false, cond, AllPairs, List, [], ◌∷◌, length, get_or, refl, arith, Option, Some, None, sym, ap, ◌∙◌, subst, inl, inr, ltb, eqb}
+use Rattle.std.specs.List.{reduce, IsFirstBest}
+use Rattle.std.specs.Option.{option_map}
+use Rattle.std.specs.Cmp.{IsStrictWeakOrder}
+use Rattle.std.proofs.lemmas.List.{get_or_default}
+use Rattle.std.proofs.lemmas.Bool.{cases_order}
+use Rattle.std.proofs.lemmas.Bool.Decides.{nat_tests}
+use Rattle.std.proofs.lemmas.List.Elements.{All-contains}
+use Rattle.std.proofs.lemmas.List.MinMax.{IsFirstBest-from_best_of}
+use Rattle.nms_quote.specs.declared.quotes.Side.{Side}
+use Rattle.nms_quote.specs.declared.quotes.Side.TheVariants.{Bid, Offer}
+use Rattle.nms_board.specs.declared.rows.Row.{Row}
+use Rattle.nms_nbbo.specs.declared.markets.Market.{Market}
+use Rattle.nms_nbbo.specs.declared.markets.Market.TheVariants as market
+use Rattle.nms_nbbo.specs.Laws.{RankAlike}
+use Rattle.nms_nbbo.specs.Market.{market_of}
+use Rattle.nms_nbbo.specs.Ranking.{ranks_above, IsBest, IsBestOf}
+
+-- the two laws of a strict weak order, side by side
+above_one_way : (side : Side) (row other : Row) → ranks_above side row other ≡ true → ranks_above side other row ≡ false
+above_one_way Bid row other h = grind (arith, nat_tests)
+above_one_way Offer row other h = grind (arith, nat_tests)
+
+above_chain : (side : Side) (a b c : Row) → ranks_above side a b ≡ false → ranks_above side b c ≡ false → ranks_above side a c ≡ false
+above_chain Bid a b c h k = grind (arith, nat_tests)
+above_chain Offer a b c h k = grind (arith, nat_tests)
+
+pub above_is_order : (side : Side) → IsStrictWeakOrder (ranks_above side)
+above_is_order side = record { one_way = above_one_way side; chain = above_chain side }
+
+-- the first of the rows that none ranks above is the best
+best_from_first_best : (side : Side) (rows : List Row) (place : ℕ) (row : Row) → IsFirstBest (ranks_above side) rows (length rows) place → get_or rows place row ≡ row → IsBest side rows row
+best_from_first_best side rows place row h is =
+    record {
+      among = (place, h.0, is);
+      highest = λ k d below. rw (get_or_default rows place d row h.0 ∙ is) at (h.1 k d below);
+    }
+
+-- keeping the better of two rows leads to the best
+pub IsBestOf-reduce : (side : Side) (rows : List Row) → IsBestOf side rows (reduce (λ best row. cond (ranks_above side row best) row best) rows)
+IsBestOf-reduce side [] = refl
+IsBestOf-reduce side (row ∷ rows) =
+    let (place, first, is) = IsFirstBest-from_best_of (above_is_order side) row rows in
+    best_from_first_best side (row ∷ rows) place _ first (get_or_default (row ∷ rows) place _ row first.0 ∙ is)
+
+-- two rows of which neither ranks above the other rank alike
+pub unranked_alike : (side : Side) (row other : Row) → ranks_above side row other ≡ false → ranks_above side other row ≡ false → RankAlike row other
+unranked_alike Bid row other h k = record {
+  price = grind (arith, nat_tests);
+  size = grind (arith, nat_tests);
+  receipt = grind (arith, nat_tests);
+}
+unranked_alike Offer row other h k = record {
+  price = grind (arith, nat_tests);
+  size = grind (arith, nat_tests);
+  receipt = grind (arith, nat_tests);
+}
+
+-- two best rows of a side rank alike
+pub best_alike : (side : Side) (rows : List Row) (row other : Row) → IsBest side rows row → IsBest side rows other → RankAlike row other
+best_alike side rows row other best best' =
+    unranked_alike side row other
+    (All-contains (λ r. ranks_above side r other ≡ false) rows row best'.highest best.among)
+    (All-contains (λ r. ranks_above side r row ≡ false) rows other best.highest best'.among)
+
+-- an empty side has no best row
+pub none_best : (side : Side) (row : Row) → IsBest side [] row → ⊥
+none_best side row best = omega (arith, best.among.1)
+
+-- two best rows of a side, or none twice, have one price
+IsBestOf-price : (side : Side) (rows : List Row) (best best' : Option Row) → IsBestOf side rows best → IsBestOf side rows best' → option_map (λ row. row.price) best ≡ option_map (λ row. row.price) best'
+IsBestOf-price side rows None None empty empty' = refl
+IsBestOf-price side rows None (Some row) empty is = absurd (none_best side row (subst (λ r. IsBest side r row) empty is))
+IsBestOf-price side rows (Some row) None is empty = absurd (none_best side row (subst (λ r. IsBest side r row) empty is))
+IsBestOf-price side rows (Some row) (Some other) is is' = ap Some (best_alike side rows row other is is').price
+
+-- the market's state looks at prices alone
+market_at : Option ℕ → Option ℕ → Market
+market_at None None = market.Empty
+market_at None (Some offer) = market.OneSided
+market_at (Some bid) None = market.OneSided
+market_at (Some bid) (Some offer) = cond (ltb bid offer) market.Normal (cond (eqb bid offer) market.Locked market.Crossed)
+
+market_of-market_at : (bid offer : Option Row) → market_of bid offer ≡ market_at (option_map (λ row. row.price) bid) (option_map (λ row. row.price) offer)
+unfolding market_at
+market_of-market_at None None = refl
+market_of-market_at None (Some offer) = refl
+market_of-market_at (Some bid) None = refl
+market_of-market_at (Some bid) (Some offer) = refl
+
+-- so it is the same whichever best rows are looked at
+pub market_of-best : (bids offers : List Row) (bid bid' offer offer' : Option Row) → IsBestOf Bid bids bid → IsBestOf Bid bids bid' → IsBestOf Offer offers offer → IsBestOf Offer offers offer' → market_of bid offer ≡ market_of bid' offer'
+market_of-best bids offers bid bid' offer offer' b b' o o' =
+    rw (market_of-market_at bid offer, market_of-market_at bid' offer', IsBestOf-price Bid bids bid bid' b b', IsBestOf-price Offer offers offer offer' o o') refl
+
+-- a side with rows has a best one
+pub some_best : (side : Side) (rows : List Row) → rows ≢ [] → (row : Row) × IsBest side rows row
+some_best side [] some = absurd (some refl)
+some_best side (row ∷ rows) some = (_, IsBestOf-reduce side (row ∷ rows))
+
+-- where no two rows have one receipt, one row is best
+pub one_best : (side : Side) (rows : List Row) (row other : Row) → AllPairs (λ row other. row.receipt ≢ other.receipt) rows → IsBest side rows row → IsBest side rows other → row ≡ other
+one_best side rows row other differ best best' =
+    let receipts : row.receipt ≡ other.receipt = (best_alike side rows row other best best').receipt in
+    let (i, in_rows, at) = best.among in
+    let (j, in_rows', at') = best'.among in
+    let row_receipt : (get_or rows i row).receipt ≡ row.receipt = ap (λ (r : Row). r.receipt) at in
+    let other_receipt : (get_or rows j row).receipt ≡ other.receipt = ap (λ (r : Row). r.receipt) (get_or_default rows j row other in_rows' ∙ at') in
+    elim (cases_order i j) [
+      | inl e ↦ sym at ∙ ap (λ n. get_or rows n row) e ∙ get_or_default rows j row other in_rows' ∙ at'
+      | inr (inl before) ↦ absurd (differ i j row before in_rows' (row_receipt ∙ receipts ∙ sym other_receipt))
+      | inr (inr after) ↦ absurd (differ j i row after in_rows (other_receipt ∙ sym receipts ∙ sym row_receipt))
+    ]

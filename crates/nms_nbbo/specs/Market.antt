@@ -1,0 +1,14 @@
+-- How the two best prices stand (17 CFR 242.610(d), locking and crossing).
+use Rattle.std.specs.Prelude.{◌==◌, nat_lt, Option, Some, None, if◌then◌else◌}
+use Rattle.nms_board.specs.declared.rows.Row.{Row}
+use Rattle.nms_nbbo.specs.declared.markets.Market.{Market}
+use Rattle.nms_nbbo.specs.declared.markets.Market.TheVariants as market
+
+-- locked where the best bid's price is the best offer's, crossed where it is above
+abbrev pub market_of : Option Row → Option Row → Market
+market_of None None = market.Empty
+market_of None (Some offer) = market.OneSided
+market_of (Some bid) None = market.OneSided
+market_of (Some bid) (Some offer) =
+    if nat_lt bid.price offer.price then market.Normal
+    else (if bid.price == offer.price then market.Locked else market.Crossed)
