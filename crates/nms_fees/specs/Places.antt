@@ -1,0 +1,169 @@
+-- The places of a setup's document, and the fault of each. This product's own rule.
+use Rattle.std.specs.Prelude.{codes, ℕ, ℤ, pos, neg_ℤ, Bool, false, not, ◌&&◌, ◌||◌, ◌==◌, nat_le, List, [], ◌∷◌, length, map, fold, Option, Some, None, option_map, option_and_then, if◌then◌else◌}
+use Rattle.std.specs.Int.RustNames.{int_le}
+use Rattle.std.specs.Option.{option_map_or}
+use Rattle.std.specs.List.{list_any, filter_map}
+use Rattle.std.specs.Str.{bytes_eq}
+use Rattle.toml.specs.Data.{Data, Items, no_items, item, Members, no_members, member, get_member, as_str, as_integer, as_array, as_table}
+use Rattle.nms_quote.specs.Roster.{Name, is_part_name, is_symbol_name}
+use Rattle.nms_fees.specs.declared.setup_faults.SetupFault.{SetupFault}
+use Rattle.nms_fees.specs.declared.setup_faults.SetupFault.TheVariants as fault
+use Rattle.nms_fees.specs.declared.levels.Level.{Level}
+use Rattle.nms_fees.specs.declared.levels.Level.TheVariants as level
+use Rattle.nms_fees.specs.declared.sections.Section.{Section}
+use Rattle.nms_fees.specs.declared.sections.Section.TheVariants as section
+
+-- the number of a fault's code
+abbrev pub number_of : SetupFault → ℕ
+number_of fault.NotToml = 1
+number_of fault.Missing = 2
+number_of fault.UnknownKey = 3
+number_of fault.BadName = 4
+number_of fault.WrongType = 5
+number_of fault.OutOfRange = 6
+number_of fault.OverCap = 7
+number_of fault.TooMany = 8
+number_of fault.NoMemory = 9
+
+-- of two findings the fault with the smaller number
+abbrev pub lesser : Option SetupFault → Option SetupFault → Option SetupFault
+lesser None found = found
+lesser (Some first) None = Some first
+lesser (Some first) (Some second) = if nat_le (number_of first) (number_of second) then Some first else Some second
+
+-- the fault of least number of all that are found
+abbrev pub least : List (Option SetupFault) → Option SetupFault
+least found = fold lesser None found
+
+-- the fault of a required key: that it is absent, or that of its value
+abbrev pub key_fault : (Data → Option SetupFault) → Name → Members → Option SetupFault
+key_fault value_fault key table = option_map_or value_fault (get_member key table) (Some fault.Missing)
+
+-- a number from `low` to `high`
+abbrev pub range_fault : ℤ → ℤ → Data → Option SetupFault
+range_fault low high value =
+    option_map_or (λ n. if int_le low n && int_le n high then None else Some fault.OutOfRange) (as_integer value) (Some fault.WrongType)
+
+-- a number up to `most` either way, and not over its cap
+abbrev pub cap_fault : ℕ → ℕ → Data → Option SetupFault
+cap_fault most cap value =
+    option_map_or (λ n. if int_le (neg_ℤ (pos most)) n && int_le n (pos most) then (if int_le n (pos cap) then None else Some fault.OverCap) else Some fault.OutOfRange) (as_integer value) (Some fault.WrongType)
+
+abbrev pub is_name_in : Section → Name → Bool
+is_name_in section.Participant name = is_part_name name
+is_name_in section.Symbol name = is_symbol_name name
+
+-- a text that has the form of a name
+abbrev pub name_fault : (Name → Bool) → Data → Option SetupFault
+name_fault is_name value = option_map_or (λ name. if is_name name then None else Some fault.BadName) (as_str value) (Some fault.WrongType)
+
+-- a text that names a feed
+abbrev pub feed_fault : Data → Option SetupFault
+feed_fault value =
+    option_map_or (λ feed. if bytes_eq feed (codes "A") || bytes_eq feed (codes "B") then None else Some fault.OutOfRange) (as_str value) (Some fault.WrongType)
+
+-- the keys of a table
+abbrev pub keys_in : Members → List Name
+keys_in no_members = []
+keys_in (member key value rest) = key ∷ keys_in rest
+
+abbrev pub is_participant_key : Name → Bool
+is_participant_key key = bytes_eq key (codes "name") || bytes_eq key (codes "feed") || bytes_eq key (codes "fee") || bytes_eq key (codes "rate")
+
+abbrev pub is_symbol_key : Name → Bool
+is_symbol_key key = bytes_eq key (codes "name") || bytes_eq key (codes "lot")
+
+abbrev pub is_top_key : Name → Bool
+is_top_key key =
+    bytes_eq key (codes "tape_limit") || bytes_eq key (codes "queue") || bytes_eq key (codes "desks") || bytes_eq key (codes "participant") || bytes_eq key (codes "symbol")
+
+abbrev pub is_known : Level → Name → Bool
+is_known level.Top key = is_top_key key
+is_known level.Participant key = is_participant_key key
+is_known level.Symbol key = is_symbol_key key
+
+-- that a key stands in a table beside those that are known there
+abbrev pub other_key_fault : Level → Members → Option SetupFault
+other_key_fault table_of table = if list_any (λ key. not (is_known table_of key)) (keys_in table) then Some fault.UnknownKey else None
+
+-- what each place finds in a table of the array `participant`
+abbrev pub participant_findings : Members → List (Option SetupFault)
+participant_findings table =
+    other_key_fault level.Participant table
+    ∷ key_fault (name_fault (is_name_in section.Participant)) (codes "name") table
+    ∷ key_fault feed_fault (codes "feed") table
+    ∷ key_fault (cap_fault 10000000 3000000) (codes "fee") table
+    ∷ key_fault (cap_fault 1000 300) (codes "rate") table
+    ∷ []
+
+-- and in one of the array `symbol`
+abbrev pub symbol_findings : Members → List (Option SetupFault)
+symbol_findings table =
+    other_key_fault level.Symbol table
+    ∷ key_fault (name_fault (is_name_in section.Symbol)) (codes "name") table
+    ∷ key_fault (range_fault (pos 1) (pos 1000)) (codes "lot") table
+    ∷ []
+
+abbrev pub table_findings : Section → Members → List (Option SetupFault)
+table_findings section.Participant table = participant_findings table
+table_findings section.Symbol table = symbol_findings table
+
+-- an element of one of the two arrays, which has to be a table
+abbrev pub row_fault : Section → Data → Option SetupFault
+row_fault rows_of row = option_map_or (λ table. least (table_findings rows_of table)) (as_table row) (Some fault.WrongType)
+
+-- the items of an array
+abbrev pub listed : Items → List Data
+listed no_items = []
+listed (item value rest) = value ∷ listed rest
+
+-- the elements of a value that is an array
+abbrev pub rows_in : Data → Option (List Data)
+rows_in value = option_map listed (as_array value)
+
+-- the name in an element of an array, where it is a text
+abbrev pub name_in : Data → Option Name
+name_in row = option_and_then as_str (option_and_then (get_member (codes "name")) (as_table row))
+
+-- whether a text stands twice
+abbrev pub has_repeat : List Name → Bool
+has_repeat [] = false
+has_repeat (name ∷ names) = list_any (λ other. bytes_eq other name) names || has_repeat names
+
+-- that a name stands twice in an array
+abbrev pub repeat_fault : List Data → Option SetupFault
+repeat_fault rows = if has_repeat (filter_map name_in rows) then Some fault.BadName else None
+
+abbrev pub most_of : Section → ℕ
+most_of section.Participant = 32
+most_of section.Symbol = 1000
+
+-- that an array is empty, or has too many elements
+abbrev pub count_fault : ℕ → ℕ → Option SetupFault
+count_fault most count = if count == 0 then Some fault.OutOfRange else (if nat_le count most then None else Some fault.TooMany)
+
+-- what is found in the elements of one of the two arrays
+abbrev pub rows_findings : Section → List Data → List (Option SetupFault)
+rows_findings rows_of rows = count_fault (most_of rows_of) (length rows) ∷ repeat_fault rows ∷ least (map (row_fault rows_of) rows) ∷ []
+
+abbrev pub rows_fault : Section → List Data → Option SetupFault
+rows_fault rows_of rows = least (rows_findings rows_of rows)
+
+-- one of the two arrays
+abbrev pub array_fault : Section → Data → Option SetupFault
+array_fault rows_of value = option_map_or (rows_fault rows_of) (rows_in value) (Some fault.WrongType)
+
+-- what is found in a whole document
+abbrev pub document_findings : Members → List (Option SetupFault)
+document_findings document =
+    other_key_fault level.Top document
+    ∷ key_fault (range_fault (pos 1) (pos 10000000)) (codes "tape_limit") document
+    ∷ key_fault (range_fault (pos 2) (pos 1024)) (codes "queue") document
+    ∷ key_fault (range_fault (pos 1) (pos 16)) (codes "desks") document
+    ∷ key_fault (array_fault section.Participant) (codes "participant") document
+    ∷ key_fault (array_fault section.Symbol) (codes "symbol") document
+    ∷ []
+
+-- the fault of least number anywhere in a document
+abbrev pub document_fault : Members → Option SetupFault
+document_fault document = least (document_findings document)

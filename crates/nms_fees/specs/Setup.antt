@@ -1,0 +1,65 @@
+-- What the text of a setup reads as. This product's own rule.
+use Rattle.std.specs.Prelude.{codes, ℕ, ℤ, pos, List, [], map, Result, Ok, Err, option_and_then, unwrap_or, unsigned_abs, if◌then◌else◌}
+use Rattle.std.specs.Option.{option_map_or}
+use Rattle.std.specs.Str.{bytes_eq}
+use Rattle.toml.specs.Data.{Data, Members, no_members, get_member, as_str, as_integer, as_table}
+use Rattle.toml.specs.Parse.{parse_document}
+use Rattle.nms_quote.specs.Roster.{Name}
+use Rattle.nms_quote.specs.declared.feeds.Feed.{Feed}
+use Rattle.nms_quote.specs.declared.feeds.Feed.TheVariants as feed
+use Rattle.nms_fees.specs.Opening.{Opening}
+use Rattle.nms_fees.specs.Places.{rows_in, document_fault}
+use Rattle.nms_fees.specs.declared.fee_schedules.FeeSchedule.{FeeSchedule}
+use Rattle.nms_fees.specs.declared.setup_faults.SetupFault.{SetupFault}
+use Rattle.nms_fees.specs.declared.setup_faults.SetupFault.TheVariants as fault
+
+-- the text at a key
+abbrev pub text_at : Name → Members → Name
+text_at key table = unwrap_or (option_and_then as_str (get_member key table)) []
+
+-- the number at a key
+abbrev pub number_at : Name → Members → ℤ
+number_at key table = unwrap_or (option_and_then as_integer (get_member key table)) (pos 0)
+
+-- the size of the number at a key
+abbrev pub count_at : Name → Members → ℕ
+count_at key table = unsigned_abs (number_at key table)
+
+-- the elements of the array at a key
+abbrev pub rows_at : Name → Members → List Data
+rows_at key document = unwrap_or (option_and_then rows_in (get_member key document)) []
+
+abbrev pub table_of : Data → Members
+table_of row = unwrap_or (as_table row) no_members
+
+abbrev pub feed_named : Name → Feed
+feed_named text = if bytes_eq text (codes "B") then feed.B else feed.A
+
+-- a participant with its feed, and its fees
+abbrev pub participant_of : Data → Name × Feed
+participant_of row = (text_at (codes "name") (table_of row), feed_named (text_at (codes "feed") (table_of row)))
+
+abbrev pub schedule_of : Data → FeeSchedule
+schedule_of row = record { fee = number_at (codes "fee") (table_of row); rate = number_at (codes "rate") (table_of row) }
+
+-- a symbol with its round lot
+abbrev pub symbol_of : Data → Name × ℕ
+symbol_of row = (text_at (codes "name") (table_of row), count_at (codes "lot") (table_of row))
+
+-- what a document without a fault says
+abbrev pub opening_of : Members → Opening
+opening_of document = record {
+  roster = record { parts = map participant_of (rows_at (codes "participant") document); syms = map symbol_of (rows_at (codes "symbol") document) };
+  fees = map schedule_of (rows_at (codes "participant") document);
+  tape_limit = count_at (codes "tape_limit") document;
+  queue = count_at (codes "queue") document;
+  desks = count_at (codes "desks") document;
+}
+
+-- a document's fault of least number, or what it says
+abbrev pub document_reading : Members → Result Opening SetupFault
+document_reading document = option_map_or (λ found. Err found) (document_fault document) (Ok (opening_of document))
+
+-- the setup that a text is, or why it is none
+abbrev pub reading : Name → Result Opening SetupFault
+reading text = option_map_or document_reading (parse_document text) (Err fault.NotToml)
