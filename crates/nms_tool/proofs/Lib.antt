@@ -1,0 +1,4 @@
+pub mod Counted
+pub mod NamedSubs
+pub mod PlainCalls
+pub mod WalkSteps

@@ -1,0 +1,106 @@
+-- What the words of the command line ask for. This product's own rule.
+use Rattle.std.specs.Prelude.{◌≡◌, ◌==◌, ◌++◌, Bool, true, false, not, List, [], ◌∷◌, length, map, fold, find, codes}
+use Rattle.std.specs.Prelude.{Option, Some, None, MatchOption, option_map, option_and_then}
+use Rattle.std.specs.List.{list_all}
+use Rattle.std.specs.Str.{bytes_eq}
+use Rattle.std.specs.String.{string_bytes}
+use Rattle.clap.specs.Words.{App, Row, Rule, Text, first_of, new_app, new_rule, subcommand_of, with_rule, with_subcommand}
+use Rattle.clap.specs.Simple.{on_top}
+use Rattle.nms_tool.specs.declared.requests.Request.{Request}
+use Rattle.nms_tool.specs.declared.subs.Sub.{Sub}
+use Rattle.nms_tool.specs.declared.subs.Sub.TheVariants.{Script, Report}
+
+-- a subcommand, its own words in order, and the file of its option
+pub record Asked : Type 0 where
+  pub command : Sub
+  pub own : List Text
+  pub setup : Option Text
+
+-- ---- the subcommands
+
+-- the word that asks for a subcommand
+abbrev pub name_of : Sub → Text
+name_of Script = codes "script"
+name_of Report = codes "report"
+
+-- the names of a subcommand's own words, in order
+abbrev pub own_names : Sub → List Text
+own_names Script = []
+own_names Report = codes "CHANGES" ∷ codes "SYM" ∷ []
+
+-- each subcommand
+abbrev pub subs : List Sub
+subs = Script ∷ Report ∷ []
+
+-- the subcommand of that name
+abbrev pub sub_named : Text → Option Sub
+sub_named name = find (λ sub. bytes_eq (name_of sub) name) subs
+
+-- ---- the words that the parser takes
+
+-- a word of a subcommand's own
+abbrev pub own_rule : Text → Rule
+own_rule name = record (new_rule name) { required = true }
+
+-- the option `--setup FILE`
+abbrev pub setup_rule : Rule
+setup_rule = record (new_rule (codes "setup")) { long = Some (codes "setup"); value_names = 1 }
+
+-- a subcommand with its own words and its option, as the parser has it
+abbrev pub app_of_sub : Sub → App
+app_of_sub sub = with_rule (fold with_rule (new_app (name_of sub)) (map own_rule (own_names sub))) setup_rule
+
+-- the words are those after the program's name, and `help` is no subcommand
+abbrev pub without_subs : App
+without_subs = on_top (λ top. record top { no_binary_name = true; disable_help_subcommand = true }) (new_app (codes "nms_tool"))
+
+-- the whole command line
+abbrev pub tool : App
+tool = fold (λ app sub. with_subcommand app (app_of_sub sub).top) without_subs subs
+
+-- ---- what the matches hold
+
+-- the first value of each id, where each has one
+abbrev pub firsts_of : List Row → List Text → Option (List Text)
+firsts_of rows [] = Some []
+firsts_of rows (id ∷ ids) = option_and_then (λ value. option_map (λ values. value ∷ values) (firsts_of rows ids)) (first_of id rows)
+
+-- what the matches ask of a subcommand
+abbrev pub asked_in : List Row → Sub → Option Asked
+asked_in rows sub = option_map (λ own. record { command = sub; own = own; setup = first_of (codes "setup") rows }) (firsts_of rows (own_names sub))
+
+-- what no words ask: the script with no setup
+abbrev pub script_alone : Asked
+script_alone = record { command = Script; own = []; setup = None }
+
+-- what the matches ask, by the subcommand that they have
+abbrev pub asked_of : Option (Text × List Row) → Option Asked
+asked_of None = Some script_alone
+asked_of (Some met) = option_and_then (asked_in met.1) (sub_named met.0)
+
+-- what the words ask, by the matches that the parser makes of them
+abbrev pub asked_by : List Text → Option Asked
+asked_by words = asked_of (subcommand_of tool words)
+
+-- what a request asks
+abbrev pub shown : Request → Asked
+shown request = record { command = request.command; own = map string_bytes request.words.items; setup = option_map string_bytes request.setup }
+
+-- ---- plain calls
+
+-- neither empty nor beginning with a hyphen
+abbrev pub is_plain_word : Text → Bool
+is_plain_word [] = false
+is_plain_word (c ∷ _) = not (c == 45)
+
+-- the words of the option, where it is used
+abbrev pub setup_words : Option Text → List Text
+setup_words None = []
+setup_words (Some file) = codes "--setup" ∷ file ∷ []
+
+-- the words are the subcommand, its own words in order and its option at most once, all plain
+pub record IsPlainCall (words : List Text) (asked : Asked) : Type 0 where
+  pub spelled : words ≡ (name_of asked.command ∷ asked.own) ++ setup_words asked.setup
+  pub counted : length asked.own ≡ length (own_names asked.command)
+  pub plain : list_all is_plain_word asked.own ≡ true
+  pub option : MatchOption asked.setup (Unit {0}) (λ file. is_plain_word file ≡ true)

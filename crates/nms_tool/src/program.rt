@@ -1,0 +1,124 @@
+//! What the program does with its words, its streams and its files.
+
+use crate::change_files::board_of;
+use crate::requests::Request;
+use crate::subs::Sub;
+use crate::tool_faults::ToolFault;
+use crate::words::read_words;
+use crate::words_faults::WordsFault;
+use nms_engine::{SETUP_K, ScriptFault, report, run_script};
+use nms_fees::{Setup, SetupFault, read_setup};
+use std::io::{BufWriter, ErrorKind, Read, Write};
+use std::rt::Files;
+use std::{fs, io, str};
+
+/// Does what the words ask for, with the script on `input`, and gives the exit status.
+///
+/// Answers and help go to `answers`; the text of a parser's fault, or one line `nms_tool: CODE`, to
+/// `errors`.
+pub fn run_tool<T: Files + AllocGlobal, R: Read + Drop, W: Write, E: Write>(
+    rt: &T,
+    words: &[&str],
+    input: R,
+    answers: &mut W,
+    errors: &mut E,
+) -> u8 {
+    match serve_words(rt, words, input, answers) {
+        Ok(()) => 0,
+        Err(fault) => tell_fault(fault, answers, errors),
+    }
+}
+
+/// Tells a fault, and gives its exit status.
+fn tell_fault<W: Write, E: Write>(fault: ToolFault, answers: &mut W, errors: &mut E) -> u8 {
+    let status = fault.status();
+    let _ = match &fault {
+        ToolFault::Words(WordsFault::Parser { text, help: true }) => tell(answers, text.as_str()),
+        ToolFault::Words(WordsFault::Parser { text, help: false }) => tell(errors, text.as_str()),
+        _ => tell_code(errors, fault.code()),
+    };
+    status
+}
+
+fn tell<W: Write>(writer: &mut W, text: &str) -> io::Result<()> {
+    writer.write_all(text.as_bytes())?;
+    writer.flush()
+}
+
+fn tell_code<E: Write>(errors: &mut E, code: &str) -> io::Result<()> {
+    writeln!(errors, "nms_tool: {code}")?;
+    errors.flush()
+}
+
+fn serve_words<T: Files + AllocGlobal, R: Read + Drop, W: Write>(
+    rt: &T,
+    words: &[&str],
+    input: R,
+    answers: &mut W,
+) -> Result<(), ToolFault> {
+    let request = read_words(rt.alloc(), words).map_err(ToolFault::Words)?;
+    let setup = setup_of(rt, &request)?;
+    match request.command {
+        Sub::Script => serve_script(rt, &setup, input, answers),
+        Sub::Report => serve_report(rt, &setup, &request.words, answers),
+    }
+}
+
+/// The setup of the file that the request names, or the built-in one.
+fn setup_of<T: Files + AllocGlobal>(rt: &T, request: &Request) -> Result<Setup, ToolFault> {
+    let Some(file) = &request.setup else {
+        return read_setup(rt.alloc(), SETUP_K).map_err(ToolFault::Setup);
+    };
+    let bytes = read_file(rt, file.as_str())?;
+    let Ok(text) = str::from_utf8(&bytes) else {
+        return Err(ToolFault::Setup(SetupFault::NotToml));
+    };
+    read_setup(rt.alloc(), text).map_err(ToolFault::Setup)
+}
+
+fn read_file<T: Files + AllocGlobal>(rt: &T, path: &str) -> Result<Vec<u8>, ToolFault> {
+    fs::read(rt, path).map_err(|error| unread(&error))
+}
+
+/// Why a file could not be read.
+pub(crate) fn unread(error: &io::Error) -> ToolFault {
+    if error.kind() == ErrorKind::OutOfMemory {
+        ToolFault::Script(ScriptFault::NoMemory)
+    } else {
+        ToolFault::Unreadable
+    }
+}
+
+fn serve_script<T: AllocGlobal, R: Read + Drop, W: Write>(
+    rt: &T,
+    setup: &Setup,
+    input: R,
+    answers: &mut W,
+) -> Result<(), ToolFault> {
+    run_script(rt.alloc(), setup, input, answers).map_err(ToolFault::Script)?;
+    Ok(())
+}
+
+/// Reports the symbol after all the changes of a file.
+fn serve_report<T: Files + AllocGlobal, W: Write>(
+    rt: &T,
+    setup: &Setup,
+    words: &[String],
+    answers: &mut W,
+) -> Result<(), ToolFault> {
+    let [changes, symbol] = words else {
+        return Err(ToolFault::Usage);
+    };
+    let Some(sym) = setup.roster().find_sym(symbol.as_bytes()) else {
+        return Err(ToolFault::Usage);
+    };
+    let board = board_of(rt, setup, changes.as_str())?;
+    let view = board.view(sym);
+    let Ok(mut lines) = BufWriter::new(rt.alloc(), answers) else {
+        return Err(ToolFault::Script(ScriptFault::NoMemory));
+    };
+    report(&view, setup.roster(), &mut lines).map_err(ToolFault::Script)?;
+    lines
+        .flush()
+        .map_err(|_| ToolFault::Script(ScriptFault::WriteFault))
+}
