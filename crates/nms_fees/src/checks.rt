@@ -1,8 +1,7 @@
 //! The faults of a setup's document: that of each place, and the least of all.
-ghost use Rattle.std.specs.Prelude.{codes, ◌≡◌, ◌≤◌, ℤ, pos, map, length, Some, None, IfOk, IfErr, neg_ℤ};
-ghost use Rattle.std.specs.List.{filter_map};
-ghost use Rattle.toml.specs.View.{view, table_view, array_view};
-ghost use Rattle.nms_fees.specs.Places.{least, lesser, key_fault, range_fault, cap_fault, is_name_in, name_fault, feed_fault, other_key_fault, table_findings, row_fault, repeat_fault, most_of, count_fault, rows_fault, array_fault, document_fault, listed};
+ghost use Rattle.std.specs.Prelude.{codes, ◌≡◌, map, IfOk, IfErr};
+ghost use Rattle.toml.specs.View.{view, table_view};
+ghost use Rattle.nms_fees.specs.Places.{least, lesser, key_fault, range_fault, cap_fault, is_name_in, name_fault, feed_fault, other_key_fault, table_findings, row_fault, most_of, count_fault, rows_fault, array_fault, document_fault};
 
 use crate::levels::Level;
 use crate::names::{is_part_name, is_symbol_name};

@@ -1,4 +1,4 @@
-ghost use Rattle.std.specs.Prelude.{◌≡◌, [], ◌∷◌, ◌++◌, OnOk, OnErr, pos, negsuc, neg_ℤ, ◌*ℤ◌, ◌≤ℤ◌, ◌*◌};
+ghost use Rattle.std.specs.Prelude.{◌≡◌, [], ◌∷◌, ◌++◌, OnOk, OnErr, pos, negsuc, ◌≤ℤ◌};
 ghost use Rattle.nms_fees.specs.Fees.{fee_at, schedule_at, price_on, unit_cost_of, IsCapped, AreCapped};
 
 use crate::fee_schedules::FeeSchedule;

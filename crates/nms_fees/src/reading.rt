@@ -1,5 +1,5 @@
 //! A setup from the text of its document.
-ghost use Rattle.std.specs.Prelude.{◌≡◌, ◌≢◌, [], ◌∷◌, ◌++◌, map, Some, None, Ok, Err, OnOk, IfOk, IfErr};
+ghost use Rattle.std.specs.Prelude.{◌≡◌, ◌≢◌, [], ◌∷◌, ◌++◌, map, None, Ok, Err, OnOk, IfOk, IfErr};
 ghost use Rattle.toml.specs.View.{view, table_view};
 ghost use Rattle.nms_quote.specs.Roster.{part_refusal, sym_refusal};
 ghost use Rattle.nms_fees.specs.declared.sections.Section.TheVariants as section;

@@ -1,7 +1,7 @@
 //! Look-ups in the tables of a TOML document.
-ghost use Rattle.std.specs.Prelude.{◌≡◌, not, map, option_map, option_and_then, option_copied};
+ghost use Rattle.std.specs.Prelude.{◌≡◌, not, map, option_map};
 ghost use Rattle.std.specs.List.{list_any};
-ghost use Rattle.toml.specs.Data.{get_member, as_str};
+ghost use Rattle.toml.specs.Data.{get_member};
 ghost use Rattle.toml.specs.View.{view, table_view};
 ghost use Rattle.nms_fees.specs.Places.{keys_in, rows_in, is_known, is_top_key, is_participant_key, is_symbol_key};
 ghost use Rattle.nms_fees.specs.Setup.{text_at, number_at, count_at, rows_at};

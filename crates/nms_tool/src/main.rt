@@ -12,43 +12,46 @@ mod tool_faults;
 mod words;
 mod words_faults;
 
-use program::run_tool;
-use std::alloc::AllocError;
+use program::{run_tool, tell_fault};
+use std::io::ErrorKind;
 use std::process::ExitCode;
 use std::{env, io};
+use tool_faults::ToolFault;
+use words_faults::WordsFault;
 
 fn main(rt: HostRuntime) -> ExitCode {
-    let status = match own_words(&rt) {
-        Ok(words) => answer_words(&rt, &words),
-        Err(_) => tool_faults::OUT_OF_MEMORY,
+    let status = match answer_words(&rt) {
+        Ok(status) => status,
+        Err(fault) => tell_fault(&fault, &mut rt.stderr()),
     };
     ExitCode::from(status)
 }
 
-/// The words behind the program's name.
-fn own_words(rt: &HostRuntime) -> io::Result<Vec<String>> {
+/// Runs the program on the process's own words and streams.
+fn answer_words(rt: &HostRuntime) -> Result<u8, ToolFault> {
+    let own = own_words(rt)?;
     let mut words = Vec::new(rt.alloc());
-    for word in env::args(rt)?.skip(1) {
-        words.push(word)?;
+    for word in &own {
+        words.push(word.as_str()).map_err(|_| no_memory())?;
+    }
+    let answers = &mut io::writer(rt);
+    let errors = &mut rt.stderr();
+    Ok(run_tool(rt, &words, rt.reader(), answers, errors))
+}
+
+/// The words behind the program's name. Those that are no UTF-8 name nothing.
+fn own_words(rt: &HostRuntime) -> Result<Vec<String>, ToolFault> {
+    let all = env::args(rt).map_err(|error| match error.kind() {
+        ErrorKind::OutOfMemory => no_memory(),
+        _ => ToolFault::Usage,
+    })?;
+    let mut words = Vec::new(rt.alloc());
+    for word in all.skip(1) {
+        words.push(word).map_err(|_| no_memory())?;
     }
     Ok(words)
 }
 
-/// Runs the program on the process's own streams.
-fn answer_words(rt: &HostRuntime, words: &[String]) -> u8 {
-    let Ok(words) = borrowed(rt, words) else {
-        return tool_faults::OUT_OF_MEMORY;
-    };
-    let answers = &mut io::writer(rt);
-    let errors = &mut rt.stderr();
-    run_tool(rt, &words, rt.reader(), answers, errors)
-}
-
-/// The words as texts.
-fn borrowed<'a>(rt: &HostRuntime, words: &'a [String]) -> Result<Vec<&'a str>, AllocError> {
-    let mut texts = Vec::new(rt.alloc());
-    for word in words {
-        texts.push(word.as_str())?;
-    }
-    Ok(texts)
+fn no_memory() -> ToolFault {
+    ToolFault::Words(WordsFault::NoMemory)
 }

@@ -25,19 +25,17 @@ pub fn run_tool<T: Files + AllocGlobal, R: Read + Drop, W: Write, E: Write>(
 ) -> u8 {
     match serve_words(rt, words, input, answers) {
         Ok(()) => 0,
-        Err(fault) => tell_fault(fault, answers, errors),
+        Err(fault) => tell_fault(&fault, errors),
     }
 }
 
-/// Tells a fault, and gives its exit status.
-fn tell_fault<W: Write, E: Write>(fault: ToolFault, answers: &mut W, errors: &mut E) -> u8 {
-    let status = fault.status();
-    let _ = match &fault {
-        ToolFault::Words(WordsFault::Parser { text, help: true }) => tell(answers, text.as_str()),
-        ToolFault::Words(WordsFault::Parser { text, help: false }) => tell(errors, text.as_str()),
+/// Tells a fault, and gives its exit status. What standard error does not take changes no status.
+pub(crate) fn tell_fault<E: Write>(fault: &ToolFault, errors: &mut E) -> u8 {
+    let _ = match fault {
+        ToolFault::Words(WordsFault::Parser { text, .. }) => tell(errors, text.as_str()),
         _ => tell_code(errors, fault.code()),
     };
-    status
+    fault.status()
 }
 
 fn tell<W: Write>(writer: &mut W, text: &str) -> io::Result<()> {
@@ -56,12 +54,20 @@ fn serve_words<T: Files + AllocGlobal, R: Read + Drop, W: Write>(
     input: R,
     answers: &mut W,
 ) -> Result<(), ToolFault> {
-    let request = read_words(rt.alloc(), words).map_err(ToolFault::Words)?;
+    let request = match read_words(rt.alloc(), words) {
+        Ok(request) => request,
+        Err(WordsFault::Parser { text, help: true }) => return tell_help(answers, text.as_str()),
+        Err(fault) => return Err(ToolFault::Words(fault)),
+    };
     let setup = setup_of(rt, &request)?;
     match request.command {
         Sub::Script => serve_script(rt, &setup, input, answers),
         Sub::Report => serve_report(rt, &setup, &request.words, answers),
     }
+}
+
+fn tell_help<W: Write>(answers: &mut W, help: &str) -> Result<(), ToolFault> {
+    tell(answers, help).map_err(|_| ToolFault::Script(ScriptFault::WriteFault))
 }
 
 /// The setup of the file that the request names, or the built-in one.

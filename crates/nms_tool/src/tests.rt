@@ -201,7 +201,11 @@ fn a_failing_stream_is_named(rt: HostRuntime) -> Result<(), Fail> {
     assert!(rt; answers.is_empty());
     assert_eq!(rt; String::from_utf8(errors)?.as_str(), "nms_tool: E1\n");
     fs::write(&rt, "unwritten.changes", LOCKED)?;
-    for words in [[].as_slice(), &["report", "unwritten.changes", "ABC"]] {
+    for words in [
+        [].as_slice(),
+        &["report", "unwritten.changes", "ABC"],
+        &["--help"],
+    ] {
         let mut errors = Vec::new(rt.alloc());
         let status = run_tool(&rt, words, b"F\n".as_slice(), &mut Broken, &mut errors);
         assert_eq!(rt; status, 1, "{words:?}");

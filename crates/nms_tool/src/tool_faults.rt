@@ -4,15 +4,12 @@ use nms_engine::{ScriptFault, line_code};
 use nms_fees::SetupFault;
 use nms_lines::LineFault;
 
-/// The exit status where memory ran out.
-pub(crate) const OUT_OF_MEMORY: u8 = 5;
-
-/// Why the program ends with another status than 0, or with help.
+/// Why the program ends with another status than 0.
 #[derive(Debug, Drop)]
 pub(crate) enum ToolFault {
-    /// The parser refused the words, or was asked for help.
+    /// The parser refused the words.
     Words(WordsFault),
-    /// The words are of the parser's form, and one of them names nothing.
+    /// A word is no UTF-8, or names nothing.
     Usage,
     /// A file could not be read.
     Unreadable,
@@ -33,12 +30,11 @@ impl ToolFault {
     /// and lengths.
     pub(crate) fn status(&self) -> u8 {
         match self {
-            ToolFault::Words(WordsFault::Parser { help: true, .. }) => 0,
-            ToolFault::Words(WordsFault::Parser { help: false, .. }) | ToolFault::Usage => 2,
+            ToolFault::Words(WordsFault::Parser { .. }) | ToolFault::Usage => 2,
             ToolFault::Setup(SetupFault::NoMemory)
             | ToolFault::Words(WordsFault::NoMemory)
             | ToolFault::Board(BoardFault::NoMemory)
-            | ToolFault::Script(ScriptFault::NoMemory) => OUT_OF_MEMORY,
+            | ToolFault::Script(ScriptFault::NoMemory) => 5,
             ToolFault::Setup(_) => 3,
             ToolFault::Line(_) | ToolFault::TapeFull | ToolFault::Script(ScriptFault::TooLong) => 6,
             ToolFault::Unreadable | ToolFault::Script(_) => 1,

@@ -9,7 +9,8 @@ use std::marker::Model;
 
 /// A price in 1/10,000 dollar, 1 to 99,999,999,999 (0.0001 to 9,999,999.9999 dollars).
 ///
-/// Rule 612's minimum increments are left out: any price in range is one (this product's own rule).
+/// The minimum increments of 17 CFR 242.612 are left out: any price in range is one (this product's own
+/// rule).
 #[derive(Clone, Copy, Debug, PartialEq, Eq, PartialOrd, Ord, Hash)]
 pub struct Price {
     ten_thousandths: u64,
