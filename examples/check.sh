@@ -29,6 +29,7 @@ example 0 $at/refused.out $at/refused.script
 example 0 $at/halt.out $at/halt.script
 example 0 $at/steps.out $at/steps.script script --setup $at/small.toml
 example 0 $at/lots.out $at/lots.script script --setup $at/lots.toml
+example 0 $at/market.out $at/market.script script --setup $at/market.toml
 example 0 $at/first.out $at/first.script script --setup $at/builtin.toml
 example 0 $at/first.report /dev/null report $at/first.changes ABC
 example 0 $at/pairs.report /dev/null report $at/pairs.changes ABC
