@@ -4,11 +4,11 @@ ghost use Rattle.toml.specs.View.{view, table_view};
 ghost use Rattle.nms_fees.specs.Places.{least, lesser, key_fault, range_fault, cap_fault, is_name_in, name_fault, feed_fault, other_key_fault, table_findings, row_fault, most_of, count_fault, rows_fault, array_fault, document_fault};
 
 use crate::levels::Level;
-use crate::names::{is_part_name, is_symbol_name};
 use crate::repeats::has_repeat;
 use crate::sections::Section;
 use crate::setup_faults::SetupFault;
 use crate::tables::{has_other_key, rows_in, value_at};
+use nms_quote::{is_part_name, is_symbol_name};
 use std::alloc::Global;
 use toml::{Table, Value};
 

@@ -5,7 +5,6 @@ mod checks;
 mod fee_books;
 mod fee_schedules;
 mod levels;
-mod names;
 mod reading;
 mod repeats;
 mod sections;

@@ -16,6 +16,7 @@ mod tests;
 
 pub use changes::Change;
 pub use feeds::Feed;
+pub use names::{is_part_name, is_symbol_name};
 pub use orders::{Order, OrderSide};
 pub use parts::Part;
 pub use quotes::{QState, Side, SideQuote};
