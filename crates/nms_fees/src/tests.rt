@@ -49,6 +49,10 @@ fn changed(alloc: Global, piece: &str, other: &str) -> Result<String, Fail> {
     Ok(format!(in alloc; "{front}{other}{back}")?)
 }
 
+fn sound(alloc: Global) -> Result<Setup, Fail> {
+    Ok(read_setup(alloc, SOUND)?)
+}
+
 fn fault_of(alloc: Global, text: &str) -> Option<SetupFault> {
     match read_setup(alloc, text) {
         Ok(_) => None,
@@ -97,24 +101,22 @@ fn has_symbol(rt: &impl Abort, roster: &Roster, name: &str, lot: u16) -> Result<
     Ok(())
 }
 
-fn costs(
-    rt: &impl Abort,
-    setup: &Setup,
-    place: u8,
-    side: OrderSide,
-    price: &str,
-    cost: &str,
-) -> Result<(), Fail> {
-    let part = Part::new(place).ok_or("no place")?;
-    let price = Price::parse(price.as_bytes())?;
-    let cost = Money::parse(cost.as_bytes())?;
-    assert_eq!(rt; setup.fees().unit_cost(part, side, price), cost);
+/// What a share costs at a participant's place: the side of the order, the price, and the cost.
+type Cost<'a> = (u8, OrderSide, &'a str, &'a str);
+
+fn each_costs(rt: &impl Abort, setup: &Setup, costs: &[Cost<'_>]) -> Result<(), Fail> {
+    for (place, side, price, cost) in costs {
+        let part = Part::new(*place).ok_or("no place")?;
+        let price = Price::parse(price.as_bytes())?;
+        let cost = Money::parse(cost.as_bytes())?;
+        assert_eq!(rt; setup.fees().unit_cost(part, *side, price), cost);
+    }
     Ok(())
 }
 
 #[test]
 fn reads_the_worked_setup(rt: HostRuntime) -> Result<(), Fail> {
-    let setup = read_setup(rt.alloc(), SOUND)?;
+    let setup = sound(rt.alloc())?;
     let roster = setup.roster();
     assert_eq!(rt; roster.parts(), 4);
     assert_eq!(rt; roster.syms(), 2);
@@ -132,38 +134,40 @@ fn reads_the_worked_setup(rt: HostRuntime) -> Result<(), Fail> {
 
 #[test]
 fn a_share_costs_its_price_and_the_fee(rt: HostRuntime) -> Result<(), Fail> {
-    let setup = read_setup(rt.alloc(), SOUND)?;
-    costs(&rt, &setup, 0, OrderSide::Buy, "10.00", "10.003000000")?;
-    costs(&rt, &setup, 1, OrderSide::Buy, "10.00", "10.002800000")?;
-    costs(&rt, &setup, 2, OrderSide::Buy, "10.01", "10.009800000")?;
-    costs(&rt, &setup, 0, OrderSide::Sell, "9.99", "-9.987000000")?;
-    costs(&rt, &setup, 2, OrderSide::Sell, "9.98", "-9.980200000")?;
-    costs(
-        &rt,
-        &setup,
-        0,
-        OrderSide::Buy,
-        "9999999.9999",
-        "10000000.002900000",
-    )
+    let setup = sound(rt.alloc())?;
+    let costs = [
+        (0, OrderSide::Buy, "10.00", "10.003000000"),
+        (1, OrderSide::Buy, "10.00", "10.002800000"),
+        (2, OrderSide::Buy, "10.01", "10.009800000"),
+        (0, OrderSide::Sell, "9.99", "-9.987000000"),
+        (2, OrderSide::Sell, "9.98", "-9.980200000"),
+        (0, OrderSide::Buy, "9999999.9999", "10000000.002900000"),
+    ];
+    each_costs(&rt, &setup, &costs)
 }
 
 #[test]
 fn the_fee_below_one_dollar_goes_with_the_price(rt: HostRuntime) -> Result<(), Fail> {
-    let setup = read_setup(rt.alloc(), SOUND)?;
-    costs(&rt, &setup, 0, OrderSide::Buy, "0.5000", "0.501500000")?;
-    costs(&rt, &setup, 1, OrderSide::Buy, "0.5001", "0.501600300")?;
-    costs(&rt, &setup, 2, OrderSide::Buy, "0.5002", "0.500200000")?;
-    costs(&rt, &setup, 0, OrderSide::Buy, "0.9999", "1.002899700")?;
-    costs(&rt, &setup, 0, OrderSide::Buy, "1.0000", "1.003000000")?;
-    costs(&rt, &setup, 0, OrderSide::Sell, "0.0001", "-0.000099700")
+    let setup = sound(rt.alloc())?;
+    let costs = [
+        (0, OrderSide::Buy, "0.5000", "0.501500000"),
+        (1, OrderSide::Buy, "0.5001", "0.501600300"),
+        (2, OrderSide::Buy, "0.5002", "0.500200000"),
+        (0, OrderSide::Buy, "0.9999", "1.002899700"),
+        (0, OrderSide::Buy, "1.0000", "1.003000000"),
+        (0, OrderSide::Sell, "0.0001", "-0.000099700"),
+    ];
+    each_costs(&rt, &setup, &costs)
 }
 
 #[test]
 fn a_place_without_a_participant_has_no_fee(rt: HostRuntime) -> Result<(), Fail> {
-    let setup = read_setup(rt.alloc(), SOUND)?;
-    costs(&rt, &setup, 4, OrderSide::Buy, "10.00", "10.000000000")?;
-    costs(&rt, &setup, 31, OrderSide::Sell, "0.5000", "-0.500000000")
+    let setup = sound(rt.alloc())?;
+    let costs = [
+        (4, OrderSide::Buy, "10.00", "10.000000000"),
+        (31, OrderSide::Sell, "0.5000", "-0.500000000"),
+    ];
+    each_costs(&rt, &setup, &costs)
 }
 
 #[test]
@@ -380,8 +384,11 @@ fn the_last_of_many_participants_has_its_own_fee(rt: HostRuntime) -> Result<(), 
     let mut text = document(alloc, 31, 1)?;
     text.push_str("[[participant]]\nname = \"Z\"\nfeed = \"B\"\nfee = 7\nrate = 0\n")?;
     let setup = read_setup(alloc, text.as_str())?;
-    costs(&rt, &setup, 31, OrderSide::Buy, "1", "1.000000007")?;
-    costs(&rt, &setup, 30, OrderSide::Buy, "1", "1.000000000")
+    let costs = [
+        (31, OrderSide::Buy, "1", "1.000000007"),
+        (30, OrderSide::Buy, "1", "1.000000000"),
+    ];
+    each_costs(&rt, &setup, &costs)
 }
 
 /// A document with one place wrong for each fault that is asked for.
