@@ -1,5 +1,5 @@
 -- How a script comes from one record to the next.
-use Rattle.std.proofs.Common.{ℕ, ◌≡◌, ◌≢◌, ◌+◌, ◌++◌, Bool, cond, List, [], ◌∷◌, length, Option, Some, None, refl, ap, sym, subst, ◌∙◌, arith, append_assoc, length-append}
+use Rattle.std.proofs.Common.{ℕ, ◌≡◌, ◌≢◌, ◌≤◌, ◌+◌, ◌++◌, Bool, cond, List, [], ◌∷◌, length, Option, Some, None, refl, ap, sym, subst, ◌∙◌, arith, append_assoc, length-append}
 use Rattle.std.specs.Prelude.{count_by}
 use Rattle.std.specs.Io.KnownBytes.{Appends}
 use Rattle.std.proofs.lemmas.List.{append-nil}
@@ -17,9 +17,9 @@ use Rattle.nms_engine.specs.Answers.{record_text, text_of}
 use Rattle.nms_engine.specs.Machine.{State, IsAfter, room_of}
 use Rattle.nms_fees.specs.Opening.{Opening}
 use Rattle.nms_engine.specs.Opening.{opening_room}
-use Rattle.nms_engine.specs.Progress.{HasAnswered, HasCome}
+use Rattle.nms_engine.specs.Progress.{HasAnswered, HasCome, StopsAfter}
 use Rattle.nms_engine.specs.Run.{Event, IsRun, published_by, taken_by}
-use Rattle.nms_engine.specs.Script.{Answers, AnswersBeginning, AnswersFrom, AnswersRecord, Serves, is_refusal, tally_of}
+use Rattle.nms_engine.specs.Script.{Answers, AnswersBeginning, AnswersFrom, AnswersRecord, Serves, is_refusal, most_records, tally_of}
 
 -- nothing was written
 pub appends-none : (known : Option (List ℕ)) → Appends known known []
@@ -87,30 +87,38 @@ comes_on remaining opening bytes reader next machine moved old now then done ref
     let on = answers_on opening machine moved old now then done refused fields after is_refused come.so_far cleared room (subst (Appends now then) is_shown writes) in
     record { so_far = on.0; reads = subst (ReadsFrom remaining next bytes) (sym on.1) reads }
 
--- what was written so far is the answer to the records read so far
-pub answers_beginning : (opening : Opening) (bytes : Option (List ℕ)) (machine : State) (old new : Option (List ℕ)) (done refused : ℕ) (fault : ScriptFault)
-    (so_far : HasAnswered opening machine old new done refused) → BeginRecords bytes so_far.records → (fault ≡ script_fault.TooLong → done ≡ 10000000)
-    → AnswersBeginning opening bytes old new fault
-answers_beginning opening bytes machine old new done refused fault so_far begun long = record {
-  records = so_far.records;
-  events = so_far.events;
-  told = so_far.told;
-  begun = begun;
-  answer = record { run = subst (λ r. IsRun r so_far.events) so_far.room so_far.stands.run; answers = so_far.answers };
-  written = so_far.written;
-  long = λ e. so_far.counted ∙ long e;
-}
+-- a script that a fault ended
+pub answers_beginning : (opening : Opening) (bytes old new : Option (List ℕ)) (done refused : ℕ) (fault : ScriptFault)
+    → StopsAfter opening bytes old new done refused fault → AnswersBeginning opening bytes old new fault
+answers_beginning opening bytes old new done refused fault stops =
+    let so_far = stops.1 in
+    record {
+      records = so_far.records;
+      events = so_far.events;
+      told = so_far.told;
+      begun = stops.2;
+      answer = record { run = subst (λ r. IsRun r so_far.events) so_far.room so_far.stands.run; answers = so_far.answers };
+      written = so_far.written;
+      long = stops.3;
+    }
+
+-- before a record is read, no more than were answered
+pub stops_after : {R : Type 0} (remaining : R → Option (List ℕ)) (opening : Opening) (bytes : Option (List ℕ)) (reader : Reader R) (machine : State) (old new : Option (List ℕ)) (done refused : ℕ) (fault : ScriptFault)
+    (come : HasCome remaining opening bytes reader machine old new done refused) → BeginRecords bytes come.so_far.records → fault ≢ script_fault.TooLong
+    → StopsAfter opening bytes old new done refused fault
+stops_after remaining opening bytes reader machine old new done refused fault come begun short = (machine, come.so_far, begun, λ e. absurd (short e))
 
 -- and at the end of the text the answer to all of it
 pub answers_all : (opening : Opening) (bytes : Option (List ℕ)) (machine : State) (old new : Option (List ℕ)) (done refused : ℕ) (counts : Counts)
-    (so_far : HasAnswered opening machine old new done refused) → AreAllRecords bytes so_far.records
+    (so_far : HasAnswered opening machine old new done refused) → AreAllRecords bytes so_far.records → done ≤ most_records
     → ((events : List Event) → IsAfter machine events → counts ≡ record { records = done; refused = refused; tape = taken_by events; published = published_by events })
     → Answers opening bytes old new counts
-answers_all opening bytes machine old new done refused counts so_far all count = record {
+answers_all opening bytes machine old new done refused counts so_far all few count = record {
   records = so_far.records;
   events = so_far.events;
   told = so_far.told;
   all = all;
+  few = omega (arith, so_far.counted, few);
   answer = record { run = subst (λ r. IsRun r so_far.events) so_far.room so_far.stands.run; answers = so_far.answers };
   written = so_far.written;
   counted = count so_far.events so_far.stands ∙ tallied so_far.counted so_far.refusals;

@@ -3,7 +3,7 @@ use Rattle.std.specs.Prelude.{ℕ, ◌≡◌, ◌≢◌, ◌+◌, List, length, 
 use Rattle.std.specs.Io.KnownBytes.{Appends}
 use Rattle.csv.specs.declared.reader.Reader.{Reader}
 use Rattle.nms_lines.specs.Layout.{Record}
-use Rattle.nms_lines.specs.Records.{AreAllRecords, ReadsFrom}
+use Rattle.nms_lines.specs.Records.{AreAllRecords, BeginRecords, ReadsFrom}
 use Rattle.nms_engine.specs.declared.script_faults.ScriptFault.{ScriptFault}
 use Rattle.nms_engine.specs.declared.script_faults.ScriptFault.TheVariants as script_fault
 use Rattle.nms_engine.specs.declared.runs.Progress.{Progress}
@@ -13,7 +13,7 @@ use Rattle.nms_engine.specs.Machine.{State, IsAfter, room_of}
 use Rattle.nms_fees.specs.Opening.{Opening}
 use Rattle.nms_engine.specs.Opening.{opening_room}
 use Rattle.nms_engine.specs.Run.{Event}
-use Rattle.nms_engine.specs.Script.{AnswersBeginning, AnswersFrom, is_refusal}
+use Rattle.nms_engine.specs.Script.{AnswersFrom, IsTooLong, is_refusal}
 
 -- so many records were answered, so many of them refused, and the answers were written
 pub record HasAnswered (opening : Opening) (machine : State) (old new : Option (List ℕ)) (done refused : ℕ) : Type 0 where
@@ -32,9 +32,15 @@ pub record HasCome {R : Type 0} (remaining : R → Option (List ℕ)) (opening :
   pub so_far : HasAnswered opening machine old new done refused
   pub reads : ReadsFrom remaining reader bytes so_far.records
 
+-- a fault ended the script there: the answers to all those records were written, and nothing else
+abbrev pub StopsAfter : (opening : Opening) (bytes old new : Option (List ℕ)) (done refused : ℕ) → ScriptFault → Type 0
+StopsAfter opening bytes old new done refused fault =
+    (last : State) × (so_far : HasAnswered opening last old new done refused) × BeginRecords bytes so_far.records
+    × (fault ≡ script_fault.TooLong → IsTooLong bytes so_far.records)
+
 -- where one record more leads
 abbrev pub AdvancesTo : {R : Type 0} (remaining : R → Option (List ℕ)) (opening : Opening) (bytes : Option (List ℕ)) (reader : Reader R) (machine : State) (old new : Option (List ℕ)) (done refused : ℕ) → Result Progress ScriptFault → Type 0
 AdvancesTo remaining opening bytes reader machine old new done refused (Ok (progress.Answered more)) = HasCome remaining opening bytes reader machine old new (done + 1) (refused + (if more then 1 else 0))
 AdvancesTo remaining opening bytes reader machine old new done refused (Ok progress.Ended) =
     (so_far : HasAnswered opening machine old new done refused) × AreAllRecords bytes so_far.records
-AdvancesTo remaining opening bytes reader machine old new done refused (Err fault) = fault ≢ script_fault.WriteFault → AnswersBeginning opening bytes old new fault
+AdvancesTo remaining opening bytes reader machine old new done refused (Err fault) = fault ≢ script_fault.WriteFault → StopsAfter opening bytes old new done refused fault

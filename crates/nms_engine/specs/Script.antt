@@ -1,6 +1,6 @@
 -- The answer to a script: a run of the machine whose steps are those that the records ask for, in order,
 -- and the records that it is told. This product's own rule.
-use Rattle.std.specs.Prelude.{ℕ, ◌≡◌, ◌+◌, Bool, true, false, List, [], ◌∷◌, ◌++◌, length, Option, Some, None, Result, Ok, Err, count_by, codes, if◌then◌else◌}
+use Rattle.std.specs.Prelude.{ℕ, ◌≡◌, ◌≤◌, ◌+◌, Bool, true, false, List, [], ◌∷◌, ◌++◌, length, Option, Some, None, Result, Ok, Err, count_by, codes, if◌then◌else◌}
 use Rattle.std.specs.Str.{bytes_eq}
 use Rattle.std.specs.Io.KnownBytes.{Appends}
 use Rattle.nms_quote.specs.Roster.{Listing}
@@ -115,12 +115,21 @@ tally_of records events told = record {
   published = published_by events;
 }
 
+-- how many records a script may have
+abbrev pub most_records : ℕ
+most_records = 10000000
+
+-- so many came first, and the text has one more
+abbrev pub IsTooLong : Option (List ℕ) → List Record → Type 0
+IsTooLong bytes records = (length records ≡ most_records) × (next : Record) × BeginRecords bytes (records ++ next ∷ [])
+
 -- a script that ran to its end: what was written is the answer to all records of the text, and nothing else
 pub record Answers (opening : Opening) (bytes old new : Option (List ℕ)) (counts : Counts) : Type 0 where
   pub records : List Record
   pub events : List Event
   pub told : List Record
   pub all : AreAllRecords bytes records
+  pub few : length records ≤ most_records
   pub answer : IsScriptAnswer opening records events told
   pub written : Appends old new (text_of told)
   pub counted : counts ≡ tally_of records events told
@@ -133,7 +142,7 @@ pub record AnswersBeginning (opening : Opening) (bytes old new : Option (List �
   pub begun : BeginRecords bytes records
   pub answer : IsScriptAnswer opening records events told
   pub written : Appends old new (text_of told)
-  pub long : fault ≡ script_fault.TooLong → length records ≡ 10000000
+  pub long : fault ≡ script_fault.TooLong → IsTooLong bytes records
 
 -- the machine went on by events that were answered so, and what they tell was added to the text. Whether
 -- it was a refusal is told too

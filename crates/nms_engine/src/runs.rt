@@ -138,6 +138,7 @@ fn advance<R: Read, W: Write>(
 /// Reads the next record.
 fn read<R: Read>(reader: &mut Reader<R>, row: &mut ByteRecord) -> Result<bool, ScriptFault>
     ensures found { (bytes : Option (List ℕ)) (seen : List Record) → ReadsFrom R.remaining reader.old bytes seen → result ≡ Ok true → ReadsFrom R.remaining reader.new bytes (seen ++ fields_of row.new ∷ []) }
+    ensures more { (bytes : Option (List ℕ)) (seen : List Record) → ReadsFrom R.remaining reader.old bytes seen → result ≡ Ok true → BeginRecords bytes (seen ++ fields_of row.new ∷ []) }
     ensures end { (bytes : Option (List ℕ)) (seen : List Record) → ReadsFrom R.remaining reader.old bytes seen → result ≡ Ok false → AreAllRecords bytes seen }
     ensures begun { (bytes : Option (List ℕ)) (seen : List Record) → ReadsFrom R.remaining reader.old bytes seen → BeginRecords bytes seen }
     ensures short { IfErr result (λ fault. fault ≢ ScriptFault.TooLong) }

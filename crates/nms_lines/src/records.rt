@@ -26,6 +26,9 @@ pub fn read_next<R: Read>(reader: &mut Reader<R>, row: &mut ByteRecord) -> Resul
     ensures found { (bytes : Option (List ℕ)) (seen : List Record)
         → ReadsFrom R.remaining reader.old bytes seen → result ≡ Ok true
         → ReadsFrom R.remaining reader.new bytes (seen ++ fields_of row.new ∷ []) }
+    ensures more { (bytes : Option (List ℕ)) (seen : List Record)
+        → ReadsFrom R.remaining reader.old bytes seen → result ≡ Ok true
+        → BeginRecords bytes (seen ++ fields_of row.new ∷ []) }
     ensures end { (bytes : Option (List ℕ)) (seen : List Record)
         → ReadsFrom R.remaining reader.old bytes seen → result ≡ Ok false → AreAllRecords bytes seen }
 

@@ -1,7 +1,7 @@
 use Rattle.std.proofs.Common.{Bool, true, false, cond, refl, sym, arith, ◌≡◌, ◌≢◌, ◌≤◌, lit≤, ◌∙◌}
 use Rattle.nms_engine.specs.declared.runs.Progress.TheVariants as progress
 use mir.Val.{bool_byte}
-use Rattle.nms_engine.proofs.ProgressFacts.{answers_all, comes_first}
+use Rattle.nms_engine.proofs.ProgressFacts.{answers_all, answers_beginning, comes_first}
 use Rattle.nms_engine.proofs.runs.answer_records.Goals as goal
 
 pub loop-done-init : goal.loop-done-init
@@ -16,7 +16,12 @@ pub returns-in-Ok-Ended-clause-answered : goal.returns-in-Ok-Ended-clause-answer
 returns-in-Ok-Ended-clause-answered g c bytes reads =
     let came = c.in-Ok-Ended.ensures.came bytes (g.W.Write.contents c.args.writer.now) c.loop-done.refused (c.loop-done.invariant.come bytes reads) in
     let ended = rw c.in-Ok-Ended.field-0-is at came in
-    answers_all c.args.setup.now bytes c.advance.new.script.machine (g.W.Write.contents c.args.writer.now) (g.W.Write.contents c.advance.new.writer) c.loop-done.done c.loop-done.refused c.counts.result ended.0 ended.1 c.counts.ensures
+    answers_all c.args.setup.now bytes c.advance.new.script.machine (g.W.Write.contents c.args.writer.now) (g.W.Write.contents c.advance.new.writer) c.loop-done.done c.loop-done.refused c.counts.result ended.0 ended.1 c.loop-done.invariant.within c.counts.ensures
+
+pub returns-in-Err-clause-stopped : goal.returns-in-Err-clause-stopped
+returns-in-Err-clause-stopped g c bytes reads not_write =
+    let came = c.in-Err.ensures.came bytes (g.W.Write.contents c.args.writer.now) c.loop-done.refused (c.loop-done.invariant.come bytes reads) in
+    answers_beginning c.args.setup.now bytes (g.W.Write.contents c.args.writer.now) (g.W.Write.contents c.advance.new.writer) c.loop-done.done c.loop-done.refused c.in-Err.fault (came not_write)
 
 byte_of : (b : Bool) → bool_byte b ≡ cond b 1 0
 byte_of true = refl

@@ -1,6 +1,6 @@
-use Rattle.std.proofs.Common.{◌≡◌, true, ◌∙◌, inl}
+use Rattle.std.proofs.Common.{◌≡◌, ◌++◌, ◌∷◌, [], true, ◌∙◌, inl}
 use Rattle.csv.specs.Records.{fields_of}
-use Rattle.nms_lines.proofs.ReadFacts.{stands_more}
+use Rattle.nms_lines.proofs.ReadFacts.{begins_read, stands_more}
 use Rattle.nms_lines.proofs.records.read_next.Goals as goal
 
 pub returns-in-Ok-clause-found : goal.returns-in-Ok-clause-found
@@ -14,3 +14,7 @@ returns-in-Ok-clause-found g c = λ bytes seen reads found.
       config = read.2 ∙ reads.config;
       stands = stands_more {R = g.row.R.Denot} g.R.Read.remaining c.args.reader.now c.read_byte_record.new.self bytes seen (fields_of c.read_byte_record.new.row) reads.config reads.stands read;
     }
+
+pub returns-in-Ok-clause-more : goal.returns-in-Ok-clause-more
+returns-in-Ok-clause-more g c bytes seen reads found =
+    begins_read {R = g.row.R.Denot} g.R.Read.remaining c.read_byte_record.new.self bytes (seen ++ fields_of c.read_byte_record.new.row ∷ []) (returns-in-Ok-clause-found g c bytes seen reads found)
