@@ -5,11 +5,52 @@ mod steps;
 mod streams;
 
 use crate::{Counts, SETUP_K, ScriptFault, StepFault, run_script};
-use nms_fees::read_setup;
+use nms_fees::{Setup, read_setup};
 use nms_quote::{Feed, Roster};
 use std::alloc::Global;
+use std::fmt::Display;
 use std::process::Abort;
 use std::test::Fail;
+
+/// The setup of a document that is sound.
+fn setup_of(alloc: Global, document: &str) -> Result<Setup, Fail> {
+    Ok(read_setup(alloc, document)?)
+}
+
+/// What a script is told under a setup, and what it comes to.
+fn run(alloc: Global, setup: &Setup, script: &[u8]) -> Result<(String, Counts), Fail> {
+    let mut written = Vec::new(alloc);
+    let counts = run_script(alloc, setup, script, &mut written)?;
+    Ok((String::from_utf8(written)?, counts))
+}
+
+/// Asserts what a script is told under a setup, and what it comes to.
+fn assert_told_under(
+    rt: &impl Abort,
+    alloc: Global,
+    setup: &Setup,
+    script: &[u8],
+    told: &str,
+    counts: Counts,
+) -> Result<(), Fail> {
+    let (written, came_to) = run(alloc, setup, script)?;
+    assert_eq!(rt; written.as_str(), told, "at {script:?}");
+    assert_eq!(rt; came_to, counts, "at {script:?}");
+    Ok(())
+}
+
+/// Asserts what a script is told under the setup of a document, and what it comes to.
+fn assert_told_by(
+    rt: &impl Abort,
+    alloc: Global,
+    document: &str,
+    script: &[u8],
+    told: &str,
+    counts: Counts,
+) -> Result<(), Fail> {
+    let setup = setup_of(alloc, document)?;
+    assert_told_under(rt, alloc, &setup, script, told, counts)
+}
 
 /// Asserts what a script is told under the built-in setup, and what it comes to.
 fn assert_told(
@@ -19,12 +60,20 @@ fn assert_told(
     told: &str,
     counts: Counts,
 ) -> Result<(), Fail> {
-    let setup = read_setup(alloc, SETUP_K)?;
-    let mut written = Vec::new(alloc);
-    let came_to = run_script(alloc, &setup, script, &mut written)?;
-    let written = String::from_utf8(written)?;
-    assert_eq!(rt; written.as_str(), told, "at {script:?}");
-    assert_eq!(rt; came_to, counts, "at {script:?}");
+    assert_told_by(rt, alloc, SETUP_K, script, told, counts)
+}
+
+/// Asserts that scripts are all told the same, and come to the same.
+fn assert_each_told(
+    rt: &impl Abort,
+    alloc: Global,
+    scripts: &[&[u8]],
+    told: &str,
+    counts: Counts,
+) -> Result<(), Fail> {
+    for script in scripts {
+        assert_told(rt, alloc, script, told, counts)?;
+    }
     Ok(())
 }
 
@@ -56,24 +105,36 @@ fn lot_of(roster: &Roster, name: &[u8]) -> Option<u16> {
     Some(roster.lot_of(roster.find_sym(name)?).get())
 }
 
+fn assert_feeds(rt: &impl Abort, roster: &Roster, feeds: &[(&[u8], Feed)]) {
+    for (name, feed) in feeds {
+        assert_eq!(rt; feed_of(roster, name), Some(*feed), "at {name:?}");
+    }
+}
+
+fn assert_lots(rt: &impl Abort, roster: &Roster, names: &[&[u8]], lot: u16) {
+    for name in names {
+        assert_eq!(rt; lot_of(roster, name), Some(lot), "at {name:?}");
+    }
+}
+
+fn assert_bounds(rt: &impl Abort, setup: &Setup, tape_limit: u64, queue: usize, desks: u8) {
+    assert_eq!(rt; setup.tape_limit(), tape_limit);
+    assert_eq!(rt; setup.queue(), queue);
+    assert_eq!(rt; setup.desks(), desks);
+}
+
 #[test]
 fn the_built_in_setup_has_four_participants_and_two_symbols(rt: HostRuntime) -> Result<(), Fail> {
-    let setup = read_setup(rt.alloc(), SETUP_K)?;
-    assert_eq!(rt; setup.tape_limit(), 1000);
-    assert_eq!(rt; setup.queue(), 16);
-    assert_eq!(rt; setup.desks(), 2);
-    let roster = setup.roster();
-    for (name, feed) in [
+    let setup = setup_of(rt.alloc(), SETUP_K)?;
+    assert_bounds(&rt, &setup, 1000, 16, 2);
+    let feeds = [
         (b"N".as_slice(), Feed::A),
         (b"P", Feed::A),
         (b"Y", Feed::B),
         (b"Z", Feed::B),
-    ] {
-        assert_eq!(rt; feed_of(roster, name), Some(feed), "at {name:?}");
-    }
-    for name in [b"ABC".as_slice(), b"PNY"] {
-        assert_eq!(rt; lot_of(roster, name), Some(100), "at {name:?}");
-    }
+    ];
+    assert_feeds(&rt, setup.roster(), &feeds);
+    assert_lots(&rt, setup.roster(), &[b"ABC", b"PNY"], 100);
     Ok(())
 }
 
@@ -167,17 +228,15 @@ fn a_refused_record_changes_nothing_and_the_script_goes_on(rt: HostRuntime) -> R
 
 #[test]
 fn a_kind_that_is_not_served_is_unknown(rt: HostRuntime) -> Result<(), Fail> {
-    for record in [
+    let scripts = [
         b"E,0,ABC,10.00".as_slice(),
         b"E",
         b"O,0,B,ABC,100,10.00",
         b"O",
         b"R,ABC,40",
         b"n,0,ABC",
-    ] {
-        assert_told(&rt, rt.alloc(), record, "ERR,1,L1\n", refused(1, 1))?;
-    }
-    Ok(())
+    ];
+    assert_each_told(&rt, rt.alloc(), &scripts, "ERR,1,L1\n", refused(1, 1))
 }
 
 /// A script of so many quotes of one bid, each at a price of its own from 1 dollar on, with an `F`
@@ -272,33 +331,25 @@ fn an_empty_queue_publishes_a_full_tape(rt: HostRuntime) -> Result<(), Fail> {
 
 #[test]
 fn records_end_as_csv_ends_them(rt: HostRuntime) -> Result<(), Fail> {
-    for (script, records) in [
-        (b"F\nK\n".as_slice(), 2),
-        (b"F\r\nK\r\n", 2),
-        (b"F\nK", 2),
-        (b"\n\r\n\nF\n\n\r\n\rK\n\n", 2),
-        (b"\xef\xbb\xbfF\nK\n", 2),
-        (b"\"F\"\n\"K\"\n", 2),
-        (b"F\n\"K\nF\n", 2),
-        (b"F\n\"\"", 2),
-    ] {
-        assert_told(
-            &rt,
-            rt.alloc(),
-            script,
-            "PUB,0\nERR,2,L1\n",
-            refused(records, 1),
-        )?;
-    }
-    for script in [
+    let scripts = [
+        b"F\nK\n".as_slice(),
+        b"F\r\nK\r\n",
+        b"F\nK",
+        b"\n\r\n\nF\n\n\r\n\rK\n\n",
+        b"\xef\xbb\xbfF\nK\n",
+        b"\"F\"\n\"K\"\n",
+        b"F\n\"K\nF\n",
+        b"F\n\"\"",
+    ];
+    let told = "PUB,0\nERR,2,L1\n";
+    assert_each_told(&rt, rt.alloc(), &scripts, told, refused(2, 1))?;
+    let empty = [
         b"\n".as_slice(),
         b"\r\n\n\r",
         b"\xef\xbb\xbf",
         b"\xef\xbb\xbf\n",
-    ] {
-        assert_told(&rt, rt.alloc(), script, "", refused(0, 0))?;
-    }
-    Ok(())
+    ];
+    assert_each_told(&rt, rt.alloc(), &empty, "", refused(0, 0))
 }
 
 #[test]
@@ -312,9 +363,22 @@ fn bytes_that_are_no_text_are_refused(rt: HostRuntime) -> Result<(), Fail> {
     )
 }
 
+/// Asserts what each fault is printed as.
+fn assert_printed<T: Display>(
+    rt: &impl Abort,
+    alloc: Global,
+    faults: &[(T, &str)],
+) -> Result<(), Fail> {
+    for (fault, text) in faults {
+        let printed = format!(in alloc; "{fault}")?;
+        assert_eq!(rt; printed.as_str(), *text);
+    }
+    Ok(())
+}
+
 #[test]
 fn faults_are_printed_with_their_codes(rt: HostRuntime) -> Result<(), Fail> {
-    for (fault, text) in [
+    let script_faults = [
         (ScriptFault::ReadFault, "E1: the input could not be read"),
         (
             ScriptFault::WriteFault,
@@ -322,18 +386,13 @@ fn faults_are_printed_with_their_codes(rt: HostRuntime) -> Result<(), Fail> {
         ),
         (ScriptFault::TooLong, "E3: the input is too long"),
         (ScriptFault::NoMemory, "E4: out of memory"),
-    ] {
-        let told = format!(in rt.alloc(); "{fault}")?;
-        assert_eq!(rt; told.as_str(), text);
-    }
-    for (fault, text) in [
+    ];
+    assert_printed(&rt, rt.alloc(), &script_faults)?;
+    let step_faults = [
         (StepFault::QueueFull, "F2: the queue is full"),
         (StepFault::QueueEmpty, "F3: the queue is empty"),
         (StepFault::TapeFull, "F4: the tape is full"),
         (StepFault::NoMemory, "F5: out of memory"),
-    ] {
-        let told = format!(in rt.alloc(); "{fault}")?;
-        assert_eq!(rt; told.as_str(), text);
-    }
-    Ok(())
+    ];
+    assert_printed(&rt, rt.alloc(), &step_faults)
 }

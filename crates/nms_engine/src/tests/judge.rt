@@ -1,8 +1,8 @@
 //! A plain slow program that answers scripts of quotes from the definitions, looking back over all
 //! changes at each question.
 
-use crate::{Counts, SETUP_K, run_script};
-use nms_fees::read_setup;
+use super::{assert_told_under, setup_of};
+use crate::{Counts, SETUP_K};
 use nms_quote::Side;
 use std::alloc::Global;
 use std::test::Fail;
@@ -145,6 +145,25 @@ impl Chance {
             Some((price, shares))
         }
     }
+
+    /// A quote, and the letter of its state.
+    fn quote(&mut self) -> (Quote, &'static str) {
+        let (part, sym) = (self.below(4) as usize, self.below(2) as usize);
+        let (letter, halted) = match self.below(6) {
+            0 => ("H", true),
+            1 => ("M", false),
+            _ => ("A", false),
+        };
+        let (bid, offer) = (self.side(), self.side());
+        let quote = Quote {
+            part,
+            sym,
+            halted,
+            bid,
+            offer,
+        };
+        (quote, letter)
+    }
 }
 
 /// A script, what it is to be told, and what it is to come to.
@@ -173,37 +192,29 @@ impl Case {
     }
 
     /// A quote. A queue of 16 refuses it where it is full.
-    fn quote(&mut self, chance: &mut Chance) -> Result<(), Fail> {
-        let (part, sym) = (chance.below(4) as usize, chance.below(2) as usize);
-        let (letter, halted) = match chance.below(6) {
-            0 => ("H", true),
-            1 => ("M", false),
-            _ => ("A", false),
-        };
-        let (bid, offer) = (chance.side(), chance.side());
-        let part_name = PARTS.get(part).ok_or("a participant")?;
-        let sym_name = SYMS.get(sym).ok_or("a symbol")?;
-        write!(self.script, "Q,{part_name},{sym_name},{letter}")?;
-        self.side(bid)?;
-        self.side(offer)?;
-        self.script.push('\n')?;
+    fn quote(&mut self, quote: Quote) -> Result<(), Fail> {
         let number = self.number();
         if (self.sent.len() as u64).saturating_sub(self.counts.published) == 16 {
             self.counts.refused = self.counts.refused.saturating_add(1);
             writeln!(self.told, "ERR,{number},F2")?;
             return Ok(());
         }
-        let (bid, offer) = (
-            bid.filter(|side| side.1 > 0),
-            offer.filter(|side| side.1 > 0),
-        );
         self.sent.push(Quote {
-            part,
-            sym,
-            halted,
-            bid,
-            offer,
+            bid: quote.bid.filter(|side| side.1 > 0),
+            offer: quote.offer.filter(|side| side.1 > 0),
+            ..quote
         })?;
+        Ok(())
+    }
+
+    /// The record of a quote in the state of that letter.
+    fn record(&mut self, quote: Quote, letter: &str) -> Result<(), Fail> {
+        let part = PARTS.get(quote.part).ok_or("a participant")?;
+        let sym = SYMS.get(quote.sym).ok_or("a symbol")?;
+        write!(self.script, "Q,{part},{sym},{letter}")?;
+        self.side(quote.bid)?;
+        self.side(quote.offer)?;
+        self.script.push('\n')?;
         Ok(())
     }
 
@@ -237,20 +248,24 @@ impl Case {
     }
 
     /// A desk looks.
-    fn look(&mut self, chance: &mut Chance) -> Result<(), Fail> {
-        let (desk, sym) = (chance.below(2), chance.below(2) as usize);
+    fn look(&mut self, desk: u64, sym: usize) -> Result<(), Fail> {
         let sym_name = SYMS.get(sym).ok_or("a symbol")?;
         writeln!(self.script, "N,{desk},{sym_name}")?;
         self.number();
         let version = self.counts.published;
-        let tape = self.sent.get(..version as usize).ok_or("a version")?;
-        let (bid, offer) = (best(tape, sym, Side::Bid), best(tape, sym, Side::Offer));
+        let (bid, offer) = self.best_rows(version as usize, sym)?;
         let market = market(bid, offer);
         write!(self.told, "BEST,{desk},{sym_name},{version},{market}")?;
         self.best(bid)?;
         self.best(offer)?;
         self.told.push('\n')?;
         Ok(())
+    }
+
+    /// The best rows of a symbol at a version.
+    fn best_rows(&self, version: usize, sym: usize) -> Result<(Option<Row>, Option<Row>), Fail> {
+        let tape = self.sent.get(..version).ok_or("a version")?;
+        Ok((best(tape, sym, Side::Bid), best(tape, sym, Side::Offer)))
     }
 
     /// The four fields of a best row.
@@ -268,36 +283,40 @@ impl Case {
     }
 }
 
+/// One more record of a case.
+fn add_record(case: &mut Case, chance: &mut Chance) -> Result<(), Fail> {
+    match chance.below(10) {
+        0 => case.take_all(),
+        1 | 2 => case.look(chance.below(2), chance.below(2) as usize),
+        _ => {
+            let (quote, letter) = chance.quote();
+            case.record(quote, letter)?;
+            case.quote(quote)
+        }
+    }
+}
+
 /// A case of so many records.
 fn random_case(alloc: Global, chance: &mut Chance, records: u64) -> Result<Case, Fail> {
     let mut case = Case::new(alloc);
     for _ in 0..records {
-        match chance.below(10) {
-            0 => case.take_all()?,
-            1 | 2 => case.look(chance)?,
-            _ => case.quote(chance)?,
-        }
+        add_record(&mut case, chance)?;
     }
     case.take_all()?;
-    case.look(chance)?;
+    case.look(chance.below(2), chance.below(2) as usize)?;
     Ok(case)
 }
 
 #[test]
 fn scripts_are_told_what_the_definitions_say(rt: HostRuntime) -> Result<(), Fail> {
-    let setup = read_setup(rt.alloc(), SETUP_K)?;
+    let setup = setup_of(rt.alloc(), SETUP_K)?;
     let mut chance = Chance { seed: 242_600 };
     let mut refused = 0u64;
     for _ in 0..3000 {
         let case = random_case(rt.alloc(), &mut chance, 40)?;
-        let mut written = Vec::new(rt.alloc());
-        let script = case.script.as_bytes();
-        let counts = run_script(rt.alloc(), &setup, script, &mut written)?;
-        let written = String::from_utf8(written)?;
-        let script = case.script.as_str();
-        assert_eq!(rt; written.as_str(), case.told.as_str(), "at {script}");
-        assert_eq!(rt; counts, case.counts, "at {script}");
-        refused = refused.saturating_add(counts.refused);
+        let (script, told) = (case.script.as_bytes(), case.told.as_str());
+        assert_told_under(&rt, rt.alloc(), &setup, script, told, case.counts)?;
+        refused = refused.saturating_add(case.counts.refused);
     }
     assert!(rt; refused > 0, "no queue was full");
     Ok(())

@@ -1,5 +1,5 @@
+use super::setup_of;
 use crate::{Counts, SETUP_K, ScriptFault, run_script};
-use nms_fees::read_setup;
 use std::alloc::Global;
 use std::io;
 use std::io::{Read, Write};
@@ -41,6 +41,33 @@ impl Write for Counter {
     }
 }
 
+/// A thousand records that each take and publish all.
+fn thousand(alloc: Global) -> Result<Vec<u8>, Fail> {
+    let mut thousand = Vec::new(alloc);
+    for _ in 0..1000 {
+        thousand.extend_from_slice(b"F\n")?;
+    }
+    Ok(thousand)
+}
+
+/// What ten thousand times a text come to with one more text behind them, and how many bytes they
+/// are answered.
+fn run_most(
+    alloc: Global,
+    text: &[u8],
+    behind: &[u8],
+) -> Result<(Result<Counts, ScriptFault>, u64), Fail> {
+    let setup = setup_of(alloc, SETUP_K)?;
+    let most = Again {
+        text,
+        rest: b"",
+        times: 10_000,
+    };
+    let mut counter = Counter { bytes: 0 };
+    let came_to = run_script(alloc, &setup, most.chain(behind), &mut counter);
+    Ok((came_to, counter.bytes))
+}
+
 /// Asserts what 10,000,000 records come to with this text behind them, and that they are answered.
 fn assert_most_come_to(
     rt: &impl Abort,
@@ -48,20 +75,10 @@ fn assert_most_come_to(
     behind: &[u8],
     wanted: Result<Counts, ScriptFault>,
 ) -> Result<(), Fail> {
-    let setup = read_setup(alloc, SETUP_K)?;
-    let mut thousand = Vec::new(alloc);
-    for _ in 0..1000 {
-        thousand.extend_from_slice(b"F\n")?;
-    }
-    let most = Again {
-        text: thousand.as_slice(),
-        rest: b"",
-        times: 10_000,
-    };
-    let mut counter = Counter { bytes: 0 };
-    let came_to = run_script(alloc, &setup, most.chain(behind), &mut counter);
+    let thousand = thousand(alloc)?;
+    let (came_to, bytes) = run_most(alloc, thousand.as_slice(), behind)?;
     assert_eq!(rt; came_to, wanted);
-    assert_eq!(rt; counter.bytes, 10_000_000 * "PUB,0\n".len() as u64);
+    assert_eq!(rt; bytes, 10_000_000 * "PUB,0\n".len() as u64);
     Ok(())
 }
 

@@ -6,10 +6,10 @@ use nms_board::{Boards, View};
 use nms_quote::{Change, Feed, Part, QState, Roster, Side, SideQuote, Sym};
 use nms_units::{Lot, Price, Shares};
 use std::alloc::Global;
+use std::io;
 use std::io::Write;
 use std::process::Abort;
 use std::test::Fail;
-use std::{io, str};
 
 const N: u8 = 0;
 
@@ -27,18 +27,28 @@ const PNY: u16 = 1;
 
 const LONG: u16 = 2;
 
-/// Participants of one character and one of four, and symbols of three characters and one of eight, in
-/// lots of 100.
-fn roster(alloc: Global) -> Result<Roster, Fail> {
-    let lot = Lot::new(100).ok_or("a lot")?;
-    let mut roster = Roster::new(alloc)?;
+fn add_participants(roster: &mut Roster) -> Result<(), Fail> {
     for name in b"NPYZ" {
         roster.add_participant(&[*name], Feed::A)?;
     }
     roster.add_participant(b"WXYZ", Feed::B)?;
-    roster.add_symbol(b"ABC", lot)?;
-    roster.add_symbol(b"PNY", lot)?;
-    roster.add_symbol(b"BRK.B.01", lot)?;
+    Ok(())
+}
+
+fn add_symbols(roster: &mut Roster) -> Result<(), Fail> {
+    let lot = Lot::new(100).ok_or("a lot")?;
+    for name in [b"ABC".as_slice(), b"PNY", b"BRK.B.01"] {
+        roster.add_symbol(name, lot)?;
+    }
+    Ok(())
+}
+
+/// Participants of one character and one of four, and symbols of three characters and one of eight, in
+/// lots of 100.
+fn roster(alloc: Global) -> Result<Roster, Fail> {
+    let mut roster = Roster::new(alloc)?;
+    add_participants(&mut roster)?;
+    add_symbols(&mut roster)?;
     Ok(roster)
 }
 
@@ -105,6 +115,13 @@ fn write_report<W: Write>(
     report(view, roster, writer)
 }
 
+/// The text of a report.
+fn text_of(rt: &impl Abort, alloc: Global, view: &View, roster: &Roster) -> Result<String, Fail> {
+    let mut text = Vec::new(alloc);
+    write_report(rt, view, roster, &mut text)?;
+    Ok(String::from_utf8(text)?)
+}
+
 /// Asserts what the report of a symbol says after those changes.
 fn assert_report(
     rt: &impl Abort,
@@ -115,9 +132,8 @@ fn assert_report(
 ) -> Result<(), Fail> {
     let roster = roster(alloc)?;
     let view = view_after(rt, alloc, &roster, changes, sym)?;
-    let mut text = Vec::new(alloc);
-    write_report(rt, &view, &roster, &mut text)?;
-    assert_eq!(rt; str::from_utf8(&text)?, expected);
+    let text = text_of(rt, alloc, &view, &roster)?;
+    assert_eq!(rt; text.as_str(), expected);
     Ok(())
 }
 
@@ -228,24 +244,32 @@ impl Write for Failing {
     }
 }
 
-#[test]
-fn each_write_that_fails_is_a_write_fault(rt: HostRuntime) -> Result<(), Fail> {
-    let roster = roster(rt.alloc())?;
-    let view = view_after(&rt, rt.alloc(), &roster, &crossed()?, PNY)?;
+/// How many writes a report takes.
+fn writes_of(rt: &impl Abort, view: &View, roster: &Roster) -> Result<usize, Fail> {
     let mut all = Failing {
         left: 10_000,
         taken: 0,
     };
-    write_report(&rt, &view, &roster, &mut all)?;
-    assert!(&rt; all.taken > 9, "a line each at least");
-    for left in 0..all.taken {
-        let mut failing = Failing { left, taken: 0 };
-        assert_eq!(&rt;
-            write_report(&rt, &view, &roster, &mut failing),
-            Err(ScriptFault::WriteFault),
-            "at {left}"
-        );
-        assert_eq!(&rt; failing.taken, left);
+    write_report(rt, view, roster, &mut all)?;
+    Ok(all.taken)
+}
+
+/// Asserts that a report ends at the first write that fails.
+fn assert_ends_behind(rt: &impl Abort, view: &View, roster: &Roster, left: usize) {
+    let mut failing = Failing { left, taken: 0 };
+    let told = write_report(rt, view, roster, &mut failing);
+    assert_eq!(rt; told, Err(ScriptFault::WriteFault), "at {left}");
+    assert_eq!(rt; failing.taken, left);
+}
+
+#[test]
+fn each_write_that_fails_is_a_write_fault(rt: HostRuntime) -> Result<(), Fail> {
+    let roster = roster(rt.alloc())?;
+    let view = view_after(&rt, rt.alloc(), &roster, &crossed()?, PNY)?;
+    let writes = writes_of(&rt, &view, &roster)?;
+    assert!(&rt; writes > 9, "a line each at least");
+    for left in 0..writes {
+        assert_ends_behind(&rt, &view, &roster, left);
     }
     Ok(())
 }

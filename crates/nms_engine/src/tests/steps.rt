@@ -1,8 +1,5 @@
-use super::{assert_told, published};
-use crate::{Counts, run_script};
-use nms_fees::read_setup;
-use std::alloc::Global;
-use std::process::Abort;
+use super::{assert_told, assert_told_by, published};
+use crate::Counts;
 use std::test::Fail;
 
 /// A tape of three changes, a queue of four, one desk.
@@ -30,23 +27,6 @@ participant = [
 ]
 symbol = [{name = \"ABC\", lot = 40}]
 ";
-
-/// Asserts what a script is told under a setup, and what it comes to.
-fn assert_told_under(
-    rt: &impl Abort,
-    alloc: Global,
-    setup: &str,
-    script: &[u8],
-    told: &str,
-    counts: Counts,
-) -> Result<(), Fail> {
-    let setup = read_setup(alloc, setup)?;
-    let mut written = Vec::new(alloc);
-    let came_to = run_script(alloc, &setup, script, &mut written)?;
-    assert_eq!(rt; String::from_utf8(written)?.as_str(), told, "at {script:?}");
-    assert_eq!(rt; came_to, counts, "at {script:?}");
-    Ok(())
-}
 
 #[test]
 fn a_halt_hides_and_keeps_the_receipt(rt: HostRuntime) -> Result<(), Fail> {
@@ -110,7 +90,7 @@ fn refused_prices_and_halves_of_sides_change_nothing(rt: HostRuntime) -> Result<
 
 #[test]
 fn a_full_tape_is_published_and_told_of(rt: HostRuntime) -> Result<(), Fail> {
-    assert_told_under(
+    assert_told_by(
         &rt,
         rt.alloc(),
         SHORT_TAPE,
@@ -127,7 +107,7 @@ fn a_full_tape_is_published_and_told_of(rt: HostRuntime) -> Result<(), Fail> {
 
 #[test]
 fn a_queue_is_filled_taken_and_emptied(rt: HostRuntime) -> Result<(), Fail> {
-    assert_told_under(
+    assert_told_by(
         &rt,
         rt.alloc(),
         SHORT_QUEUE,

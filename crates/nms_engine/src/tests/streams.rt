@@ -1,9 +1,11 @@
+use super::setup_of;
 use crate::{Counts, SETUP_K, ScriptFault, run_script};
-use nms_fees::read_setup;
+use nms_fees::Setup;
 use std::alloc::Global;
 use std::cell::Cell;
 use std::io;
 use std::io::{Read, Write};
+use std::process::Abort;
 use std::test::Fail;
 
 /// Records, each with its answer. The first one is answered by nothing.
@@ -25,6 +27,19 @@ const EXCHANGES: [(&str, &str); 9] = [
     ),
 ];
 
+fn exchanges() -> &'static [(&'static str, &'static str)] {
+    &EXCHANGES
+}
+
+/// The answers to all records.
+fn answers(alloc: Global) -> Result<String, Fail> {
+    let mut answers = String::new(alloc);
+    for (_, answer) in exchanges() {
+        answers.push_str(answer)?;
+    }
+    Ok(answers)
+}
+
 /// Gives no byte of a record, and no end, unless the answers to all records before are out and no
 /// more: then the read fails.
 #[derive(Drop)]
@@ -41,10 +56,9 @@ impl<'a> Read for Asker<'a> {
             if self.out.get() != self.due {
                 return Err(io::Error::from(io::ErrorKind::TimedOut));
             }
-            if self.next >= EXCHANGES.len() {
+            let Some((record, answer)) = exchanges().get(self.next) else {
                 return Ok(0);
-            }
-            let (record, answer) = EXCHANGES[self.next];
+            };
             self.next = self.next.saturating_add(1);
             self.due = self.due.saturating_add(answer.len());
             self.rest = record.as_bytes();
@@ -79,16 +93,32 @@ impl<'a> Write for Holder<'a> {
     }
 }
 
-#[test]
-fn each_answer_is_one_write_and_out_before_the_next_read(rt: HostRuntime) -> Result<(), Fail> {
-    let setup = read_setup(rt.alloc(), SETUP_K)?;
-    let out = Cell::new(0);
+/// What the script of the exchanges comes to.
+fn run_exchanges(
+    alloc: Global,
+    out: &Cell<usize>,
+    holder: &mut Holder<'_>,
+) -> Result<Counts, Fail> {
+    let setup = setup_of(alloc, SETUP_K)?;
     let asker = Asker {
         rest: b"",
         next: 0,
         due: 0,
-        out: &out,
+        out,
     };
+    Ok(run_script(alloc, &setup, asker, holder)?)
+}
+
+fn assert_holds(rt: &impl Abort, holder: &Holder<'_>, calls: usize, text: &str) {
+    assert_eq!(rt; holder.writes, calls);
+    assert_eq!(rt; holder.flushes, calls);
+    assert_eq!(rt; holder.held, 0);
+    assert_eq!(rt; holder.text.as_slice(), text.as_bytes());
+}
+
+#[test]
+fn each_answer_is_one_write_and_out_before_the_next_read(rt: HostRuntime) -> Result<(), Fail> {
+    let out = Cell::new(0);
     let mut holder = Holder {
         text: Vec::new(rt.alloc()),
         held: 0,
@@ -96,24 +126,15 @@ fn each_answer_is_one_write_and_out_before_the_next_read(rt: HostRuntime) -> Res
         writes: 0,
         flushes: 0,
     };
-    let counts = run_script(rt.alloc(), &setup, asker, &mut holder)?;
-    assert_eq!(rt;
-        counts,
-        Counts {
-            records: 9,
-            refused: 2,
-            tape: 3,
-            published: 3,
-        }
-    );
-    assert_eq!(rt; holder.writes, 6);
-    assert_eq!(rt; holder.flushes, 6);
-    assert_eq!(rt; holder.held, 0);
-    let mut told = String::new(rt.alloc());
-    for (_, answer) in EXCHANGES {
-        told.push_str(answer)?;
-    }
-    assert_eq!(rt; holder.text.as_slice(), told.as_bytes());
+    let counts = Counts {
+        records: 9,
+        refused: 2,
+        tape: 3,
+        published: 3,
+    };
+    assert_eq!(rt; run_exchanges(rt.alloc(), &out, &mut holder)?, counts);
+    let answers = answers(rt.alloc())?;
+    assert_holds(&rt, &holder, 6, answers.as_str());
     Ok(())
 }
 
@@ -153,16 +174,30 @@ fn told_before_a_fault(
     alloc: Global,
     text: &[u8],
 ) -> Result<(Result<Counts, ScriptFault>, String), Fail> {
-    let setup = read_setup(alloc, SETUP_K)?;
+    let setup = setup_of(alloc, SETUP_K)?;
     let mut written = Vec::new(alloc);
     let reader = text.chain(Broken { writes: false });
     let came_to = run_script(alloc, &setup, reader, &mut written);
     Ok((came_to, String::from_utf8(written)?))
 }
 
+/// Asserts what scripts are told whose readers fail behind their texts.
+fn assert_told_before_a_fault(
+    rt: &impl Abort,
+    alloc: Global,
+    cases: &[(&[u8], &str)],
+) -> Result<(), Fail> {
+    for (text, answers) in cases {
+        let (came_to, told) = told_before_a_fault(alloc, text)?;
+        assert_eq!(rt; came_to, Err(ScriptFault::ReadFault), "at {text:?}");
+        assert_eq!(rt; told.as_str(), *answers, "at {text:?}");
+    }
+    Ok(())
+}
+
 #[test]
 fn a_failed_read_leaves_the_answers_so_far(rt: HostRuntime) -> Result<(), Fail> {
-    for (text, answers) in [
+    let cases = [
         (b"".as_slice(), ""),
         (
             b"Q,N,ABC,A,,,10.00,100\nF\nK\nF\n",
@@ -173,25 +208,31 @@ fn a_failed_read_leaves_the_answers_so_far(rt: HostRuntime) -> Result<(), Fail> 
             b"Q,N,ABC,A,,,10.00,100\nF\nK\nF\nN,0,ABC",
             "PUB,1\nERR,3,L1\nPUB,1\n",
         ),
-    ] {
-        let (came_to, told) = told_before_a_fault(rt.alloc(), text)?;
-        assert_eq!(rt; came_to, Err(ScriptFault::ReadFault), "at {text:?}");
-        assert_eq!(rt; told.as_str(), answers, "at {text:?}");
-    }
+    ];
+    assert_told_before_a_fault(&rt, rt.alloc(), &cases)
+}
+
+/// Asserts that an answer is not told to a writer, and that it takes a script with no answer.
+fn assert_breaks(
+    rt: &impl Abort,
+    alloc: Global,
+    setup: &Setup,
+    writer: &mut Broken,
+) -> Result<(), Fail> {
+    let told = run_script(alloc, setup, b"F\nF\n".as_slice(), writer);
+    assert_eq!(rt; told, Err(ScriptFault::WriteFault));
+    // Nothing is told here, so nothing is written.
+    let quote = b"Q,N,ABC,A,,,10.00,100\n".as_slice();
+    let untold = run_script(alloc, setup, quote, writer)?;
+    assert_eq!(rt; untold.records, 1);
     Ok(())
 }
 
 #[test]
 fn a_failed_write_or_flush_ends_the_script(rt: HostRuntime) -> Result<(), Fail> {
-    let setup = read_setup(rt.alloc(), SETUP_K)?;
+    let setup = setup_of(rt.alloc(), SETUP_K)?;
     for writes in [false, true] {
-        let mut writer = Broken { writes };
-        let told = run_script(rt.alloc(), &setup, b"F\nF\n".as_slice(), &mut writer);
-        assert_eq!(rt; told, Err(ScriptFault::WriteFault));
-        // Nothing is told here, so nothing is written.
-        let quote = b"Q,N,ABC,A,,,10.00,100\n".as_slice();
-        let untold = run_script(rt.alloc(), &setup, quote, &mut writer)?;
-        assert_eq!(rt; untold.records, 1);
+        assert_breaks(&rt, rt.alloc(), &setup, &mut Broken { writes })?;
     }
     Ok(())
 }
