@@ -1,3 +1,4 @@
+pub mod ChangeFacts
 pub mod Counted
 pub mod NamedSubs
 pub mod PlainCalls

@@ -1,1 +1,2 @@
+pub mod ChangeFile
 pub mod CommandLine
