@@ -2,32 +2,33 @@
 use Rattle.std.proofs.Common.{◌≡◌, ◌≢◌, ℕ, zero, suc, ◌+◌, ◌*◌, ◌/◌, ◌<◌, ◌≤◌, ◌&&◌, ◌==◌, Bool, true, false, List, [], ◌∷◌, ◌++◌, length, Option, Some, None, unwrap_or, get_or, slice_get, slice_set, slice_index, option_and_then, if◌then◌else◌, nat_lt, refl, sym, ap, subst, ◌∙◌, inl, inr, arith, add-one, eqb, eq-eqb, ne_eqb, lt-ltb, ltb-true, mul-zero}
 use Rattle.std.proofs.lemmas.List.{length-append, length-set, get_or_past}
 use Rattle.std.proofs.lemmas.Option.{slice_get_read, unwrap_or-slice_get}
-use Rattle.std.proofs.lemmas.Bool.{and_parts, and_from, and_left, and_right, cases_Bool, cases_eq, cases_lt}
+use Rattle.std.proofs.lemmas.Bool.{and_parts, and_from, and_left, and_right, cases_Bool, cases_eq, cases_lt, false≢true}
 use Rattle.nms_quote.specs.Content.{Content}
 use Rattle.nms_quote.specs.Roster.{Sizes, holds}
 use Rattle.nms_quote.specs.Tape.{Tape}
-use Rattle.nms_quote.specs.declared.quotes.Side.{Side}
-use Rattle.nms_quote.specs.declared.quotes.Side.TheVariants.{Bid, Offer}
-use Rattle.nms_quote.specs.declared.quotes.QState.{QState}
-use Rattle.nms_quote.specs.declared.changes.Change.{Change}
-use Rattle.nms_quote.specs.declared.changes.Change.TheVariants.{Quote, State, Withdraw}
-use Rattle.nms_board.specs.History.{before_equal_end, on_side, said_of, content_at, state_said, state_at, receipt_of, same_content}
-use Rattle.nms_board.specs.Cells.{Contents, StandsFor, after, cells_after, cell_of, change_cell, empty_cell, held_after, held_of, opening, place_of, quoted, restated, set_if_some, takes, withdraw_from, withdrawn}
+use Rattle.nms_quote.specs.declared.side_quote.Side.{Side}
+use Rattle.nms_quote.specs.declared.side_quote.Side.TheVariants.{Bid, Offer}
+use Rattle.nms_quote.specs.declared.side_quote.QState.{QState}
+use Rattle.nms_quote.specs.declared.change.Change.{Change}
+use Rattle.nms_quote.specs.declared.change.Change.TheVariants.{Quote, State, Withdraw}
+use Rattle.nms_board.specs.declared.TheConstants.{MOST_ROWS}
+use Rattle.nms_board.specs.History.{before_equal_end, concerns, on_side, said_of, content_at, state_said, state_at, receipt_of, same_content}
+use Rattle.nms_board.specs.Cells.{Board, StandsFor, after, cells_after, cell_of, change_cell, empty_cell, held_after, held_of, opening, place_of, quoted, restated, set_if_some, takes, withdraw_from, withdrawn}
 use Rattle.nms_board.specs.Quotation.{is_halted, quotation, quotation_of, quotations}
 use Rattle.nms_board.specs.Shown.{row_held, row_of_cell, rows_held, seen_on}
 use Rattle.nms_board.specs.View.{view_of}
-use Rattle.nms_board.specs.declared.rows.Row.{Row}
-use Rattle.nms_board.specs.declared.cells.Held.{Held}
-use Rattle.nms_board.specs.declared.cells.Cell.{Cell}
+use Rattle.nms_board.specs.declared.row.Row.{Row}
+use Rattle.nms_board.specs.declared.cell.Held.{Held}
+use Rattle.nms_board.specs.declared.cell.Cell.{Cell}
 use Rattle.nms_board.proofs.ListLemmas.{slice_get-set_same, slice_get-set_other, slice_get-replicate_below, filter_map_none, filter_map_same}
 use Rattle.nms_board.proofs.HistoryLemmas.{content_at-push, receipt_of-push, same_content-refl, same_content-true, state_at-push}
 
 -- the roster stays
-pub sizes_after : (board : Contents) (change : Change) → (after board change).sizes ≡ board.sizes
+pub sizes_after : (board : Board) (change : Change) → (after board change).sizes ≡ board.sizes
 sizes_after board change = refl
 
 -- a board with room takes what the roster holds
-pub takes_by : (board : Contents) (change : Change) → holds board.sizes change ≡ true → board.applied < 10000000 → takes board change ≡ true
+pub takes_by : (board : Board) (change : Change) → holds board.sizes change ≡ true → board.applied < 10000000 → takes board change ≡ true
 takes_by board change held room = and_from (holds board.sizes change) (nat_lt board.applied 10000000) held (lt-ltb board.applied 10000000 room)
 
 pub stands_opening : (sizes : Sizes) → sizes.parts ≤ 32 → StandsFor (opening sizes) []
@@ -163,7 +164,7 @@ withdraw_from_here n p (suc last) symbol cells cell below there =
     ]
 
 -- a board of 32 cells a symbol, at one of its cells
-record IsCellOf (board : Contents) (tape : Tape) (part sym : ℕ) : Type 0 where
+record IsCellOf (board : Board) (tape : Tape) (part sym : ℕ) : Type 0 where
   stands : StandsFor board tape
   in_parts : part < board.sizes.parts
   in_syms : sym < length board.sizes.lots
@@ -181,7 +182,7 @@ meets p s part symbol p_in part_in =
     ]
 
 -- a change of one cell, at each cell
-one_cell_after : (board : Contents) (tape : Tape) (change : Change) (part sym : ℕ) → IsCellOf board tape part sym → (p s : ℕ) (f : ℕ → Cell → Cell) → p < board.sizes.parts
+one_cell_after : (board : Board) (tape : Tape) (change : Change) (part sym : ℕ) → IsCellOf board tape part sym → (p s : ℕ) (f : ℕ → Cell → Cell) → p < board.sizes.parts
     → (p ≡ part → s ≡ sym → cell_of part sym (tape ++ change ∷ []) ≡ f (length tape + 1) (cell_of part sym tape))
     → ((p == part && s == sym) ≡ false → cell_of part sym (tape ++ change ∷ []) ≡ cell_of part sym tape)
     → slice_get (change_cell board.cells (place_of p s) (f (board.applied + 1))) (place_of part sym) ≡ Some (cell_of part sym (tape ++ change ∷ []))
@@ -197,7 +198,7 @@ one_cell_after board tape change part symbol at p s f p_in here elsewhere =
     ]
 
 -- each cell after a change, by the kind of change
-cell_after : (board : Contents) (tape : Tape) (change : Change) (part sym : ℕ) → IsCellOf board tape part sym → holds board.sizes change ≡ true
+cell_after : (board : Board) (tape : Tape) (change : Change) (part sym : ℕ) → IsCellOf board tape part sym → holds board.sizes change ≡ true
     → slice_get (cells_after (board.applied + 1) (length board.sizes.lots) board.cells change) (place_of part sym) ≡ Some (cell_of part sym (tape ++ change ∷ []))
 cell_after board tape (Quote p s state bid offer) part symbol at held =
     one_cell_after board tape (Quote p s state bid offer) part symbol at p s (λ n. quoted n state bid offer) (ltb-true p board.sizes.parts (and_parts (nat_lt p board.sizes.parts) (nat_lt s (length board.sizes.lots)) held).0)
@@ -223,7 +224,7 @@ cell_after board tape (Withdraw p) part symbol at held =
           ∙ there ∙ ap (λ cell. Some cell) (sym (cell_untouched part symbol tape (Withdraw p) (λ side. rw (ne_eqb p part differ) refl) refl))
     ]
 
-pub stands_after : (board : Contents) (tape : Tape) (change : Change) → StandsFor board tape → takes board change ≡ true → StandsFor (after board change) (tape ++ change ∷ [])
+pub stands_after : (board : Board) (tape : Tape) (change : Change) → StandsFor board tape → takes board change ≡ true → StandsFor (after board change) (tape ++ change ∷ [])
 stands_after board tape change stands taken =
     let held = (and_parts (holds board.sizes change) (nat_lt board.applied 10000000) taken).0 in
     record {
@@ -242,7 +243,7 @@ quotation_no_lot lot part state receipt (Some content) no_lot =
     hidden true = refl
     hidden false = refl
 
-row_held_no_lot : (board : Contents) (sym : ℕ) (side : Side) (part : ℕ) → slice_index board.sizes.lots sym ≡ 0 → row_held board sym side part ≡ None
+row_held_no_lot : (board : Board) (sym : ℕ) (side : Side) (part : ℕ) → slice_index board.sizes.lots sym ≡ 0 → row_held board sym side part ≡ None
 row_held_no_lot board symbol side part no_lot = by_read (slice_get board.cells (place_of part symbol))
   where
     by_read : (read : Option Cell) → option_and_then (row_of_cell (slice_index board.sizes.lots symbol) part side) read ≡ None
@@ -250,7 +251,7 @@ row_held_no_lot board symbol side part no_lot = by_read (slice_get board.cells (
     by_read (Some cell) = quotation_no_lot (slice_index board.sizes.lots symbol) part cell.state (on_side side cell.bid cell.offer).receipt (on_side side cell.bid cell.offer).quote no_lot
 
 -- no rows of a symbol out of the roster
-pub rows_held_unlisted : (board : Contents) (sym : ℕ) (side : Side) → slice_get board.sizes.lots sym ≡ None → rows_held board sym side ≡ []
+pub rows_held_unlisted : (board : Board) (sym : ℕ) (side : Side) → slice_get board.sizes.lots sym ≡ None → rows_held board sym side ≡ []
 rows_held_unlisted board symbol side unlisted =
     let no_lot : slice_index board.sizes.lots symbol ≡ 0 = sym (unwrap_or-slice_get board.sizes.lots symbol 0) ∙ rw unlisted refl in
     filter_map_none (row_held board symbol side) 0 board.sizes.parts (λ part. row_held_no_lot board symbol side part no_lot)
@@ -260,7 +261,7 @@ row_of_cell_of lot part symbol Bid tape = refl
 row_of_cell_of lot part symbol Offer tape = refl
 
 -- what the cells show is what the tape says
-row_stands : (board : Contents) (tape : Tape) (sym : ℕ) (side : Side) (part : ℕ) → StandsFor board tape → part < board.sizes.parts → row_held board sym side part ≡ quotation_of board.sizes tape sym side part
+row_stands : (board : Board) (tape : Tape) (sym : ℕ) (side : Side) (part : ℕ) → StandsFor board tape → part < board.sizes.parts → row_held board sym side part ≡ quotation_of board.sizes tape sym side part
 row_stands board tape symbol side part stands in_parts =
     let lot = slice_index board.sizes.lots symbol in
     elim (cases_lt symbol (length board.sizes.lots)) [
@@ -271,8 +272,32 @@ row_stands board tape symbol side part stands in_parts =
           ∙ sym (quotation_no_lot lot part (state_at part symbol tape) (receipt_of part symbol side tape) (content_at part symbol side tape) no_lot)
     ]
 
-pub seen_stands : (board : Contents) (tape : Tape) (sym : ℕ) → StandsFor board tape → seen_on board sym ≡ view_of board.sizes tape sym
+pub seen_stands : (board : Board) (tape : Tape) (sym : ℕ) → StandsFor board tape → seen_on board sym ≡ view_of board.sizes tape sym
 seen_stands board tape symbol stands =
     let rows : (side : Side) → rows_held board symbol side ≡ quotations board.sizes tape symbol side =
     λ side. filter_map_same (row_held board symbol side) (quotation_of board.sizes tape symbol side) 0 board.sizes.parts (λ part low high. row_stands board tape symbol side part stands (omega arith)) in
     rw (stands.applied, rows Bid, rows Offer) refl
+
+-- a cell of one symbol is none of another's
+other_symbol : (p s part sym : ℕ) → p < MOST_ROWS → part < MOST_ROWS → (s == sym) ≡ false → place_of p s ≢ place_of part sym
+other_symbol p s part symbol p_in part_in differ at =
+    let same : s ≡ symbol = omega arith in
+    absurd (false≢true (sym differ ∙ eq-eqb s symbol same))
+
+-- the cells of a symbol that a change does not concern stay
+cell_stays : (board : Board) (change : Change) (sym part : ℕ) → board.sizes.parts ≤ MOST_ROWS → holds board.sizes change ≡ true → concerns sym change ≡ false → part < MOST_ROWS
+    → slice_get (cells_after (board.applied + 1) (length board.sizes.lots) board.cells change) (place_of part sym) ≡ slice_get board.cells (place_of part sym)
+cell_stays board (Quote p s state bid offer) symbol part narrow held unconcerned part_in =
+    let p_in : p < board.sizes.parts = ltb-true p board.sizes.parts (and_parts (nat_lt p board.sizes.parts) (nat_lt s (length board.sizes.lots)) held).0 in
+    change_cell_elsewhere board.cells (place_of p s) (place_of part symbol) (quoted (board.applied + 1) state bid offer) (other_symbol p s part symbol (omega arith) part_in unconcerned)
+cell_stays board (State p s state) symbol part narrow held unconcerned part_in =
+    let p_in : p < board.sizes.parts = ltb-true p board.sizes.parts (and_parts (nat_lt p board.sizes.parts) (nat_lt s (length board.sizes.lots)) held).0 in
+    change_cell_elsewhere board.cells (place_of p s) (place_of part symbol) (restated state) (other_symbol p s part symbol (omega arith) part_in unconcerned)
+cell_stays board (Withdraw p) symbol part narrow held unconcerned part_in = absurd (cc)
+
+-- and so do its quotations
+pub rows_stay : (board : Board) (change : Change) (sym : ℕ) (side : Side) → board.sizes.parts ≤ MOST_ROWS → holds board.sizes change ≡ true → concerns sym change ≡ false
+    → rows_held (after board change) sym side ≡ rows_held board sym side
+rows_stay board change symbol side narrow held unconcerned =
+    filter_map_same (row_held (after board change) symbol side) (row_held board symbol side) 0 board.sizes.parts
+    (λ part low high. ap (λ (cell : Option Cell). option_and_then (row_of_cell (slice_index board.sizes.lots symbol) part side) cell) (cell_stays board change symbol part narrow held unconcerned (omega arith)))

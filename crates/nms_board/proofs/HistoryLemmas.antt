@@ -7,8 +7,8 @@ use Rattle.std.proofs.lemmas.List.Folds.{list_all-append}
 use Rattle.std.proofs.lemmas.Bool.{eqb-true, and_parts, cases_Bool, both_ways, false_from_ne_true}
 use Rattle.nms_quote.specs.Content.{Content}
 use Rattle.nms_quote.specs.Tape.{Tape, versions}
-use Rattle.nms_quote.specs.declared.quotes.Side.{Side}
-use Rattle.nms_quote.specs.declared.changes.Change.{Change}
+use Rattle.nms_quote.specs.declared.side_quote.Side.{Side}
+use Rattle.nms_quote.specs.declared.change.Change.{Change}
 use Rattle.nms_board.specs.History.{said_of, content_at, state_said, state_at, same_content, before_equal_end, contents_over, receipt_of}
 use Rattle.nms_board.proofs.ListLemmas.{last_answer_push}
 

@@ -7,17 +7,17 @@ use Rattle.std.proofs.lemmas.List.Kept.{AllPairs-cons}
 use Rattle.std.proofs.lemmas.Bool.{and_from, and_left, cases_Bool, cases_eq, cases_lt, both_ways}
 use Rattle.nms_quote.specs.Content.{Content}
 use Rattle.nms_quote.specs.Roster.{Sizes}
-use Rattle.nms_quote.specs.Tape.{Tape, version}
-use Rattle.nms_quote.specs.declared.quotes.Side.{Side}
-use Rattle.nms_quote.specs.declared.quotes.QState.{QState}
-use Rattle.nms_quote.specs.declared.quotes.QState.TheVariants.{Automated, Halted}
-use Rattle.nms_quote.specs.declared.changes.Change.{Change}
-use Rattle.nms_quote.specs.declared.changes.Change.TheVariants.{Quote, State, Withdraw}
+use Rattle.nms_quote.specs.Tape.{Tape, participant_of, version}
+use Rattle.nms_quote.specs.declared.side_quote.Side.{Side}
+use Rattle.nms_quote.specs.declared.side_quote.QState.{QState}
+use Rattle.nms_quote.specs.declared.side_quote.QState.TheVariants.{Automated, Halted}
+use Rattle.nms_quote.specs.declared.change.Change.{Change}
+use Rattle.nms_quote.specs.declared.change.Change.TheVariants.{Quote, State, Withdraw}
 use Rattle.nms_board.specs.History.{before_equal_end, on_side, said_of, content_at, state_at, receipt_of, same_content}
 use Rattle.nms_board.specs.Quotation.{is_automated, is_halted, quotation, quotation_of, quotations}
 use Rattle.nms_units.specs.Lot.{displayed_size}
-use Rattle.nms_board.specs.Laws.{participant_of, IsReceipt, KeepsSide, HidesAndKeeps}
-use Rattle.nms_board.specs.declared.rows.Row.{Row}
+use Rattle.nms_board.specs.Laws.{IsReceipt, KeepsSide, HidesAndKeeps}
+use Rattle.nms_board.specs.declared.row.Row.{Row}
 use Rattle.nms_board.proofs.HistoryLemmas.{content_at-push, receipt_of-push, state_at-push, same_content-refl, same_content-true}
 
 -- what holds of the empty tape and of each tape with one more change holds of each
@@ -170,32 +170,32 @@ receipt_counts part symbol side tape something =
     ]
 
 -- two sides, of which a change leaves the one
-one_altered : (p q sym : ℕ) (side : Side) (tape : Tape) (change : Change) → KeepsSide q sym side tape change
-    → (content_at p sym side tape ≢ None → content_at q sym side tape ≢ None → receipt_of p sym side tape ≢ receipt_of q sym side tape)
-    → content_at p sym side (tape ++ change ∷ []) ≢ None → content_at q sym side (tape ++ change ∷ []) ≢ None → receipt_of p sym side (tape ++ change ∷ []) ≢ receipt_of q sym side (tape ++ change ∷ [])
-one_altered p q symbol side tape change kept apart p_quotes q_quotes equal =
-    let before = content_at p symbol side tape in
-    let now = content_at p symbol side (tape ++ change ∷ []) in
+one_altered : (p q sym : ℕ) (one other : Side) (tape : Tape) (change : Change) → KeepsSide q sym other tape change
+    → (content_at p sym one tape ≢ None → content_at q sym other tape ≢ None → receipt_of p sym one tape ≢ receipt_of q sym other tape)
+    → content_at p sym one (tape ++ change ∷ []) ≢ None → content_at q sym other (tape ++ change ∷ []) ≢ None → receipt_of p sym one (tape ++ change ∷ []) ≢ receipt_of q sym other (tape ++ change ∷ [])
+one_altered p q symbol one other tape change kept apart p_quotes q_quotes equal =
+    let before = content_at p symbol one tape in
+    let now = content_at p symbol one (tape ++ change ∷ []) in
     elim (cases_Bool (same_content before now)) [
       | inl same ↦
-          let p_kept = receipt_stays p symbol side tape change (sym (same_content-true before now same)) in
+          let p_kept = receipt_stays p symbol one tape change (sym (same_content-true before now same)) in
           apart (λ none. p_quotes (p_kept.content ∙ none)) (λ none. q_quotes (kept.content ∙ none)) (sym p_kept.receipt ∙ equal ∙ kept.receipt)
       | inr differ ↦
-          absurd (omega (arith, altered p symbol side tape change differ, (receipt_is_least q symbol side tape).within, kept.receipt))
+          absurd (omega (arith, altered p symbol one tape change differ, (receipt_is_least q symbol other tape).within, kept.receipt))
     ]
 
--- sides of different participants have different receipts
-pub receipts_differ : (sym : ℕ) (side : Side) (tape : Tape) (p q : ℕ) → p ≢ q → content_at p sym side tape ≢ None → content_at q sym side tape ≢ None → receipt_of p sym side tape ≢ receipt_of q sym side tape
-receipts_differ symbol side tape = by_last_change Apart (λ p q ne p_quotes q_quotes equal. p_quotes refl) step tape
-  where
-    Apart : Tape → Type 0
-    Apart tape = (p q : ℕ) → p ≢ q → content_at p symbol side tape ≢ None → content_at q symbol side tape ≢ None → receipt_of p symbol side tape ≢ receipt_of q symbol side tape
+-- quoted sides of different participants have different receipts
+abbrev Apart : ℕ → Tape → Type 0
+Apart symbol tape = (p q : ℕ) (one other : Side) → p ≢ q → content_at p symbol one tape ≢ None → content_at q symbol other tape ≢ None → receipt_of p symbol one tape ≢ receipt_of q symbol other tape
 
-    step : (tape : Tape) (change : Change) → Apart tape → Apart (tape ++ change ∷ [])
-    step tape change apart p q ne p_quotes q_quotes equal =
+pub receipts_differ : (sym : ℕ) (tape : Tape) → Apart sym tape
+receipts_differ symbol tape = by_last_change (Apart symbol) (λ p q one other ne p_quotes q_quotes equal. p_quotes refl) step tape
+  where
+    step : (tape : Tape) (change : Change) → Apart symbol tape → Apart symbol (tape ++ change ∷ [])
+    step tape change apart p q one other ne p_quotes q_quotes equal =
         elim (cases_eq (participant_of change) q) [
-          | inr not_q ↦ one_altered p q symbol side tape change (others_keep q symbol side tape change not_q) (apart p q ne) p_quotes q_quotes equal
-          | inl is_q ↦ one_altered q p symbol side tape change (others_keep p symbol side tape change (λ is_p. ne (sym is_p ∙ is_q))) (apart q p (λ e. ne (sym e))) q_quotes p_quotes (sym equal)
+          | inr not_q ↦ one_altered p q symbol one other tape change (others_keep q symbol other tape change not_q) (apart p q one other ne) p_quotes q_quotes equal
+          | inl is_q ↦ one_altered q p symbol other one tape change (others_keep p symbol one tape change (λ is_p. ne (sym is_p ∙ is_q))) (apart q p other one (λ e. ne (sym e))) q_quotes p_quotes (sym equal)
         ]
 
 -- what a quotation is made of
@@ -218,11 +218,11 @@ quotation_parts lot part state receipt (Some content) row is = record {
 quotation_of_parts : (sizes : Sizes) (tape : Tape) (sym : ℕ) (side : Side) (part : ℕ) (row : Row) → quotation_of sizes tape sym side part ≡ Some row → IsQuotationOf (content_at part sym side tape) (receipt_of part sym side tape) row
 quotation_of_parts sizes tape symbol side part row is = quotation_parts (slice_index sizes.lots symbol) part (state_at part symbol tape) (receipt_of part symbol side tape) (content_at part symbol side tape) row is
 
-pub quotations_differ : (sizes : Sizes) (tape : Tape) (sym : ℕ) (side : Side) (p q : ℕ) (row other : Row) → p ≢ q → quotation_of sizes tape sym side p ≡ Some row → quotation_of sizes tape sym side q ≡ Some other → row.receipt ≢ other.receipt
-quotations_differ sizes tape symbol side p q row other ne row_is other_is equal =
-    let of_row = quotation_of_parts sizes tape symbol side p row row_is in
-    let of_other = quotation_of_parts sizes tape symbol side q other other_is in
-    receipts_differ symbol side tape p q ne of_row.quotes of_other.quotes (sym of_row.receipt_is ∙ equal ∙ of_other.receipt_is)
+pub quotations_differ : (sizes : Sizes) (tape : Tape) (sym : ℕ) (one other : Side) (p q : ℕ) (row second : Row) → p ≢ q → quotation_of sizes tape sym one p ≡ Some row → quotation_of sizes tape sym other q ≡ Some second → row.receipt ≢ second.receipt
+quotations_differ sizes tape symbol one other p q row second ne row_is second_is equal =
+    let of_row = quotation_of_parts sizes tape symbol one p row row_is in
+    let of_second = quotation_of_parts sizes tape symbol other q second second_is in
+    receipts_differ symbol tape p q one other ne of_row.quotes of_second.quotes (sym of_row.receipt_is ∙ equal ∙ of_second.receipt_is)
 
 pub quotation_counts : (sizes : Sizes) (tape : Tape) (sym : ℕ) (side : Side) (part : ℕ) (row : Row) → quotation_of sizes tape sym side part ≡ Some row → (1 ≤ row.receipt) × (row.receipt ≤ length tape)
 quotation_counts sizes tape symbol side part row is =
@@ -250,7 +250,7 @@ all_pairs_of_answers {Y = Y} R f each low (suc n) = with_first (f low) (λ y is.
 pub rows_differ : (sizes : Sizes) (tape : Tape) (sym : ℕ) (side : Side) → AllPairs (λ row other. row.receipt ≢ other.receipt) (quotations sizes tape sym side)
 rows_differ sizes tape symbol side =
     all_pairs_of_answers (λ (row : Row) (other : Row). row.receipt ≢ other.receipt) (quotation_of sizes tape symbol side)
-    (λ p q row other lt row_is other_is. quotations_differ sizes tape symbol side p q row other (λ e. omega arith) row_is other_is) 0 sizes.parts
+    (λ p q row other lt row_is other_is. quotations_differ sizes tape symbol side side p q row other (λ e. omega arith) row_is other_is) 0 sizes.parts
 
 pub rows_count : (sizes : Sizes) (tape : Tape) (sym : ℕ) (side : Side) → All (λ row. (1 ≤ row.receipt) × (row.receipt ≤ length tape)) (quotations sizes tape sym side)
 rows_count sizes tape symbol side =

@@ -1,6 +1,6 @@
 pub mod BoardLemmas
 pub mod HistoryLemmas
 pub mod LawLemmas
-mod ListLemmas
+pub mod ListLemmas
 mod RowLemmas
-mod PartLemmas
+pub mod PartLemmas

@@ -1,21 +1,21 @@
 -- The rows that a board shows are of its own participants.
 use Rattle.std.proofs.Common.{ℕ, zero, suc, ◌≡◌, ◌+◌, ◌<◌, Bool, true, false, cond, List, [], ◌∷◌, Option, Some, None, arith, refl, subst, ap}
-use Rattle.std.specs.Prelude.{All, IfSome, slice_get, slice_index, ◌==◌}
+use Rattle.std.specs.Prelude.{All, slice_get, slice_index, ◌==◌}
 use Rattle.std.specs.List.{AllByRecursion, cons_option, filter_map, range_with_len}
 use Rattle.std.specs.Option.{option_and_then}
-use Rattle.std.proofs.lemmas.List.Elements.{All-from_recursion, All-contains}
+use Rattle.std.proofs.lemmas.List.Elements.{All-from_recursion}
 use Rattle.nms_units.specs.Lot.{displayed_size}
 use Rattle.nms_quote.specs.Content.{Content}
-use Rattle.nms_quote.specs.declared.quotes.Side.{Side}
-use Rattle.nms_quote.specs.declared.quotes.Side.TheVariants.{Bid, Offer}
-use Rattle.nms_quote.specs.declared.quotes.QState.{QState}
+use Rattle.nms_quote.specs.declared.side_quote.Side.{Side}
+use Rattle.nms_quote.specs.declared.side_quote.Side.TheVariants.{Bid, Offer}
+use Rattle.nms_quote.specs.declared.side_quote.QState.{QState}
 use Rattle.nms_board.specs.Quotation.{quotation, is_halted}
-use Rattle.nms_board.specs.Cells.{Contents, place_of}
+use Rattle.nms_board.specs.Cells.{Board, place_of}
 use Rattle.nms_board.specs.Shown.{row_of_cell, row_held, rows_held, seen_on}
 use Rattle.nms_board.specs.History.{on_side}
 use Rattle.nms_board.specs.View.{Seen, rows_on}
-use Rattle.nms_board.specs.declared.cells.Cell.{Cell}
-use Rattle.nms_board.specs.declared.rows.Row.{Row}
+use Rattle.nms_board.specs.declared.cell.Cell.{Cell}
+use Rattle.nms_board.specs.declared.row.Row.{Row}
 
 -- a quotation is of the participant that it is asked of
 quotation_part : (lot part : ℕ) (state : Option QState) (receipt : ℕ) (content : Option Content) (row : Row) → quotation lot part state receipt content ≡ Some row → row.part ≡ part
@@ -27,7 +27,7 @@ quotation_part lot part state receipt (Some content) row e = by (is_halted state
     by false true shown p h = absurd (cc)
     by false false shown p h = let same : shown ≡ row = cc in subst (λ (r : Row). r.part ≡ part) same p
 
-held_part : (board : Contents) (sym : ℕ) (side : Side) (part : ℕ) (row : Row) → row_held board sym side part ≡ Some row → row.part ≡ part
+held_part : (board : Board) (sym : ℕ) (side : Side) (part : ℕ) (row : Row) → row_held board sym side part ≡ Some row → row.part ≡ part
 held_part board sym side part row e = by (slice_get board.cells (place_of part sym)) e
   where
     by : (cell : Option Cell) → option_and_then (row_of_cell (slice_index board.sizes.lots sym) part side) cell ≡ Some row → row.part ≡ part
@@ -54,13 +54,17 @@ all_below rows parts h = All-from_recursion (λ (row : Row). row.part < parts) r
     step [] h = tt
     step (x ∷ xs) h = (omega (arith, h.0), step xs h.1)
 
--- each row that is shown is of one of the board's participants
-pub shown_parts : (board : Contents) (sym : ℕ) (side : Side) → All (λ (row : Row). row.part < board.sizes.parts) (rows_on side (seen_on board sym))
-shown_parts board sym Bid = all_below (rows_held board sym Bid) board.sizes.parts (rows_below (row_held board sym Bid) (held_part board sym Bid) 0 board.sizes.parts)
-shown_parts board sym Offer = all_below (rows_held board sym Offer) board.sizes.parts (rows_below (row_held board sym Offer) (held_part board sym Offer) 0 board.sizes.parts)
+-- each row that is held is of one of the board's participants
+pub held_parts : (board : Board) (sym : ℕ) (side : Side) → All (λ (row : Row). row.part < board.sizes.parts) (rows_held board sym side)
+held_parts board sym side = all_below (rows_held board sym side) board.sizes.parts (rows_below (row_held board sym side) (held_part board sym side) 0 board.sizes.parts)
+
+-- and so is each row that is shown
+pub shown_parts : (board : Board) (sym : ℕ) (side : Side) → All (λ (row : Row). row.part < board.sizes.parts) (rows_on side (seen_on board sym))
+shown_parts board sym Bid = held_parts board sym Bid
+shown_parts board sym Offer = held_parts board sym Offer
 
 -- the same of what is seen
-pub seen_parts : (board : Contents) (sym : ℕ) (seen : Seen) → seen ≡ seen_on board sym → (side : Side) → All (λ (row : Row). row.part < board.sizes.parts) (rows_on side seen)
+pub seen_parts : (board : Board) (sym : ℕ) (seen : Seen) → seen ≡ seen_on board sym → (side : Side) → All (λ (row : Row). row.part < board.sizes.parts) (rows_on side seen)
 seen_parts board sym seen e side = subst (λ (s : Seen). All (λ (row : Row). row.part < board.sizes.parts) (rows_on side s)) (sym_of e) (shown_parts board sym side)
   where
     sym_of : {a b : Seen} → a ≡ b → b ≡ a

@@ -5,15 +5,15 @@ use Rattle.std.proofs.lemmas.Bool.{eqb-false}
 use Rattle.std.proofs.lemmas.Option.{get_or_from_slice_get, slice_get_read, slice_get_within}
 use Rattle.nms_units.specs.Lot.{displayed_size}
 use Rattle.nms_quote.specs.Content.{Content}
-use Rattle.nms_quote.specs.declared.quotes.Side.{Side}
-use Rattle.nms_quote.specs.declared.quotes.QState.{QState}
+use Rattle.nms_quote.specs.declared.side_quote.Side.{Side}
+use Rattle.nms_quote.specs.declared.side_quote.QState.{QState}
 use Rattle.nms_board.specs.History.{on_side}
 use Rattle.nms_board.specs.Quotation.{is_halted, is_automated, quotation}
 use Rattle.nms_board.specs.View.{AreRows}
-use Rattle.nms_board.specs.Cells.{Contents, IsInShape, place_of}
+use Rattle.nms_board.specs.Cells.{Board, IsInShape, place_of}
 use Rattle.nms_board.specs.Shown.{row_held, row_of_cell, rows_held}
-use Rattle.nms_board.specs.declared.cells.Cell.{Cell}
-use Rattle.nms_board.specs.declared.rows.Row.{Row}
+use Rattle.nms_board.specs.declared.cell.Cell.{Cell}
+use Rattle.nms_board.specs.declared.row.Row.{Row}
 use Rattle.nms_board.proofs.ListLemmas.{filter_map_more}
 
 -- a row of that participant, of a size
@@ -56,7 +56,7 @@ quotation_is_row lot part state receipt (Some content) = by_tests (is_halted sta
     by_tests false true e = tt
     by_tests false false e = (refl, omega (arith, eqb-false (displayed_size lot content.shares) 0 e))
 
-row_held_is_row : (board : Contents) (sym : ℕ) (side : Side) (part : ℕ) → IfSome (row_held board sym side part) (IsRowOf part)
+row_held_is_row : (board : Board) (sym : ℕ) (side : Side) (part : ℕ) → IfSome (row_held board sym side part) (IsRowOf part)
 row_held_is_row board symbol side part = by_read (slice_get board.cells (place_of part symbol))
   where
     by_read : (read : Option Cell) → IfSome (option_and_then (row_of_cell (slice_index board.sizes.lots symbol) part side) read) (IsRowOf part)
@@ -72,7 +72,7 @@ IsFrom-range f each place zero = tt
 IsFrom-range f each place (suc n) = IsFrom-cons place (f place) (filter_map f (range_with_len (place + 1) n)) (each place) (IsFrom-range f each (place + 1) n)
 
 -- a board's rows are in order, each of a size
-pub rows_held_are_rows : (board : Contents) (sym : ℕ) (side : Side) → AreRows (rows_held board sym side)
+pub rows_held_are_rows : (board : Board) (sym : ℕ) (side : Side) → AreRows (rows_held board sym side)
 rows_held_are_rows board symbol side = AreRows-from 0 (rows_held board symbol side) (IsFrom-range (row_held board symbol side) (row_held_is_row board symbol side) 0 board.sizes.parts)
 
 length-cons_option : {Y : Type 0} (o : Option Y) (ys : List Y) → length (cons_option o ys) ≤ length ys + 1
@@ -85,7 +85,7 @@ length-filter_map-range f place zero = omega arith
 length-filter_map-range f place (suc n) = omega (arith, length-cons_option (f place) (filter_map f (range_with_len (place + 1) n)), length-filter_map-range f (place + 1) n)
 
 -- the rows of one more participant, whose cell was read
-pub rows_more : (board : Contents) (sym : ℕ) (side : Side) (part lot i : ℕ) (cell : Cell) → IsInShape board → slice_get board.sizes.lots sym ≡ Some lot → part < board.sizes.parts
+pub rows_more : (board : Board) (sym : ℕ) (side : Side) (part lot i : ℕ) (cell : Cell) → IsInShape board → slice_get board.sizes.lots sym ≡ Some lot → part < board.sizes.parts
     → i ≡ place_of part sym → cell ≡ get_or board.cells i cell
     → filter_map (row_held board sym side) (range_with_len 0 (part + 1)) ≡ filter_map (row_held board sym side) (range_with_len 0 part) ++ cons_option (row_of_cell lot part side cell) []
 rows_more board symbol side part lot i cell shape listed in_parts at read =

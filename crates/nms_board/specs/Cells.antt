@@ -3,31 +3,33 @@ use Rattle.std.specs.Prelude.{ℕ, zero, suc, ◌≡◌, ◌+◌, ◌*◌, ◌<�
 use Rattle.nms_quote.specs.Content.{Content}
 use Rattle.nms_quote.specs.Roster.{Sizes, holds}
 use Rattle.nms_quote.specs.Tape.{Tape}
-use Rattle.nms_quote.specs.declared.quotes.Side.{Side}
-use Rattle.nms_quote.specs.declared.quotes.Side.TheVariants.{Bid, Offer}
-use Rattle.nms_quote.specs.declared.quotes.QState.{QState}
-use Rattle.nms_quote.specs.declared.changes.Change.{Change}
-use Rattle.nms_quote.specs.declared.changes.Change.TheVariants as change
+use Rattle.nms_quote.specs.declared.TheConstants.{MOST_CHANGES, MOST_SYMBOLS}
+use Rattle.nms_board.specs.declared.TheConstants.{MOST_ROWS}
+use Rattle.nms_quote.specs.declared.side_quote.Side.{Side}
+use Rattle.nms_quote.specs.declared.side_quote.Side.TheVariants.{Bid, Offer}
+use Rattle.nms_quote.specs.declared.side_quote.QState.{QState}
+use Rattle.nms_quote.specs.declared.change.Change.{Change}
+use Rattle.nms_quote.specs.declared.change.Change.TheVariants as change
 use Rattle.nms_board.specs.History.{content_at, state_at, receipt_of, same_content}
-use Rattle.nms_board.specs.declared.cells.Held.{Held}
-use Rattle.nms_board.specs.declared.cells.Cell.{Cell}
+use Rattle.nms_board.specs.declared.cell.Held.{Held}
+use Rattle.nms_board.specs.declared.cell.Cell.{Cell}
 
 -- the roster's sizes, a cell for each participant in each symbol, and how many changes were applied
-pub record Contents : Type 0 where
+pub record Board : Type 0 where
   pub sizes : Sizes
   pub cells : List Cell
   pub applied : ℕ
 
 -- a board holds no more than a roster has, and a cell for each place of it
-pub record IsInShape (board : Contents) : Type 0 where
-  pub parts : board.sizes.parts ≤ 32
-  pub syms : length board.sizes.lots ≤ 1000
-  pub cells : length board.cells ≡ 32 * length board.sizes.lots
-  pub applied : board.applied ≤ 10000000
+pub record IsInShape (board : Board) : Type 0 where
+  pub parts : board.sizes.parts ≤ MOST_ROWS
+  pub syms : length board.sizes.lots ≤ MOST_SYMBOLS
+  pub cells : length board.cells ≡ MOST_ROWS * length board.sizes.lots
+  pub applied : board.applied ≤ MOST_CHANGES
 
--- a symbol has 32 cells, by participant place
+-- a symbol has MOST_ROWS cells, by participant place
 abbrev pub place_of : ℕ → ℕ → ℕ
-place_of part sym = 32 * sym + part
+place_of part sym = MOST_ROWS * sym + part
 
 -- what the tape says of a participant in a symbol
 abbrev pub held_of : ℕ → ℕ → Side → Tape → Held
@@ -44,9 +46,9 @@ cell_of part sym tape = record {
 }
 
 -- the board holds what the tape says
-pub record StandsFor (board : Contents) (tape : Tape) : Type 0 where
+pub record StandsFor (board : Board) (tape : Tape) : Type 0 where
   pub applied : board.applied ≡ length tape
-  pub narrow : board.sizes.parts ≤ 32
+  pub narrow : board.sizes.parts ≤ MOST_ROWS
   pub cells : (part sym : ℕ) → part < board.sizes.parts → sym < length board.sizes.lots
       → slice_get board.cells (place_of part sym) ≡ Some (cell_of part sym tape)
 
@@ -57,10 +59,10 @@ abbrev pub empty_cell : Cell
 empty_cell = record { state = None; bid = nothing_held; offer = nothing_held }
 
 -- a board of the empty tape
-abbrev pub opening : Sizes → Contents
+abbrev pub opening : Sizes → Board
 opening sizes = record {
   sizes = sizes;
-  cells = replicate (32 * length sizes.lots) empty_cell;
+  cells = replicate (MOST_ROWS * length sizes.lots) empty_cell;
   applied = 0;
 }
 
@@ -104,7 +106,7 @@ cells_after n syms cells (change.State part sym state) = change_cell cells (plac
 cells_after n syms cells (change.Withdraw part) = withdraw_from n part syms cells
 
 -- the board after one more change
-abbrev pub after : Contents → Change → Contents
+abbrev pub after : Board → Change → Board
 after board change = record {
   sizes = board.sizes;
   cells = cells_after (board.applied + 1) (length board.sizes.lots) board.cells change;
@@ -112,5 +114,5 @@ after board change = record {
 }
 
 -- whether the roster holds the change and there is room for its number
-abbrev pub takes : Contents → Change → Bool
-takes board change = holds board.sizes change && nat_lt board.applied 10000000
+abbrev pub takes : Board → Change → Bool
+takes board change = holds board.sizes change && nat_lt board.applied MOST_CHANGES

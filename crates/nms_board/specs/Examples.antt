@@ -3,12 +3,12 @@ use Rattle.std.specs.Prelude.{ℕ, ◌≡◌, true, false, List, [], ◌∷◌, 
 use Rattle.nms_quote.specs.Content.{Content}
 use Rattle.nms_quote.specs.Roster.{Sizes}
 use Rattle.nms_quote.specs.Tape.{Tape}
-use Rattle.nms_quote.specs.declared.quotes.Side.TheVariants.{Bid, Offer}
-use Rattle.nms_quote.specs.declared.quotes.QState.TheVariants.{Automated, Manual, Halted}
-use Rattle.nms_quote.specs.declared.changes.Change.{Change}
-use Rattle.nms_quote.specs.declared.changes.Change.TheVariants as change
+use Rattle.nms_quote.specs.declared.side_quote.Side.TheVariants.{Bid, Offer}
+use Rattle.nms_quote.specs.declared.side_quote.QState.TheVariants.{Automated, Manual, Halted}
+use Rattle.nms_quote.specs.declared.change.Change.{Change}
+use Rattle.nms_quote.specs.declared.change.Change.TheVariants as change
 use Rattle.nms_board.specs.Quotation.{quotations}
-use Rattle.nms_board.specs.declared.rows.Row.{Row}
+use Rattle.nms_board.specs.declared.row.Row.{Row}
 
 abbrev pub four : Sizes
 four = record { parts = 4; lots = 100 ∷ [] }

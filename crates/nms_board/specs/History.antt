@@ -4,15 +4,21 @@ use Rattle.std.specs.Prelude.{ℕ, ◌+◌, ◌==◌, ◌&&◌, Bool, true, fals
 use Rattle.std.specs.List.{filter_map, last_or, list_all}
 use Rattle.nms_quote.specs.Content.{Content}
 use Rattle.nms_quote.specs.Tape.{Tape, versions}
-use Rattle.nms_quote.specs.declared.quotes.Side.{Side}
-use Rattle.nms_quote.specs.declared.quotes.Side.TheVariants.{Bid, Offer}
-use Rattle.nms_quote.specs.declared.quotes.QState.{QState}
-use Rattle.nms_quote.specs.declared.changes.Change.{Change}
-use Rattle.nms_quote.specs.declared.changes.Change.TheVariants as change
+use Rattle.nms_quote.specs.declared.side_quote.Side.{Side}
+use Rattle.nms_quote.specs.declared.side_quote.Side.TheVariants.{Bid, Offer}
+use Rattle.nms_quote.specs.declared.side_quote.QState.{QState}
+use Rattle.nms_quote.specs.declared.change.Change.{Change}
+use Rattle.nms_quote.specs.declared.change.Change.TheVariants as change
 
 abbrev pub on_side : {X : Type 0} → Side → X → X → X
 on_side Bid bid offer = bid
 on_side Offer bid offer = offer
+
+-- whether a change concerns a symbol. A withdrawal concerns every symbol
+abbrev pub concerns : ℕ → Change → Bool
+concerns sym (change.Quote p s state bid offer) = s == sym
+concerns sym (change.State p s state) = s == sym
+concerns sym (change.Withdraw p) = true
 
 -- what a change says of the side: nothing, or its content from then on. A withdrawal concerns every symbol
 abbrev pub said_of : ℕ → ℕ → Side → Change → Option (Option Content)

@@ -2,19 +2,13 @@
 -- quotations that 17 CFR 242.600 defines.
 use Rattle.std.specs.Prelude.{ℕ, ◌≡◌, ◌≢◌, ◌≤◌, All, [], ◌∷◌, ◌++◌, length, slice_index, Some, None}
 use Rattle.nms_quote.specs.Roster.{Sizes}
-use Rattle.nms_quote.specs.Tape.{Tape, version}
-use Rattle.nms_quote.specs.declared.quotes.Side.{Side}
-use Rattle.nms_quote.specs.declared.quotes.QState.TheVariants.{Automated, Halted}
-use Rattle.nms_quote.specs.declared.changes.Change.{Change}
-use Rattle.nms_quote.specs.declared.changes.Change.TheVariants as change
+use Rattle.nms_quote.specs.Tape.{Tape, participant_of, version}
+use Rattle.nms_quote.specs.declared.side_quote.Side.{Side}
+use Rattle.nms_quote.specs.declared.side_quote.QState.TheVariants.{Automated, Halted}
+use Rattle.nms_quote.specs.declared.change.Change.{Change}
+use Rattle.nms_quote.specs.declared.change.Change.TheVariants as change
 use Rattle.nms_board.specs.History.{content_at, receipt_of}
 use Rattle.nms_board.specs.Quotation.{quotation, quotation_of}
-
--- who sends a change
-abbrev pub participant_of : Change → ℕ
-participant_of (change.Quote part sym state bid offer) = part
-participant_of (change.State part sym state) = part
-participant_of (change.Withdraw part) = part
 
 -- from version n on, the side has the content that it has at the end
 abbrev pub StaysFrom : ℕ → ℕ → Side → Tape → ℕ → Type 0

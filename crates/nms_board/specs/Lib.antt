@@ -7,5 +7,6 @@ pub mod Examples
 pub mod History
 pub mod Laws
 pub mod Quotation
+pub mod Ranking
 pub mod Shown
 pub mod View

@@ -7,11 +7,11 @@ use Rattle.nms_units.specs.Lot.{displayed_size}
 use Rattle.nms_quote.specs.Content.{Content}
 use Rattle.nms_quote.specs.Roster.{Sizes}
 use Rattle.nms_quote.specs.Tape.{Tape}
-use Rattle.nms_quote.specs.declared.quotes.Side.{Side}
-use Rattle.nms_quote.specs.declared.quotes.QState.{QState}
-use Rattle.nms_quote.specs.declared.quotes.QState.TheVariants.{Automated, Manual, Halted}
+use Rattle.nms_quote.specs.declared.side_quote.Side.{Side}
+use Rattle.nms_quote.specs.declared.side_quote.QState.{QState}
+use Rattle.nms_quote.specs.declared.side_quote.QState.TheVariants.{Automated, Manual, Halted}
 use Rattle.nms_board.specs.History.{content_at, state_at, receipt_of}
-use Rattle.nms_board.specs.declared.rows.Row.{Row}
+use Rattle.nms_board.specs.declared.row.Row.{Row}
 
 abbrev pub is_halted : Option QState → Bool
 is_halted None = false

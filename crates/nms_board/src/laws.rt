@@ -1,17 +1,21 @@
 //! Laws above the definitions of the board. Each function does nothing: its contract is the law.
-ghost use Rattle.std.specs.Prelude.{◌≡◌, ◌≢◌, ℕ, ◌≤◌, All, AllPairs, [], ◌∷◌, ◌++◌, length, Option, Some, None};
+ghost use Rattle.std.specs.Prelude.{◌≡◌, ◌≢◌, ℕ, ◌≤◌, All, AllPairs, [], ◌∷◌, ◌++◌, length, true, false, Option, Some, None};
 ghost use Rattle.nms_quote.specs.Content.{Content};
-ghost use Rattle.nms_quote.specs.Roster.{Sizes};
-ghost use Rattle.nms_quote.specs.Tape.{Tape};
-ghost use Rattle.nms_quote.specs.declared.changes.Change.{Change};
-ghost use Rattle.nms_quote.specs.declared.changes.Change.TheVariants.{Quote};
-ghost use Rattle.nms_quote.specs.declared.quotes.QState.{QState};
-ghost use Rattle.nms_quote.specs.declared.quotes.Side.{Side};
+ghost use Rattle.nms_quote.specs.Roster.{Sizes, holds};
+ghost use Rattle.nms_quote.specs.Tape.{Tape, participant_of};
+ghost use Rattle.nms_quote.specs.declared.change.Change.{Change};
+ghost use Rattle.nms_quote.specs.declared.change.Change.TheVariants.{Quote};
+ghost use Rattle.nms_quote.specs.declared.side_quote.QState.{QState};
+ghost use Rattle.nms_quote.specs.declared.side_quote.Side.{Side};
+ghost use Rattle.nms_board.specs.Cells.{Board, after};
 ghost use Rattle.nms_board.specs.Examples.{ExamplesHold};
-ghost use Rattle.nms_board.specs.History.{content_at, on_side, receipt_of, said_of};
-ghost use Rattle.nms_board.specs.Laws.{participant_of, HidesAndKeeps, IsReceipt, KeepsSide};
+ghost use Rattle.nms_board.specs.History.{concerns, content_at, on_side, receipt_of, said_of};
+ghost use Rattle.nms_board.specs.Laws.{HidesAndKeeps, IsReceipt, KeepsSide};
 ghost use Rattle.nms_board.specs.Quotation.{quotation_of, quotations};
-ghost use Rattle.nms_board.specs.declared.rows.Row.{Row};
+ghost use Rattle.nms_board.specs.Shown.{rows_held};
+ghost use Rattle.nms_board.specs.declared.row.Row.{Row};
+
+use crate::MOST_ROWS;
 
 /// A side's receipt is the least version from which on every version has the side's content.
 pub fn receipt_is_least()
@@ -42,20 +46,28 @@ pub fn halting_hides_and_keeps()
     ensures { (sizes : Sizes) (part sym : ℕ) (tape : Tape) → HidesAndKeeps sizes part sym tape }
 {}
 
-/// Two quotations on one side of a symbol never have one receipt, and each receipt is the number of
-/// a change.
+/// Two participants' quotations in a symbol never have one receipt, be they on one side or a bid and an
+/// offer, and each receipt is the number of a change. So of two quotations one is the later.
 pub fn receipts_differ()
-    ensures participants { (sizes : Sizes) (tape : Tape) (sym : ℕ) (side : Side)
-        (p q : ℕ) (row other : Row) → p ≢ q
-        → quotation_of sizes tape sym side p ≡ Some row
-        → quotation_of sizes tape sym side q ≡ Some other
-        → row.receipt ≢ other.receipt }
+    ensures participants { (sizes : Sizes) (tape : Tape) (sym : ℕ) (one other : Side)
+        (p q : ℕ) (row second : Row) → p ≢ q
+        → quotation_of sizes tape sym one p ≡ Some row
+        → quotation_of sizes tape sym other q ≡ Some second
+        → row.receipt ≢ second.receipt }
     ensures rows { (sizes : Sizes) (tape : Tape) (sym : ℕ) (side : Side)
         → AllPairs (λ row other. row.receipt ≢ other.receipt)
         (quotations sizes tape sym side) }
     ensures within { (sizes : Sizes) (tape : Tape) (sym : ℕ) (side : Side)
         → All (λ row. (1 ≤ row.receipt) × (row.receipt ≤ length tape))
         (quotations sizes tape sym side) }
+{}
+
+/// A change leaves the quotations of every symbol that it does not concern.
+pub fn other_symbols_stay()
+    ensures { (board : Board) (change : Change) (sym : ℕ) (side : Side)
+        → board.sizes.parts ≤ MOST_ROWS → holds board.sizes change ≡ true
+        → concerns sym change ≡ false
+        → rows_held (after board change) sym side ≡ rows_held board sym side }
 {}
 
 /// The definitions give what the worked examples say.

@@ -1,21 +1,24 @@
 //! Rows from changes: what each participant quotes in each symbol.
 #![tactic(auto)]
 
-mod board_faults;
-mod cells;
+mod board;
+mod board_fault;
+mod cell;
 mod laws;
-mod rows;
-mod tables;
+mod row;
 #[cfg(test)]
 mod tests;
-mod views;
+mod view;
 
-pub use board_faults::BoardFault;
-pub use cells::{Cell, Held};
+/// The most rows of a side of a symbol: one for each participant's place. This product's own rule.
+pub const MOST_ROWS: usize = 32;
+
+pub use board::Boards;
+pub use board_fault::BoardFault;
+pub use cell::{Cell, Held};
 pub use laws::{
-    halting_hides_and_keeps, others_keep_their_receipts, receipt_is_least, receipts_differ,
-    repeated_side_keeps_its_receipt, worked_examples,
+    halting_hides_and_keeps, other_symbols_stay, others_keep_their_receipts, receipt_is_least,
+    receipts_differ, repeated_side_keeps_its_receipt, worked_examples,
 };
-pub use rows::Row;
-pub use tables::Boards;
-pub use views::View;
+pub use row::Row;
+pub use view::View;

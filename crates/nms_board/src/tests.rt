@@ -1,3 +1,4 @@
+//! Boards after a few changes, by rows worked out by hand, and the text of the fault.
 use crate::{BoardFault, Boards, Row};
 use nms_quote::{Change, Feed, Part, QState, Roster, Side, SideQuote, Sym};
 use nms_units::{Lot, Price, Shares};
@@ -9,23 +10,43 @@ const N: u8 = 0;
 
 const P: u8 = 1;
 
-/// A board of the participants N, P, Y and Z and of the symbols ABC and DEF in lots of 100, after
-/// those changes.
-fn board_after(rt: &impl Abort, alloc: Global, changes: &[Change]) -> Result<Boards, Fail> {
-    let lot = Lot::new(100).ok_or("a lot")?;
-    let mut roster = Roster::new(alloc)?;
+fn add_four_participants(roster: &mut Roster) -> Result<(), Fail> {
     for name in b"NPYZ" {
         roster.add_participant(&[*name], Feed::A)?;
     }
-    roster.add_symbol(b"ABC", lot)?;
-    roster.add_symbol(b"DEF", lot)?;
-    let mut board = Boards::new(alloc, &roster)?;
-    assert_eq!(rt; board.applied(), 0);
+    Ok(())
+}
+
+fn add_two_symbols(roster: &mut Roster) -> Result<(), Fail> {
+    let lot = Lot::new(100).ok_or("a lot")?;
+    for name in ["ABC", "DEF"] {
+        roster.add_symbol(name.as_bytes(), lot)?;
+    }
+    Ok(())
+}
+
+/// An empty board of the participants N, P, Y and Z and of the symbols ABC and DEF in lots of 100.
+fn opened(alloc: Global) -> Result<Boards, Fail> {
+    let mut roster = Roster::new(alloc)?;
+    add_four_participants(&mut roster)?;
+    add_two_symbols(&mut roster)?;
+    Ok(Boards::new(alloc, &roster)?)
+}
+
+/// Applies changes, each of which the board takes.
+fn apply_each(rt: &impl Abort, board: &mut Boards, changes: &[Change]) {
     for change in changes {
         assert!(rt; board.takes(change), "{change:?}");
         board.apply(*change);
     }
     assert_eq!(rt; board.applied(), changes.len() as u64);
+}
+
+/// That board after those changes.
+fn board_after(rt: &impl Abort, alloc: Global, changes: &[Change]) -> Result<Boards, Fail> {
+    let mut board = opened(alloc)?;
+    assert_eq!(rt; board.applied(), 0);
+    apply_each(rt, &mut board, changes);
     Ok(board)
 }
 

@@ -11,10 +11,9 @@ use Rattle.std.proofs.lemmas.List.{flat_map_more, take_more}
 use Rattle.std.proofs.lemmas.Result.{on_ok_weaker}
 use Rattle.csv.proofs.WriteFacts.{appends-more}
 use Rattle.nms_units.specs.Price.{price_text, digit_at}
-use Rattle.nms_quote.specs.Roster.{Listing, is_part_name, is_symbol_name, is_name_char, is_symbol_char}
-use Rattle.nms_quote.specs.declared.quotes.Side.{Side}
-use Rattle.nms_quote.specs.declared.quotes.Side.TheVariants.{Bid, Offer}
-use Rattle.nms_engine.specs.Answers.{part_text, symbol_text}
+use Rattle.nms_quote.specs.Roster.{Listing, is_part_name, is_symbol_name, is_name_char, is_symbol_char, part_text, symbol_text}
+use Rattle.nms_quote.specs.declared.side_quote.Side.{Side}
+use Rattle.nms_quote.specs.declared.side_quote.Side.TheVariants.{Bid, Offer}
 use Rattle.nms_engine.specs.Report.{at_left, at_right, line_of, pair_word, side_word}
 
 -- the precision of a hole that names none: nothing is cut

@@ -1,9 +1,7 @@
-pub mod RunFacts
-pub mod MachineFacts
-mod RowFacts
 mod ProgressFacts
 mod ScriptFacts
 mod Texts
+mod ChangeFacts
 mod ColumnFacts
 mod PairFacts
 mod ReportFacts

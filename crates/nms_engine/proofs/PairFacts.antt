@@ -7,12 +7,12 @@ use Rattle.std.proofs.lemmas.Bool.{cases_lt}
 use Rattle.std.proofs.lemmas.List.{append-nil, flat_map_more}
 use Rattle.std.proofs.lemmas.List.Elements.{All-head, All-tail}
 use Rattle.csv.proofs.WriteFacts.{appends-more}
-use Rattle.nms_quote.specs.declared.quotes.Side.{Side}
-use Rattle.nms_quote.specs.declared.quotes.Side.TheVariants.{Bid, Offer}
+use Rattle.nms_quote.specs.declared.side_quote.Side.{Side}
+use Rattle.nms_quote.specs.declared.side_quote.Side.TheVariants.{Bid, Offer}
 use Rattle.nms_board.specs.View.{Seen, row_of, rows_on}
-use Rattle.nms_board.specs.declared.rows.Row.{Row}
+use Rattle.nms_board.specs.declared.row.Row.{Row}
 use Rattle.nms_nbbo.specs.Pairs.{bid_is_later, pair_at, pair_between, pair_of, pairs_from}
-use Rattle.nms_nbbo.specs.declared.pairs.Pair.{Pair}
+use Rattle.nms_nbbo.specs.declared.pair.Pair.{Pair}
 
 -- what the first element of such a list was made from
 first_made : {X : Type 0} (f : ℕ → Option X) (low n : ℕ) (x : X) (rest : List X) → filter_map f (range_with_len low n) ≡ x ∷ rest → (place : ℕ) × (f place ≡ Some x)

@@ -6,13 +6,13 @@ use Rattle.std.specs.List.{flat_map}
 use Rattle.std.proofs.lemmas.Result.{on_ok_weaker}
 use Rattle.csv.proofs.WriteFacts.{appends-more}
 use Rattle.nms_quote.specs.Roster.{Listing}
-use Rattle.nms_quote.specs.declared.quotes.Side.TheVariants.{Bid, Offer}
+use Rattle.nms_quote.specs.declared.side_quote.Side.TheVariants.{Bid, Offer}
 use Rattle.nms_board.specs.View.{Seen, rows_on}
-use Rattle.nms_board.specs.declared.rows.Row.{Row}
+use Rattle.nms_board.specs.declared.row.Row.{Row}
 use Rattle.nms_nbbo.specs.Market.{market_of}
 use Rattle.nms_nbbo.specs.Pairs.{pairs_from}
-use Rattle.nms_nbbo.specs.Ranking.{IsBestOf}
-use Rattle.nms_nbbo.specs.declared.markets.Market.{Market}
+use Rattle.nms_nbbo.specs.Best.{IsBestOf}
+use Rattle.nms_nbbo.specs.declared.market_kind.Market.{Market}
 use Rattle.nms_engine.specs.Report.{IsReport, header_line, pair_line, pairs_text, report_text, side_text}
 
 -- the pairs from the first place on are all pairs

@@ -5,11 +5,12 @@ use Rattle.std.specs.List.{join_with_byte}
 use Rattle.std.specs.Fmt.{decimal}
 use Rattle.std.proofs.lemmas.List.{append-nil}
 use Rattle.std.proofs.lemmas.List.Concat.{flat_map-append}
-use Rattle.nms_quote.specs.Roster.{Listing}
+use Rattle.nms_quote.specs.Roster.{Listing, symbol_text}
+use Rattle.nms_lines.specs.Text.{record_text, text_of}
 use Rattle.nms_board.specs.View.{Seen}
-use Rattle.nms_board.specs.declared.rows.Row.{Row}
+use Rattle.nms_board.specs.declared.row.Row.{Row}
 use Rattle.nms_nbbo.specs.Market.{market_of}
-use Rattle.nms_engine.specs.Answers.{record_text, text_of, later_fields, best_fields, best_record, market_word, look_text, rows_text, symbol_text}
+use Rattle.nms_engine.specs.Answers.{later_fields, best_fields, best_record, market_word, look_text, rows_text}
 
 -- more fields behind a record's, each after a comma
 pub join-append : (x : List ℕ) (xs ys : List (List ℕ)) → join_with_byte 44 (x ∷ (xs ++ ys)) ≡ join_with_byte 44 (x ∷ xs) ++ later_fields ys

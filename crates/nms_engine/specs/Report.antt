@@ -4,19 +4,19 @@ use Rattle.std.specs.Prelude.{ℕ, ◌≡◌, ◌-◌, ◌==◌, Bool, false, Li
 use Rattle.std.specs.List.{flat_map, join_with_byte}
 use Rattle.std.specs.Fmt.{decimal}
 use Rattle.nms_units.specs.Price.{price_text}
-use Rattle.nms_quote.specs.Roster.{Listing}
-use Rattle.nms_quote.specs.declared.quotes.Side.{Side}
-use Rattle.nms_quote.specs.declared.quotes.Side.TheVariants.{Bid, Offer}
+use Rattle.nms_quote.specs.Roster.{Listing, part_text, symbol_text}
+use Rattle.nms_quote.specs.declared.side_quote.Side.{Side}
+use Rattle.nms_quote.specs.declared.side_quote.Side.TheVariants.{Bid, Offer}
 use Rattle.nms_board.specs.View.{Seen, rows_on}
-use Rattle.nms_board.specs.declared.rows.Row.{Row}
+use Rattle.nms_board.specs.declared.row.Row.{Row}
 use Rattle.nms_nbbo.specs.Market.{market_of}
 use Rattle.nms_nbbo.specs.Pairs.{pairs_from}
-use Rattle.nms_nbbo.specs.Ranking.{IsBestOf}
-use Rattle.nms_nbbo.specs.declared.markets.Market.{Market}
-use Rattle.nms_nbbo.specs.declared.pairs.Pair.{Pair}
-use Rattle.nms_nbbo.specs.declared.pairs.Clause.{Clause}
-use Rattle.nms_nbbo.specs.declared.pairs.Clause.TheVariants as clause
-use Rattle.nms_engine.specs.Answers.{market_word, part_text, symbol_text}
+use Rattle.nms_nbbo.specs.Best.{IsBestOf}
+use Rattle.nms_nbbo.specs.declared.market_kind.Market.{Market}
+use Rattle.nms_nbbo.specs.declared.pair.Pair.{Pair}
+use Rattle.nms_nbbo.specs.declared.pair.Clause.{Clause}
+use Rattle.nms_nbbo.specs.declared.pair.Clause.TheVariants as clause
+use Rattle.nms_engine.specs.Answers.{market_word}
 
 -- a text at the left of a column, then spaces; one longer than the column stands as it is
 abbrev pub at_left : ℕ → List ℕ → List ℕ

@@ -1,21 +1,27 @@
-//! Scripts over the quote board: records in, answers out; and the report that a reviewer reads.
+//! Scripts over the quote board: records in, answers out; files of changes; and the report that a reviewer
+//! reads.
 #![tactic(auto)]
 
-mod answers;
-mod built_in;
-mod machines;
-mod reports;
-mod runs;
-mod script_faults;
-mod scripts;
-mod steps;
+mod answer;
+mod change_file;
+mod changes_fault;
+mod counts;
+mod fields;
+mod report_text;
+mod script;
+mod script_fault;
+mod script_record;
+mod setup_k;
 #[cfg(test)]
 mod tests;
 
-pub use answers::line_code;
-pub use built_in::SETUP_K;
-pub use reports::report;
-pub use runs::run_script;
-pub use script_faults::ScriptFault;
-pub use scripts::Counts;
-pub use steps::{Reply, Step, StepFault};
+/// The most records of a script. This product's own rule.
+pub const MOST_RECORDS: u64 = 10_000_000;
+
+pub use change_file::{read_changes, report_changes};
+pub use changes_fault::{ChangesFault, ReportFault};
+pub use counts::Counts;
+pub use report_text::report;
+pub use script::run_script;
+pub use script_fault::ScriptFault;
+pub use setup_k::SETUP_K;

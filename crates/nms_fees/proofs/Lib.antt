@@ -1,3 +1,6 @@
+mod Agreement
+mod FaultsFound
 mod NameLemmas
 mod SoundLemmas
 mod TableLemmas
+mod TextFaults

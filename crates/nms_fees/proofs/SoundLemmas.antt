@@ -14,13 +14,16 @@ use Rattle.toml.specs.Data.{Data, string, integer, array, table, Members, get_me
 use Rattle.toml.specs.View.{view}
 use Rattle.toml.specs.declared.value.Value.{Value}
 use Rattle.nms_quote.specs.Roster.{Name, place_in, refusal_in}
+use Rattle.nms_quote.specs.declared.TheConstants.{MOST_CHANGES}
+use Rattle.nms_fees.specs.declared.TheConstants.{FEE_CAP, LEAST_QUEUE, MOST_DESKS, MOST_FEE, MOST_QUEUE, MOST_RATE, RATE_CAP}
 use Rattle.nms_fees.specs.Fees.{IsCapped, AreCapped}
-use Rattle.nms_fees.specs.Places.{lesser, least, range_fault, cap_fault, name_fault, is_name_in, participant_findings, symbol_findings, row_fault, name_in, has_repeat, most_of, count_fault, rows_in, rows_findings, rows_fault, array_fault, document_findings, document_fault}
+use Rattle.nms_fees.specs.Faults.{lesser, least}
+use Rattle.nms_fees.specs.Places.{range_fault, cap_fault, name_fault, is_name_in, participant_findings, symbol_findings, row_fault, name_in, has_repeat, most_of, count_fault, rows_in, rows_findings, rows_fault, array_fault, document_findings, document_fault}
 use Rattle.nms_fees.specs.Setup.{text_at, count_at, rows_at, table_of, schedule_of}
-use Rattle.nms_fees.specs.declared.sections.Section.{Section}
-use Rattle.nms_fees.specs.declared.sections.Section.TheVariants as section
-use Rattle.nms_fees.specs.declared.setup_faults.SetupFault.{SetupFault}
-use Rattle.nms_fees.specs.declared.setup_faults.SetupFault.TheVariants as fault
+use Rattle.nms_fees.specs.declared.section.Section.{Section}
+use Rattle.nms_fees.specs.declared.section.Section.TheVariants as section
+use Rattle.nms_fees.specs.declared.setup_fault.SetupFault.{SetupFault}
+use Rattle.nms_fees.specs.declared.setup_fault.SetupFault.TheVariants as fault
 use Rattle.nms_fees.proofs.NameLemmas.{has_repeat-push, has_repeat-front}
 
 one_of : (b : Bool) (first second : SetupFault) {P : Type 0} → (if b then Some first else Some second) ≡ None → P
@@ -97,8 +100,8 @@ names_of_rows s (row ∷ rows) h = rw ((name_of_row s row h.0).0, names_of_rows 
 pub charges_of_row : (row : Data) → row_fault section.Participant row ≡ None → IsCapped (schedule_of row)
 charges_of_row (table members) h =
     let found = none_from_least (participant_findings members) h in
-    let fee = charge_found 10000000 3000000 (get_member (codes "fee") members) found.1.1.1.0 in
-    let rate = charge_found 1000 300 (get_member (codes "rate") members) found.1.1.1.1.0 in
+    let fee = charge_found MOST_FEE FEE_CAP (get_member (codes "fee") members) found.1.1.1.0 in
+    let rate = charge_found MOST_RATE RATE_CAP (get_member (codes "rate") members) found.1.1.1.1.0 in
     record { fee_low = fee.0; fee_cap = fee.1; rate_low = rate.0; rate_cap = rate.1 }
 charges_of_row row h = cc
 
@@ -215,14 +218,14 @@ module _ (document : Members) (sound : document_fault document ≡ None) where
   found : AllByRecursion (λ finding. finding ≡ None) (document_findings document)
   found = none_from_least (document_findings document) sound
 
-  pub tape_limit_of : (1 ≤ count_at (codes "tape_limit") document) × (count_at (codes "tape_limit") document ≤ 10000000)
-  tape_limit_of = count_found 1 10000000 (get_member (codes "tape_limit") document) found.1.0
+  pub tape_limit_of : (1 ≤ count_at (codes "tape_limit") document) × (count_at (codes "tape_limit") document ≤ MOST_CHANGES)
+  tape_limit_of = count_found 1 MOST_CHANGES (get_member (codes "tape_limit") document) found.1.0
 
-  pub queue_of : (2 ≤ count_at (codes "queue") document) × (count_at (codes "queue") document ≤ 1024)
-  queue_of = count_found 2 1024 (get_member (codes "queue") document) found.1.1.0
+  pub queue_of : (LEAST_QUEUE ≤ count_at (codes "queue") document) × (count_at (codes "queue") document ≤ MOST_QUEUE)
+  queue_of = count_found LEAST_QUEUE MOST_QUEUE (get_member (codes "queue") document) found.1.1.0
 
-  pub desks_of : (1 ≤ count_at (codes "desks") document) × (count_at (codes "desks") document ≤ 16)
-  desks_of = count_found 1 16 (get_member (codes "desks") document) found.1.1.1.0
+  pub desks_of : (1 ≤ count_at (codes "desks") document) × (count_at (codes "desks") document ≤ MOST_DESKS)
+  desks_of = count_found 1 MOST_DESKS (get_member (codes "desks") document) found.1.1.1.0
 
   pub participants_of : (rows : List Data) → rows ≡ rows_at (codes "participant") document → rows_fault section.Participant rows ≡ None
   participants_of rows e = ap (rows_fault section.Participant) e ∙ array_found section.Participant (get_member (codes "participant") document) found.1.1.1.1.0

@@ -1,8 +1,9 @@
--- Access fees (17 CFR 242.610(c)), and what a share costs with them. Costs are by this product's own rule.
-use Rattle.std.specs.Prelude.{ℕ, ℤ, pos, negsuc, neg_ℤ, ◌+ℤ◌, ◌*ℤ◌, ◌≤ℤ◌, ◌*◌, nat_le, List, All, unwrap_or, slice_get, if◌then◌else◌}
-use Rattle.nms_quote.specs.declared.orders.OrderSide.{OrderSide}
-use Rattle.nms_quote.specs.declared.orders.OrderSide.TheVariants as side
-use Rattle.nms_fees.specs.declared.fee_schedules.FeeSchedule.{FeeSchedule}
+-- Access fees (17 CFR 242.610(c) as adopted in 2005), and what a share costs with them. Costs are by this product's own rule.
+use Rattle.std.specs.Prelude.{ℕ, ℤ, pos, neg_ℤ, ◌+ℤ◌, ◌*ℤ◌, ◌≤ℤ◌, ◌*◌, nat_le, List, All, unwrap_or, slice_get, if◌then◌else◌}
+use Rattle.nms_quote.specs.declared.order.OrderSide.{OrderSide}
+use Rattle.nms_quote.specs.declared.order.OrderSide.TheVariants as side
+use Rattle.nms_fees.specs.declared.TheConstants.{FEE_CAP, MOST_FEE, MOST_RATE, RATE_CAP}
+use Rattle.nms_fees.specs.declared.fee_schedule.FeeSchedule.{FeeSchedule}
 
 -- no fees at all
 abbrev pub no_fees : FeeSchedule
@@ -28,10 +29,10 @@ unit_cost_of fees part side price = price_on side price +ℤ fee_at (schedule_at
 -- no fee over its cap as the rule was adopted in 2005: $0.003 a share at one dollar or more, else 0.3 percent
 -- of the price. Rebates have ends of their own
 pub record IsCapped (schedule : FeeSchedule) : Type 0 where
-  pub fee_low : negsuc 9999999 ≤ℤ schedule.fee
-  pub fee_cap : schedule.fee ≤ℤ pos 3000000
-  pub rate_low : negsuc 999 ≤ℤ schedule.rate
-  pub rate_cap : schedule.rate ≤ℤ pos 300
+  pub fee_low : neg_ℤ (pos MOST_FEE) ≤ℤ schedule.fee
+  pub fee_cap : schedule.fee ≤ℤ pos FEE_CAP
+  pub rate_low : neg_ℤ (pos MOST_RATE) ≤ℤ schedule.rate
+  pub rate_cap : schedule.rate ≤ℤ pos RATE_CAP
 
 -- no participant's fee is over its cap
 abbrev pub AreCapped : List FeeSchedule → Type 0

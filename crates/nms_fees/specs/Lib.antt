@@ -1,5 +1,8 @@
 pub use Rattle.nms_quote.specs.Roster as Roster
+pub mod FaultTable
+pub mod Faults
 pub mod Fees
-pub mod Opening
+pub mod Laws
 pub mod Places
+pub mod Settings
 pub mod Setup

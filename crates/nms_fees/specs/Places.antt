@@ -1,39 +1,21 @@
 -- The places of a setup's document, and the fault of each. This product's own rule.
-use Rattle.std.specs.Prelude.{codes, ℕ, ℤ, pos, neg_ℤ, Bool, false, not, ◌&&◌, ◌||◌, ◌==◌, nat_le, List, [], ◌∷◌, length, map, fold, Option, Some, None, option_map, option_and_then, if◌then◌else◌}
+use Rattle.std.specs.Prelude.{codes, ℕ, ℤ, pos, neg_ℤ, Bool, false, not, ◌&&◌, ◌||◌, ◌==◌, nat_le, List, [], ◌∷◌, length, map, Option, Some, None, option_map, option_and_then, if◌then◌else◌}
 use Rattle.std.specs.Int.RustNames.{int_le}
 use Rattle.std.specs.Option.{option_map_or}
 use Rattle.std.specs.List.{list_any, filter_map}
 use Rattle.std.specs.Str.{bytes_eq}
 use Rattle.toml.specs.Data.{Data, Items, no_items, item, Members, no_members, member, get_member, as_str, as_integer, as_array, as_table}
+use Rattle.nms_units.specs.declared.TheConstants.{MOST_LOT}
 use Rattle.nms_quote.specs.Roster.{Name, is_part_name, is_symbol_name}
-use Rattle.nms_fees.specs.declared.setup_faults.SetupFault.{SetupFault}
-use Rattle.nms_fees.specs.declared.setup_faults.SetupFault.TheVariants as fault
-use Rattle.nms_fees.specs.declared.levels.Level.{Level}
-use Rattle.nms_fees.specs.declared.levels.Level.TheVariants as level
-use Rattle.nms_fees.specs.declared.sections.Section.{Section}
-use Rattle.nms_fees.specs.declared.sections.Section.TheVariants as section
-
--- the number of a fault's code
-abbrev pub number_of : SetupFault → ℕ
-number_of fault.NotToml = 1
-number_of fault.Missing = 2
-number_of fault.UnknownKey = 3
-number_of fault.BadName = 4
-number_of fault.WrongType = 5
-number_of fault.OutOfRange = 6
-number_of fault.OverCap = 7
-number_of fault.TooMany = 8
-number_of fault.NoMemory = 9
-
--- of two findings the fault with the smaller number
-abbrev pub lesser : Option SetupFault → Option SetupFault → Option SetupFault
-lesser None found = found
-lesser (Some first) None = Some first
-lesser (Some first) (Some second) = if nat_le (number_of first) (number_of second) then Some first else Some second
-
--- the fault of least number of all that are found
-abbrev pub least : List (Option SetupFault) → Option SetupFault
-least found = fold lesser None found
+use Rattle.nms_quote.specs.declared.TheConstants.{MOST_CHANGES, MOST_PARTICIPANTS, MOST_SYMBOLS}
+use Rattle.nms_fees.specs.declared.TheConstants.{FEE_CAP, LEAST_QUEUE, MOST_DESKS, MOST_FEE, MOST_QUEUE, MOST_RATE, RATE_CAP}
+use Rattle.nms_fees.specs.Faults.{least}
+use Rattle.nms_fees.specs.declared.setup_fault.SetupFault.{SetupFault}
+use Rattle.nms_fees.specs.declared.setup_fault.SetupFault.TheVariants as fault
+use Rattle.nms_fees.specs.declared.level.Level.{Level}
+use Rattle.nms_fees.specs.declared.level.Level.TheVariants as level
+use Rattle.nms_fees.specs.declared.section.Section.{Section}
+use Rattle.nms_fees.specs.declared.section.Section.TheVariants as section
 
 -- the fault of a required key: that it is absent, or that of its value
 abbrev pub key_fault : (Data → Option SetupFault) → Name → Members → Option SetupFault
@@ -57,10 +39,13 @@ is_name_in section.Symbol name = is_symbol_name name
 abbrev pub name_fault : (Name → Bool) → Data → Option SetupFault
 name_fault is_name value = option_map_or (λ name. if is_name name then None else Some fault.BadName) (as_str value) (Some fault.WrongType)
 
+abbrev pub is_feed : Name → Bool
+is_feed feed = bytes_eq feed (codes "A") || bytes_eq feed (codes "B")
+
 -- a text that names a feed
 abbrev pub feed_fault : Data → Option SetupFault
 feed_fault value =
-    option_map_or (λ feed. if bytes_eq feed (codes "A") || bytes_eq feed (codes "B") then None else Some fault.OutOfRange) (as_str value) (Some fault.WrongType)
+    option_map_or (λ feed. if is_feed feed then None else Some fault.OutOfRange) (as_str value) (Some fault.WrongType)
 
 -- the keys of a table
 abbrev pub keys_in : Members → List Name
@@ -92,8 +77,8 @@ participant_findings table =
     other_key_fault level.Participant table
     ∷ key_fault (name_fault (is_name_in section.Participant)) (codes "name") table
     ∷ key_fault feed_fault (codes "feed") table
-    ∷ key_fault (cap_fault 10000000 3000000) (codes "fee") table
-    ∷ key_fault (cap_fault 1000 300) (codes "rate") table
+    ∷ key_fault (cap_fault MOST_FEE FEE_CAP) (codes "fee") table
+    ∷ key_fault (cap_fault MOST_RATE RATE_CAP) (codes "rate") table
     ∷ []
 
 -- and in one of the array `symbol`
@@ -101,7 +86,7 @@ abbrev pub symbol_findings : Members → List (Option SetupFault)
 symbol_findings table =
     other_key_fault level.Symbol table
     ∷ key_fault (name_fault (is_name_in section.Symbol)) (codes "name") table
-    ∷ key_fault (range_fault (pos 1) (pos 1000)) (codes "lot") table
+    ∷ key_fault (range_fault (pos 1) (pos MOST_LOT)) (codes "lot") table
     ∷ []
 
 abbrev pub table_findings : Section → Members → List (Option SetupFault)
@@ -135,8 +120,8 @@ abbrev pub repeat_fault : List Data → Option SetupFault
 repeat_fault rows = if has_repeat (filter_map name_in rows) then Some fault.BadName else None
 
 abbrev pub most_of : Section → ℕ
-most_of section.Participant = 32
-most_of section.Symbol = 1000
+most_of section.Participant = MOST_PARTICIPANTS
+most_of section.Symbol = MOST_SYMBOLS
 
 -- that an array is empty, or has too many elements
 abbrev pub count_fault : ℕ → ℕ → Option SetupFault
@@ -157,9 +142,9 @@ array_fault rows_of value = option_map_or (rows_fault rows_of) (rows_in value) (
 abbrev pub document_findings : Members → List (Option SetupFault)
 document_findings document =
     other_key_fault level.Top document
-    ∷ key_fault (range_fault (pos 1) (pos 10000000)) (codes "tape_limit") document
-    ∷ key_fault (range_fault (pos 2) (pos 1024)) (codes "queue") document
-    ∷ key_fault (range_fault (pos 1) (pos 16)) (codes "desks") document
+    ∷ key_fault (range_fault (pos 1) (pos MOST_CHANGES)) (codes "tape_limit") document
+    ∷ key_fault (range_fault (pos LEAST_QUEUE) (pos MOST_QUEUE)) (codes "queue") document
+    ∷ key_fault (range_fault (pos 1) (pos MOST_DESKS)) (codes "desks") document
     ∷ key_fault (array_fault section.Participant) (codes "participant") document
     ∷ key_fault (array_fault section.Symbol) (codes "symbol") document
     ∷ []

@@ -5,13 +5,13 @@ use Rattle.std.specs.Str.{bytes_eq}
 use Rattle.toml.specs.Data.{Data, Members, no_members, get_member, as_str, as_integer, as_table}
 use Rattle.toml.specs.Parse.{parse_document}
 use Rattle.nms_quote.specs.Roster.{Name}
-use Rattle.nms_quote.specs.declared.feeds.Feed.{Feed}
-use Rattle.nms_quote.specs.declared.feeds.Feed.TheVariants as feed
-use Rattle.nms_fees.specs.Opening.{Opening}
+use Rattle.nms_quote.specs.declared.feed.Feed.{Feed}
+use Rattle.nms_quote.specs.declared.feed.Feed.TheVariants as feed
+use Rattle.nms_fees.specs.Settings.{Settings}
 use Rattle.nms_fees.specs.Places.{rows_in, document_fault}
-use Rattle.nms_fees.specs.declared.fee_schedules.FeeSchedule.{FeeSchedule}
-use Rattle.nms_fees.specs.declared.setup_faults.SetupFault.{SetupFault}
-use Rattle.nms_fees.specs.declared.setup_faults.SetupFault.TheVariants as fault
+use Rattle.nms_fees.specs.declared.fee_schedule.FeeSchedule.{FeeSchedule}
+use Rattle.nms_fees.specs.declared.setup_fault.SetupFault.{SetupFault}
+use Rattle.nms_fees.specs.declared.setup_fault.SetupFault.TheVariants as fault
 
 -- the text at a key
 abbrev pub text_at : Name → Members → Name
@@ -47,8 +47,8 @@ abbrev pub symbol_of : Data → Name × ℕ
 symbol_of row = (text_at (codes "name") (table_of row), count_at (codes "lot") (table_of row))
 
 -- what a document without a fault says
-abbrev pub opening_of : Members → Opening
-opening_of document = record {
+abbrev pub settings_of : Members → Settings
+settings_of document = record {
   roster = record { parts = map participant_of (rows_at (codes "participant") document); syms = map symbol_of (rows_at (codes "symbol") document) };
   fees = map schedule_of (rows_at (codes "participant") document);
   tape_limit = count_at (codes "tape_limit") document;
@@ -57,9 +57,9 @@ opening_of document = record {
 }
 
 -- a document's fault of least number, or what it says
-abbrev pub document_reading : Members → Result Opening SetupFault
-document_reading document = option_map_or (λ found. Err found) (document_fault document) (Ok (opening_of document))
+abbrev pub document_reading : Members → Result Settings SetupFault
+document_reading document = option_map_or (λ found. Err found) (document_fault document) (Ok (settings_of document))
 
 -- the setup that a text is, or why it is none
-abbrev pub reading : Name → Result Opening SetupFault
+abbrev pub reading : Name → Result Settings SetupFault
 reading text = option_map_or document_reading (parse_document text) (Err fault.NotToml)

@@ -89,15 +89,19 @@ fn each_array_gives(
     Ok(())
 }
 
-fn has_participant(rt: &impl Abort, roster: &Roster, name: &str, feed: Feed) -> Result<(), Fail> {
-    let part = roster.find_part(name.as_bytes()).ok_or("no participant")?;
-    assert_eq!(rt; roster.feed_of(part), feed);
+fn has_participants(rt: &impl Abort, roster: &Roster, names: &str, feed: Feed) -> Result<(), Fail> {
+    for name in names.split(' ') {
+        let part = roster.find_part(name.as_bytes()).ok_or("no participant")?;
+        assert_eq!(rt; roster.feed_of(part), feed, "{name}");
+    }
     Ok(())
 }
 
-fn has_symbol(rt: &impl Abort, roster: &Roster, name: &str, lot: u16) -> Result<(), Fail> {
-    let sym = roster.find_sym(name.as_bytes()).ok_or("no symbol")?;
-    assert_eq!(rt; roster.lot_of(sym).get(), lot);
+fn has_symbols(rt: &impl Abort, roster: &Roster, names: &str, lot: u16) -> Result<(), Fail> {
+    for name in names.split(' ') {
+        let sym = roster.find_sym(name.as_bytes()).ok_or("no symbol")?;
+        assert_eq!(rt; roster.lot_of(sym).get(), lot, "{name}");
+    }
     Ok(())
 }
 
@@ -115,21 +119,28 @@ fn each_costs(rt: &impl Abort, setup: &Setup, costs: &[Cost<'_>]) -> Result<(), 
 }
 
 #[test]
-fn reads_the_worked_setup(rt: HostRuntime) -> Result<(), Fail> {
+fn reads_the_numbers_of_the_worked_setup(rt: HostRuntime) -> Result<(), Fail> {
+    let setup = sound(rt.alloc())?;
+    let numbers = [
+        (setup.roster().parts(), 4),
+        (setup.roster().syms(), 2),
+        (setup.tape_limit() as usize, 1000),
+        (setup.queue(), 16),
+        (usize::from(setup.desks()), 2),
+    ];
+    for (number, wanted) in numbers {
+        assert_eq!(rt; number, wanted);
+    }
+    Ok(())
+}
+
+#[test]
+fn reads_the_roster_of_the_worked_setup(rt: HostRuntime) -> Result<(), Fail> {
     let setup = sound(rt.alloc())?;
     let roster = setup.roster();
-    assert_eq!(rt; roster.parts(), 4);
-    assert_eq!(rt; roster.syms(), 2);
-    has_participant(&rt, roster, "N", Feed::A)?;
-    has_participant(&rt, roster, "P", Feed::A)?;
-    has_participant(&rt, roster, "Y", Feed::B)?;
-    has_participant(&rt, roster, "Z", Feed::B)?;
-    has_symbol(&rt, roster, "ABC", 100)?;
-    has_symbol(&rt, roster, "PNY", 100)?;
-    assert_eq!(rt; setup.tape_limit(), 1000);
-    assert_eq!(rt; setup.queue(), 16);
-    assert_eq!(rt; setup.desks(), 2);
-    Ok(())
+    has_participants(&rt, roster, "N P", Feed::A)?;
+    has_participants(&rt, roster, "Y Z", Feed::B)?;
+    has_symbols(&rt, roster, "ABC PNY", 100)
 }
 
 #[test]
@@ -454,6 +465,29 @@ fn the_least_fault_anywhere_is_answered(rt: HostRuntime) -> Result<(), Fail> {
         }
         let text = faulty(alloc, has)?;
         assert_eq!(rt; fault_of(alloc, text.as_str()), least, "{choice}");
+    }
+    Ok(())
+}
+
+#[test]
+fn faults_are_printed_with_their_codes(rt: HostRuntime) -> Result<(), Fail> {
+    for (fault, text) in [
+        (SetupFault::NotToml, "C1: not a TOML document"),
+        (SetupFault::Missing, "C2: a key is missing"),
+        (SetupFault::UnknownKey, "C3: an unknown key"),
+        (
+            SetupFault::BadName,
+            "C4: a bad name, or the same name twice",
+        ),
+        (SetupFault::WrongType, "C5: a value of another kind"),
+        (SetupFault::OutOfRange, "C6: a value out of range"),
+        (SetupFault::OverCap, "C7: a fee over its cap"),
+        (SetupFault::TooMany, "C8: too many participants or symbols"),
+        (SetupFault::NoMemory, "C9: out of memory"),
+    ] {
+        let told = format!(in rt.alloc(); "{fault}")?;
+        assert_eq!(rt; told.as_str(), text);
+        assert!(rt; text.starts_with(fault.code()), "{text}");
     }
     Ok(())
 }

@@ -1,2 +1,4 @@
+pub mod FaultsRead
 pub mod FieldFacts
+pub mod FirstFault
 pub mod ReadFacts

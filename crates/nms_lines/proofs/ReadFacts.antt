@@ -6,7 +6,7 @@ use Rattle.csv.specs.declared.parser.State.TheVariants as state
 use Rattle.csv.specs.declared.reader.Reader.{Reader}
 use Rattle.csv.proofs.ReadFacts.{rows-more}
 use Rattle.nms_lines.specs.Layout.{Record}
-use Rattle.nms_lines.specs.Records.{BeginRecords, ReadsFrom, StandsAfter}
+use Rattle.nms_lines.specs.Records.{BeginRecords, StandsAfter}
 
 -- before the first record
 pub stands_first : {R : Type 0} (remaining : R → Option (List ℕ)) (reader : Reader R) (bytes : Option (List ℕ))
@@ -22,8 +22,14 @@ stands_more remaining old new None seen fields config stands read = tt
 stands_more remaining old new (Some text) seen fields config stands read =
     rows-more remaining old new fields default_config state.StartRecord (strip_bom text) stands.0 seen config stands.1 stands.2 read
 
+-- the beginning with no record
+pub begins_first : (bytes : Option (List ℕ)) → BeginRecords bytes []
+unfolding Reached
+begins_first None = tt
+begins_first (Some text) = (state.StartRecord, strip_bom text, (refl, refl))
+
 -- what was read begins the text
 pub begins_read : {R : Type 0} (remaining : R → Option (List ℕ)) (reader : Reader R) (bytes : Option (List ℕ)) (seen : List Record)
-    → ReadsFrom remaining reader bytes seen → BeginRecords bytes seen
-begins_read remaining reader None seen reads = tt
-begins_read remaining reader (Some text) seen reads = (reader_state reader, reads.stands.0, reads.stands.2)
+    → StandsAfter remaining reader bytes seen → BeginRecords bytes seen
+begins_read remaining reader None seen stands = tt
+begins_read remaining reader (Some text) seen stands = (reader_state reader, stands.0, stands.2)

@@ -4,14 +4,14 @@ use Rattle.std.specs.Option.{ok_or}
 use Rattle.nms_units.specs.Price.{price_number}
 use Rattle.nms_units.specs.Digits.{number_in}
 use Rattle.nms_quote.specs.Roster.{Listing, place_in}
-use Rattle.nms_quote.specs.declared.quotes.QState.{QState}
-use Rattle.nms_quote.specs.declared.quotes.QState.TheVariants as state
-use Rattle.nms_quote.specs.declared.orders.OrderSide.{OrderSide}
-use Rattle.nms_quote.specs.declared.orders.OrderSide.TheVariants as side
+use Rattle.nms_quote.specs.declared.side_quote.QState.{QState}
+use Rattle.nms_quote.specs.declared.side_quote.QState.TheVariants as state
+use Rattle.nms_quote.specs.declared.order.OrderSide.{OrderSide}
+use Rattle.nms_quote.specs.declared.order.OrderSide.TheVariants as side
 use Rattle.nms_lines.specs.Layout.{Record, field, is_text}
 use Rattle.nms_lines.specs.Numbers.{above_zero, below, shares_number}
-use Rattle.nms_lines.specs.declared.line_faults.LineFault.{LineFault}
-use Rattle.nms_lines.specs.declared.line_faults.LineFault.TheVariants as fault
+use Rattle.nms_lines.specs.declared.line_fault.LineFault.{LineFault}
+use Rattle.nms_lines.specs.declared.line_fault.LineFault.TheVariants as fault
 
 -- the participant of that name
 abbrev pub part_in : Listing → List ℕ → Result ℕ LineFault
@@ -28,6 +28,7 @@ state_named text =
     else (if is_text (codes "M") text then Some state.Manual
     else (if is_text (codes "H") text then Some state.Halted else None))
 
+-- that state, or the fault
 abbrev pub state_in : List ℕ → Result QState LineFault
 state_in text = ok_or (state_named text) fault.BadState
 
@@ -37,6 +38,7 @@ side_named text =
     if is_text (codes "B") text then Some side.Buy
     else (if is_text (codes "S") text then Some side.Sell else None)
 
+-- that side, or the fault
 abbrev pub side_in : List ℕ → Result OrderSide LineFault
 side_in text = ok_or (side_named text) fault.BadState
 
@@ -56,5 +58,5 @@ abbrev pub shares_in : List ℕ → Result ℕ LineFault
 shares_in text = ok_or (above_zero (shares_number text)) fault.BadShares
 
 -- a desk: 1 or 2 digits, below the number of desks
-abbrev pub desk_in : ℕ → List ℕ → Result ℕ LineFault
-desk_in desks text = ok_or (below desks (number_in 2 text)) fault.BadDesk
+abbrev pub desk_below : ℕ → List ℕ → Result ℕ LineFault
+desk_below desks text = ok_or (below desks (number_in 2 text)) fault.BadDesk

@@ -1,8 +1,8 @@
 -- Records, their fields and their kinds. This product's own rule.
-use Rattle.std.specs.Prelude.{ℕ, ◌==◌, ◌||◌, Bool, true, false, List, [], slice_get, unwrap_or, Option, Some, None, codes, if◌then◌else◌}
+use Rattle.std.specs.Prelude.{ℕ, ◌==◌, ◌||◌, Bool, List, [], slice_get, unwrap_or, Option, Some, None, codes, if◌then◌else◌}
 use Rattle.std.specs.Str.{bytes_eq}
-use Rattle.nms_lines.specs.declared.lines.Kind.{Kind}
-use Rattle.nms_lines.specs.declared.lines.Kind.TheVariants as kind
+use Rattle.nms_lines.specs.declared.line.Kind.{Kind}
+use Rattle.nms_lines.specs.declared.line.Kind.TheVariants as kind
 
 -- a record: its fields, each a list of bytes
 abbrev pub Record : Type 0
@@ -12,6 +12,7 @@ Record = List (List ℕ)
 abbrev pub field : Record → ℕ → List ℕ
 field fields place = unwrap_or (slice_get fields place) []
 
+-- whether a text is that word
 abbrev pub is_text : List ℕ → List ℕ → Bool
 is_text word text = bytes_eq text word
 
@@ -28,19 +29,6 @@ kind_named text =
     else (if is_text (codes "N") text then Some kind.Best
     else (if is_text (codes "E") text then Some kind.Through
     else (if is_text (codes "O") text then Some kind.Sweep else None)))))))))
-
--- what a feed brings
-abbrev pub is_change_kind : Kind → Bool
-is_change_kind kind.Quote = true
-is_change_kind kind.State = true
-is_change_kind kind.Withdraw = true
-is_change_kind kind.TakeOne = false
-is_change_kind kind.TakeAll = false
-is_change_kind kind.Publish = false
-is_change_kind kind.Tell = false
-is_change_kind kind.Best = false
-is_change_kind kind.Through = false
-is_change_kind kind.Sweep = false
 
 -- how many fields a record of the kind has. An order may have one more, its flag
 abbrev pub is_count : Kind → ℕ → Bool

@@ -1,10 +1,15 @@
 pub use Rattle.csv.specs.Records as Rows
 pub use Rattle.nms_quote.specs.Roster as Roster
+pub mod FaultTable
 pub mod Faults
+pub mod FieldFaults
 pub mod Fields
+pub mod Laws
 pub mod Layout
+pub mod LineOf
 pub mod Lines
 pub mod Numbers
 pub mod Records
 pub mod Sides
 pub mod Sources
+pub mod Text

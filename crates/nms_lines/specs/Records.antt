@@ -17,6 +17,7 @@ AreAllRecords (Some bytes) records = AreRecords default_config state.StartRecord
 abbrev pub Begins : List ℕ → List Record → State → List ℕ → Type 0
 Begins bytes records now rest = Reached default_config state.StartRecord (strip_bom bytes) records now rest
 
+-- the same, where the bytes of the text are known
 abbrev pub BeginRecords : Option (List ℕ) → List Record → Type 0
 BeginRecords None records = Unit {0}
 BeginRecords (Some bytes) records = (now : State) × (rest : List ℕ) × Begins bytes records now rest
@@ -27,13 +28,14 @@ StandsAfter remaining reader None records = Unit {0}
 StandsAfter remaining reader (Some bytes) records =
     (rest : List ℕ) × (source_of remaining reader ≡ Some rest) × Begins bytes records (reader_state reader) rest
 
--- a reader that has read these records of the text, and reads on as the layouts want it
+-- a reader that has read these records, with which the text begins, and reads on as the layouts want it
 pub record ReadsFrom {R : Type 0} (remaining : R → Option (List ℕ)) (reader : Reader R) (bytes : Option (List ℕ)) (records : List Record) : Type 0 where
   pub plain : reader_trim reader ≡ trim.None
   pub ready : Ready reader
   pub flexible : is_flexible reader ≡ true
   pub config : reader_config reader ≡ default_config
   pub stands : StandsAfter remaining reader bytes records
+  pub begins : BeginRecords bytes records
 
 -- a read failed, so the reader gives no more records
 abbrev pub HasStopped : {R : Type 0} → Reader R → Type 0

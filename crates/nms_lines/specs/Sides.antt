@@ -2,11 +2,11 @@
 use Rattle.std.specs.Prelude.{ℕ, ◌==◌, ◌&&◌, ◌||◌, not, Bool, List, length, Option, Some, None, Result, Ok}
 use Rattle.nms_units.specs.Price.{price_number}
 use Rattle.nms_quote.specs.Content.{Content}
-use Rattle.nms_lines.specs.Faults.{◌>>=◌, refused}
+use Rattle.nms_lines.specs.Faults.{◌>>=◌, refuse_if}
 use Rattle.nms_lines.specs.Layout.{Record, field}
 use Rattle.nms_lines.specs.Numbers.{above_zero, is_there, is_zero, shares_number}
-use Rattle.nms_lines.specs.declared.line_faults.LineFault.{LineFault}
-use Rattle.nms_lines.specs.declared.line_faults.LineFault.TheVariants as fault
+use Rattle.nms_lines.specs.declared.line_fault.LineFault.{LineFault}
+use Rattle.nms_lines.specs.declared.line_fault.LineFault.TheVariants as fault
 
 -- a field with nothing in it
 abbrev pub is_empty : List ℕ → Bool
@@ -38,10 +38,22 @@ content_from (Some price) (Some shares) = Some (record { price = price; shares =
 abbrev pub side_content : List ℕ → List ℕ → Option Content
 side_content price shares = content_from (above_zero (price_number price)) (above_zero (shares_number shares))
 
+-- a price that is not of the form, on either side
+abbrev pub has_bad_price : Record → Bool
+has_bad_price fields = is_bad_price (field fields 4) (field fields 5) || is_bad_price (field fields 6) (field fields 7)
+
+-- shares that are not of the form, on either side
+abbrev pub has_bad_shares : Record → Bool
+has_bad_shares fields = is_bad_shares (field fields 5) || is_bad_shares (field fields 7)
+
+-- half a side, on either
+abbrev pub has_half_side : Record → Bool
+has_half_side fields = is_half (field fields 4) (field fields 5) || is_half (field fields 6) (field fields 7)
+
 -- both sides: a fault of a price comes before one of shares, and that before half a side
 abbrev pub sides_in : Record → Result (Option Content × Option Content) LineFault
 sides_in fields = do
-  prices ← refused fault.BadPrice (is_bad_price (field fields 4) (field fields 5) || is_bad_price (field fields 6) (field fields 7))
-  shares ← refused fault.BadShares (is_bad_shares (field fields 5) || is_bad_shares (field fields 7))
-  whole ← refused fault.HalfSide (is_half (field fields 4) (field fields 5) || is_half (field fields 6) (field fields 7))
+  prices ← refuse_if (has_bad_price fields) fault.BadPrice
+  shares ← refuse_if (has_bad_shares fields) fault.BadShares
+  whole ← refuse_if (has_half_side fields) fault.HalfSide
   Ok (side_content (field fields 4) (field fields 5), side_content (field fields 6) (field fields 7))

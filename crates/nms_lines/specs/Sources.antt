@@ -1,53 +1,60 @@
--- What a script and a feed may bring. This product's own rule.
-use Rattle.std.specs.Prelude.{ℕ, ◌≡◌, ⊤, not, Bool, true, false, slice_get, option_map, Option, Some, None, Result, Ok, Err, if◌then◌else◌}
-use Rattle.nms_quote.specs.Roster.{Listing}
-use Rattle.nms_quote.specs.declared.feeds.Feed.{Feed}
-use Rattle.nms_quote.specs.declared.feeds.Feed.TheVariants as feed
-use Rattle.nms_lines.specs.Faults.{refused}
-use Rattle.nms_lines.specs.Layout.{is_change_kind}
-use Rattle.nms_lines.specs.declared.lines.Kind.{Kind}
-use Rattle.nms_lines.specs.declared.lines.Reading.{Reading}
-use Rattle.nms_lines.specs.declared.lines.Reading.TheVariants as source
-use Rattle.nms_lines.specs.declared.line_faults.LineFault.{LineFault}
-use Rattle.nms_lines.specs.declared.line_faults.LineFault.TheVariants as fault
+-- What each source of records may bring. This product's own rule.
+use Rattle.std.specs.Prelude.{ℕ, ◌≡◌, ⊤, not, Bool, true, false, Option, Some, None, if◌then◌else◌}
+use Rattle.nms_quote.specs.Merge.{is_of_feed}
+use Rattle.nms_quote.specs.Roster.{Listing, feed_at}
+use Rattle.nms_lines.specs.Layout.{Record, field, kind_named}
+use Rattle.nms_lines.specs.declared.line.Kind.{Kind}
+use Rattle.nms_lines.specs.declared.line.Kind.TheVariants as kind
+use Rattle.nms_lines.specs.declared.line.Reading.{Reading}
+use Rattle.nms_lines.specs.declared.line.Reading.TheVariants as source
 
--- the kind of a record, where its source may bring it
-abbrev pub kind_from : Reading → Option Kind → Result Kind LineFault
-kind_from from None = Err fault.UnknownKind
-kind_from (source.Script desks) (Some kind) = Ok kind
-kind_from (source.FromFeed feed) (Some kind) = if is_change_kind kind then Ok kind else Err fault.UnknownKind
+-- the kinds that a script serves: a trade-through test and an order are not among them yet
+abbrev pub is_served : Kind → Bool
+is_served kind.Through = false
+is_served kind.Sweep = false
+is_served _ = true
 
--- how many desks there are: a feed has none
+-- the kinds that are a participant's change
+abbrev pub is_change_kind : Kind → Bool
+is_change_kind kind.Quote = true
+is_change_kind kind.State = true
+is_change_kind kind.Withdraw = true
+is_change_kind _ = false
+
+-- the kind of an order
+abbrev pub is_order_kind : Kind → Bool
+is_order_kind kind.Sweep = true
+is_order_kind _ = false
+
+-- the kinds that a source brings
+abbrev pub brings : Reading → Kind → Bool
+brings (source.Script desks) kind = is_served kind
+brings (source.FromFeed feed) kind = is_change_kind kind
+brings source.Changes kind = is_change_kind kind
+brings (source.Orders desks) kind = is_order_kind kind
+
+-- a kind, where the source brings it
+abbrev pub brought : Reading → Option Kind → Option Kind
+brought from None = None
+brought from (Some kind) = if brings from kind then Some kind else None
+
+-- the kind that a record's first field names, where the source brings it
+abbrev pub kind_in : Reading → Record → Option Kind
+kind_in from fields = brought from (kind_named (field fields 0))
+
+-- how many desks there are: a feed and a file of changes have none
 abbrev pub desks_of : Reading → ℕ
 desks_of (source.Script desks) = desks
 desks_of (source.FromFeed feed) = 0
+desks_of source.Changes = 0
+desks_of (source.Orders desks) = desks
 
--- whether two feeds are one
-abbrev pub is_same_feed : Feed → Feed → Bool
-is_same_feed feed.A feed.A = true
-is_same_feed feed.A feed.B = false
-is_same_feed feed.B feed.A = false
-is_same_feed feed.B feed.B = true
+-- a feed is read, and the participant is of another one
+abbrev pub is_foreign : Listing → Reading → ℕ → Bool
+is_foreign roster (source.FromFeed feed) part = not (is_of_feed (feed_at roster part) feed)
+is_foreign roster _ part = false
 
-abbrev pub is_of_feed : Option Feed → Feed → Bool
-is_of_feed None wanted = false
-is_of_feed (Some feed) wanted = is_same_feed feed wanted
-
--- the feed of the participant at a place
-abbrev pub feed_at : Listing → ℕ → Option Feed
-feed_at roster part = option_map (λ entry. entry.1) (slice_get roster.parts part)
-
--- a fault where a feed brings a change of another's participant
-abbrev pub of_feed : Listing → Reading → ℕ → Result (Unit {0}) LineFault
-of_feed roster (source.Script desks) part = Ok tt
-of_feed roster (source.FromFeed feed) part = refused fault.WrongFeed (not (is_of_feed (feed_at roster part) feed))
-
--- the feed's participant, where the source is a feed
+-- a feed brings changes of its own participants alone
 abbrev pub IsSentBy : Listing → Reading → ℕ → Type 0
-IsSentBy roster (source.Script desks) part = ⊤
 IsSentBy roster (source.FromFeed feed) part = feed_at roster part ≡ Some feed
-
--- the source is a script
-abbrev pub IsScript : Reading → Type 0
-IsScript (source.Script desks) = ⊤
-IsScript (source.FromFeed feed) = ⊥
+IsSentBy roster _ part = ⊤

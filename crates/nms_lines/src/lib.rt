@@ -1,27 +1,28 @@
-//! The layout of records: what a line says, or why it is refused.
+//! The layout of records: what a record says, or why it is refused.
 #![tactic(auto)]
 
-mod change_lines;
-mod desk_lines;
-mod fields;
-mod kinds;
-mod letters;
-mod line_faults;
+mod change_line;
+mod desk_line;
+mod field;
+mod kind;
+mod laws;
+mod letter;
+mod line;
+mod line_fault;
 mod line_reading;
-mod lines;
-mod names;
-mod numbers;
-mod record_faults;
-mod records;
-mod sides;
+mod name;
+mod number;
+mod record_fault;
+mod record_reading;
+mod side;
 
 pub use csv::{ByteRecord, Reader};
-pub use kinds::kind_of;
-pub use line_faults::LineFault;
+pub use laws::the_least_fault_is_read;
+pub use line::{Kind, Line, Reading};
+pub use line_fault::LineFault;
 pub use line_reading::read_line;
-pub use lines::{Kind, Line, Reading};
-pub use record_faults::RecordFault;
-pub use records::{open_records, read_next};
+pub use record_fault::RecordFault;
+pub use record_reading::{open_records, read_next};
 
 #[cfg(test)]
 mod tests;

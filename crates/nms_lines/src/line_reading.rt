@@ -1,35 +1,40 @@
-ghost use Rattle.std.specs.Prelude.{◌≡◌, IfOk, Ok, Some};
+//! The reading of a record: `specs/Lines`.
+ghost use Rattle.std.specs.Prelude.{◌≡◌, IfOk, true};
 ghost use Rattle.csv.specs.Records.{fields_of};
-ghost use Rattle.nms_lines.specs.Lines.{IsLineOf, bare_reading, kind_reading, reading};
-ghost use Rattle.nms_lines.specs.Sources.{kind_from};
+ghost use Rattle.nms_lines.specs.LineOf.{IsLineOf};
+ghost use Rattle.nms_lines.specs.Lines.{kind_reading, reading};
+ghost use Rattle.nms_lines.specs.Sources.{brings};
 
-use crate::change_lines::{quote_line, state_line, withdraw_line};
-use crate::desk_lines::{best_line, sweep_line, tell_line, through_line};
-use crate::kinds::{counted, kind_from, kind_of};
-use crate::line_faults::LineFault;
-use crate::lines::{Kind, Line, Reading};
+use crate::change_line::{quote_line, state_line, withdraw_line};
+use crate::desk_line::{best_line, sweep_line, tell_line, through_line};
+use crate::kind::{is_count, kind_in};
+use crate::line::{Kind, Line, Reading};
+use crate::line_fault::{LineFault, refuse_if};
 use csv::ByteRecord;
 use nms_quote::Roster;
 
-/// What a record says, or the first of `LineFault`'s faults that it has.
+/// What a record says, or the fault of the least number that holds of it (the law
+/// `the_least_fault_is_read`). A record of a kind that its source does not bring is `UnknownKind`, whatever
+/// the rest of it is.
 ///
 /// It takes no memory, and reads each field at most once.
 pub fn read_line(row: &ByteRecord, roster: &Roster, from: Reading) -> Result<Line, LineFault>
     ensures line { result ≡ reading roster.now from (fields_of row.now) }
     ensures of { IfOk result (IsLineOf roster.now from) }
 {
-    let kind = kind_from(from, kind_of(row))?;
+    let kind = kind_in(row, from).ok_or(LineFault::UnknownKind)?;
+    refuse_if(!is_count(kind, row.len()), LineFault::FieldCount)?;
     line_of_kind(row, roster, from, kind)
 }
 
-/// What a record of a kind that its source may bring says.
+/// What the fields of a record of a kind say that its source brings.
 fn line_of_kind(
     row: &ByteRecord,
     roster: &Roster,
     from: Reading,
     kind: Kind,
 ) -> Result<Line, LineFault>
-    requires { kind_from from (Some kind) ≡ Ok kind }
+    requires { brings from kind ≡ true }
     ensures line { result ≡ kind_reading roster.now from (fields_of row.now) kind }
     ensures of { IfOk result (IsLineOf roster.now from) }
 {
@@ -37,20 +42,12 @@ fn line_of_kind(
         Kind::Quote => quote_line(row, roster, from),
         Kind::State => state_line(row, roster, from),
         Kind::Withdraw => withdraw_line(row, roster, from),
-        Kind::TakeOne => bare_line(kind, Line::TakeOne, row),
-        Kind::TakeAll => bare_line(kind, Line::TakeAll, row),
-        Kind::Publish => bare_line(kind, Line::Publish, row),
+        Kind::TakeOne => Ok(Line::TakeOne),
+        Kind::TakeAll => Ok(Line::TakeAll),
+        Kind::Publish => Ok(Line::Publish),
         Kind::Tell => tell_line(row, from),
         Kind::Best => best_line(row, roster, from),
         Kind::Through => through_line(row, roster, from),
         Kind::Sweep => sweep_line(row, roster, from),
     }
-}
-
-/// `T`, `F` or `P`
-fn bare_line(kind: Kind, line: Line, row: &ByteRecord) -> Result<Line, LineFault>
-    ensures { result ≡ bare_reading kind line (fields_of row.now) }
-{
-    counted(kind, row)?;
-    Ok(line)
 }

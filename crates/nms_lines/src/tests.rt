@@ -1,6 +1,8 @@
+//! What no clause says: whole records, readers that fail or want memory, and printed texts.
+use crate::desk_line::through_line;
 use crate::{
-    ByteRecord, Kind, Line, LineFault, Reading, RecordFault, kind_of, open_records, read_line,
-    read_next,
+    ByteRecord, Line, LineFault, Reading, RecordFault, open_records, read_line, read_next,
+    the_least_fault_is_read,
 };
 use nms_quote::{Change, Feed, Order, OrderSide, Part, QState, Roster, SideQuote, Sym};
 use nms_units::{Lot, Price, Shares};
@@ -11,6 +13,8 @@ use std::process::Abort;
 use std::test::Fail;
 
 const SCRIPT: Reading = Reading::Script { desks: 2 };
+
+const ORDERS: Reading = Reading::Orders { desks: 2 };
 
 const FEED_A: Reading = Reading::FromFeed(Feed::A);
 
@@ -26,16 +30,22 @@ fn roster(alloc: Global) -> Result<Roster, Fail> {
     Ok(roster)
 }
 
-// What the first record of a text says.
-fn line_in(alloc: Global, text: &[u8], from: Reading) -> Result<Result<Line, LineFault>, Fail> {
-    let roster = roster(alloc)?;
+// The first record of a text.
+fn record_in(alloc: Global, text: &[u8]) -> Result<ByteRecord, Fail> {
     let mut reader = open_records(alloc, text);
     let mut row = ByteRecord::new(alloc);
     if read_next(&mut reader, &mut row)? {
-        Ok(read_line(&row, &roster, from))
+        Ok(row)
     } else {
         Err("no record")?
     }
+}
+
+// What the first record of a text says.
+fn line_in(alloc: Global, text: &[u8], from: Reading) -> Result<Result<Line, LineFault>, Fail> {
+    let roster = roster(alloc)?;
+    let row = record_in(alloc, text)?;
+    Ok(read_line(&row, &roster, from))
 }
 
 // Each of these texts is refused so.
@@ -61,7 +71,7 @@ fn quote(dollars: u64, shares: u32) -> Result<SideQuote, Fail> {
 fn changes_are_read(rt: HostRuntime) -> Result<(), Fail> {
     let (n, c) = (Part::new(0).ok_or("N")?, Part::new(2).ok_or("C")?);
     let (abc, brk) = (Sym::new(0).ok_or("ABC")?, Sym::new(1).ok_or("BRK")?);
-    for from in [SCRIPT, FEED_A] {
+    for from in [SCRIPT, FEED_A, Reading::Changes] {
         assert_eq!(rt;
             line_in(rt.alloc(), b"Q,N,ABC,A,10,200,11.0,0300", from)?,
             Ok(Line::Change(Change::Quote {
@@ -121,44 +131,79 @@ fn a_side_of_0_shares_is_no_quotation(rt: HostRuntime) -> Result<(), Fail> {
 }
 
 #[test]
-fn the_other_lines_are_read(rt: HostRuntime) -> Result<(), Fail> {
-    let (abc, brk) = (Sym::new(0).ok_or("ABC")?, Sym::new(1).ok_or("BRK")?);
-    let limit = Price::new(100_100).ok_or("a price")?;
-    let shares = Shares::new(100).ok_or("shares")?;
-    let buy = Order::new(OrderSide::Buy, abc, shares, limit, false).ok_or("an order")?;
-    let sell = Order::new(OrderSide::Sell, brk, shares, limit, true).ok_or("an order")?;
+fn the_lines_of_a_script_are_read(rt: HostRuntime) -> Result<(), Fail> {
+    let sym = Sym::new(0).ok_or("ABC")?;
     for (text, line) in [
         (b"T".as_slice(), Line::TakeOne),
         (b"F", Line::TakeAll),
         (b"P", Line::Publish),
         (b"L,1", Line::Tell { desk: 1 }),
-        (b"N,00,ABC", Line::Best { desk: 0, sym: abc }),
-        (
-            b"E,01,BRK,10.01",
-            Line::Through {
-                desk: 1,
-                sym: brk,
-                price: limit,
-            },
-        ),
-        (
-            b"O,0,B,ABC,100,10.01",
-            Line::Sweep {
-                desk: 0,
-                order: buy,
-            },
-        ),
-        (
-            b"O,1,S,BRK,100,10.01,M",
-            Line::Sweep {
-                desk: 1,
-                order: sell,
-            },
-        ),
+        (b"N,00,ABC", Line::Best { desk: 0, sym }),
     ] {
         assert_eq!(rt; line_in(rt.alloc(), text, SCRIPT)?, Ok(line));
+        for from in [FEED_A, Reading::Changes, ORDERS] {
+            assert_eq!(rt;
+                line_in(rt.alloc(), text, from)?,
+                Err(LineFault::UnknownKind)
+            );
+        }
+    }
+    Ok(())
+}
+
+#[test]
+fn orders_are_read_from_their_file_alone(rt: HostRuntime) -> Result<(), Fail> {
+    let (abc, brk) = (Sym::new(0).ok_or("ABC")?, Sym::new(1).ok_or("BRK")?);
+    let limit = Price::new(100_100).ok_or("a price")?;
+    let shares = Shares::new(100).ok_or("shares")?;
+    for (text, desk, side, sym, manual) in [
+        (
+            b"O,0,B,ABC,100,10.01".as_slice(),
+            0,
+            OrderSide::Buy,
+            abc,
+            false,
+        ),
+        (b"O,1,S,BRK,100,10.01,M", 1, OrderSide::Sell, brk, true),
+    ] {
+        let order = Order::new(side, sym, shares, limit, manual).ok_or("an order")?;
         assert_eq!(rt;
-            line_in(rt.alloc(), text, FEED_A)?,
+            line_in(rt.alloc(), text, ORDERS)?,
+            Ok(Line::Sweep { desk, order })
+        );
+        for from in [SCRIPT, FEED_A, Reading::Changes] {
+            assert_eq!(rt;
+                line_in(rt.alloc(), text, from)?,
+                Err(LineFault::UnknownKind)
+            );
+        }
+    }
+    Ok(())
+}
+
+#[test]
+fn trade_through_tests_are_read(rt: HostRuntime) -> Result<(), Fail> {
+    let roster = roster(rt.alloc())?;
+    let sym = Sym::new(1).ok_or("BRK")?;
+    let price = Price::new(100_100).ok_or("a price")?;
+    for (text, line) in [
+        (
+            b"E,01,BRK,10.01".as_slice(),
+            Ok(Line::Through {
+                desk: 1,
+                sym,
+                price,
+            }),
+        ),
+        (b"E,2,XYZ,x", Err(LineFault::UnknownSymbol)),
+        (b"E,0,ABC,0", Err(LineFault::BadPrice)),
+        (b"E,2,ABC,", Err(LineFault::BadPrice)),
+        (b"E,1 ,ABC,10", Err(LineFault::BadDesk)),
+    ] {
+        let row = record_in(rt.alloc(), text)?;
+        assert_eq!(rt; through_line(&row, &roster, SCRIPT), line);
+        assert_eq!(rt;
+            read_line(&row, &roster, SCRIPT),
             Err(LineFault::UnknownKind)
         );
     }
@@ -167,6 +212,7 @@ fn the_other_lines_are_read(rt: HostRuntime) -> Result<(), Fail> {
 
 #[test]
 fn the_fault_of_the_least_number_is_told(rt: HostRuntime) -> Result<(), Fail> {
+    the_least_fault_is_read();
     are_refused(
         &rt,
         rt.alloc(),
@@ -178,6 +224,8 @@ fn the_fault_of_the_least_number_is_told(rt: HostRuntime) -> Result<(), Fail> {
             (b"QQ,N,ABC,A,,,,", LineFault::UnknownKind),
             (b",N", LineFault::UnknownKind),
             (b"\"\"", LineFault::UnknownKind),
+            (b"E", LineFault::UnknownKind),
+            (b"O", LineFault::UnknownKind),
             (b"F,1", LineFault::FieldCount),
             (b"T,", LineFault::FieldCount),
             (b"P,P", LineFault::FieldCount),
@@ -185,9 +233,6 @@ fn the_fault_of_the_least_number_is_told(rt: HostRuntime) -> Result<(), Fail> {
             (b"X,N,", LineFault::FieldCount),
             (b"S,Q,XYZ", LineFault::FieldCount),
             (b"N,2,XYZ,", LineFault::FieldCount),
-            (b"E,2,XYZ", LineFault::FieldCount),
-            (b"O,2,X,XYZ,0", LineFault::FieldCount),
-            (b"O,0,B,ABC,100,10.01,M,", LineFault::FieldCount),
             (b"Q,N,ABC,A,10.00,100", LineFault::FieldCount),
             (b"Q,Q,XYZ,Z,x,x,,,", LineFault::FieldCount),
             (b"Q,Q,ABC,A,10.00,100,,", LineFault::UnknownParticipant),
@@ -199,38 +244,76 @@ fn the_fault_of_the_least_number_is_told(rt: HostRuntime) -> Result<(), Fail> {
             (b"Q,N,XYZ,Z,x,x,,", LineFault::UnknownSymbol),
             (b"S,N,AB,Z", LineFault::UnknownSymbol),
             (b"N,2,XYZ", LineFault::UnknownSymbol),
-            (b"E,2,XYZ,x", LineFault::UnknownSymbol),
-            (b"O,2,X,,x,x,x", LineFault::UnknownSymbol),
             (b"Q,N,ABC,Z,,,,", LineFault::BadState),
             (b"Q,N,ABC,Z,x,x,,", LineFault::BadState),
             (b"Q,N,ABC,a,,,,", LineFault::BadState),
             (b"S,N,ABC,", LineFault::BadState),
-            (b"O,0,X,ABC,100,10.01", LineFault::BadState),
-            (b"O,2,,ABC,x,x", LineFault::BadState),
-            (b"O,0,B,ABC,100,10.01,", LineFault::BadState),
-            (b"O,2,B,ABC,x,x,m", LineFault::BadState),
             (b"Q,N,ABC,A,10.00001,100,,", LineFault::BadPrice),
             (b"Q,N,ABC,A,,,-1,100", LineFault::BadPrice),
-            (b"E,0,ABC,0", LineFault::BadPrice),
-            (b"E,2,ABC,", LineFault::BadPrice),
-            (b"O,2,B,ABC,x,0.0000", LineFault::BadPrice),
-            (b"O,0,B,ABC,0,", LineFault::BadPrice),
             (b"Q,N,ABC,A,10.00,1x,,", LineFault::BadShares),
             (b"Q,N,ABC,A,10.00,,11,1234567890", LineFault::BadShares),
-            (b"O,0,B,ABC,0,10.01", LineFault::BadShares),
-            (b"O,0,B,ABC,,10.01", LineFault::BadShares),
-            (b"O,2,B,ABC,1000000000,10.01", LineFault::BadShares),
             (b"Q,N,ABC,A,10.00,,,", LineFault::HalfSide),
             (b"Q,N,ABC,A,,0,,", LineFault::HalfSide),
             (b"Q,N,ABC,A,10,100,,100", LineFault::HalfSide),
             (b"L,2", LineFault::BadDesk),
+            (b"L,", LineFault::BadDesk),
             (b"N,2,ABC", LineFault::BadDesk),
             (b"N,,ABC", LineFault::BadDesk),
             (b"N,000,ABC", LineFault::BadDesk),
-            (b"E,1 ,ABC,10", LineFault::BadDesk),
-            (b"O,x,B,ABC,100,10.01", LineFault::BadDesk),
         ],
     )?;
+    Ok(())
+}
+
+#[test]
+fn orders_are_refused_for_their_least_fault(rt: HostRuntime) -> Result<(), Fail> {
+    are_refused(
+        &rt,
+        rt.alloc(),
+        ORDERS,
+        &[
+            (b"Q".as_slice(), LineFault::UnknownKind),
+            (b"Q,N,ABC,A,,,,", LineFault::UnknownKind),
+            (b"O,2,X,XYZ,0", LineFault::FieldCount),
+            (b"O,0,B,ABC,100,10.01,M,", LineFault::FieldCount),
+            (b"O,2,X,,x,x,x", LineFault::UnknownSymbol),
+            (b"O,0,X,ABC,100,10.01", LineFault::BadState),
+            (b"O,2,,ABC,x,x", LineFault::BadState),
+            (b"O,0,B,ABC,100,10.01,", LineFault::BadState),
+            (b"O,2,B,ABC,x,x,m", LineFault::BadState),
+            (b"O,2,B,ABC,x,0.0000", LineFault::BadPrice),
+            (b"O,0,B,ABC,0,", LineFault::BadPrice),
+            (b"O,0,B,ABC,0,10.01", LineFault::BadShares),
+            (b"O,0,B,ABC,,10.01", LineFault::BadShares),
+            (b"O,2,B,ABC,1000000000,10.01", LineFault::BadShares),
+            (b"O,x,B,ABC,100,10.01", LineFault::BadDesk),
+            (b"O,2,B,ABC,100,10.01", LineFault::BadDesk),
+        ],
+    )?;
+    Ok(())
+}
+
+#[test]
+fn a_file_of_changes_has_those_of_every_feed_and_no_other_kind(
+    rt: HostRuntime,
+) -> Result<(), Fail> {
+    are_refused(
+        &rt,
+        rt.alloc(),
+        Reading::Changes,
+        &[
+            (b"F".as_slice(), LineFault::UnknownKind),
+            (b"N,0,", LineFault::UnknownKind),
+            (b"O,0,B,ABC,100,10.01", LineFault::UnknownKind),
+            (b"X", LineFault::FieldCount),
+            (b"X,Q", LineFault::UnknownParticipant),
+        ],
+    )?;
+    let part = Part::new(1).ok_or("P")?;
+    assert_eq!(rt;
+        line_in(rt.alloc(), b"X,P", Reading::Changes)?,
+        Ok(Line::Change(Change::Withdraw { part }))
+    );
     Ok(())
 }
 
@@ -281,31 +364,6 @@ fn a_feed_brings_changes_of_its_own_participants_alone(rt: HostRuntime) -> Resul
         line_in(rt.alloc(), b"X,P", Reading::FromFeed(Feed::B))?,
         Ok(Line::Change(Change::Withdraw { part }))
     );
-    Ok(())
-}
-
-#[test]
-fn the_first_field_names_the_kind(rt: HostRuntime) -> Result<(), Fail> {
-    let text = b"Q\nS,N\nX\nT\nF\nP\nL\nN\nE\nO,\n\xff\n";
-    let mut reader = open_records(rt.alloc(), text.as_slice());
-    let mut row = ByteRecord::new(rt.alloc());
-    for kind in [
-        Some(Kind::Quote),
-        Some(Kind::State),
-        Some(Kind::Withdraw),
-        Some(Kind::TakeOne),
-        Some(Kind::TakeAll),
-        Some(Kind::Publish),
-        Some(Kind::Tell),
-        Some(Kind::Best),
-        Some(Kind::Through),
-        Some(Kind::Sweep),
-        None,
-    ] {
-        assert!(rt; read_next(&mut reader, &mut row)?);
-        assert_eq!(rt; kind_of(&row), kind);
-    }
-    assert!(rt; !read_next(&mut reader, &mut row)?);
     Ok(())
 }
 
@@ -379,9 +437,27 @@ fn no_record_after_a_failed_read(rt: HostRuntime) -> Result<(), Fail> {
     let mut reader = open_records(rt.alloc(), source);
     let mut row = ByteRecord::new(rt.alloc());
     assert!(rt; read_next(&mut reader, &mut row)?);
-    assert_eq!(rt; kind_of(&row), Some(Kind::TakeOne));
+    assert_eq!(rt; row.get(0), Some(b"T".as_slice()));
     assert_eq!(rt; read_next(&mut reader, &mut row), Err(RecordFault::Failed));
     assert_eq!(rt; read_next(&mut reader, &mut row), Ok(false));
+    Ok(())
+}
+
+// With ample memory the record is read. With none it is want of memory that is told, and no record after it.
+#[test]
+fn want_of_memory_is_no_failed_read(rt: HostRuntime) -> Result<(), Fail> {
+    let mut reader = open_records(rt.alloc(), b"X,N\nT\n".as_slice());
+    let mut row = ByteRecord::new(rt.alloc());
+    match read_next(&mut reader, &mut row) {
+        Ok(found) => {
+            assert!(rt; found);
+            assert_eq!(rt; row.get(1), Some(b"N".as_slice()));
+        }
+        Err(fault) => {
+            assert_eq!(rt; fault, RecordFault::NoMemory);
+            assert_eq!(rt; read_next(&mut reader, &mut row), Ok(false));
+        }
+    }
     Ok(())
 }
 
@@ -401,9 +477,14 @@ fn faults_are_printed_with_their_codes(rt: HostRuntime) -> Result<(), Fail> {
     ] {
         let told = format!(in rt.alloc(); "{fault}")?;
         assert_eq!(rt; told.as_str(), text);
+        assert!(rt; text.starts_with(fault.code()), "{text}");
     }
-    let (failed, memory) = (RecordFault::Failed, RecordFault::NoMemory);
-    let told = format!(in rt.alloc(); "{failed}, {memory}")?;
-    assert_eq!(rt; told.as_str(), "a read failed, out of memory");
+    for (fault, text) in [
+        (RecordFault::Failed, "a read failed"),
+        (RecordFault::NoMemory, "out of memory"),
+    ] {
+        let told = format!(in rt.alloc(); "{fault}")?;
+        assert_eq!(rt; told.as_str(), text);
+    }
     Ok(())
 }

@@ -5,10 +5,10 @@ use Rattle.std.proofs.lemmas.Bool.{cases_lt, cases_order, eq-eqb, eqb-false, eqb
 use Rattle.std.proofs.lemmas.List.{get_or_default}
 use Rattle.std.proofs.lemmas.List.Elements.{All-contains}
 use Rattle.std.proofs.lemmas.List.FromFn.{get_or-range_with_len}
-use Rattle.nms_quote.specs.declared.quotes.Side.TheVariants.{Bid, Offer}
+use Rattle.nms_quote.specs.declared.side_quote.Side.TheVariants.{Bid, Offer}
 use Rattle.nms_board.specs.View.{Seen, row_of}
-use Rattle.nms_board.specs.declared.rows.Row.{Row}
-use Rattle.nms_nbbo.specs.declared.pairs.Pair.{Pair}
+use Rattle.nms_board.specs.declared.row.Row.{Row}
+use Rattle.nms_nbbo.specs.declared.pair.Pair.{Pair}
 use Rattle.nms_nbbo.specs.Laws.{IsOfRoster, IsPairIn, ListsPairs, LockOrCross}
 use Rattle.nms_nbbo.specs.Pairs.{pair_between, pair_of, place_of, pair_at, pairs_from}
 use Rattle.nms_nbbo.specs.Walk.{AreByPart, NoPair, IsFirstPair}

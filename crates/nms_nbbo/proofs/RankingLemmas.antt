@@ -1,5 +1,6 @@
 -- That rows are ranked in a strict order, and what follows for the best of them.
-use Rattle.std.proofs.Common.{◌≡◌, ◌≢◌, ℕ, true, false, cond, AllPairs, List, [], ◌∷◌, length, get_or, refl, arith, Option, Some, None, sym, ap, ◌∙◌, subst, inl, inr, ltb, eqb}
+use Rattle.std.specs.Prelude.{All, IfSome}
+use Rattle.std.proofs.Common.{◌≡◌, ◌≢◌, ◌<◌, ℕ, true, false, cond, AllPairs, List, [], ◌∷◌, length, get_or, refl, arith, Option, Some, None, sym, ap, ◌∙◌, subst, inl, inr, ltb, eqb}
 use Rattle.std.specs.List.{reduce, IsFirstBest}
 use Rattle.std.specs.Option.{option_map}
 use Rattle.std.specs.Cmp.{IsStrictWeakOrder}
@@ -8,14 +9,15 @@ use Rattle.std.proofs.lemmas.Bool.{cases_order}
 use Rattle.std.proofs.lemmas.Bool.Decides.{nat_tests}
 use Rattle.std.proofs.lemmas.List.Elements.{All-contains}
 use Rattle.std.proofs.lemmas.List.MinMax.{IsFirstBest-from_best_of}
-use Rattle.nms_quote.specs.declared.quotes.Side.{Side}
-use Rattle.nms_quote.specs.declared.quotes.Side.TheVariants.{Bid, Offer}
-use Rattle.nms_board.specs.declared.rows.Row.{Row}
-use Rattle.nms_nbbo.specs.declared.markets.Market.{Market}
-use Rattle.nms_nbbo.specs.declared.markets.Market.TheVariants as market
+use Rattle.nms_quote.specs.declared.side_quote.Side.{Side}
+use Rattle.nms_quote.specs.declared.side_quote.Side.TheVariants.{Bid, Offer}
+use Rattle.nms_board.specs.declared.row.Row.{Row}
+use Rattle.nms_nbbo.specs.declared.market_kind.Market.{Market}
+use Rattle.nms_nbbo.specs.declared.market_kind.Market.TheVariants as market
 use Rattle.nms_nbbo.specs.Laws.{RankAlike}
 use Rattle.nms_nbbo.specs.Market.{market_of}
-use Rattle.nms_nbbo.specs.Ranking.{ranks_above, IsBest, IsBestOf}
+use Rattle.nms_board.specs.Ranking.{ranks_above}
+use Rattle.nms_nbbo.specs.Best.{IsBest, IsBestOf}
 
 -- the two laws of a strict weak order, side by side
 above_one_way : (side : Side) (row other : Row) → ranks_above side row other ≡ true → ranks_above side other row ≡ false
@@ -112,3 +114,8 @@ one_best side rows row other differ best best' =
       | inr (inl before) ↦ absurd (differ i j row before in_rows' (row_receipt ∙ receipts ∙ sym other_receipt))
       | inr (inr after) ↦ absurd (differ j i row after in_rows (other_receipt ∙ sym receipts ∙ sym row_receipt))
     ]
+
+-- the best row is of one of the participants that the rows are of
+pub best_part : (side : Side) (rows : List Row) (best : Option Row) (parts : ℕ) → IsBestOf side rows best → All (λ (row : Row). row.part < parts) rows → IfSome best (λ row. row.part < parts)
+best_part side rows None parts is all = tt
+best_part side rows (Some row) parts is all = All-contains (λ (r : Row). r.part < parts) rows row all is.among

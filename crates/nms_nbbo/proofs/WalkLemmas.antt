@@ -5,8 +5,8 @@ use Rattle.std.proofs.lemmas.Bool.{cases_lt, cases_order}
 use Rattle.std.proofs.lemmas.List.{take_more, get_or_default, get_or-map, length-map, get_or-take, length-take, take_all}
 use Rattle.std.proofs.lemmas.List.Elements.{Contains-push_cases}
 use Rattle.std.proofs.lemmas.List.Kept.{AllPairs-from_increasing}
-use Rattle.nms_board.specs.declared.rows.Row.{Row}
-use Rattle.nms_nbbo.specs.declared.pairs.Pair.{Pair}
+use Rattle.nms_board.specs.declared.row.Row.{Row}
+use Rattle.nms_nbbo.specs.declared.pair.Pair.{Pair}
 use Rattle.nms_nbbo.specs.Pairs.{place_of}
 use Rattle.nms_nbbo.specs.Walk.{AreByPart, NoPair, IsFirstPair}
 

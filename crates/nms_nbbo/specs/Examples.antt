@@ -1,14 +1,15 @@
 -- Worked examples of the definitions: four participants N, P, Y and Z in one symbol.
 use Rattle.std.specs.Prelude.{ℕ, ◌≡◌, true, false, List, [], ◌∷◌, Some}
-use Rattle.nms_quote.specs.declared.quotes.Side.TheVariants.{Offer}
+use Rattle.nms_quote.specs.declared.side_quote.Side.TheVariants.{Offer}
 use Rattle.nms_board.specs.Examples.{n, p, row}
 use Rattle.nms_board.specs.View.{Seen}
-use Rattle.nms_board.specs.declared.rows.Row.{Row}
-use Rattle.nms_nbbo.specs.declared.markets.Market.TheVariants as market
-use Rattle.nms_nbbo.specs.declared.pairs.Clause.TheVariants as clause
+use Rattle.nms_board.specs.declared.row.Row.{Row}
+use Rattle.nms_nbbo.specs.declared.market_kind.Market.TheVariants as market
+use Rattle.nms_nbbo.specs.declared.pair.Clause.TheVariants as clause
 use Rattle.nms_nbbo.specs.Market.{market_of}
 use Rattle.nms_nbbo.specs.Pairs.{clause_of, pair_at, pairs_from}
-use Rattle.nms_nbbo.specs.Ranking.{IsBest, protected_among}
+use Rattle.nms_board.specs.Ranking.{protected_among}
+use Rattle.nms_nbbo.specs.Best.{IsBest}
 
 -- the places of Y and Z; N is at 0 and P at 1
 abbrev pub y : ℕ

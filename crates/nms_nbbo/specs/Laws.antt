@@ -1,13 +1,13 @@
 -- Laws above the definitions: what the ranking, the market and the pairs are like.
 use Rattle.std.specs.Prelude.{◌≡◌, ◌<◌, ◌≤◌, ◌≢◌, ◌⊎◌, true, false, All, Contains, List, []}
-use Rattle.nms_quote.specs.declared.quotes.Side.{Side}
+use Rattle.nms_quote.specs.declared.side_quote.Side.{Side}
 use Rattle.nms_board.specs.View.{Seen}
-use Rattle.nms_board.specs.declared.rows.Row.{Row}
-use Rattle.nms_nbbo.specs.declared.markets.Market.{Market}
-use Rattle.nms_nbbo.specs.declared.markets.Market.TheVariants as market
-use Rattle.nms_nbbo.specs.declared.pairs.Pair.{Pair}
+use Rattle.nms_board.specs.declared.row.Row.{Row}
+use Rattle.nms_nbbo.specs.declared.market_kind.Market.{Market}
+use Rattle.nms_nbbo.specs.declared.market_kind.Market.TheVariants as market
+use Rattle.nms_nbbo.specs.declared.pair.Pair.{Pair}
 use Rattle.nms_nbbo.specs.Pairs.{pair_of, pairs_from}
-use Rattle.nms_nbbo.specs.Ranking.{ranks_above}
+use Rattle.nms_board.specs.Ranking.{ranks_above}
 use Rattle.nms_nbbo.specs.Walk.{AreByPart}
 
 -- equal in all that rows are ranked by

@@ -3,12 +3,12 @@
 -- is named, is this product's own rule.
 use Rattle.std.specs.Prelude.{ℕ, ◌+◌, ◌*◌, ◌-◌, ◌/◌, ◌%◌, ◌==◌, ◌||◌, Bool, List, nat_lt, Option, Some, None, not, if◌then◌else◌}
 use Rattle.std.specs.List.{filter_map, range_with_len}
-use Rattle.nms_quote.specs.declared.quotes.Side.TheVariants.{Bid, Offer}
+use Rattle.nms_quote.specs.declared.side_quote.Side.TheVariants.{Bid, Offer}
 use Rattle.nms_board.specs.View.{Seen, row_of}
-use Rattle.nms_board.specs.declared.rows.Row.{Row}
-use Rattle.nms_nbbo.specs.declared.pairs.Pair.{Pair}
-use Rattle.nms_nbbo.specs.declared.pairs.Clause.{Clause}
-use Rattle.nms_nbbo.specs.declared.pairs.Clause.TheVariants as clause
+use Rattle.nms_board.specs.declared.row.Row.{Row}
+use Rattle.nms_nbbo.specs.declared.pair.Pair.{Pair}
+use Rattle.nms_nbbo.specs.declared.pair.Clause.{Clause}
+use Rattle.nms_nbbo.specs.declared.pair.Clause.TheVariants as clause
 
 -- the later of the two locks or crosses: an earlier protected quotation; else, being manual itself,
 -- any quotation; else neither clause holds

@@ -1,8 +1,8 @@
 -- How a walk from place to place meets the pairs: row by row, and not place by place.
 use Rattle.std.specs.Prelude.{ℕ, ◌≡◌, ◌<◌, ◌≤◌, List, Option, Some, None, Contains, MatchOption, map}
 use Rattle.std.specs.List.Sorted.{IsStrictlyIncreasing}
-use Rattle.nms_board.specs.declared.rows.Row.{Row}
-use Rattle.nms_nbbo.specs.declared.pairs.Pair.{Pair}
+use Rattle.nms_board.specs.declared.row.Row.{Row}
+use Rattle.nms_nbbo.specs.declared.pair.Pair.{Pair}
 use Rattle.nms_nbbo.specs.Pairs.{pair_between, place_of}
 
 -- rows by participant place

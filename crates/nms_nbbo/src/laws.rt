@@ -3,15 +3,16 @@
 ghost use Rattle.std.specs.Prelude.{◌≡◌, ◌≢◌, ℕ, ◌<◌, true, List, [], Option};
 ghost use Rattle.nms_quote.specs.Roster.{Sizes};
 ghost use Rattle.nms_quote.specs.Tape.{Tape};
-ghost use Rattle.nms_quote.specs.declared.quotes.Side.{Side};
-ghost use Rattle.nms_quote.specs.declared.quotes.Side.TheVariants.{Bid, Offer};
+ghost use Rattle.nms_quote.specs.declared.side_quote.Side.{Side};
+ghost use Rattle.nms_quote.specs.declared.side_quote.Side.TheVariants.{Bid, Offer};
 ghost use Rattle.nms_board.specs.Quotation.{quotations};
 ghost use Rattle.nms_board.specs.View.{Seen};
-ghost use Rattle.nms_board.specs.declared.rows.Row.{Row};
+ghost use Rattle.nms_board.specs.declared.row.Row.{Row};
 ghost use Rattle.nms_nbbo.specs.Examples.{ExamplesHold};
 ghost use Rattle.nms_nbbo.specs.Laws.{IsOfRoster, IsStrictTotalOrder, ListsPairs, SaysOf};
 ghost use Rattle.nms_nbbo.specs.Market.{market_of};
-ghost use Rattle.nms_nbbo.specs.Ranking.{ranks_above, IsBest, IsBestOf};
+ghost use Rattle.nms_board.specs.Ranking.{ranks_above};
+ghost use Rattle.nms_nbbo.specs.Best.{IsBest, IsBestOf};
 
 /// No more than one row is best on a side of a symbol, whatever the tape.
 pub fn one_best_row()

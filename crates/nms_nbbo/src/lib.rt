@@ -2,14 +2,14 @@
 #![tactic(auto)]
 
 mod laws;
-mod market_states;
-mod markets;
-mod pair_places;
-mod pairs;
-mod rankings;
+mod market_kind;
+mod market_state;
+mod pair;
+mod pair_place;
+mod pair_walk;
+mod ranking;
 #[cfg(test)]
 mod tests;
-mod walks;
 
 pub use laws::{
     better_price_ranks_first, earlier_receipt_ranks_first_at_equal_size,
@@ -17,9 +17,9 @@ pub use laws::{
     pairs_are_those_that_lock_or_cross, ranking_is_a_strict_total_order, some_row_is_best,
     worked_examples,
 };
-pub use market_states::{market, market_between};
-pub use markets::Market;
-pub use pair_places::PairPlace;
-pub use pairs::{Clause, Pair};
-pub use rankings::{best, protected};
-pub use walks::next_pair;
+pub use market_kind::Market;
+pub use market_state::{market, market_between};
+pub use pair::{Clause, Pair};
+pub use pair_place::PairPlace;
+pub use pair_walk::next_pair;
+pub use ranking::{best, best_on, protected};

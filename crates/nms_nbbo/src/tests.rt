@@ -1,3 +1,4 @@
+//! Best rows, markets and pairs after a few changes, by values worked out by hand.
 use crate::{Clause, Market, Pair, PairPlace, best, market, market_between, next_pair, protected};
 use nms_board::{Boards, Row, View};
 use nms_quote::{Change, Feed, Part, QState, Roster, Side, SideQuote, Sym};
@@ -17,14 +18,24 @@ const Z: u8 = 3;
 /// What a side that quotes nothing is given as.
 const NOTHING: (u64, u32) = (1, 0);
 
-/// What the one symbol shows, in lots of 100, after those changes of the participants N, P, Y and Z.
-fn view_after(rt: &impl Abort, alloc: Global, changes: &[Change]) -> Result<View, Fail> {
-    let mut roster = Roster::new(alloc)?;
+fn add_names(roster: &mut Roster) -> Result<(), Fail> {
     for name in b"NPYZ" {
         roster.add_participant(&[*name], Feed::A)?;
     }
     roster.add_symbol(b"ABC", Lot::new(100).ok_or("a lot")?)?;
-    let mut board = Boards::new(alloc, &roster)?;
+    Ok(())
+}
+
+/// An empty board of the participants N, P, Y and Z and of one symbol in lots of 100.
+fn opened(alloc: Global) -> Result<Boards, Fail> {
+    let mut roster = Roster::new(alloc)?;
+    add_names(&mut roster)?;
+    Ok(Boards::new(alloc, &roster)?)
+}
+
+/// What the one symbol shows after those changes.
+fn view_after(rt: &impl Abort, alloc: Global, changes: &[Change]) -> Result<View, Fail> {
+    let mut board = opened(alloc)?;
     for change in changes {
         assert!(rt; board.takes(change), "{change:?}");
         board.apply(*change);
@@ -258,10 +269,15 @@ fn assert_clause(
 #[test]
 fn the_clause_says_what_the_later_one_runs_against(rt: HostRuntime) -> Result<(), Fail> {
     let (automated, manual) = (QState::Automated, QState::Manual);
-    assert_clause(&rt, rt.alloc(), automated, automated, Clause::Protected)?;
-    assert_clause(&rt, rt.alloc(), automated, manual, Clause::Protected)?;
-    assert_clause(&rt, rt.alloc(), manual, manual, Clause::Manual)?;
-    assert_clause(&rt, rt.alloc(), manual, automated, Clause::Neither)
+    for (earlier, later, clause) in [
+        (automated, automated, Clause::Protected),
+        (automated, manual, Clause::Protected),
+        (manual, manual, Clause::Manual),
+        (manual, automated, Clause::Neither),
+    ] {
+        assert_clause(&rt, rt.alloc(), earlier, later, clause)?;
+    }
+    Ok(())
 }
 
 #[test]

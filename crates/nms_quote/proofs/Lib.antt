@@ -1,1 +1,2 @@
+pub mod MergeLemmas
 mod TableLemmas

@@ -1,5 +1,6 @@
 pub use Rattle.nms_units.specs.Lot as Lot
 pub mod Content
+pub mod Merge
 pub mod Tape
 pub mod Roster
 pub mod Names

@@ -1,12 +1,13 @@
 -- Who is on the roster, and under which place. This product's own rule.
-use Rattle.std.specs.Prelude.{◌≡◌, ◌≤◌, ℕ, true, ◌&&◌, ◌||◌, Bool, List, length, map, nat_lt, nat_le, position, Option, Some, None, if◌then◌else◌, is_some}
+use Rattle.std.specs.Prelude.{◌≡◌, ◌≤◌, ℕ, true, ◌&&◌, ◌||◌, Bool, List, [], length, map, nat_lt, nat_le, position, slice_get, unwrap_or, option_map, Option, Some, None, if◌then◌else◌, is_some}
 use Rattle.std.specs.List.{list_all}
 use Rattle.std.specs.Str.{bytes_eq}
-use Rattle.nms_quote.specs.declared.feeds.Feed.{Feed}
-use Rattle.nms_quote.specs.declared.roster_faults.RosterFault.{RosterFault}
-use Rattle.nms_quote.specs.declared.roster_faults.RosterFault.TheVariants as fault
-use Rattle.nms_quote.specs.declared.changes.Change.{Change}
-use Rattle.nms_quote.specs.declared.changes.Change.TheVariants as change
+use Rattle.nms_quote.specs.declared.TheConstants.{MOST_PARTICIPANTS, MOST_SYMBOLS}
+use Rattle.nms_quote.specs.declared.feed.Feed.{Feed}
+use Rattle.nms_quote.specs.declared.roster_fault.RosterFault.{RosterFault}
+use Rattle.nms_quote.specs.declared.roster_fault.RosterFault.TheVariants as fault
+use Rattle.nms_quote.specs.declared.change.Change.{Change}
+use Rattle.nms_quote.specs.declared.change.Change.TheVariants as change
 
 abbrev pub Name : Type 0
 Name = List ℕ
@@ -52,10 +53,22 @@ pub record AreNames {Z : Type 0} (is_name : Name → Bool) (most : ℕ) (entries
   pub within : length entries ≤ most
 
 abbrev pub part_refusal : Listing → Name → Option RosterFault
-part_refusal roster name = refusal_in is_part_name 32 roster.parts name
+part_refusal roster name = refusal_in is_part_name MOST_PARTICIPANTS roster.parts name
 
 abbrev pub sym_refusal : Listing → Name → Option RosterFault
-sym_refusal roster name = refusal_in is_symbol_name 1000 roster.syms name
+sym_refusal roster name = refusal_in is_symbol_name MOST_SYMBOLS roster.syms name
+
+-- the name of the participant at a place
+abbrev pub part_text : Listing → ℕ → Name
+part_text roster part = unwrap_or (option_map (λ entry. entry.0) (slice_get roster.parts part)) []
+
+-- the name of the symbol at a place
+abbrev pub symbol_text : Listing → ℕ → Name
+symbol_text roster sym = unwrap_or (option_map (λ entry. entry.0) (slice_get roster.syms sym)) []
+
+-- the feed of the participant at a place
+abbrev pub feed_at : Listing → ℕ → Option Feed
+feed_at roster part = option_map (λ entry. entry.1) (slice_get roster.parts part)
 
 -- how many participants there are, and each symbol's round lot
 pub record Sizes : Type 0 where

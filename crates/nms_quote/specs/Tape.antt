@@ -1,10 +1,17 @@
 -- The tape of changes, and its versions. This product's own rule.
 use Rattle.std.specs.Prelude.{ℕ, List, [], ◌∷◌, map, take}
-use Rattle.nms_quote.specs.declared.changes.Change.{Change}
+use Rattle.nms_quote.specs.declared.change.Change.{Change}
+use Rattle.nms_quote.specs.declared.change.Change.TheVariants as change
 
 -- the changes, first to last
 abbrev pub Tape : Type 0
 Tape = List Change
+
+-- the participant that sends a change
+abbrev pub participant_of : Change → ℕ
+participant_of (change.Quote part sym state bid offer) = part
+participant_of (change.State part sym state) = part
+participant_of (change.Withdraw part) = part
 
 -- version n: the first n changes
 abbrev pub version : ℕ → Tape → Tape

@@ -1,6 +1,6 @@
 -- What an order asks for.
 use Rattle.std.specs.Prelude.{ℕ, Bool}
-use Rattle.nms_quote.specs.declared.orders.OrderSide.{OrderSide}
+use Rattle.nms_quote.specs.declared.order.OrderSide.{OrderSide}
 
 -- a side, a symbol, at least one share, the worst price in 1/10,000 dollar, and whether manual
 -- quotations may be traded with

@@ -1,25 +1,35 @@
-//! What a quotation change is, and who is on the roster.
+//! What a quotation change and an order are, and who is on the roster.
 #![tactic(auto)]
 
-mod changes;
-mod feeds;
-mod name_tables;
-mod names;
-mod orders;
-mod parts;
-mod quotes;
-mod roster_faults;
-mod rosters;
-mod syms;
+mod change;
+mod feed;
+mod hints;
+mod marked;
+mod name;
+mod name_table;
+mod order;
+mod participant;
+mod roster;
+mod roster_fault;
+mod side_quote;
+mod symbol;
 #[cfg(test)]
 mod tests;
 
-pub use changes::Change;
-pub use feeds::Feed;
-pub use names::{is_part_name, is_symbol_name};
-pub use orders::{Order, OrderSide};
-pub use parts::Part;
-pub use quotes::{QState, Side, SideQuote};
-pub use roster_faults::RosterFault;
-pub use rosters::Roster;
-pub use syms::Sym;
+/// The most participants of a roster: their places are 0 to 31. This product's own rule.
+pub const MOST_PARTICIPANTS: u8 = 32;
+/// The most symbols of a roster: their places are 0 to 999. This product's own rule.
+pub const MOST_SYMBOLS: u16 = 1000;
+/// The most changes of a tape. This product's own rule.
+pub const MOST_CHANGES: u64 = 10_000_000;
+
+pub use change::Change;
+pub use feed::Feed;
+pub use marked::Marked;
+pub use name::{is_part_name, is_symbol_name};
+pub use order::{Order, OrderSide};
+pub use participant::Part;
+pub use roster::Roster;
+pub use roster_fault::RosterFault;
+pub use side_quote::{QState, Side, SideQuote};
+pub use symbol::Sym;

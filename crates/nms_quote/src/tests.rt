@@ -1,64 +1,78 @@
+//! Rosters, places and the texts of faults, by values from outside.
 use crate::{Change, Feed, Order, OrderSide, Part, QState, Roster, RosterFault, SideQuote, Sym};
 use nms_units::{Lot, Price, Shares};
 use std::alloc::Global;
+use std::process::Abort;
 use std::test::Fail;
+
+/// Adds 32 participants, each under one letter or digit, the first N.
+fn add_32_participants(rt: &impl Abort, roster: &mut Roster) -> Result<(), Fail> {
+    for (place, name) in b"NABCDEFGHIJKLMOPQRSTUVWXYZ012345".iter().enumerate() {
+        let part = roster.add_participant(&[*name], Feed::A)?;
+        assert_eq!(rt; usize::from(part.get()), place);
+    }
+    Ok(())
+}
 
 #[test]
 fn a_roster_takes_32_participants_and_tells_each_refusal(rt: HostRuntime) -> Result<(), Fail> {
     let mut roster = Roster::new(rt.alloc())?;
-    assert_eq!(rt;
-        roster.add_participant(b"ABCDE", Feed::A),
-        Err(RosterFault::BadName)
-    );
-    let names = b"NABCDEFGHIJKLMOPQRSTUVWXYZ012345";
-    for (place, name) in names.iter().enumerate() {
-        let part = roster.add_participant(&[*name], Feed::A)?;
-        assert_eq!(rt; usize::from(part.get()), place);
-        if place == 0 {
-            assert_eq!(rt;
-                roster.add_participant(b"N", Feed::B),
-                Err(RosterFault::Duplicate)
-            );
-        }
+    add_32_participants(&rt, &mut roster)?;
+    for (name, fault) in [
+        ("6", RosterFault::TooMany),
+        ("N", RosterFault::Duplicate),
+        ("n", RosterFault::BadName),
+        ("ABCDE", RosterFault::BadName),
+    ] {
+        let refused = roster.add_participant(name.as_bytes(), Feed::B);
+        assert_eq!(rt; refused, Err(fault), "{name}");
     }
-    assert_eq!(rt; roster.parts(), 32);
-    assert_eq!(rt;
-        roster.add_participant(b"6", Feed::A),
-        Err(RosterFault::TooMany)
-    );
-    assert_eq!(rt;
-        roster.add_participant(b"N", Feed::A),
-        Err(RosterFault::Duplicate)
-    );
-    assert_eq!(rt;
-        roster.add_participant(b"n", Feed::A),
-        Err(RosterFault::BadName)
-    );
-    assert_eq!(rt; roster.syms(), 0);
+    assert_eq!(rt; (roster.parts(), roster.syms()), (32, 0));
+    Ok(())
+}
+
+#[test]
+fn a_roster_with_room_tells_each_refusal(rt: HostRuntime) -> Result<(), Fail> {
+    let mut roster = Roster::new(rt.alloc())?;
+    for (name, answer) in [
+        ("ABCDE", Err(RosterFault::BadName)),
+        ("N", Ok(0)),
+        ("N", Err(RosterFault::Duplicate)),
+    ] {
+        let added = roster.add_participant(name.as_bytes(), Feed::A);
+        assert_eq!(rt; added.map(|part| part.get()), answer, "{name}");
+    }
+    Ok(())
+}
+
+/// Adds 1,000 symbols, each under its place as a number.
+fn add_1000_symbols(rt: &impl Abort, alloc: Global, roster: &mut Roster) -> Result<(), Fail> {
+    let lot = Lot::new(100).ok_or("a lot")?;
+    for place in 0..1000u16 {
+        let name = format!(in alloc; "{place}")?;
+        let sym = roster.add_symbol(name.as_bytes(), lot)?;
+        assert_eq!(rt; sym.get(), place);
+    }
     Ok(())
 }
 
 #[test]
 fn a_roster_takes_1000_symbols_and_tells_each_refusal(rt: HostRuntime) -> Result<(), Fail> {
-    let lot = Lot::new(100).ok_or("a lot")?;
     let mut roster = Roster::new(rt.alloc())?;
-    for number in 0..1000u16 {
-        let digits = [
-            b'0' + (number / 100) as u8,
-            b'0' + (number / 10 % 10) as u8,
-            b'0' + (number % 10) as u8,
-        ];
-        let sym = roster.add_symbol(&digits, lot)?;
-        assert_eq!(rt; sym.get(), number);
-        if number == 0 {
-            assert_eq!(rt; roster.add_symbol(b"000", lot), Err(RosterFault::Duplicate));
-        }
+    add_1000_symbols(&rt, rt.alloc(), &mut roster)?;
+    let lot = Lot::new(100).ok_or("a lot")?;
+    for (name, fault) in [
+        ("AAPL", RosterFault::TooMany),
+        ("999", RosterFault::Duplicate),
+        ("aapl", RosterFault::BadName),
+    ] {
+        assert_eq!(rt;
+            roster.add_symbol(name.as_bytes(), lot),
+            Err(fault),
+            "{name}"
+        );
     }
-    assert_eq!(rt; roster.syms(), 1000);
-    assert_eq!(rt; roster.add_symbol(b"AAPL", lot), Err(RosterFault::TooMany));
-    assert_eq!(rt; roster.add_symbol(b"999", lot), Err(RosterFault::Duplicate));
-    assert_eq!(rt; roster.add_symbol(b"aapl", lot), Err(RosterFault::BadName));
-    assert_eq!(rt; roster.parts(), 0);
+    assert_eq!(rt; (roster.parts(), roster.syms()), (0, 1000));
     Ok(())
 }
 
@@ -80,8 +94,8 @@ fn names_have_their_forms(rt: HostRuntime) -> Result<(), Fail> {
         (b"A B", false, false),
         (b"\xffA", false, false),
     ];
+    let mut roster = Roster::new(rt.alloc())?;
     for (name, is_part, is_symbol) in names.iter() {
-        let mut roster = Roster::new(rt.alloc())?;
         let part = roster.add_participant(*name, Feed::A);
         assert_eq!(rt; part.is_ok(), *is_part, "participant {name:?}");
         let sym = roster.add_symbol(*name, lot);
@@ -90,40 +104,74 @@ fn names_have_their_forms(rt: HostRuntime) -> Result<(), Fail> {
     Ok(())
 }
 
-// N and ARCX, BRK.A in lots of 1 and AAPL in lots of 100.
+fn add_two_participants(roster: &mut Roster) -> Result<(), Fail> {
+    for (name, feed) in [("N", Feed::B), ("ARCX", Feed::A)] {
+        roster.add_participant(name.as_bytes(), feed)?;
+    }
+    Ok(())
+}
+
+fn add_two_symbols(roster: &mut Roster) -> Result<(), Fail> {
+    for (name, lot) in [("BRK.A", 1), ("AAPL", 100)] {
+        roster.add_symbol(name.as_bytes(), Lot::new(lot).ok_or("a lot")?)?;
+    }
+    Ok(())
+}
+
+/// N and ARCX, BRK.A in lots of 1 and AAPL in lots of 100.
 fn listed(alloc: Global) -> Result<Roster, Fail> {
     let mut roster = Roster::new(alloc)?;
-    roster.add_participant(b"N", Feed::B)?;
-    roster.add_participant(b"ARCX", Feed::A)?;
-    roster.add_symbol(b"BRK.A", Lot::new(1).ok_or("a lot")?)?;
-    roster.add_symbol(b"AAPL", Lot::new(100).ok_or("a lot")?)?;
+    add_two_participants(&mut roster)?;
+    add_two_symbols(&mut roster)?;
     Ok(roster)
 }
 
 #[test]
-fn participants_are_read_by_name_and_by_place(rt: HostRuntime) -> Result<(), Fail> {
+fn participants_are_found_by_name(rt: HostRuntime) -> Result<(), Fail> {
     let roster = listed(rt.alloc())?;
-    assert_eq!(rt; roster.parts(), 2);
-    assert_eq!(rt; roster.find_part(b"N").map(|part| part.get()), Some(0));
-    assert_eq!(rt; roster.find_part(b"ARC"), None);
-    assert_eq!(rt; roster.find_part(b"\xff"), None);
-    let arca = roster.find_part(b"ARCX").ok_or("a participant")?;
-    assert_eq!(rt; arca.get(), 1);
-    assert!(rt; roster.part_name(arca) == "ARCX");
-    assert_eq!(rt; roster.feed_of(arca), Feed::A);
+    let names: [(&[u8], Option<u8>); 4] = [
+        (b"N", Some(0)),
+        (b"ARCX", Some(1)),
+        (b"ARC", None),
+        (b"\xff", None),
+    ];
+    for (name, place) in names.iter() {
+        let part = roster.find_part(*name);
+        assert_eq!(rt; part.map(|part| part.get()), *place, "{name:?}");
+    }
+    assert_eq!(rt; (roster.parts(), roster.syms()), (2, 2));
     Ok(())
 }
 
 #[test]
-fn symbols_are_read_by_name_and_by_place(rt: HostRuntime) -> Result<(), Fail> {
+fn participants_tell_their_name_and_feed(rt: HostRuntime) -> Result<(), Fail> {
     let roster = listed(rt.alloc())?;
-    assert_eq!(rt; roster.syms(), 2);
-    assert_eq!(rt; roster.find_sym(b"BRK.A").map(|sym| sym.get()), Some(0));
-    assert_eq!(rt; roster.find_sym(b"N"), None);
+    let arca = roster.find_part(b"ARCX").ok_or("a participant")?;
+    assert_eq!(rt;
+        (roster.part_name(arca), roster.feed_of(arca)),
+        ("ARCX", Feed::A)
+    );
+    Ok(())
+}
+
+#[test]
+fn symbols_are_found_by_name(rt: HostRuntime) -> Result<(), Fail> {
+    let roster = listed(rt.alloc())?;
+    for (name, place) in [("BRK.A", Some(0)), ("AAPL", Some(1)), ("N", None)] {
+        let sym = roster.find_sym(name.as_bytes());
+        assert_eq!(rt; sym.map(|sym| sym.get()), place, "{name}");
+    }
+    Ok(())
+}
+
+#[test]
+fn symbols_tell_their_name_and_lot(rt: HostRuntime) -> Result<(), Fail> {
+    let roster = listed(rt.alloc())?;
     let apple = roster.find_sym(b"AAPL").ok_or("a symbol")?;
-    assert_eq!(rt; apple.get(), 1);
-    assert!(rt; roster.sym_name(apple) == "AAPL");
-    assert_eq!(rt; roster.lot_of(apple).get(), 100);
+    assert_eq!(rt;
+        (roster.sym_name(apple), roster.lot_of(apple).get()),
+        ("AAPL", 100)
+    );
     Ok(())
 }
 
@@ -179,24 +227,33 @@ fn a_roster_holds_changes_of_its_own_places(rt: HostRuntime) -> Result<(), Fail>
     Ok(())
 }
 
-// Run with each allocation failing in turn, this shows what want of memory leaves.
+// Run with each allocation failing in turn, these two show what want of memory leaves.
 #[test]
-fn want_of_memory_leaves_the_roster_as_it_was(rt: HostRuntime) -> Result<(), Fail> {
-    let lot = Lot::new(100).ok_or("a lot")?;
+fn want_of_memory_leaves_the_participants_as_they_were(rt: HostRuntime) -> Result<(), Fail> {
     let mut roster = Roster::new(rt.alloc())?;
     if let Err(fault) = roster.add_participant(b"N", Feed::A) {
-        assert_eq!(rt; fault, RosterFault::NoMemory);
-        assert_eq!(rt; roster.parts(), 0);
-        assert_eq!(rt; roster.find_part(b"N"), None);
+        assert_eq!(rt;
+            (fault, roster.parts(), roster.find_part(b"N")),
+            (RosterFault::NoMemory, 0, None)
+        );
         roster.add_participant(b"N", Feed::A)?;
     }
+    assert_eq!(rt; roster.parts(), 1);
+    Ok(())
+}
+
+#[test]
+fn want_of_memory_leaves_the_symbols_as_they_were(rt: HostRuntime) -> Result<(), Fail> {
+    let lot = Lot::new(100).ok_or("a lot")?;
+    let mut roster = Roster::new(rt.alloc())?;
     if let Err(fault) = roster.add_symbol(b"AAPL", lot) {
-        assert_eq!(rt; fault, RosterFault::NoMemory);
-        assert_eq!(rt; roster.syms(), 0);
-        assert_eq!(rt; roster.find_sym(b"AAPL"), None);
+        assert_eq!(rt;
+            (fault, roster.syms(), roster.find_sym(b"AAPL")),
+            (RosterFault::NoMemory, 0, None)
+        );
         roster.add_symbol(b"AAPL", lot)?;
     }
-    assert_eq!(rt; (roster.parts(), roster.syms()), (1, 1));
+    assert_eq!(rt; roster.syms(), 1);
     Ok(())
 }
 

@@ -6,8 +6,8 @@ use Rattle.clap.specs.Simple.{entered, names_of}
 use Rattle.clap.specs.Takes.{entered_passes, walk_passes}
 use Rattle.clap.proofs.OnLiterals.{clap_on_literals}
 use Rattle.nms_tool.specs.CommandLine.{name_of, tool}
-use Rattle.nms_tool.specs.declared.subs.Sub.{Sub}
-use Rattle.nms_tool.specs.declared.subs.Sub.TheVariants.{Script, Report}
+use Rattle.nms_tool.specs.declared.subcommand.Subcommand.{Subcommand}
+use Rattle.nms_tool.specs.declared.subcommand.Subcommand.TheVariants.{Script, Report}
 
 -- where the walk stands that met a subcommand, with the words after its name
 abbrev met : Text → List Text → Walk
@@ -29,17 +29,17 @@ above = (built tool).top
 abbrev sub_names : Names
 sub_names = names_of (built tool)
 
-named_stops : (sub : Sub) (rest : List Text) → stop_after above.rules sub_names (name_of sub ∷ rest) ≡ Some (name_of sub, rest)
+named_stops : (sub : Subcommand) (rest : List Text) → stop_after above.rules sub_names (name_of sub ∷ rest) ≡ Some (name_of sub, rest)
 unfolding clap_on_literals
 named_stops Script rest = ap (λ (w : Walk). w.stopped) (met_rest above.rules sub_names (codes "script") [] rest)
 named_stops Report rest = ap (λ (w : Walk). w.stopped) (met_rest above.rules sub_names (codes "report") [] rest)
 
 -- the subcommand reads the rest
-pub named_reads : (sub : Sub) (rest : List Text) → subcommand_of tool (name_of sub ∷ rest) ≡ entered (built tool) (Some (name_of sub, rest))
+pub named_reads : (sub : Subcommand) (rest : List Text) → subcommand_of tool (name_of sub ∷ rest) ≡ entered (built tool) (Some (name_of sub, rest))
 named_reads sub rest = ap (entered (built tool)) (named_stops sub rest)
 
 -- the words are taken where the subcommand takes the rest
-pub named_takes : (sub : Sub) (rest : List Text) → entered_passes (built tool) (Some (name_of sub, rest)) ≡ true → takes tool (name_of sub ∷ rest) ≡ true
+pub named_takes : (sub : Subcommand) (rest : List Text) → entered_passes (built tool) (Some (name_of sub, rest)) ≡ true → takes tool (name_of sub ∷ rest) ≡ true
 unfolding clap_on_literals
 named_takes Script rest passes = rw (met_rest above.rules sub_names (codes "script") [] rest, met_passes above sub_names (codes "script") [] rest, passes) refl
 named_takes Report rest passes = rw (met_rest above.rules sub_names (codes "report") [] rest, met_passes above sub_names (codes "report") [] rest, passes) refl

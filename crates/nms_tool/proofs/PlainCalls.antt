@@ -11,8 +11,8 @@ use Rattle.clap.proofs.OnLiterals.{clap_on_literals}
 use Rattle.nms_tool.specs.CommandLine.{Asked, IsPlainCall, asked_by, asked_in, asked_of, is_plain_word, name_of, own_names, script_alone, setup_rule, setup_words, sub_named, tool}
 use Rattle.nms_tool.proofs.NamedSubs.{above, named_reads, named_takes}
 use Rattle.nms_tool.proofs.WalkSteps.{IsPlainOption, IsPlainShape, PassesCall, call_passes, call_rows, call_taken}
-use Rattle.nms_tool.specs.declared.subs.Sub.{Sub}
-use Rattle.nms_tool.specs.declared.subs.Sub.TheVariants.{Script, Report}
+use Rattle.nms_tool.specs.declared.subcommand.Subcommand.{Subcommand}
+use Rattle.nms_tool.specs.declared.subcommand.Subcommand.TheVariants.{Script, Report}
 
 -- the parser takes the words, and they ask for this
 pub record IsTaken (words : List Text) (asked : Asked) : Type 0 where
@@ -25,39 +25,39 @@ nothing = record { taken = refl; asked_for = refl }
 
 -- ---- the subcommands as the parser has them
 
-abbrev leaf : Sub → Shape
+abbrev pub leaf : Subcommand → Shape
 leaf sub = unwrap_or (find (λ s. bytes_eq s.name (name_of sub)) (built tool).subs) above
 
-level_of : (sub : Sub) (rest : List Text) → entered_passes (built tool) (Some (name_of sub, rest)) ≡ level_passes (leaf sub) [] nothing_held rest false
+level_of : (sub : Subcommand) (rest : List Text) → entered_passes (built tool) (Some (name_of sub, rest)) ≡ level_passes (leaf sub) [] nothing_held rest false
 level_of Script rest = refl
 level_of Report rest = refl
 
-rows_of_level : (sub : Sub) (rest : List Text) → entered (built tool) (Some (name_of sub, rest)) ≡ Some (name_of sub, rows_after (leaf sub).rules [] rest)
+rows_of_level : (sub : Subcommand) (rest : List Text) → entered (built tool) (Some (name_of sub, rest)) ≡ Some (name_of sub, rows_after (leaf sub).rules [] rest)
 rows_of_level Script rest = refl
 rows_of_level Report rest = refl
 
-named : (sub : Sub) → sub_named (name_of sub) ≡ Some sub
+named : (sub : Subcommand) → sub_named (name_of sub) ≡ Some sub
 named Script = refl
 named Report = refl
 
-leaf_plain : (sub : Sub) → IsPlainShape (leaf sub)
+leaf_plain : (sub : Subcommand) → IsPlainShape (leaf sub)
 leaf_plain Script = record { single = refl; setup = record { rule = filled setup_rule; by_long = refl; by_id = refl; id = refl; takes = refl; one = refl } }
 leaf_plain Report = record { single = refl; setup = record { rule = filled setup_rule; by_long = refl; by_id = refl; id = refl; takes = refl; one = refl } }
 
 -- ---- a call of a subcommand
 
-abbrev call : Sub → List Text → Option Text → Asked
+abbrev call : Subcommand → List Text → Option Text → Asked
 call sub own setup = record { command = sub; own = own; setup = setup }
 
-abbrev rows_held : Sub → List Text → Option Text → List Row
+abbrev rows_held : Subcommand → List Text → Option Text → List Row
 rows_held sub own setup = finished (leaf sub).rules (call_taken (leaf sub).rules own setup).0
 
 -- the subcommand takes the words and the option, and holds them then
-record Answers (sub : Sub) (own : List Text) (setup : Option Text) : Type 0 where
+record Answers (sub : Subcommand) (own : List Text) (setup : Option Text) : Type 0 where
   passes : PassesCall (leaf sub) own setup
   asks : asked_in (rows_held sub own setup) sub ≡ Some (call sub own setup)
 
-answers : (sub : Sub) (own : List Text) (setup : Option Text) → length own ≡ length (own_names sub) → Answers sub own setup
+answers : (sub : Subcommand) (own : List Text) (setup : Option Text) → length own ≡ length (own_names sub) → Answers sub own setup
 unfolding clap_on_literals
 answers Script [] None counted = record { passes = record { words = refl; settles = refl; last = refl }; asks = refl }
 answers Script [] (Some file) counted = record { passes = record { words = refl; settles = refl; last = refl }; asks = refl }
@@ -68,7 +68,7 @@ answers Report (changes ∷ sym ∷ []) None counted = record { passes = record 
 answers Report (changes ∷ sym ∷ []) (Some file) counted = record { passes = record { words = refl; settles = refl; last = refl }; asks = refl }
 answers Report (changes ∷ sym ∷ word ∷ rest) setup counted = absurd (omega arith)
 
-call_taken_by : (sub : Sub) (own : List Text) (setup : Option Text) → list_all is_plain_word own ≡ true → IsPlainOption setup → Answers sub own setup
+call_taken_by : (sub : Subcommand) (own : List Text) (setup : Option Text) → list_all is_plain_word own ≡ true → IsPlainOption setup → Answers sub own setup
     → IsTaken ((name_of sub ∷ own) ++ setup_words setup) (call sub own setup)
 call_taken_by sub own setup plain plain_file answer =
     let rest = own ++ setup_words setup in

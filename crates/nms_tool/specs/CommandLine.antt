@@ -4,36 +4,40 @@ use Rattle.std.specs.Prelude.{Option, Some, None, MatchOption, option_map, optio
 use Rattle.std.specs.List.{list_all}
 use Rattle.std.specs.Str.{bytes_eq}
 use Rattle.std.specs.String.{string_bytes}
-use Rattle.clap.specs.Words.{App, Row, Rule, Text, first_of, new_app, new_rule, subcommand_of, with_rule, with_subcommand}
+use Rattle.clap.specs.Words.{App, IsAmong, Kinds, Row, Rule, Text, fault_of, first_of, new_app, new_rule, subcommand_of, with_rule, with_subcommand}
 use Rattle.clap.specs.Simple.{on_top}
-use Rattle.nms_tool.specs.declared.requests.Request.{Request}
-use Rattle.nms_tool.specs.declared.subs.Sub.{Sub}
-use Rattle.nms_tool.specs.declared.subs.Sub.TheVariants.{Script, Report}
+use Rattle.clap.specs.declared.error.kind.ErrorKind.{ErrorKind}
+use Rattle.clap.specs.declared.error.kind.ErrorKind.TheVariants.{DisplayHelp, DisplayVersion}
+use Rattle.nms_tool.specs.declared.request.Request.{Request}
+use Rattle.nms_tool.specs.declared.subcommand.Subcommand.{Subcommand}
+use Rattle.nms_tool.specs.declared.subcommand.Subcommand.TheVariants.{Script, Report}
+use Rattle.nms_tool.specs.declared.words_fault.WordsFault.{WordsFault}
+use Rattle.nms_tool.specs.declared.words_fault.WordsFault.TheVariants.{Parser, NoMemory}
 
 -- a subcommand, its own words in order, and the file of its option
 pub record Asked : Type 0 where
-  pub command : Sub
+  pub command : Subcommand
   pub own : List Text
   pub setup : Option Text
 
 -- ---- the subcommands
 
 -- the word that asks for a subcommand
-abbrev pub name_of : Sub → Text
+abbrev pub name_of : Subcommand → Text
 name_of Script = codes "script"
 name_of Report = codes "report"
 
 -- the names of a subcommand's own words, in order
-abbrev pub own_names : Sub → List Text
+abbrev pub own_names : Subcommand → List Text
 own_names Script = []
 own_names Report = codes "CHANGES" ∷ codes "SYM" ∷ []
 
 -- each subcommand
-abbrev pub subs : List Sub
+abbrev pub subs : List Subcommand
 subs = Script ∷ Report ∷ []
 
 -- the subcommand of that name
-abbrev pub sub_named : Text → Option Sub
+abbrev pub sub_named : Text → Option Subcommand
 sub_named name = find (λ sub. bytes_eq (name_of sub) name) subs
 
 -- ---- the words that the parser takes
@@ -47,12 +51,12 @@ abbrev pub setup_rule : Rule
 setup_rule = record (new_rule (codes "setup")) { long = Some (codes "setup"); value_names = 1 }
 
 -- a subcommand with its own words and its option, as the parser has it
-abbrev pub app_of_sub : Sub → App
+abbrev pub app_of_sub : Subcommand → App
 app_of_sub sub = with_rule (fold with_rule (new_app (name_of sub)) (map own_rule (own_names sub))) setup_rule
 
--- the words are those after the program's name, and `help` is no subcommand
+-- the words are those after the program's name, `help` is no subcommand, and there is a version to tell
 abbrev pub without_subs : App
-without_subs = on_top (λ top. record top { no_binary_name = true; disable_help_subcommand = true }) (new_app (codes "nms_tool"))
+without_subs = on_top (λ top. record top { no_binary_name = true; disable_help_subcommand = true; has_version = true }) (new_app (codes "nms_tool"))
 
 -- the whole command line
 abbrev pub tool : App
@@ -66,7 +70,7 @@ firsts_of rows [] = Some []
 firsts_of rows (id ∷ ids) = option_and_then (λ value. option_map (λ values. value ∷ values) (firsts_of rows ids)) (first_of id rows)
 
 -- what the matches ask of a subcommand
-abbrev pub asked_in : List Row → Sub → Option Asked
+abbrev pub asked_in : List Row → Subcommand → Option Asked
 asked_in rows sub = option_map (λ own. record { command = sub; own = own; setup = first_of (codes "setup") rows }) (firsts_of rows (own_names sub))
 
 -- what no words ask: the script with no setup
@@ -85,6 +89,23 @@ asked_by words = asked_of (subcommand_of tool words)
 -- what a request asks
 abbrev pub shown : Request → Asked
 shown request = record { command = request.command; own = map string_bytes request.words.items; setup = option_map string_bytes request.setup }
+
+-- ---- words that are no request
+
+-- the kinds of fault that the parser finds in the words, among which it answers one; none where it takes them
+abbrev pub faults_in : List Text → Kinds
+faults_in = fault_of tool
+
+-- the words ask for help, or for the version
+abbrev pub asks_for_help : ErrorKind → Bool
+asks_for_help DisplayHelp = true
+asks_for_help DisplayVersion = true
+asks_for_help _ = false
+
+-- why words with these kinds of fault are no request: one of the kinds, marked as help where it is that, or want of memory
+abbrev pub IsRefusal : Kinds → WordsFault → Type 0
+IsRefusal kinds (Parser text help) = (kind : ErrorKind) × IsAmong kind kinds × (help ≡ asks_for_help kind)
+IsRefusal kinds NoMemory = Unit {0}
 
 -- ---- plain calls
 

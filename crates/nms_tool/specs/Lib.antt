@@ -1,2 +1,1 @@
-pub mod ChangeFile
 pub mod CommandLine

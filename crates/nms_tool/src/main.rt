@@ -1,23 +1,23 @@
 //! The program: the quote board's command line.
 #![tactic(auto)]
 
-mod change_files;
-mod commands;
+mod command_line;
+mod command_words;
+mod help_text;
 mod program;
-mod requests;
-mod subs;
+mod request;
+mod subcommand;
 #[cfg(test)]
 mod tests;
-mod tool_faults;
-mod words;
-mod words_faults;
+mod tool_fault;
+mod words_fault;
 
 use program::{run_tool, tell_fault};
 use std::io::ErrorKind;
 use std::process::ExitCode;
 use std::{env, io};
-use tool_faults::ToolFault;
-use words_faults::WordsFault;
+use tool_fault::ToolFault;
+use words_fault::WordsFault;
 
 fn main(rt: HostRuntime) -> ExitCode {
     let status = match answer_words(&rt) {

@@ -1,14 +1,13 @@
 //! What the program does with its words, its streams and its files.
 
-use crate::change_files::board_of;
-use crate::requests::Request;
-use crate::subs::Sub;
-use crate::tool_faults::ToolFault;
-use crate::words::read_words;
-use crate::words_faults::WordsFault;
-use nms_engine::{SETUP_K, ScriptFault, report, run_script};
+use crate::command_words::read_words;
+use crate::request::Request;
+use crate::subcommand::Subcommand;
+use crate::tool_fault::ToolFault;
+use crate::words_fault::WordsFault;
+use nms_engine::{SETUP_K, ScriptFault, report_changes, run_script};
 use nms_fees::{Setup, SetupFault, read_setup};
-use std::io::{BufWriter, ErrorKind, Read, Write};
+use std::io::{ErrorKind, Read, Write};
 use std::rt::Files;
 use std::{fs, io, str};
 
@@ -61,8 +60,8 @@ fn serve_words<T: Files + AllocGlobal, R: Read + Drop, W: Write>(
     };
     let setup = setup_of(rt, &request)?;
     match request.command {
-        Sub::Script => serve_script(rt, &setup, input, answers),
-        Sub::Report => serve_report(rt, &setup, &request.words, answers),
+        Subcommand::Script => serve_script(rt, &setup, input, answers),
+        Subcommand::Report => serve_report(rt, &setup, &request.words, answers),
     }
 }
 
@@ -87,7 +86,7 @@ fn read_file<T: Files + AllocGlobal>(rt: &T, path: &str) -> Result<Vec<u8>, Tool
 }
 
 /// Why a file could not be read.
-pub(crate) fn unread(error: &io::Error) -> ToolFault {
+fn unread(error: &io::Error) -> ToolFault {
     if error.kind() == ErrorKind::OutOfMemory {
         ToolFault::Script(ScriptFault::NoMemory)
     } else {
@@ -118,13 +117,6 @@ fn serve_report<T: Files + AllocGlobal, W: Write>(
     let Some(sym) = setup.roster().find_sym(symbol.as_bytes()) else {
         return Err(ToolFault::Usage);
     };
-    let board = board_of(rt, setup, changes.as_str())?;
-    let view = board.view(sym);
-    let Ok(mut lines) = BufWriter::new(rt.alloc(), answers) else {
-        return Err(ToolFault::Script(ScriptFault::NoMemory));
-    };
-    report(&view, setup.roster(), &mut lines).map_err(ToolFault::Script)?;
-    lines
-        .flush()
-        .map_err(|_| ToolFault::Script(ScriptFault::WriteFault))
+    let file = fs::open(rt, changes.as_str()).map_err(|error| unread(&error))?;
+    report_changes(rt.alloc(), setup, file, sym, answers).map_err(ToolFault::Report)
 }

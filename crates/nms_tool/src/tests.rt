@@ -94,6 +94,7 @@ fn help_is_an_answer_and_bad_words_are_not(rt: HostRuntime) -> Result<(), Fail> 
     for (words, wanted) in [
         (["--help"].as_slice(), 0),
         (&["report", "--help"], 0),
+        (&["--version"], 0),
         (&["audit"], 2),
         (&["report", "locked.changes"], 2),
         (&["script", "more"], 2),

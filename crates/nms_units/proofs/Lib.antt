@@ -1,3 +1,5 @@
+mod DecimalLemmas
 mod DigitLemmas
+mod MoneyLemmas
 mod Powers
 mod PriceLemmas

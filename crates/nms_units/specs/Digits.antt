@@ -1,7 +1,9 @@
--- Numbers written in decimal digits. This product's own rule.
-use Rattle.std.specs.Prelude.{ℕ, Bool, ◌&&◌, List, length, nat_lt, nat_le, Option, Some, None, if◌then◌else◌}
+-- Numbers written in decimal digits, and the point between dollars and their parts. This product's own
+-- rule.
+use Rattle.std.specs.Prelude.{ℕ, Bool, ◌+◌, ◌&&◌, ◌==◌, List, length, take, drop, position, nat_lt, nat_le, Option, Some, None, if◌then◌else◌}
 use Rattle.std.specs.Char.{is_ascii_digit}
 use Rattle.std.specs.List.{list_all}
+use Rattle.std.specs.Option.{option_map_or}
 use Rattle.std.specs.Str.Parse.{digits_value}
 
 -- one to `most` digits, and nothing else
@@ -11,3 +13,11 @@ is_digits most text = nat_lt 0 (length text) && nat_le (length text) most && lis
 -- the number that such a text writes
 abbrev pub number_in : ℕ → List ℕ → Option ℕ
 number_in most text = if is_digits most text then Some (digits_value 10 text) else None
+
+-- where the first point stands
+abbrev pub point_in : List ℕ → Option ℕ
+point_in text = position (λ c. c == 46) text
+
+-- what is read of the texts on both sides of the first point; where there is none, `whole`
+abbrev pub by_point : (List ℕ → List ℕ → Option ℕ) → List ℕ → Option ℕ → Option ℕ
+by_point read text whole = option_map_or (λ point. read (take point text) (drop (point + 1) text)) (point_in text) whole

@@ -1,11 +1,10 @@
 -- Money in whole nanodollars (10^-9 dollar). This product's own rule.
-use Rattle.std.specs.Prelude.{ℕ, suc, ℤ, pos, negsuc, neg_ℤ, ◌+◌, ◌*◌, ◌/◌, ◌==◌, List, [], ◌∷◌, ◌++◌, length, take, drop, position, Option, Some, None, option_map, Result, Ok, Err, if◌then◌else◌}
-use Rattle.std.specs.Option.{option_map_or}
+use Rattle.std.specs.Prelude.{ℕ, suc, ℤ, pos, negsuc, neg_ℤ, ◌*◌, ◌/◌, ◌==◌, List, [], ◌∷◌, ◌++◌, length, Option, Some, None, option_map, Result, Ok, Err, if◌then◌else◌}
 use Rattle.std.specs.Fmt.{decimal}
-use Rattle.nms_units.specs.Digits.{number_in}
+use Rattle.nms_units.specs.Digits.{by_point, number_in}
 use Rattle.nms_units.specs.Price.{both, digit_at}
-use Rattle.nms_units.specs.declared.faults.UnitFault.{UnitFault}
-use Rattle.nms_units.specs.declared.faults.UnitFault.TheVariants as fault
+use Rattle.nms_units.specs.declared.unit_fault.UnitFault.{UnitFault}
+use Rattle.nms_units.specs.declared.unit_fault.UnitFault.TheVariants as fault
 
 -- whole dollars: 1 to 20 digits
 abbrev pub whole_dollars : List ℕ → Option ℕ
@@ -21,7 +20,7 @@ nanodollars whole behind = both (whole_dollars whole) (nine_decimals behind)
 
 -- an amount without a sign: 1 to 20 digits, a point and nine digits
 abbrev pub amount_number : List ℕ → Option ℕ
-amount_number text = option_map_or (λ point. nanodollars (take point text) (drop (point + 1) text)) (position (λ c. c == 46) text) None
+amount_number text = by_point nanodollars text None
 
 -- what a text of the form writes: an amount, or a minus and an amount
 abbrev pub money_number : List ℕ → Option ℤ
@@ -29,6 +28,7 @@ money_number [] = None
 money_number (c ∷ rest) =
     if c == 45 then option_map (λ n. neg_ℤ (pos n)) (amount_number rest) else option_map (λ n. pos n) (amount_number (c ∷ rest))
 
+-- the money that was read, or the fault
 abbrev pub or_bad_money : Option ℤ → Result ℤ UnitFault
 or_bad_money None = Err fault.BadMoney
 or_bad_money (Some z) = Ok z

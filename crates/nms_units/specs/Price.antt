@@ -1,20 +1,19 @@
 -- Prices in 1/10,000 dollar. This product's own rule: any price in range is accepted.
-use Rattle.std.specs.Prelude.{ℕ, ◌+◌, ◌*◌, ◌-◌, ◌/◌, ◌%◌, ◌^◌, List, [], ◌∷◌, ◌++◌, length, take, drop, position, ◌==◌, Option, Some, None, Result, Ok, Err, if◌then◌else◌}
-use Rattle.std.specs.Option.{option_map_or}
+use Rattle.std.specs.Prelude.{ℕ, ◌+◌, ◌*◌, ◌-◌, ◌/◌, ◌%◌, ◌^◌, List, [], ◌∷◌, ◌++◌, length, ◌==◌, Option, Some, None, option_map, Result, Ok, Err, if◌then◌else◌}
 use Rattle.std.specs.Fmt.{decimal}
-use Rattle.std.specs.Str.Parse.{digits_value}
-use Rattle.nms_units.specs.Digits.{is_digits}
-use Rattle.nms_units.specs.declared.faults.UnitFault.{UnitFault}
-use Rattle.nms_units.specs.declared.faults.UnitFault.TheVariants as fault
+use Rattle.nms_units.specs.Digits.{by_point, number_in}
+use Rattle.nms_units.specs.declared.unit_fault.UnitFault.{UnitFault}
+use Rattle.nms_units.specs.declared.unit_fault.UnitFault.TheVariants as fault
 
 -- whole dollars: 1 to 7 digits
 abbrev pub dollars : List ℕ → Option ℕ
-dollars text = if is_digits 7 text then Some (digits_value 10 text * 10000) else None
+dollars text = option_map (λ n. n * 10000) (number_in 7 text)
 
 -- 1 to 4 digits behind the point
 abbrev pub decimals : List ℕ → Option ℕ
-decimals text = if is_digits 4 text then Some (digits_value 10 text * 10 ^ (4 - length text)) else None
+decimals text = option_map (λ n. n * 10 ^ (4 - length text)) (number_in 4 text)
 
+-- the sum of two numbers, where both are there
 abbrev pub both : Option ℕ → Option ℕ → Option ℕ
 both None n = None
 both (Some m) None = None
@@ -26,8 +25,9 @@ dollars_and_decimals whole behind = both (dollars whole) (decimals behind)
 
 -- what a text of the form writes, in 1/10,000 dollar: 1 to 7 digits, and at most a point with 1 to 4 digits
 abbrev pub price_number : List ℕ → Option ℕ
-price_number text = option_map_or (λ point. dollars_and_decimals (take point text) (drop (point + 1) text)) (position (λ c. c == 46) text) (dollars text)
+price_number text = by_point dollars_and_decimals text (dollars text)
 
+-- a price above zero, or why there is none
 abbrev pub above_zero : Option ℕ → Result ℕ UnitFault
 above_zero None = Err fault.BadPrice
 above_zero (Some n) = if n == 0 then Err fault.ZeroPrice else Ok n

@@ -1,7 +1,9 @@
+//! Numbers in decimal digits, and the point between them: `specs/Digits`.
 ghost use Rattle.std.specs.Prelude.{◌≡◌, ◌^◌, ◌<◌, ◌≤◌, IfSome, OnSome, length};
-ghost use Rattle.nms_units.specs.Digits.{number_in};
+ghost use Rattle.nms_units.specs.Digits.{number_in, point_in};
 
-/// The number that a text of 1 to `most` decimal digits writes, or `None` where the text is not that.
+/// The number that a text of 1 to `most` decimal digits writes, leading zeros among them, or `None`
+/// where the text is not that.
 pub fn parse_digits(text: &[u8], most: usize) -> Option<u64>
     requires { most ≤ 19 }
     ensures number { result ≡ number_in most text.now }
@@ -20,4 +22,12 @@ pub fn parse_digits(text: &[u8], most: usize) -> Option<u64>
         number = number * 10 + u64::from(*digit - b'0');
     }
     Some(number)
+}
+
+/// Where the first point stands.
+pub(crate) fn point_in(text: &[u8]) -> Option<usize>
+    ensures place { result ≡ point_in text.now }
+    ensures within { IfSome result (λ point. point < length text.now) }
+{
+    text.iter().position(|c| *c == b'.')
 }

@@ -5,17 +5,24 @@
 #![tactic(auto)]
 
 mod digits;
-mod faults;
-mod lots;
-mod moneys;
-mod prices;
-mod share_counts;
+mod lot;
+mod money;
+mod price;
+mod shares;
 #[cfg(test)]
 mod tests;
+mod unit_fault;
+
+/// The highest price in 1/10,000 dollar: 9,999,999.9999 dollars. This product's own rule.
+pub const MOST_PRICE: u64 = 99_999_999_999;
+/// The most shares of a quotation or an order. This product's own rule.
+pub const MOST_SHARES: u32 = 999_999_999;
+/// The most shares of a round lot. This product's own rule.
+pub const MOST_LOT: u16 = 1000;
 
 pub use digits::parse_digits;
-pub use faults::UnitFault;
-pub use lots::Lot;
-pub use moneys::Money;
-pub use prices::Price;
-pub use share_counts::Shares;
+pub use lot::Lot;
+pub use money::Money;
+pub use price::Price;
+pub use shares::Shares;
+pub use unit_fault::UnitFault;

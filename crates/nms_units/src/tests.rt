@@ -1,3 +1,4 @@
+//! Prices, shares, lots, digits and the texts of faults, by values from outside.
 use crate::{Lot, Price, Shares, UnitFault, parse_digits};
 use std::test::Fail;
 
@@ -149,6 +150,7 @@ fn faults_print_their_codes(rt: HostRuntime) -> Result<(), Fail> {
         (UnitFault::BadPrice, "U1: not a price"),
         (UnitFault::ZeroPrice, "U2: the price is zero"),
         (UnitFault::BadShares, "U3: not a share count"),
+        (UnitFault::BadMoney, "U4: not an amount of money"),
     ];
     for (fault, text) in printed.iter() {
         let shown = format!(in rt.alloc(); "{fault}")?;

@@ -1,8 +1,9 @@
 //! A plain slow program that answers scripts of quotes from the definitions, looking back over all
 //! changes at each question.
 
-use super::{assert_told_under, setup_of};
+use super::{told, write_counts};
 use crate::{Counts, SETUP_K};
+use nms_fees::read_setup;
 use nms_quote::Side;
 use std::alloc::Global;
 use std::test::Fail;
@@ -304,18 +305,19 @@ fn random_case(alloc: Global, chance: &mut Chance, records: u64) -> Result<Case,
     }
     case.take_all()?;
     case.look(chance.below(2), chance.below(2) as usize)?;
+    write_counts(&mut case.told, case.counts)?;
     Ok(case)
 }
 
 #[test]
 fn scripts_are_told_what_the_definitions_say(rt: HostRuntime) -> Result<(), Fail> {
-    let setup = setup_of(rt.alloc(), SETUP_K)?;
+    let setup = read_setup(rt.alloc(), SETUP_K)?;
     let mut chance = Chance { seed: 242_600 };
     let mut refused = 0u64;
     for _ in 0..3000 {
         let case = random_case(rt.alloc(), &mut chance, 40)?;
-        let (script, told) = (case.script.as_bytes(), case.told.as_str());
-        assert_told_under(&rt, rt.alloc(), &setup, script, told, case.counts)?;
+        let told = told(rt.alloc(), &setup, case.script.as_bytes())?;
+        assert_eq!(rt; told.as_str(), case.told.as_str(), "at {}", case.script);
         refused = refused.saturating_add(case.counts.refused);
     }
     assert!(rt; refused > 0, "no queue was full");

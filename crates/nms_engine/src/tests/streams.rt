@@ -1,11 +1,9 @@
-use super::setup_of;
 use crate::{Counts, SETUP_K, ScriptFault, run_script};
-use nms_fees::Setup;
+use nms_fees::read_setup;
 use std::alloc::Global;
 use std::cell::Cell;
 use std::io;
 use std::io::{Read, Write};
-use std::process::Abort;
 use std::test::Fail;
 
 /// Records, each with its answer. The first one is answered by nothing.
@@ -29,15 +27,6 @@ const EXCHANGES: [(&str, &str); 9] = [
 
 fn exchanges() -> &'static [(&'static str, &'static str)] {
     &EXCHANGES
-}
-
-/// The answers to all records.
-fn answers(alloc: Global) -> Result<String, Fail> {
-    let mut answers = String::new(alloc);
-    for (_, answer) in exchanges() {
-        answers.push_str(answer)?;
-    }
-    Ok(answers)
 }
 
 /// Gives no byte of a record, and no end, unless the answers to all records before are out and no
@@ -93,31 +82,9 @@ impl<'a> Write for Holder<'a> {
     }
 }
 
-/// What the script of the exchanges comes to.
-fn run_exchanges(
-    alloc: Global,
-    out: &Cell<usize>,
-    holder: &mut Holder<'_>,
-) -> Result<Counts, Fail> {
-    let setup = setup_of(alloc, SETUP_K)?;
-    let asker = Asker {
-        rest: b"",
-        next: 0,
-        due: 0,
-        out,
-    };
-    Ok(run_script(alloc, &setup, asker, holder)?)
-}
-
-fn assert_holds(rt: &impl Abort, holder: &Holder<'_>, calls: usize, text: &str) {
-    assert_eq!(rt; holder.writes, calls);
-    assert_eq!(rt; holder.flushes, calls);
-    assert_eq!(rt; holder.held, 0);
-    assert_eq!(rt; holder.text.as_slice(), text.as_bytes());
-}
-
 #[test]
 fn each_answer_is_one_write_and_out_before_the_next_read(rt: HostRuntime) -> Result<(), Fail> {
+    let setup = read_setup(rt.alloc(), SETUP_K)?;
     let out = Cell::new(0);
     let mut holder = Holder {
         text: Vec::new(rt.alloc()),
@@ -126,113 +93,151 @@ fn each_answer_is_one_write_and_out_before_the_next_read(rt: HostRuntime) -> Res
         writes: 0,
         flushes: 0,
     };
+    let asker = Asker {
+        rest: b"",
+        next: 0,
+        due: 0,
+        out: &out,
+    };
     let counts = Counts {
         records: 9,
         refused: 2,
         tape: 3,
         published: 3,
     };
-    assert_eq!(rt; run_exchanges(rt.alloc(), &out, &mut holder)?, counts);
-    let answers = answers(rt.alloc())?;
-    assert_holds(&rt, &holder, 6, answers.as_str());
+    assert_eq!(rt; run_script(rt.alloc(), &setup, asker, &mut holder)?, counts);
+    let mut answers = Vec::new(rt.alloc());
+    for (_, answer) in exchanges() {
+        answers.extend_from_slice(answer.as_bytes())?;
+    }
+    assert_eq!(rt; (holder.writes, holder.flushes, holder.held), (6, 6, 0));
+    assert_eq!(rt; holder.text.as_slice(), answers.as_slice());
     Ok(())
 }
 
-/// A stream whose reads fail, whose flushes fail, and whose writes fail where it says so.
+/// Fails once, and has ended from then on.
 #[derive(Drop)]
-struct Broken {
-    writes: bool,
-}
-
-fn broken_pipe() -> io::Error {
-    io::Error::from(io::ErrorKind::BrokenPipe)
+pub(super) struct Broken {
+    pub(super) failed: bool,
 }
 
 impl Read for Broken {
     fn read(&mut self, buf: &mut [u8]) -> io::Result<usize> {
         let _ = buf;
-        Err(broken_pipe())
-    }
-}
-
-impl Write for Broken {
-    fn write(&mut self, buf: &[u8]) -> io::Result<usize> {
-        if self.writes {
-            Ok(buf.len())
-        } else {
-            Err(broken_pipe())
+        if self.failed {
+            return Ok(0);
         }
+        self.failed = true;
+        Err(io::Error::from(io::ErrorKind::BrokenPipe))
     }
-
-    fn flush(&mut self) -> io::Result<()> {
-        Err(broken_pipe())
-    }
-}
-
-/// What a script is told whose reader fails behind this text.
-fn told_before_a_fault(
-    alloc: Global,
-    text: &[u8],
-) -> Result<(Result<Counts, ScriptFault>, String), Fail> {
-    let setup = setup_of(alloc, SETUP_K)?;
-    let mut written = Vec::new(alloc);
-    let reader = text.chain(Broken { writes: false });
-    let came_to = run_script(alloc, &setup, reader, &mut written);
-    Ok((came_to, String::from_utf8(written)?))
-}
-
-/// Asserts what scripts are told whose readers fail behind their texts.
-fn assert_told_before_a_fault(
-    rt: &impl Abort,
-    alloc: Global,
-    cases: &[(&[u8], &str)],
-) -> Result<(), Fail> {
-    for (text, answers) in cases {
-        let (came_to, told) = told_before_a_fault(alloc, text)?;
-        assert_eq!(rt; came_to, Err(ScriptFault::ReadFault), "at {text:?}");
-        assert_eq!(rt; told.as_str(), *answers, "at {text:?}");
-    }
-    Ok(())
 }
 
 #[test]
 fn a_failed_read_leaves_the_answers_so_far(rt: HostRuntime) -> Result<(), Fail> {
-    let cases = [
-        (b"".as_slice(), ""),
+    let setup = read_setup(rt.alloc(), SETUP_K)?;
+    for (before, answers) in [
+        ("", "E1"),
         (
-            b"Q,N,ABC,A,,,10.00,100\nF\nK\nF\n",
-            "PUB,1\nERR,3,L1\nPUB,1\n",
+            "Q,N,ABC,A,,,10.00,100\nF\nK\nF\n",
+            "PUB,1\nERR,3,L1\nPUB,1\nE1",
         ),
         // The fifth record does not end.
         (
-            b"Q,N,ABC,A,,,10.00,100\nF\nK\nF\nN,0,ABC",
-            "PUB,1\nERR,3,L1\nPUB,1\n",
+            "Q,N,ABC,A,,,10.00,100\nF\nK\nF\nN,0,ABC",
+            "PUB,1\nERR,3,L1\nPUB,1\nE1",
         ),
-    ];
-    assert_told_before_a_fault(&rt, rt.alloc(), &cases)
+    ] {
+        // The reader would go on behind its fault.
+        let script = before
+            .as_bytes()
+            .chain(Broken { failed: false })
+            .chain(b"\nF\n".as_slice());
+        let told = super::told(rt.alloc(), &setup, script)?;
+        assert_eq!(rt; told.as_str(), answers, "at {before}");
+    }
+    Ok(())
 }
 
-/// Asserts that an answer is not told to a writer, and that it takes a script with no answer.
-fn assert_breaks(
-    rt: &impl Abort,
-    alloc: Global,
-    setup: &Setup,
-    writer: &mut Broken,
-) -> Result<(), Fail> {
-    let told = run_script(alloc, setup, b"F\nF\n".as_slice(), writer);
-    assert_eq!(rt; told, Err(ScriptFault::WriteFault));
-    // Nothing is told here, so nothing is written.
-    let quote = b"Q,N,ABC,A,,,10.00,100\n".as_slice();
-    let untold = run_script(alloc, setup, quote, writer)?;
-    assert_eq!(rt; untold.records, 1);
-    Ok(())
+/// Takes all that is written.
+#[derive(Drop)]
+pub(super) struct Sink;
+
+impl Write for Sink {
+    fn write(&mut self, buf: &[u8]) -> io::Result<usize> {
+        Ok(buf.len())
+    }
+
+    fn flush(&mut self) -> io::Result<()> {
+        Ok(())
+    }
+}
+
+/// Takes so many more writes and flushes, and fails from then on.
+#[derive(Drop)]
+pub(super) struct Pipe {
+    pub(super) text: Vec<u8>,
+    pub(super) writes: usize,
+    pub(super) flushes: usize,
+}
+
+impl Pipe {
+    pub(super) fn new(alloc: Global, writes: usize, flushes: usize) -> Pipe {
+        Pipe {
+            text: Vec::new(alloc),
+            writes,
+            flushes,
+        }
+    }
+}
+
+impl Write for Pipe {
+    fn write(&mut self, buf: &[u8]) -> io::Result<usize> {
+        if self.writes == 0 {
+            return Err(io::Error::from(io::ErrorKind::BrokenPipe));
+        }
+        self.writes -= 1;
+        self.text.extend_from_slice(buf)?;
+        Ok(buf.len())
+    }
+
+    fn flush(&mut self) -> io::Result<()> {
+        if self.flushes == 0 {
+            return Err(io::Error::from(io::ErrorKind::BrokenPipe));
+        }
+        self.flushes -= 1;
+        Ok(())
+    }
 }
 
 #[test]
 fn a_failed_write_or_flush_ends_the_script(rt: HostRuntime) -> Result<(), Fail> {
-    let setup = setup_of(rt.alloc(), SETUP_K)?;
-    for writes in [false, true] {
-        assert_breaks(&rt, rt.alloc(), &setup, &mut Broken { writes })?;
+    let setup = read_setup(rt.alloc(), SETUP_K)?;
+    // Four records are answered. Nothing is told of the first one, so nothing is written.
+    let script = b"Q,N,ABC,A,,,10.00,100\nF\nK\nP\nF\n".as_slice();
+    for (writes, flushes, written) in [
+        (0, 9, ""),
+        (1, 9, "PUB,1\n"),
+        (2, 9, "PUB,1\nERR,3,L1\n"),
+        (3, 9, "PUB,1\nERR,3,L1\nPUB,1\n"),
+        (9, 0, "PUB,1\n"),
+        (9, 1, "PUB,1\nERR,3,L1\n"),
+        (9, 2, "PUB,1\nERR,3,L1\nPUB,1\n"),
+        (9, 3, "PUB,1\nERR,3,L1\nPUB,1\nPUB,1\n"),
+    ] {
+        let mut pipe = Pipe::new(rt.alloc(), writes, flushes);
+        let came_to = run_script(rt.alloc(), &setup, script, &mut pipe);
+        assert_eq!(rt; came_to, Err(ScriptFault::WriteFault), "{writes} {flushes}");
+        assert_eq!(rt;
+            pipe.text.as_slice(),
+            written.as_bytes(),
+            "{writes} {flushes}"
+        );
     }
+    let mut closed = Pipe::new(rt.alloc(), 0, 0);
+    let untold = b"Q,N,ABC,A,,,10.00,100\n".as_slice();
+    assert_eq!(rt;
+        run_script(rt.alloc(), &setup, untold, &mut closed)?.records,
+        1
+    );
     Ok(())
 }

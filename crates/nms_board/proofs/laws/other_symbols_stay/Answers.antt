@@ -1,0 +1,5 @@
+use Rattle.nms_board.proofs.BoardLemmas.{rows_stay}
+use Rattle.nms_board.proofs.laws.other_symbols_stay.Goals as goal
+
+pub returns : goal.returns
+returns c = rows_stay

@@ -1,0 +1,246 @@
+//! Every participant's quotations in every symbol, and the changes that alter them: `specs/Cells`.
+ghost use Rattle.std.specs.Prelude.{◌≡◌, ℕ, ◌+◌, ◌*◌, ◌<◌, ◌≤◌, All, List, [], ◌∷◌, ◌++◌, length, map, vec_len, true, fold, IfOk, nat_lt, slice_get};
+ghost use Rattle.std.specs.List.{cons_option};
+ghost use Rattle.nms_quote.specs.Roster.{holds, sizes_of};
+ghost use Rattle.nms_quote.specs.Tape.{Tape};
+ghost use Rattle.nms_quote.specs.declared.side_quote.Side.{Side};
+ghost use Rattle.nms_board.specs.Cells.{place_of, withdraw_from};
+
+use crate::MOST_ROWS;
+use crate::board_fault::BoardFault;
+use crate::cell::{Cell, empty_cells};
+use crate::row::Row;
+use crate::view::View;
+use arrayvec::ArrayVec;
+use nms_quote::{Change, MOST_CHANGES, MOST_SYMBOLS, Part, Roster, Side, Sym};
+use nms_units::Lot;
+use std::alloc::{AllocError, Global};
+use std::marker::Model;
+
+/// What every participant quotes in every symbol of a roster after the changes applied so far.
+/// The cells are made once; the changes themselves are not kept.
+#[derive(Drop)]
+pub struct Boards {
+    parts: u8,
+    lots: Vec<Lot>,
+    /// `MOST_ROWS` cells for each symbol, by participant place.
+    cells: Vec<Cell>,
+    applied: u64,
+}
+
+impl Model for Boards {
+    ghost use Rattle.nms_board.specs.Cells.{Board, IsInShape};
+
+    ghost Value = { Board };
+
+    ghost view = { λ b. record {
+      sizes = record { parts = b.parts; lots = b.lots.items };
+      cells = b.cells.items;
+      applied = b.applied;
+    } };
+
+    ghost invariant = { λ b. IsInShape (record {
+      sizes = record { parts = b.parts; lots = b.lots.items };
+      cells = b.cells.items;
+      applied = b.applied;
+    }) };
+}
+
+impl Boards {
+    ghost use Rattle.nms_board.specs.Cells.{Board, StandsFor, after, opening, takes};
+    ghost use Rattle.nms_board.specs.Shown.{row_held, seen_on};
+    ghost use Rattle.nms_board.specs.View.{rows_on, view_of};
+
+    /// The board of a roster with nothing on it. Every cell of every symbol is made here.
+    pub fn new(alloc: Global, roster: &Roster) -> Result<Self, BoardFault>
+        ensures opening { IfOk result (λ board. board ≡ opening (sizes_of roster.now)) }
+        ensures stands { IfOk result (λ board. StandsFor board []) }
+        ensures narrow { length roster.now.parts ≤ MOST_ROWS }
+    {
+        let parts = roster.parts() as u8;
+        let Ok(lots) = lots_of(alloc, roster) else {
+            return Err(BoardFault::NoMemory);
+        };
+        let Ok(cells) = empty_cells(alloc, lots.len()) else {
+            return Err(BoardFault::NoMemory);
+        };
+        Ok(Boards {
+            parts,
+            lots,
+            cells,
+            applied: 0,
+        })
+    }
+
+    /// Whether the roster holds the change and fewer than `MOST_CHANGES` were applied.
+    pub fn takes(&self, change: &Change) -> bool
+        ensures { result ≡ takes self.now change.now }
+    {
+        self.holds(change) && self.applied < MOST_CHANGES
+    }
+
+    /// Whether a change speaks of participants and symbols of the board's roster alone.
+    pub fn holds(&self, change: &Change) -> bool
+        ensures { result ≡ holds self.now.sizes change.now }
+    {
+        match *change {
+            Change::Quote { part, sym, .. } => self.has_part(part) && self.has_sym(sym),
+            Change::State { part, sym, .. } => self.has_part(part) && self.has_sym(sym),
+            Change::Withdraw { part } => self.has_part(part),
+        }
+    }
+
+    fn has_part(&self, part: Part) -> bool
+        ensures { result ≡ nat_lt part self.now.sizes.parts }
+    {
+        part.get() < self.parts
+    }
+
+    /// Whether a symbol is of the board's roster.
+    pub fn has_sym(&self, sym: Sym) -> bool
+        ensures { result ≡ nat_lt sym (length self.now.sizes.lots) }
+    {
+        usize::from(sym.get()) < self.lots.len()
+    }
+
+    /// How many participants the roster has.
+    pub fn parts(&self) -> u8
+        ensures count { result ≡ self.now.sizes.parts }
+        ensures within { result ≤ MOST_ROWS }
+    {
+        self.parts
+    }
+
+    /// The quotation of a participant of the roster on a side of a symbol of it, if it is one: one of
+    /// the rows of that symbol's view.
+    pub fn row(&self, side: Side, part: Part, sym: Sym) -> Option<Row>
+        requires part { part < self.now.sizes.parts }
+        requires sym { sym < length self.now.sizes.lots }
+        ensures { result ≡ row_held self.now sym side part }
+    {
+        let lot = self.lots[usize::from(sym.get())];
+        self.cells[place_of(part, sym)].row(side, part, lot)
+    }
+
+    fn lot_of(&self, sym: Sym) -> Option<Lot>
+        ensures { result ≡ slice_get self.now.sizes.lots sym }
+    {
+        self.lots.get(usize::from(sym.get())).copied()
+    }
+
+    /// Applies one more change. Constant work for a quote or a state; a withdrawal goes over the
+    /// symbols.
+    pub fn apply(&mut self, change: Change)
+        requires { takes self.old change ≡ true }
+        ensures after { self.new ≡ after self.old change }
+        ensures stands { (tape : Tape) → StandsFor self.old tape
+            → StandsFor self.new (tape ++ change ∷ []) }
+    {
+        self.applied += 1;
+        let number = self.applied;
+        match change {
+            Change::Quote {
+                part,
+                sym,
+                state,
+                bid,
+                offer,
+            } => {
+                self.cells[place_of(part, sym)].quote(number, state, bid, offer);
+            }
+            Change::State { part, sym, state } => {
+                self.cells[place_of(part, sym)].restate(state);
+            }
+            Change::Withdraw { part } => withdraw_from(
+                number,
+                part,
+                self.lots.len(),
+                &mut self.cells,
+            ),
+        }
+    }
+
+    /// Applies changes in order.
+    pub fn apply_all(&mut self, changes: &[Change])
+        requires held { All (λ change. holds self.old.sizes change ≡ true) changes.now }
+        requires room { self.old.applied + length changes.now ≤ MOST_CHANGES }
+        ensures after { self.new ≡ fold after self.old changes.now }
+        ensures stands { (tape : Tape) → StandsFor self.old tape
+            → StandsFor self.new (tape ++ changes.now) }
+        ensures sizes { self.new.sizes ≡ self.old.sizes }
+        ensures applied { self.new.applied ≡ self.old.applied + length changes.now }
+    {
+        for change in changes {
+            self.apply(*change);
+        }
+    }
+
+    /// How many changes were applied.
+    pub fn applied(&self) -> u64
+        ensures count { result ≡ self.now.applied }
+        ensures within { result ≤ MOST_CHANGES }
+    {
+        self.applied
+    }
+
+    /// The quotations of one symbol; no rows for a symbol out of the roster.
+    pub fn view(&self, sym: Sym) -> View
+        ensures cells { result ≡ seen_on self.now sym }
+        ensures shows { (tape : Tape) → StandsFor self.now tape
+            → result ≡ view_of self.now.sizes tape sym }
+        ensures parts { (side : Side) → All (λ row. row.part < self.now.sizes.parts) (rows_on side result) }
+    {
+        let mut bids = ArrayVec::new_in(());
+        let mut offers = ArrayVec::new_in(());
+        let Some(lot) = self.lot_of(sym) else {
+            return View::new(self.applied, sym, bids, offers);
+        };
+        for place in 0..self.parts {
+            let part = Part::new(place).unwrap();
+            let cell = &self.cells[place_of(part, sym)];
+            push_some(&mut bids, cell.row(Side::Bid, part, lot));
+            push_some(&mut offers, cell.row(Side::Offer, part, lot));
+        }
+        View::new(self.applied, sym, bids, offers)
+    }
+}
+
+/// Appends a row, if there is one.
+fn push_some(rows: &mut ArrayVec<Row, MOST_ROWS>, row: Option<Row>)
+    requires { length rows.old.items < MOST_ROWS }
+    ensures { rows.new.items ≡ rows.old.items ++ cons_option row [] }
+{
+    if let Some(row) = row {
+        rows.push(row);
+    }
+}
+
+/// The round lots of a roster's symbols, by place.
+fn lots_of(alloc: Global, roster: &Roster) -> Result<Vec<Lot>, AllocError>
+    ensures lots { IfOk result (λ lots. lots.items ≡ (sizes_of roster.now).lots) }
+    ensures within { IfOk result (λ lots. length lots.items ≤ MOST_SYMBOLS) }
+{
+    let mut lots = Vec::with_capacity(alloc, roster.syms())?;
+    for place in 0..roster.syms() as u16 {
+        lots.push(roster.lot_of(Sym::new(place).unwrap()))?;
+    }
+    Ok(lots)
+}
+
+/// Where the cell of a participant in a symbol stands.
+fn place_of(part: Part, sym: Sym) -> usize
+    ensures place { result ≡ place_of part sym }
+    ensures within { result < 32000 }
+{
+    MOST_ROWS * usize::from(sym.get()) + usize::from(part.get())
+}
+
+/// Withdraws the participant's cell in each of the first symbols, as the change of that number.
+fn withdraw_from(number: u64, part: Part, syms: usize, cells: &mut [Cell])
+    requires { MOST_ROWS * syms ≤ length cells.old }
+    ensures { cells.new ≡ withdraw_from number part syms cells.old }
+{
+    for sym in 0..syms {
+        cells[MOST_ROWS * sym + usize::from(part.get())].withdraw(number);
+    }
+}

@@ -1,0 +1,23 @@
+//! Why no board was made.
+ghost use Rattle.std.specs.Prelude.{◌≡◌, codes};
+
+use thiserror::Error;
+
+/// Why no board was made.
+#[derive(Clone, Copy, Debug, PartialEq, Eq, Error)]
+pub enum BoardFault {
+    /// B1: out of memory.
+    #[error("B1: out of memory")]
+    NoMemory,
+}
+
+impl BoardFault {
+    /// The code of the fault, `B1`.
+    pub fn code(self) -> &'static str
+        ensures { result.now ≡ codes "B1" }
+    {
+        match self {
+            BoardFault::NoMemory => "B1",
+        }
+    }
+}

@@ -1,0 +1,33 @@
+//! A row of a side, which is a quotation: `specs/Quotation`.
+use nms_quote::Part;
+use nms_units::Price;
+use std::default::MadeWith;
+
+/// A quotation: a participant's bid or offer in a symbol that shows at least one round lot
+/// (17 CFR 242.600, "bid or offer"). The wide fields stand first, so that a row takes 24 bytes.
+#[derive(Clone, Copy, Debug, PartialEq, Eq)]
+pub struct Row {
+    /// In 1/10,000 dollar.
+    pub price: Price,
+    /// The number of the change that last altered the side's price or shares.
+    pub receipt: u64,
+    /// The displayed size in shares: whole round lots, at least one.
+    pub size: u32,
+    /// The participant that quotes it.
+    pub part: Part,
+    /// Whether it is a protected bid or offer, as every automated quotation is.
+    pub protected: bool,
+}
+
+/// The row that stands in a list's unused places.
+impl MadeWith<()> for Row {
+    fn made_with(_none: ()) -> Self {
+        Row {
+            price: Price::new(1).unwrap(),
+            receipt: 0,
+            size: 0,
+            part: Part::new(0).unwrap(),
+            protected: false,
+        }
+    }
+}

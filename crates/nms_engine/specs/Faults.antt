@@ -1,0 +1,27 @@
+-- The codes by which faults are told. This product's own rule.
+use Rattle.std.specs.Prelude.{ℕ, List, codes}
+use Rattle.nms_lines.specs.Faults as line_faults
+use Rattle.nms_engine.specs.declared.changes_fault.ChangesFault.{ChangesFault}
+use Rattle.nms_engine.specs.declared.changes_fault.ChangesFault.TheVariants as changes_fault
+use Rattle.nms_engine.specs.declared.changes_fault.ReportFault.{ReportFault}
+use Rattle.nms_engine.specs.declared.changes_fault.ReportFault.TheVariants as report_fault
+use Rattle.nms_engine.specs.declared.script_fault.ScriptFault.{ScriptFault}
+use Rattle.nms_engine.specs.declared.script_fault.ScriptFault.TheVariants as script_fault
+
+abbrev pub code_of_script : ScriptFault → List ℕ
+code_of_script script_fault.ReadFault = codes "E1"
+code_of_script script_fault.WriteFault = codes "E2"
+code_of_script script_fault.TooLong = codes "E3"
+code_of_script script_fault.NoMemory = codes "E4"
+
+abbrev pub code_of_changes : ChangesFault → List ℕ
+code_of_changes changes_fault.ReadFault = codes "E1"
+code_of_changes (changes_fault.Line fault) = line_faults.code_of fault
+code_of_changes changes_fault.TapeFull = codes "F4"
+code_of_changes changes_fault.NoMemory = codes "E4"
+
+abbrev pub code_of_report : ReportFault → List ℕ
+code_of_report (report_fault.Changes fault) = code_of_changes fault
+code_of_report (report_fault.Board fault) = codes "B1"
+code_of_report report_fault.WriteFault = codes "E2"
+code_of_report report_fault.NoMemory = codes "E4"

@@ -1,0 +1,139 @@
+//! What a script is told, as text (specs/Answers).
+ghost use Rattle.std.specs.Prelude.{◌≡◌, ◌<◌, ◌++◌, ◌∷◌, [], length, OnOk, IfSome, Ok, Err};
+ghost use Rattle.nms_lines.specs.Text.{text_of};
+ghost use Rattle.nms_board.specs.View.{Seen};
+ghost use Rattle.nms_flow.specs.declared.reply.Reply.TheVariants as reply;
+ghost use Rattle.nms_engine.specs.Answers.{best_fields, best_record, later_fields, look_text, market_word, refusal, rows_text, told_by};
+
+use crate::fields::{push_number, push_price, push_text};
+use nms_board::Row;
+use nms_flow::BestRows;
+use nms_nbbo::{Market, market_between};
+use nms_quote::{Roster, Sym};
+use std::alloc::AllocError;
+
+/// Appends the record that refuses the one of that number.
+pub(crate) fn tell_refusal(out: &mut Vec<u8>, number: u64, code: &str) -> Result<(), AllocError>
+    ensures { OnOk result (out.new.items ≡ out.old.items ++ text_of (refusal number code.now ∷ [])) }
+{
+    out.extend_from_slice(b"ERR")?;
+    push_number(out, number)?;
+    push_text(out, code)?;
+    end(out)
+}
+
+/// Appends that a change was taken, which made the tape so long.
+pub(crate) fn tell_taken(out: &mut Vec<u8>, version: u64) -> Result<(), AllocError>
+    ensures { OnOk result (out.new.items ≡ out.old.items ++ text_of (told_by 0 (Ok (reply.Taken version)))) }
+{
+    out.extend_from_slice(b"TAKEN")?;
+    push_number(out, version)?;
+    end(out)
+}
+
+/// Appends that a version was published.
+pub(crate) fn tell_published(out: &mut Vec<u8>, version: u64) -> Result<(), AllocError>
+    ensures { OnOk result (out.new.items ≡ out.old.items ++ text_of (told_by 0 (Ok (reply.Published version)))) }
+{
+    out.extend_from_slice(b"PUB")?;
+    push_number(out, version)?;
+    end(out)
+}
+
+/// Appends that a desk was told of a version.
+pub(crate) fn tell_told(out: &mut Vec<u8>, desk: u8, version: u64) -> Result<(), AllocError>
+    ensures { OnOk result (out.new.items ≡ out.old.items ++ text_of (told_by 0 (Ok (reply.Told desk version)))) }
+{
+    out.extend_from_slice(b"TOLD")?;
+    push_number(out, u64::from(desk))?;
+    push_number(out, version)?;
+    end(out)
+}
+
+/// Ends a record.
+fn end(out: &mut Vec<u8>) -> Result<(), AllocError>
+    ensures { OnOk result (out.new.items ≡ out.old.items ++ 10 ∷ []) }
+{
+    out.push(b'\n')?;
+    Ok(())
+}
+
+/// The word for a market.
+pub(crate) fn word_of_market(market: Market) -> &'static str
+    ensures { result.now ≡ market_word market }
+{
+    match market {
+        Market::Empty => "EMPTY",
+        Market::OneSided => "ONESIDED",
+        Market::Normal => "NORMAL",
+        Market::Locked => "LOCKED",
+        Market::Crossed => "CROSSED",
+    }
+}
+
+/// Appends the best bid and offer that a desk saw.
+pub(crate) fn tell_best(
+    out: &mut Vec<u8>,
+    roster: &Roster,
+    desk: u8,
+    sym: Sym,
+    version: u64,
+    best: &BestRows,
+) -> Result<(), AllocError>
+    requires sym { sym < length roster.now.syms }
+    requires bid { IfSome best.now.bid (λ row. row.part < length roster.now.parts) }
+    requires offer { IfSome best.now.offer (λ row. row.part < length roster.now.parts) }
+    ensures { (seen : Seen) → seen.sym ≡ sym → seen.version ≡ version
+        → OnOk result (out.new.items ≡ out.old.items ++ text_of (best_record roster.now desk seen best.now.bid best.now.offer ∷ [])) }
+{
+    let market = word_of_market(market_between(best.bid, best.offer));
+    tell_look(out, desk, roster.sym_name(sym), version, market)?;
+    tell_rows(out, roster, best)
+}
+
+/// Appends the first fields of a best bid and offer: the desk, the symbol, the version, the market.
+fn tell_look(
+    out: &mut Vec<u8>,
+    desk: u8,
+    sym: &str,
+    version: u64,
+    market: &str,
+) -> Result<(), AllocError>
+    ensures { OnOk result (out.new.items ≡ out.old.items ++ look_text desk sym.now version market.now) }
+{
+    out.extend_from_slice(b"BEST")?;
+    push_number(out, u64::from(desk))?;
+    push_text(out, sym)?;
+    push_number(out, version)?;
+    push_text(out, market)
+}
+
+/// Appends a best bid's and a best offer's fields, and ends the record.
+fn tell_rows(out: &mut Vec<u8>, roster: &Roster, best: &BestRows) -> Result<(), AllocError>
+    requires bid { IfSome best.now.bid (λ row. row.part < length roster.now.parts) }
+    requires offer { IfSome best.now.offer (λ row. row.part < length roster.now.parts) }
+    ensures { OnOk result (out.new.items ≡ out.old.items ++ rows_text roster.now best.now.bid best.now.offer) }
+{
+    tell_row(out, roster, &best.bid)?;
+    tell_row(out, roster, &best.offer)?;
+    end(out)
+}
+
+/// Appends a best row's four fields.
+fn tell_row(out: &mut Vec<u8>, roster: &Roster, row: &Option<Row>) -> Result<(), AllocError>
+    requires { IfSome row.now (λ row. row.part < length roster.now.parts) }
+    ensures { OnOk result (out.new.items ≡ out.old.items ++ later_fields (best_fields roster.now row.now)) }
+{
+    match row {
+        None => {
+            out.extend_from_slice(b",,,,")?;
+            Ok(())
+        }
+        Some(row) => {
+            push_text(out, roster.part_name(row.part))?;
+            push_price(out, row.price)?;
+            push_number(out, u64::from(row.size))?;
+            push_number(out, row.receipt)
+        }
+    }
+}

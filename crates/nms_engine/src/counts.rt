@@ -1,0 +1,14 @@
+//! What a script came to (specs/Script).
+
+/// What a script came to.
+#[derive(Clone, Copy, Debug, PartialEq, Eq)]
+pub struct Counts {
+    /// How many records were read, at most 10,000,000.
+    pub records: u64,
+    /// How many of them were answered by an `ERR` record.
+    pub refused: u64,
+    /// How many changes were taken to the tape.
+    pub tape: u64,
+    /// The published version.
+    pub published: u64,
+}

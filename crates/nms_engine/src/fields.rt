@@ -1,0 +1,49 @@
+//! Fields of a record, each written behind a comma (`later_fields` of specs/Answers).
+ghost use Rattle.std.specs.Prelude.{◌≡◌, ◌+◌, ◌<◌, ◌++◌, ◌∷◌, [], OnOk};
+ghost use Rattle.std.specs.Fmt.{decimal};
+ghost use Rattle.nms_units.specs.Price.{price_text};
+
+use itoa::Buffer;
+use nms_units::Price;
+use std::alloc::AllocError;
+
+/// Appends a comma and a text.
+pub(crate) fn push_text(out: &mut Vec<u8>, text: &str) -> Result<(), AllocError>
+    ensures { OnOk result (out.new.items ≡ out.old.items ++ 44 ∷ text.now) }
+{
+    out.push(b',')?;
+    out.extend_from_slice(text.as_bytes())?;
+    Ok(())
+}
+
+/// Appends a comma and a number.
+pub(crate) fn push_number(out: &mut Vec<u8>, number: u64) -> Result<(), AllocError>
+    ensures { OnOk result (out.new.items ≡ out.old.items ++ 44 ∷ decimal number) }
+{
+    push_text(out, Buffer::new().format(number))
+}
+
+/// Appends a comma and a price.
+pub(crate) fn push_price(out: &mut Vec<u8>, price: Price) -> Result<(), AllocError>
+    ensures { OnOk result (out.new.items ≡ out.old.items ++ 44 ∷ price_text price) }
+{
+    let number = price.get();
+    push_number(out, number / 10_000)?;
+    let decimals = [
+        b'.',
+        digit(number / 1000 % 10),
+        digit(number / 100 % 10),
+        digit(number / 10 % 10),
+        digit(number % 10),
+    ];
+    out.extend_from_slice(&decimals)?;
+    Ok(())
+}
+
+/// The digit of a number below ten.
+fn digit(number: u64) -> u8
+    requires { number < 10 }
+    ensures { result ≡ 48 + number }
+{
+    b'0' + number as u8
+}

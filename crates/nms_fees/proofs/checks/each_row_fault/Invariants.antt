@@ -1,8 +1,0 @@
-use Rattle.std.proofs.Common.{◌≡◌, None, take}
-use Rattle.std.specs.List.{fold}
-use Rattle.toml.specs.View.{view}
-use Rattle.nms_fees.specs.Places.{lesser, row_fault}
-use Rattle.nms_fees.proofs.checks.each_row_fault.Given as goal
-
-abbrev pub invariant-loop-row : goal.invariant-loop-row
-invariant-loop-row l = l.least ≡ fold (λ found row. lesser found (row_fault l.section (view row))) None (take l.row-index l.rows)

@@ -1,6 +1,0 @@
-use Rattle.std.proofs.Common.{◌≡◌, take}
-use Rattle.nms_fees.specs.Places.{least}
-use Rattle.nms_fees.proofs.checks.least.Given as goal
-
-abbrev pub invariant-loop-finding : goal.invariant-loop-finding
-invariant-loop-finding l = l.least ≡ least (take l.finding-index l.found)

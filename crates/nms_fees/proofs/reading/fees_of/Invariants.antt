@@ -1,7 +1,0 @@
-use Rattle.std.proofs.Common.{◌≡◌, map, take}
-use Rattle.toml.specs.View.{view}
-use Rattle.nms_fees.specs.Setup.{schedule_of}
-use Rattle.nms_fees.proofs.reading.fees_of.Given as goal
-
-abbrev pub invariant-loop-row : goal.invariant-loop-row
-invariant-loop-row l = l.fees ≡ map schedule_of (map view (take l.row-index l.rows))

@@ -1,0 +1,12 @@
+use Rattle.std.proofs.Common.{codes}
+use Rattle.nms_fees.specs.declared.section.Section.TheVariants as section
+use Rattle.nms_fees.specs.Setup.{count_at, table_of}
+use Rattle.nms_fees.proofs.SoundLemmas.{row_sound, unrefused}
+use Rattle.nms_fees.proofs.setup_reading.add_symbols.Goals as goal
+
+pub add_symbol-requires-clause-unrefused : goal.add_symbol-requires-clause-unrefused
+add_symbol-requires-clause-unrefused c =
+    unrefused section.Symbol (λ row. count_at (codes "lot") (table_of row)) c.args.rows.now c.loop-row.row-index c.row-item.result c.loop-row.roster.syms c.requires.sound c.loop-row-test.true c.row-item.is c.loop-row.invariant.syms
+
+pub add_symbol-requires-clause-sound : goal.add_symbol-requires-clause-sound
+add_symbol-requires-clause-sound c = row_sound section.Symbol c.args.rows.now c.loop-row.row-index c.row-item.result c.requires.sound c.loop-row-test.true c.row-item.is

@@ -1,0 +1,44 @@
+use Rattle.std.proofs.Common.{◌≡◌, ℕ, ◌≤◌, Fits, w8, arith, ap, ◌∙◌, sym, subst, length, map}
+use Rattle.std.proofs.lemmas.List.{length-map}
+use Rattle.toml.specs.View.{view, table_view}
+use Rattle.nms_quote.specs.declared.TheConstants.{MOST_CHANGES}
+use Rattle.nms_fees.specs.declared.TheConstants.{LEAST_QUEUE, MOST_DESKS, MOST_QUEUE}
+use Rattle.nms_fees.specs.Fees.{AreCapped}
+use Rattle.nms_fees.specs.Setup.{participant_of, schedule_of}
+use Rattle.nms_fees.proofs.SoundLemmas.{tape_limit_of, queue_of, desks_of, participants_of, symbols_of, charges_of_rows}
+use Rattle.nms_fees.proofs.setup_reading.settings_of.Goals as goal
+
+pub roster_of-requires-clause-participants : goal.roster_of-requires-clause-participants
+roster_of-requires-clause-participants c = participants_of (table_view c.args.document.now) c.requires (map view c.rows_at-participants.result.now) c.rows_at-participants.ensures
+
+pub roster_of-requires-clause-symbols : goal.roster_of-requires-clause-symbols
+roster_of-requires-clause-symbols c = symbols_of (table_view c.args.document.now) c.requires (map view c.rows_at-symbols.result.now) c.rows_at-symbols.ensures
+
+pub fees_of-requires : goal.fees_of-requires
+fees_of-requires c = participants_of (table_view c.args.document.now) c.requires (map view c.rows_at-participants.result.now) c.rows_at-participants.ensures
+
+fits_a_byte : (n m : ℕ) → n ≡ m → m ≤ MOST_DESKS → Fits w8 n
+fits_a_byte n m e h = omega arith
+
+within : (n m low high : ℕ) → n ≡ m → (low ≤ m) × (m ≤ high) → (low ≤ n) × (n ≤ high)
+within n m low high e h = (omega arith, omega arith)
+
+pub overflow_cast-result : goal.overflow_cast-result
+overflow_cast-result c = fits_a_byte c.count_at-3.result _ c.count_at-3.ensures (desks_of (table_view c.args.document.now) c.requires).1
+
+pub invariant_of-result : goal.invariant_of-result
+invariant_of-result c =
+    let tape_limit = within c.count_at.result _ 1 MOST_CHANGES c.count_at.ensures (tape_limit_of (table_view c.args.document.now) c.requires) in
+    let queue = within c.count_at-2.result _ LEAST_QUEUE MOST_QUEUE c.count_at-2.ensures (queue_of (table_view c.args.document.now) c.requires) in
+    let desks = within c.count_at-3.result _ 1 MOST_DESKS c.count_at-3.ensures (desks_of (table_view c.args.document.now) c.requires) in
+    let rows = map view c.rows_at-participants.result.now in
+    record {
+      tape_low = tape_limit.0;
+      tape_high = tape_limit.1;
+      queue_low = queue.0;
+      queue_high = queue.1;
+      desks_low = desks.0;
+      desks_high = desks.1;
+      fees_of_each = ap length c.in_ok-fees_of.ensures.value ∙ length-map rows schedule_of ∙ sym (length-map rows participant_of) ∙ sym (ap length c.in_ok-roster_of.ensures.parts);
+      fees_capped = subst AreCapped (sym c.in_ok-fees_of.ensures.value) (charges_of_rows rows (participants_of (table_view c.args.document.now) c.requires rows c.rows_at-participants.ensures));
+    }

@@ -1,0 +1,27 @@
+-- What a setup says. This product's own rule.
+use Rattle.std.specs.Prelude.{◌≡◌, ℕ, ◌≤◌, List, length}
+use Rattle.nms_quote.specs.Roster.{Listing}
+use Rattle.nms_quote.specs.declared.TheConstants.{MOST_CHANGES}
+use Rattle.nms_fees.specs.Fees.{AreCapped}
+use Rattle.nms_fees.specs.declared.TheConstants.{LEAST_QUEUE, MOST_DESKS, MOST_QUEUE}
+use Rattle.nms_fees.specs.declared.fee_schedule.FeeSchedule.{FeeSchedule}
+
+-- who is on the roster, the fees of each participant by place, how many changes the tape may have, how
+-- many places the queue has, and how many desks there are
+pub record Settings : Type 0 where
+  pub roster : Listing
+  pub fees : List FeeSchedule
+  pub tape_limit : ℕ
+  pub queue : ℕ
+  pub desks : ℕ
+
+-- each number is in its range, and each participant has its fees, none over its cap
+pub record IsInRange (settings : Settings) : Type 0 where
+  pub tape_low : 1 ≤ settings.tape_limit
+  pub tape_high : settings.tape_limit ≤ MOST_CHANGES
+  pub queue_low : LEAST_QUEUE ≤ settings.queue
+  pub queue_high : settings.queue ≤ MOST_QUEUE
+  pub desks_low : 1 ≤ settings.desks
+  pub desks_high : settings.desks ≤ MOST_DESKS
+  pub fees_of_each : length settings.fees ≡ length settings.roster.parts
+  pub fees_capped : AreCapped settings.fees

@@ -1,0 +1,74 @@
+//! What a setup's document says: `specs/Settings`.
+ghost use Rattle.std.specs.Prelude.{◌≡◌, ◌≤◌, length};
+ghost use Rattle.nms_fees.specs.Fees.{AreCapped};
+
+use crate::fee_book::FeeBook;
+use crate::{LEAST_QUEUE, MOST_DESKS, MOST_QUEUE};
+use nms_quote::{MOST_CHANGES, Roster};
+use std::marker::Model;
+
+/// What a setup's document says: the roster with its round lots, the access fees, and the bounds of
+/// the tape, the queue and the desks.
+#[derive(Drop)]
+pub struct Setup {
+    pub(crate) roster: Roster,
+    pub(crate) fees: FeeBook,
+    pub(crate) tape_limit: u64,
+    pub(crate) queue: usize,
+    pub(crate) desks: u8,
+}
+
+impl Model for Setup {
+    ghost use Rattle.nms_fees.specs.Settings.{Settings, IsInRange};
+
+    ghost Value = { Settings };
+
+    ghost view = { λ s. record { roster = s.roster; fees = s.fees; tape_limit = s.tape_limit; queue = s.queue; desks = s.desks } };
+
+    ghost invariant = { λ s. IsInRange (record { roster = s.roster; fees = s.fees; tape_limit = s.tape_limit; queue = s.queue; desks = s.desks }) };
+}
+
+impl Setup {
+    /// The participants with their feeds, and the symbols with the round lots that they begin with.
+    pub fn roster(&self) -> &Roster
+        ensures { result.now ≡ self.now.roster }
+    {
+        &self.roster
+    }
+
+    /// The participants' access fees, none over its cap.
+    pub fn fees(&self) -> &FeeBook
+        ensures value { result.now ≡ self.now.fees }
+        ensures of_each { length result.now ≡ length self.now.roster.parts }
+        ensures capped { AreCapped result.now }
+    {
+        &self.fees
+    }
+
+    /// The most changes that the tape may have, 1 to `MOST_CHANGES` (10,000,000).
+    pub fn tape_limit(&self) -> u64
+        ensures value { result ≡ self.now.tape_limit }
+        ensures low { 1 ≤ result }
+        ensures high { result ≤ MOST_CHANGES }
+    {
+        self.tape_limit
+    }
+
+    /// How many changes the queue holds, `LEAST_QUEUE` to `MOST_QUEUE` (2 to 1,024).
+    pub fn queue(&self) -> usize
+        ensures value { result ≡ self.now.queue }
+        ensures low { LEAST_QUEUE ≤ result }
+        ensures high { result ≤ MOST_QUEUE }
+    {
+        self.queue
+    }
+
+    /// How many desks there are, 1 to `MOST_DESKS` (16).
+    pub fn desks(&self) -> u8
+        ensures value { result ≡ self.now.desks }
+        ensures low { 1 ≤ result }
+        ensures high { result ≤ MOST_DESKS }
+    {
+        self.desks
+    }
+}

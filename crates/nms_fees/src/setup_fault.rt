@@ -1,0 +1,73 @@
+//! Why a text is no setup: `specs/Faults`, and `specs/Places` for when each fault is found.
+ghost use Rattle.std.specs.Prelude.{◌≡◌};
+ghost use Rattle.nms_fees.specs.Faults.{code_of, number_of};
+
+use thiserror::Error;
+
+/// Why a text is no setup: the fault of least number that holds anywhere in it.
+#[derive(Clone, Copy, Debug, PartialEq, Eq, Error)]
+pub enum SetupFault {
+    /// C1: the text is no TOML document.
+    #[error("C1: not a TOML document")]
+    NotToml,
+    /// C2: a required key is absent, at the top or in a table of the two arrays.
+    #[error("C2: a key is missing")]
+    Missing,
+    /// C3: another key stands there.
+    #[error("C3: an unknown key")]
+    UnknownKey,
+    /// C4: a name is a text that is not of its form, or stands twice in its array.
+    #[error("C4: a bad name, or the same name twice")]
+    BadName,
+    /// C5: a value is not of its kind.
+    #[error("C5: a value of another kind")]
+    WrongType,
+    /// C6: a value of its kind is out of range, or one of the two arrays is empty.
+    #[error("C6: a value out of range")]
+    OutOfRange,
+    /// C7: a fee or a rate is over its cap.
+    #[error("C7: a fee over its cap")]
+    OverCap,
+    /// C8: there are more than `MOST_PARTICIPANTS` (32) participants, or `MOST_SYMBOLS` (1,000) symbols.
+    #[error("C8: too many participants or symbols")]
+    TooMany,
+    /// C9: out of memory.
+    #[error("C9: out of memory")]
+    NoMemory,
+}
+
+impl SetupFault {
+    /// The code that messages name it by, `C1` to `C9`.
+    pub fn code(self) -> &'static str
+        ensures { result.now ≡ code_of self }
+    {
+        match self {
+            SetupFault::NotToml => "C1",
+            SetupFault::Missing => "C2",
+            SetupFault::UnknownKey => "C3",
+            SetupFault::BadName => "C4",
+            SetupFault::WrongType => "C5",
+            SetupFault::OutOfRange => "C6",
+            SetupFault::OverCap => "C7",
+            SetupFault::TooMany => "C8",
+            SetupFault::NoMemory => "C9",
+        }
+    }
+
+    /// The number of the fault's code, 1 to 9.
+    pub(crate) fn number(self) -> u8
+        ensures { result ≡ number_of self }
+    {
+        match self {
+            SetupFault::NotToml => 1,
+            SetupFault::Missing => 2,
+            SetupFault::UnknownKey => 3,
+            SetupFault::BadName => 4,
+            SetupFault::WrongType => 5,
+            SetupFault::OutOfRange => 6,
+            SetupFault::OverCap => 7,
+            SetupFault::TooMany => 8,
+            SetupFault::NoMemory => 9,
+        }
+    }
+}

@@ -1,0 +1,190 @@
+//! A setup from the text of its document: `specs/Setup`.
+ghost use Rattle.std.specs.Prelude.{◌≡◌, ◌≢◌, [], ◌∷◌, ◌++◌, map, None, Ok, Err, OnOk, IfOk, IfErr};
+ghost use Rattle.toml.specs.View.{view, table_view};
+ghost use Rattle.nms_quote.specs.Roster.{part_refusal, sym_refusal};
+ghost use Rattle.nms_fees.specs.declared.section.Section.TheVariants as section;
+ghost use Rattle.nms_fees.specs.Fees.{IsCapped, AreCapped};
+ghost use Rattle.nms_fees.specs.Places.{row_fault, rows_fault, document_fault};
+ghost use Rattle.nms_fees.specs.Setup.{text_at, number_at, table_of, feed_named, participant_of, schedule_of, symbol_of, settings_of, reading};
+
+use crate::check::document_fault;
+use crate::fee_book::FeeBook;
+use crate::fee_schedule::FeeSchedule;
+use crate::setup::Setup;
+use crate::setup_fault::SetupFault;
+use crate::toml_table::{count_at, number_at, rows_at, text_at};
+use nms_quote::{Feed, Roster};
+use nms_units::Lot;
+use std::alloc::Global;
+use toml::{Table, Value};
+
+/// Reads a setup from a TOML document.
+///
+/// The fault of least number that holds anywhere in the text is answered; `NoMemory` may come in
+/// place of any later answer, where memory was short.
+pub fn read_setup(alloc: Global, text: &str) -> Result<Setup, SetupFault>
+    ensures read { IfOk result (λ setup. reading text.now ≡ Ok setup) }
+    ensures refused { IfErr result (λ fault. fault ≢ SetupFault.NoMemory → reading text.now ≡ Err fault) }
+    ensures capped { IfOk result (λ setup. AreCapped setup.fees) }
+{
+    let document = match toml::table_from_str(alloc, text) {
+        Ok(document) => document,
+        Err(fault) => {
+            return Err(if fault.is_memory() {
+                SetupFault::NoMemory
+            } else {
+                SetupFault::NotToml
+            });
+        }
+    };
+    if let Some(fault) = document_fault(alloc, &document)? {
+        return Err(fault);
+    }
+    settings_of(alloc, &document)
+}
+
+/// What a document without a fault says.
+fn settings_of(alloc: Global, document: &Table) -> Result<Setup, SetupFault>
+    requires { document_fault (table_view document.now) ≡ None }
+    ensures value { IfOk result (λ setup. setup ≡ settings_of (table_view document.now)) }
+    ensures memory { IfErr result (λ fault. fault ≡ SetupFault.NoMemory) }
+{
+    let participants = rows_at(document, "participant");
+    let symbols = rows_at(document, "symbol");
+    Ok(Setup {
+        roster: roster_of(alloc, participants, symbols)?,
+        fees: fees_of(alloc, participants)?,
+        tape_limit: count_at(document, "tape_limit"),
+        queue: count_at(document, "queue") as usize,
+        desks: count_at(document, "desks") as u8,
+    })
+}
+
+/// The roster of the two arrays.
+fn roster_of(alloc: Global, participants: &[Value], symbols: &[Value]) -> Result<Roster, SetupFault>
+    requires participants { rows_fault section.Participant (map view participants.now) ≡ None }
+    requires symbols { rows_fault section.Symbol (map view symbols.now) ≡ None }
+    ensures parts { IfOk result (λ roster. roster.parts ≡ map participant_of (map view participants.now)) }
+    ensures syms { IfOk result (λ roster. roster.syms ≡ map symbol_of (map view symbols.now)) }
+    ensures memory { IfErr result (λ fault. fault ≡ SetupFault.NoMemory) }
+{
+    let Ok(mut roster) = Roster::new(alloc) else {
+        return Err(SetupFault::NoMemory);
+    };
+    add_participants(&mut roster, participants)?;
+    add_symbols(&mut roster, symbols)?;
+    Ok(roster)
+}
+
+fn add_participants(roster: &mut Roster, rows: &[Value]) -> Result<(), SetupFault>
+    requires empty { roster.old.parts ≡ [] }
+    requires sound { rows_fault section.Participant (map view rows.now) ≡ None }
+    ensures parts { OnOk result (roster.new.parts ≡ map participant_of (map view rows.now)) }
+    ensures syms { OnOk result (roster.new.syms ≡ roster.old.syms) }
+    ensures memory { IfErr result (λ fault. fault ≡ SetupFault.NoMemory) }
+{
+    for row in rows {
+        add_participant(roster, row)?;
+    }
+    Ok(())
+}
+
+fn add_symbols(roster: &mut Roster, rows: &[Value]) -> Result<(), SetupFault>
+    requires empty { roster.old.syms ≡ [] }
+    requires sound { rows_fault section.Symbol (map view rows.now) ≡ None }
+    ensures syms { OnOk result (roster.new.syms ≡ map symbol_of (map view rows.now)) }
+    ensures parts { OnOk result (roster.new.parts ≡ roster.old.parts) }
+    ensures memory { IfErr result (λ fault. fault ≡ SetupFault.NoMemory) }
+{
+    for row in rows {
+        add_symbol(roster, row)?;
+    }
+    Ok(())
+}
+
+fn add_participant(roster: &mut Roster, row: &Value) -> Result<(), SetupFault>
+    requires { part_refusal roster.old (participant_of (view row.now)).0 ≡ None }
+    ensures parts { OnOk result (roster.new.parts ≡ roster.old.parts ++ participant_of (view row.now) ∷ []) }
+    ensures syms { OnOk result (roster.new.syms ≡ roster.old.syms) }
+    ensures memory { IfErr result (λ fault. fault ≡ SetupFault.NoMemory) }
+{
+    let feed = feed_named(text_in(row, "feed"));
+    match roster.add_participant(text_in(row, "name").as_bytes(), feed) {
+        Ok(_) => Ok(()),
+        Err(_) => Err(SetupFault::NoMemory),
+    }
+}
+
+fn add_symbol(roster: &mut Roster, row: &Value) -> Result<(), SetupFault>
+    requires unrefused { sym_refusal roster.old (symbol_of (view row.now)).0 ≡ None }
+    requires sound { row_fault section.Symbol (view row.now) ≡ None }
+    ensures syms { OnOk result (roster.new.syms ≡ roster.old.syms ++ symbol_of (view row.now) ∷ []) }
+    ensures parts { OnOk result (roster.new.parts ≡ roster.old.parts) }
+    ensures memory { IfErr result (λ fault. fault ≡ SetupFault.NoMemory) }
+{
+    match roster.add_symbol(text_in(row, "name").as_bytes(), lot_of(row)) {
+        Ok(_) => Ok(()),
+        Err(_) => Err(SetupFault::NoMemory),
+    }
+}
+
+/// The round lot of a symbol's row.
+fn lot_of(row: &Value) -> Lot
+    requires { row_fault section.Symbol (view row.now) ≡ None }
+    ensures { result ≡ (symbol_of (view row.now)).1 }
+{
+    Lot::new(number_in(row, "lot") as u16).unwrap()
+}
+
+/// The fees of each participant's row.
+fn fees_of(alloc: Global, rows: &[Value]) -> Result<FeeBook, SetupFault>
+    requires { rows_fault section.Participant (map view rows.now) ≡ None }
+    ensures value { IfOk result (λ fees. fees ≡ map schedule_of (map view rows.now)) }
+    ensures memory { IfErr result (λ fault. fault ≡ SetupFault.NoMemory) }
+{
+    let mut fees = FeeBook::new(alloc);
+    for row in rows {
+        let Ok(_) = fees.push(schedule_of(row)) else {
+            return Err(SetupFault::NoMemory);
+        };
+    }
+    Ok(fees)
+}
+
+/// The fees of a participant's row.
+fn schedule_of(row: &Value) -> FeeSchedule
+    requires { row_fault section.Participant (view row.now) ≡ None }
+    ensures value { result ≡ schedule_of (view row.now) }
+    ensures capped { IsCapped result }
+{
+    FeeSchedule {
+        fee: number_in(row, "fee"),
+        rate: number_in(row, "rate"),
+    }
+}
+
+fn feed_named(text: &str) -> Feed
+    ensures { result ≡ feed_named text.now }
+{
+    if text == "B" { Feed::B } else { Feed::A }
+}
+
+/// The text at a key of a row, or an empty one where there is none.
+fn text_in<'a>(row: &'a Value, key: &str) -> &'a str
+    ensures { result.now ≡ text_at key.now (table_of (view row.now)) }
+{
+    match row.as_table() {
+        Some(table) => text_at(table, key),
+        None => "",
+    }
+}
+
+/// The number at a key of a row, or 0 where there is none.
+fn number_in(row: &Value, key: &str) -> i64
+    ensures { result ≡ number_at key.now (table_of (view row.now)) }
+{
+    match row.as_table() {
+        Some(table) => number_at(table, key),
+        None => 0,
+    }
+}

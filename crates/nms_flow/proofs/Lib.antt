@@ -1,0 +1,5 @@
+mod KeptLemmas
+mod LawLemmas
+mod ListFacts
+pub mod RunLemmas
+mod StepLemmas

@@ -1,0 +1,10 @@
+use Rattle.std.proofs.Common.{◌≡◌, drop}
+use Rattle.std.specs.VecDeque.{deque_capacity}
+use Rattle.nms_flow.proofs.flow.drop_front.Given as goal
+
+-- so many are gone
+abbrev pub invariant-loop : goal.invariant-loop
+invariant-loop l = record {
+  items : l.queue.items ≡ drop l.counter l.fn.queue.items;
+  capacity : deque_capacity l.queue ≡ deque_capacity l.fn.queue;
+}

@@ -1,0 +1,299 @@
+//! The machine (specs/Flow): a published board, the changes sent since, and how many of these were taken.
+ghost use Rattle.std.specs.Prelude.{◌≡◌, ◌≢◌, ℕ, ◌+◌, ◌<◌, ◌≤◌, ◌++◌, ◌∷◌, List, [], All, length, take, drop, nat_lt, true, IfOk, IfErr, OnOk, OnErr, Ok, Err};
+ghost use Rattle.std.specs.VecDeque.{deque_len, deque_capacity};
+ghost use Rattle.nms_quote.specs.Roster.{holds};
+ghost use Rattle.nms_quote.specs.Tape.{Tape};
+ghost use Rattle.nms_quote.specs.declared.side_quote.Side.{Side};
+ghost use Rattle.nms_quote.specs.declared.side_quote.Side.TheVariants.{Bid, Offer};
+ghost use Rattle.nms_board.specs.Cells.{StandsFor};
+ghost use Rattle.nms_board.specs.Shown.{rows_held, seen_on};
+ghost use Rattle.nms_board.specs.View.{rows_on};
+ghost use Rattle.nms_nbbo.specs.Best.{IsBestOf};
+ghost use Rattle.nms_flow.specs.Kept.{AreKept};
+ghost use Rattle.nms_flow.specs.Run.{Event, changes_in, replied};
+ghost use Rattle.nms_flow.specs.Shape.{HasShape, holds_step};
+ghost use Rattle.nms_flow.specs.declared.step.Step.TheVariants as step;
+ghost use Rattle.nms_flow.specs.declared.reply.Reply.TheVariants as reply;
+
+use crate::best_rows::BestRows;
+use crate::flow_fault::FlowFault;
+use crate::kept_rows::KeptRows;
+use crate::reply::Reply;
+use crate::step::Step;
+use crate::step_fault::StepFault;
+use nms_board::{Boards, View};
+use nms_fees::Setup;
+use nms_quote::{Change, Feed, MOST_CHANGES, Marked, SideQuote, Sym};
+use std::alloc::{AllocError, Global};
+use std::collections::VecDeque;
+use std::marker::Model;
+
+/// The machine that consolidates, in one thread. This product's own rule.
+///
+/// The board's rows and the whole queue are made with it; from then on only a taking can want memory.
+#[derive(Drop)]
+pub struct Flow {
+    /// The published version.
+    board: Boards,
+    /// The changes sent since the last publishing, each with its feed: first those taken to the tape, then
+    /// the queue.
+    changes: VecDeque<Marked>,
+    /// How many of them were taken.
+    pending: usize,
+    most_queued: usize,
+    most_taken: u64,
+    kept: KeptRows,
+}
+
+impl Model for Flow {
+    ghost use Rattle.std.specs.VecDeque.{deque_capacity};
+    ghost use Rattle.nms_flow.specs.Flow.{State, IsSound};
+    ghost use Rattle.nms_flow.specs.Kept.{AreKept};
+
+    ghost Value = { State };
+
+    ghost view = { λ f. record { board = f.board; changes = f.changes.items; pending = f.pending; most_queued = f.most_queued; most_taken = f.most_taken } };
+
+    ghost invariant = { λ f. IsSound (record { board = f.board; changes = f.changes.items; pending = f.pending; most_queued = f.most_queued; most_taken = f.most_taken }) (deque_capacity f.changes)
+        × AreKept f.board f.kept.known.items f.kept.rows.items };
+}
+
+impl Flow {
+    ghost use Rattle.nms_flow.specs.Flow.{IsAfter, StandsAt, WentOn, room_of, room_under, start};
+    ghost use Rattle.nms_flow.specs.Run.{Standing, after};
+
+    /// A machine with nothing sent, with the room that the setup gives. `NoMemory` leaves nothing.
+    pub fn new(alloc: Global, setup: &Setup) -> Result<Self, FlowFault>
+        ensures starts { IfOk result (λ flow. StandsAt flow start) }
+        ensures run { IfOk result (λ flow. IsAfter flow []) }
+        ensures room { IfOk result (λ flow. room_of flow ≡ room_under setup.now) }
+    {
+        let roster = setup.roster();
+        let most_queued = setup.queue();
+        let (Ok(board), Ok(changes), Ok(kept)) = (
+            Boards::new(alloc, roster),
+            VecDeque::with_capacity(alloc, most_queued),
+            KeptRows::new(alloc, roster.syms()),
+        ) else {
+            return Err(FlowFault::NoMemory);
+        };
+        Ok(Flow {
+            board,
+            changes,
+            pending: 0,
+            most_queued,
+            most_taken: setup.tape_limit(),
+            kept,
+        })
+    }
+
+    /// Whether a change speaks of participants and symbols of the setup's roster alone.
+    pub fn holds(&self, change: &Change) -> bool
+        ensures { result ≡ holds self.now.board.sizes change.now }
+    {
+        self.board.holds(change)
+    }
+
+    /// Whether a symbol is of the setup's roster.
+    pub fn has_sym(&self, sym: Sym) -> bool
+        ensures { result ≡ nat_lt sym (length self.now.board.sizes.lots) }
+    {
+        self.board.has_sym(sym)
+    }
+
+    /// Sends a change to the queue, on the feed that brought it. Takes no memory. `QueueFull` leaves the
+    /// machine as it was.
+    pub fn send(&mut self, feed: Feed, change: Change) -> Result<(), StepFault>
+        requires { holds self.old.board.sizes change ≡ true }
+        ensures went { WentOn self.old self.new (step.Send feed change, replied (λ sent. reply.Sent) result) }
+        ensures full { IfErr result (λ fault. fault ≡ StepFault.QueueFull) }
+        ensures unchanged { OnErr result (self.new ≡ self.old) }
+    {
+        if self.changes.len() - self.pending == self.most_queued {
+            return Err(StepFault::QueueFull);
+        }
+        put_back(&mut self.changes, Marked { feed, change });
+        Ok(())
+    }
+
+    /// Takes the change at the queue's front to the tape, and gives the tape's length. A fault leaves the
+    /// machine as it was: `QueueEmpty`, `TapeFull`, or `NoMemory` where the taking would have succeeded.
+    pub fn take(&mut self) -> Result<u64, StepFault>
+        ensures went { WentOn self.old self.new (step.Take, replied (λ version. reply.Taken version) result) }
+        ensures sends_nothing { result ≢ Err StepFault.QueueFull }
+        ensures unchanged { OnErr result (self.new ≡ self.old) }
+        ensures taken { OnOk result (self.new ≡ record self.old { pending = self.old.pending + 1 }) }
+        ensures within { OnOk result (self.new.pending ≤ length self.new.changes) }
+    {
+        if self.pending == self.changes.len() {
+            return Err(StepFault::QueueEmpty);
+        }
+        let version = self.taken();
+        if version == self.most_taken {
+            return Err(StepFault::TapeFull);
+        }
+        let most = self.pending + 1 + self.most_queued;
+        if make_room(&mut self.changes, most).is_err() {
+            return Err(StepFault::NoMemory);
+        }
+        self.pending += 1;
+        Ok(version + 1)
+    }
+
+    /// Makes the whole tape the published version, and gives its number. Takes no memory: each change taken
+    /// since the last publishing is applied to the board.
+    pub fn publish(&mut self) -> u64
+        ensures went { WentOn self.old self.new (step.Publish, Ok (reply.Published result)) }
+    {
+        apply_first(&mut self.board, &mut self.kept, &self.changes, self.pending);
+        drop_front(&mut self.changes, self.pending);
+        self.pending = 0;
+        self.board.applied()
+    }
+
+    /// The published version's number, of which a desk may be told.
+    pub fn published(&self) -> u64
+        ensures told { (desk : ℕ) → WentOn self.now self.now (step.Tell desk, Ok (reply.Told desk result)) }
+        ensures at { (at : Standing) → StandsAt self.now at → result ≡ at.published }
+        ensures count { result ≡ self.now.board.applied }
+    {
+        self.board.applied()
+    }
+
+    /// How many changes the tape has.
+    pub fn taken(&self) -> u64
+        ensures at { (at : Standing) → StandsAt self.now at → result ≡ at.taken }
+        ensures count { result ≡ self.now.board.applied + self.now.pending }
+        ensures within { result ≤ MOST_CHANGES }
+    {
+        self.board.applied() + self.pending as u64
+    }
+
+    /// What a look at a symbol shows: its quotations in the published version; no rows for a symbol out of the
+    /// roster.
+    pub fn look(&self, sym: Sym) -> View
+        ensures went { (desk : ℕ) → WentOn self.now self.now (step.Look desk sym, Ok (reply.Seen result)) }
+        ensures sym { result.sym ≡ sym }
+        ensures parts { (side : Side) → All (λ row. row.part < self.now.board.sizes.parts) (rows_on side result) }
+    {
+        self.board.view(sym)
+    }
+
+    /// The best bid and the best offer that a look at a symbol of the roster shows, with no view made.
+    pub fn best(&mut self, sym: Sym) -> BestRows
+        requires { sym < length self.old.board.sizes.lots }
+        ensures went { (desk : ℕ) → WentOn self.old self.new (step.Look desk sym, Ok (reply.Seen (seen_on self.old.board sym))) }
+        ensures bid { IsBestOf Bid (seen_on self.old.board sym).bids result.bid }
+        ensures offer { IsBestOf Offer (seen_on self.old.board sym).offers result.offer }
+        ensures unchanged { self.new ≡ self.old }
+    {
+        self.kept.best(&self.board, sym)
+    }
+
+    /// Makes one step, which is one event. A fault leaves the machine as it was. `NoMemory` comes at a taking alone, and only
+    /// where it would have succeeded.
+    pub fn step(&mut self, step: Step) -> Result<Reply, StepFault>
+        requires { holds_step self.old.board.sizes step ≡ true }
+        ensures went { WentOn self.old self.new (step, result) }
+        ensures run { (before : List Event) → IsAfter self.old before → IsAfter self.new (before ++ (step, result) ∷ []) }
+        ensures shape { HasShape step result }
+        ensures unchanged { OnErr result (self.new ≡ self.old) }
+    {
+        self.answer(step)
+    }
+
+    /// Makes one step, by its method.
+    fn answer(&mut self, step: Step) -> Result<Reply, StepFault>
+        requires { holds_step self.old.board.sizes step ≡ true }
+        ensures went { WentOn self.old self.new (step, result) }
+        ensures shape { HasShape step result }
+        ensures unchanged { OnErr result (self.new ≡ self.old) }
+    {
+        match step {
+            Step::Send(feed, change) => match self.send(feed, change) {
+                Ok(()) => Ok(Reply::Sent),
+                Err(fault) => Err(fault),
+            },
+            Step::Take => match self.take() {
+                Ok(version) => Ok(Reply::Taken { version }),
+                Err(fault) => Err(fault),
+            },
+            Step::Publish => Ok(Reply::Published {
+                version: self.publish(),
+            }),
+            Step::Tell { desk } => Ok(Reply::Told {
+                desk,
+                version: self.published(),
+            }),
+            Step::Look { sym, .. } => Ok(Reply::Seen(self.look(sym))),
+        }
+    }
+}
+
+/// Applies the first changes of a queue in order, and forgets the best rows of the symbols that they concern.
+fn apply_first(board: &mut Boards, kept: &mut KeptRows, queue: &VecDeque<Marked>, count: usize)
+    requires held { All (λ marked. holds board.old.sizes marked.change ≡ true) queue.now.items }
+    requires there { count ≤ deque_len queue.now }
+    requires room { board.old.applied + count ≤ MOST_CHANGES }
+    requires kept { AreKept board.old kept.old.known.items kept.old.rows.items }
+    ensures stands { (tape : Tape) → StandsFor board.old tape → StandsFor board.new (tape ++ changes_in (take count queue.now.items)) }
+    ensures sizes { board.new.sizes ≡ board.old.sizes }
+    ensures applied { board.new.applied ≡ board.old.applied + count }
+    ensures kept { AreKept board.new kept.new.known.items kept.new.rows.items }
+{
+    let (front, back) = queue.as_slices();
+    let first = count.min(front.len());
+    apply_all(board, kept, &front[..first]);
+    apply_all(board, kept, &back[..count - first]);
+}
+
+/// Applies changes in order, and forgets the best rows of the symbols that they concern.
+fn apply_all(board: &mut Boards, kept: &mut KeptRows, changes: &[Marked])
+    requires held { All (λ marked. holds board.old.sizes marked.change ≡ true) changes.now }
+    requires room { board.old.applied + length changes.now ≤ MOST_CHANGES }
+    requires kept { AreKept board.old kept.old.known.items kept.old.rows.items }
+    ensures stands { (tape : Tape) → StandsFor board.old tape → StandsFor board.new (tape ++ changes_in changes.now) }
+    ensures sizes { board.new.sizes ≡ board.old.sizes }
+    ensures applied { board.new.applied ≡ board.old.applied + length changes.now }
+    ensures kept { AreKept board.new kept.new.known.items kept.new.rows.items }
+{
+    for marked in changes {
+        board.apply(marked.change);
+        kept.forget(&marked.change);
+    }
+}
+
+/// Makes room for that many changes.
+fn make_room(queue: &mut VecDeque<Marked>, most: usize) -> Result<(), AllocError>
+    requires { deque_len queue.old ≤ most }
+    ensures items { queue.new.items ≡ queue.old.items }
+    ensures capacity { deque_capacity queue.old ≤ deque_capacity queue.new }
+    ensures room { OnOk result (most ≤ deque_capacity queue.new) }
+{
+    queue.reserve(most - queue.len())
+}
+
+/// Puts a change at the end of a queue that has room for it.
+fn put_back(queue: &mut VecDeque<Marked>, marked: Marked)
+    requires { deque_len queue.old < deque_capacity queue.old }
+    ensures items { queue.new.items ≡ queue.old.items ++ marked ∷ [] }
+    ensures capacity { deque_capacity queue.new ≡ deque_capacity queue.old }
+{
+    // Moving a marked change takes a mention of the types in it: the prover has to have seen them.
+    let _seen: (Option<Change>, Option<SideQuote>) = (None, None);
+    queue.push_back_reserved(marked);
+}
+
+/// Drops the first changes of a queue.
+fn drop_front(queue: &mut VecDeque<Marked>, count: usize)
+    requires { count ≤ deque_len queue.old }
+    ensures items { queue.new.items ≡ drop count queue.old.items }
+    ensures capacity { deque_capacity queue.new ≡ deque_capacity queue.old }
+{
+    if count == queue.len() {
+        return queue.clear();
+    }
+    for _ in 0..count {
+        let _dropped = queue.pop_front();
+    }
+}

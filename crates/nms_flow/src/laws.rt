@@ -1,0 +1,30 @@
+//! Laws above runs of the machine (specs/Laws). Each function does nothing: its contract is the law.
+ghost use Rattle.std.specs.Prelude.{◌≡◌, ℕ, ◌≤◌, ◌++◌, All, AllPairs, List};
+ghost use Rattle.nms_quote.specs.Merge.{IsMerge, changes_of};
+ghost use Rattle.nms_quote.specs.Roster.{Listing};
+ghost use Rattle.nms_quote.specs.declared.feed.Feed.{Feed};
+ghost use Rattle.nms_quote.specs.declared.feed.Feed.TheVariants as feed;
+ghost use Rattle.nms_flow.specs.Laws.{IsOnOwnFeed, ShowsPublished, fed_by, versions_of};
+ghost use Rattle.nms_flow.specs.Run.{Event, IsRun, Room, changes_in, queue_at, sent_by, standing_after, tape_at};
+
+/// Each view that a run shows is that of the version published before.
+pub fn looks_show_the_published_version()
+    ensures { (room : Room) (events : List Event) → IsRun room events → ShowsPublished room events }
+{}
+
+/// Over the steps of a run, the versions that a desk is shown or told of never fall.
+pub fn desks_versions_never_fall()
+    ensures { (room : Room) (events : List Event) (desk : ℕ) → IsRun room events
+        → AllPairs (λ earlier later. earlier ≤ later) (versions_of desk events) }
+{}
+
+/// The tape followed by the queue is what was sent, a merge of what the feeds sent. Where each change was
+/// sent on its participant's feed, a tape alone tells what a feed sent: the changes of its participants.
+pub fn tape_and_queue_are_a_merge()
+    ensures merge { (events : List Event) → IsMerge (fed_by feed.A events) (fed_by feed.B events) (sent_by events) }
+    ensures whole { (events : List Event)
+        → tape_at (standing_after events) ++ queue_at (standing_after events) ≡ changes_in (sent_by events) }
+    ensures participants { (roster : Listing) (events : List Event) (feed : Feed)
+        → All (IsOnOwnFeed roster) (sent_by events)
+        → changes_of roster feed (changes_in (sent_by events)) ≡ fed_by feed events }
+{}

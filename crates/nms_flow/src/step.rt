@@ -1,0 +1,25 @@
+//! A step of the machine. Runs of steps are told in specs/Run.
+use nms_quote::{Change, Feed, Sym};
+
+/// A step of the machine, which is one event. This product's own rule.
+#[derive(Clone, Copy, Debug, PartialEq, Eq)]
+pub enum Step {
+    /// Sends a change to the queue, on the feed of its participant.
+    Send(Feed, Change),
+    /// Takes the change at the queue's front to the tape.
+    Take,
+    /// Makes the whole tape the published version.
+    Publish,
+    /// Tells a desk of the published version.
+    Tell {
+        /// Which desk; the machine keeps nothing of desks.
+        desk: u8,
+    },
+    /// Shows a desk one symbol of the published version.
+    Look {
+        /// Which desk.
+        desk: u8,
+        /// The symbol that it looks at.
+        sym: Sym,
+    },
+}

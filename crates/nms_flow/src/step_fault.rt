@@ -1,0 +1,36 @@
+//! Why the machine refuses a step (specs/Run).
+ghost use Rattle.std.specs.Prelude.{◌≡◌};
+ghost use Rattle.nms_flow.specs.Faults.{code_of};
+
+use thiserror::Error;
+
+/// Why the machine refused a step, least number first. It is left as it was.
+#[derive(Clone, Copy, Debug, PartialEq, Eq, Error)]
+pub enum StepFault {
+    /// F2: a change was sent to a full queue.
+    #[error("F2: the queue is full")]
+    QueueFull,
+    /// F3: there was nothing in the queue to take.
+    #[error("F3: the queue is empty")]
+    QueueEmpty,
+    /// F4: the tape has as many changes as the setup's limit.
+    #[error("F4: the tape is full")]
+    TapeFull,
+    /// F5: a taking found no memory. It would have succeeded otherwise.
+    #[error("F5: out of memory")]
+    NoMemory,
+}
+
+impl StepFault {
+    /// The code of the fault, `F2` to `F5`.
+    pub fn code(self) -> &'static str
+        ensures { result.now ≡ code_of self }
+    {
+        match self {
+            StepFault::QueueFull => "F2",
+            StepFault::QueueEmpty => "F3",
+            StepFault::TapeFull => "F4",
+            StepFault::NoMemory => "F5",
+        }
+    }
+}

@@ -1,0 +1,18 @@
+use Rattle.std.proofs.Common.{◌≡◌, ◌++◌, ◌∷◌, [], true, ◌∙◌, inl}
+use Rattle.csv.specs.Records.{fields_of}
+use Rattle.nms_lines.proofs.ReadFacts.{begins_read, stands_more}
+use Rattle.nms_lines.proofs.record_reading.read_next.Goals as goal
+
+pub returns-in-Ok-clause-found : goal.returns-in-Ok-clause-found
+returns-in-Ok-clause-found g c = λ bytes seen reads found.
+    let is_found : c.in-Ok.found ≡ true = cc in
+    let read = rw is_found at (c.in-Ok.ensures.reads reads.plain reads.ready) in
+    let stands = stands_more {R = g.row.R.Denot} g.R.Read.remaining c.args.reader.now c.read_byte_record.new.self bytes seen (fields_of c.read_byte_record.new.row) reads.config reads.stands read in
+    record {
+      plain = read.3 ∙ reads.plain;
+      ready = inl (c.in-Ok.ensures.ready reads.plain);
+      flexible = c.in-Ok.ensures.flexible ∙ reads.flexible;
+      config = read.2 ∙ reads.config;
+      stands = stands;
+      begins = begins_read {R = g.row.R.Denot} g.R.Read.remaining c.read_byte_record.new.self bytes (seen ++ fields_of c.read_byte_record.new.row ∷ []) stands;
+    }

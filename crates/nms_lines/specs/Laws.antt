@@ -1,0 +1,29 @@
+-- The law above the reading of a record: of the faults that hold, the one of least number is answered. This
+-- product's own rule.
+use Rattle.std.specs.Prelude.{◌≡◌, ◌<◌, ◌↔◌, ◌++◌, true, false, IsOk, Err, codes}
+use Rattle.std.specs.Fmt.{decimal}
+use Rattle.nms_quote.specs.Roster.{Listing}
+use Rattle.nms_lines.specs.FaultTable.{has_fault}
+use Rattle.nms_lines.specs.Faults.{code_of, number_of}
+use Rattle.nms_lines.specs.Layout.{Record}
+use Rattle.nms_lines.specs.Lines.{reading}
+use Rattle.nms_lines.specs.declared.line.Reading.{Reading}
+use Rattle.nms_lines.specs.declared.line_fault.LineFault.{LineFault}
+
+-- the fault holds of the record, and none of a smaller number does
+pub record IsLeastFault (roster : Listing) (from : Reading) (fields : Record) (fault : LineFault) : Type 0 where
+  pub holds : has_fault roster from fields fault ≡ true
+  pub least : (other : LineFault) → number_of other < number_of fault → has_fault roster from fields other ≡ false
+
+-- no fault holds of the record
+abbrev pub IsFaultless : Listing → Reading → Record → Type 0
+IsFaultless roster from fields = (fault : LineFault) → has_fault roster from fields fault ≡ false
+
+-- a record is read as a fault exactly where that fault is the least that holds, as a line exactly where none
+-- does, and a fault's code is `L` and its number
+pub record ReadsLeastFault : Type 0 where
+  pub refused : (roster : Listing) (from : Reading) (fields : Record) (fault : LineFault)
+      → (reading roster from fields ≡ Err fault) ↔ IsLeastFault roster from fields fault
+  pub accepted : (roster : Listing) (from : Reading) (fields : Record)
+      → IsOk (reading roster from fields) ↔ IsFaultless roster from fields
+  pub coded : (fault : LineFault) → code_of fault ≡ codes "L" ++ decimal (number_of fault)

@@ -1,0 +1,79 @@
+//! The records of desks, `L`, `N`, `E` and `O`: `specs/Lines`.
+ghost use Rattle.std.specs.Prelude.{◌≡◌, IfOk, true};
+ghost use Rattle.csv.specs.Records.{fields_of};
+ghost use Rattle.nms_quote.specs.Roster.{Listing};
+ghost use Rattle.nms_lines.specs.LineOf.{IsLineOf};
+ghost use Rattle.nms_lines.specs.Lines.{best_reading, sweep_reading, tell_reading, through_reading};
+ghost use Rattle.nms_lines.specs.Sources.{brings, desks_of};
+
+use crate::field::field;
+use crate::letter::{flag_in, side_in};
+use crate::line::{Kind, Line, Reading};
+use crate::line_fault::LineFault;
+use crate::name::symbol_in;
+use crate::number::{desk_below, price_in, shares_in};
+use csv::ByteRecord;
+use nms_quote::{Order, Roster};
+
+/// `L,desk`
+pub(crate) fn tell_line(row: &ByteRecord, from: Reading) -> Result<Line, LineFault>
+    ensures line { result ≡ tell_reading from (fields_of row.now) }
+    ensures of { brings from Kind.Tell ≡ true → (roster : Listing) → IfOk result (IsLineOf roster from) }
+{
+    let desk = desk_below(desks_of(from), field(row, 1))?;
+    Ok(Line::Tell { desk })
+}
+
+/// `N,desk,sym`
+pub(crate) fn best_line(row: &ByteRecord, roster: &Roster, from: Reading) -> Result<Line, LineFault>
+    ensures line { result ≡ best_reading roster.now from (fields_of row.now) }
+    ensures of { brings from Kind.Best ≡ true → IfOk result (IsLineOf roster.now from) }
+{
+    let sym = symbol_in(roster, field(row, 2))?;
+    let desk = desk_below(desks_of(from), field(row, 1))?;
+    Ok(Line::Best { desk, sym })
+}
+
+/// `E,desk,sym,price`
+pub(crate) fn through_line(
+    row: &ByteRecord,
+    roster: &Roster,
+    from: Reading,
+) -> Result<Line, LineFault>
+    ensures line { result ≡ through_reading roster.now from (fields_of row.now) }
+    ensures of { brings from Kind.Through ≡ true → IfOk result (IsLineOf roster.now from) }
+{
+    let sym = symbol_in(roster, field(row, 2))?;
+    let price = price_in(field(row, 3))?;
+    let desk = desk_below(desks_of(from), field(row, 1))?;
+    Ok(Line::Through { desk, sym, price })
+}
+
+/// `O,desk,side,sym,shares,limit`, and the flag `M` where there are seven fields
+pub(crate) fn sweep_line(
+    row: &ByteRecord,
+    roster: &Roster,
+    from: Reading,
+) -> Result<Line, LineFault>
+    ensures line { result ≡ sweep_reading roster.now from (fields_of row.now) }
+    ensures of { brings from Kind.Sweep ≡ true → IfOk result (IsLineOf roster.now from) }
+{
+    let sym = symbol_in(roster, field(row, 3))?;
+    let side = side_in(field(row, 2))?;
+    let manual = flag_in(row)?;
+    let limit = price_in(field(row, 5))?;
+    let shares = shares_in(field(row, 4))?;
+    let desk = desk_below(desks_of(from), field(row, 1))?;
+    let order = Order::new(side, sym, shares, limit, manual).unwrap();
+    Ok(Line::Sweep { desk, order })
+}
+
+/// How many desks there are: a feed and a file of changes have none.
+fn desks_of(from: Reading) -> u8
+    ensures { result ≡ desks_of from }
+{
+    match from {
+        Reading::Script { desks } | Reading::Orders { desks } => desks,
+        Reading::FromFeed(_) | Reading::Changes => 0,
+    }
+}

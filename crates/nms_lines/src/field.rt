@@ -1,0 +1,17 @@
+//! A field of a record: `specs/Layout`.
+ghost use Rattle.std.specs.Prelude.{◌≡◌};
+ghost use Rattle.csv.specs.Records.{fields_of};
+ghost use Rattle.nms_lines.specs.Layout.{field};
+
+use csv::ByteRecord;
+
+/// The field at a place, empty past the last.
+#[tactic(auto, using(crate::proofs::FieldFacts::field_at_lem))]
+pub(crate) fn field(row: &ByteRecord, place: usize) -> &[u8]
+    ensures { result.now ≡ field (fields_of row.now) place }
+{
+    match row.get(place) {
+        Some(text) => text,
+        None => &[],
+    }
+}

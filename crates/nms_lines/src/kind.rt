@@ -1,0 +1,76 @@
+//! The kind of a record, and which kinds its source brings: `specs/Layout` and `specs/Sources`.
+ghost use Rattle.std.specs.Prelude.{◌≡◌, IfSome, true};
+ghost use Rattle.csv.specs.Records.{fields_of};
+ghost use Rattle.nms_lines.specs.Layout.{is_count, kind_named};
+ghost use Rattle.nms_lines.specs.Sources.{brings, is_change_kind, is_served, kind_in};
+
+use crate::field::field;
+use crate::line::{Kind, Reading};
+use csv::ByteRecord;
+
+/// The kind that a record's first field names, where its source brings it.
+pub(crate) fn kind_in(row: &ByteRecord, from: Reading) -> Option<Kind>
+    ensures kind { result ≡ kind_in from (fields_of row.now) }
+    ensures brought { IfSome result (λ kind. brings from kind ≡ true) }
+{
+    match kind_named(field(row, 0)) {
+        Some(kind) if brings(from, kind) => Some(kind),
+        _ => None,
+    }
+}
+
+fn kind_named(text: &[u8]) -> Option<Kind>
+    ensures { result ≡ kind_named text.now }
+{
+    match text {
+        b"Q" => Some(Kind::Quote),
+        b"S" => Some(Kind::State),
+        b"X" => Some(Kind::Withdraw),
+        b"T" => Some(Kind::TakeOne),
+        b"F" => Some(Kind::TakeAll),
+        b"P" => Some(Kind::Publish),
+        b"L" => Some(Kind::Tell),
+        b"N" => Some(Kind::Best),
+        b"E" => Some(Kind::Through),
+        b"O" => Some(Kind::Sweep),
+        _ => None,
+    }
+}
+
+/// Whether the source brings records of the kind.
+fn brings(from: Reading, kind: Kind) -> bool
+    ensures { result ≡ brings from kind }
+{
+    match from {
+        Reading::Script { .. } => is_served(kind),
+        Reading::FromFeed(_) | Reading::Changes => is_change_kind(kind),
+        Reading::Orders { .. } => kind == Kind::Sweep,
+    }
+}
+
+/// Whether scripts serve the kind.
+fn is_served(kind: Kind) -> bool
+    ensures { result ≡ is_served kind }
+{
+    !matches!(kind, Kind::Through | Kind::Sweep)
+}
+
+fn is_change_kind(kind: Kind) -> bool
+    ensures { result ≡ is_change_kind kind }
+{
+    matches!(kind, Kind::Quote | Kind::State | Kind::Withdraw)
+}
+
+/// Whether a record of the kind has so many fields.
+pub(crate) fn is_count(kind: Kind, fields: usize) -> bool
+    ensures { result ≡ is_count kind fields }
+{
+    match kind {
+        Kind::TakeOne | Kind::TakeAll | Kind::Publish => fields == 1,
+        Kind::Withdraw | Kind::Tell => fields == 2,
+        Kind::Best => fields == 3,
+        Kind::State | Kind::Through => fields == 4,
+        Kind::Sweep => fields == 6 || fields == 7,
+        Kind::Quote => fields == 8,
+    }
+}

@@ -1,0 +1,58 @@
+//! The fields that are one letter: `specs/Fields`.
+ghost use Rattle.std.specs.Prelude.{◌≡◌};
+ghost use Rattle.csv.specs.Records.{fields_of};
+ghost use Rattle.nms_lines.specs.Fields.{flag_in, side_in, side_named, state_in, state_named};
+
+use crate::field::field;
+use crate::line_fault::LineFault;
+use csv::ByteRecord;
+use nms_quote::{OrderSide, QState};
+
+/// The state of a quotation that a letter names, or `BadState`.
+pub(crate) fn state_in(text: &[u8]) -> Result<QState, LineFault>
+    ensures { result ≡ state_in text.now }
+{
+    state_named(text).ok_or(LineFault::BadState)
+}
+
+fn state_named(text: &[u8]) -> Option<QState>
+    ensures { result ≡ state_named text.now }
+{
+    match text {
+        b"A" => Some(QState::Automated),
+        b"M" => Some(QState::Manual),
+        b"H" => Some(QState::Halted),
+        _ => None,
+    }
+}
+
+/// The side of an order that a letter names, or `BadState`.
+pub(crate) fn side_in(text: &[u8]) -> Result<OrderSide, LineFault>
+    ensures { result ≡ side_in text.now }
+{
+    side_named(text).ok_or(LineFault::BadState)
+}
+
+fn side_named(text: &[u8]) -> Option<OrderSide>
+    ensures { result ≡ side_named text.now }
+{
+    match text {
+        b"B" => Some(OrderSide::Buy),
+        b"S" => Some(OrderSide::Sell),
+        _ => None,
+    }
+}
+
+/// Whether an order's record has the flag that allows manual quotations; `BadState` where its seventh
+/// field is something else.
+pub(crate) fn flag_in(row: &ByteRecord) -> Result<bool, LineFault>
+    ensures { result ≡ flag_in (fields_of row.now) }
+{
+    if row.len() != 7 {
+        return Ok(false);
+    }
+    match field(row, 6) {
+        b"M" => Ok(true),
+        _ => Err(LineFault::BadState),
+    }
+}

@@ -1,0 +1,89 @@
+//! What records say, and where they come from: the words of `specs/Layout`, `specs/Sources` and
+//! `specs/LineOf` are over these types.
+use nms_quote::{Change, Feed, Order, Sym};
+use nms_units::Price;
+
+/// Where a record comes from, which decides the kinds that it may have. This product's own rule.
+#[derive(Clone, Copy, Debug, PartialEq, Eq)]
+pub enum Reading {
+    /// A script: every kind that scripts serve, which is all but `E` and `O`.
+    Script {
+        /// The setup's number of desks, 1 to 16.
+        desks: u8,
+    },
+    /// A feed: `Q`, `S` and `X` of its own participants alone.
+    FromFeed(Feed),
+    /// A file of changes: `Q`, `S` and `X` of any participant.
+    Changes,
+    /// A file of orders: `O` alone.
+    Orders {
+        /// The setup's number of desks, 1 to 16.
+        desks: u8,
+    },
+}
+
+/// What a record says.
+#[derive(Clone, Copy, Debug, PartialEq, Eq)]
+pub enum Line {
+    /// `Q`, `S` or `X`: a participant's change.
+    Change(Change),
+    /// `T`: take one queued change to the tape.
+    TakeOne,
+    /// `F`: take until the queue is empty, then publish.
+    TakeAll,
+    /// `P`: publish.
+    Publish,
+    /// `L`: tell the desk of the published version.
+    Tell {
+        /// The desk, below the number of desks.
+        desk: u8,
+    },
+    /// `N`: the desk looks for the national best bid and offer (17 CFR 242.600).
+    Best {
+        /// The desk, below the number of desks.
+        desk: u8,
+        /// The symbol's place on the roster.
+        sym: Sym,
+    },
+    /// `E`: the desk looks for what a trade at the price trades through (17 CFR 242.611).
+    Through {
+        /// The desk, below the number of desks.
+        desk: u8,
+        /// The symbol's place on the roster.
+        sym: Sym,
+        /// The price of the trade, in 1/10,000 dollar.
+        price: Price,
+    },
+    /// `O`: the desk looks and plans.
+    Sweep {
+        /// The desk, below the number of desks.
+        desk: u8,
+        /// The order to plan, of at least one share.
+        order: Order,
+    },
+}
+
+/// The kind of a record, which its first field names.
+#[derive(Clone, Copy, Debug, PartialEq, Eq)]
+pub enum Kind {
+    /// `Q`: both sides and the state of a participant's quotations in a symbol.
+    Quote,
+    /// `S`: the state alone.
+    State,
+    /// `X`: the participant quotes no symbol any more.
+    Withdraw,
+    /// `T`.
+    TakeOne,
+    /// `F`.
+    TakeAll,
+    /// `P`.
+    Publish,
+    /// `L`.
+    Tell,
+    /// `N`.
+    Best,
+    /// `E`.
+    Through,
+    /// `O`.
+    Sweep,
+}

@@ -1,0 +1,58 @@
+//! The records of a text, one after another: `specs/Records`.
+ghost use Rattle.std.specs.Prelude.{◌≡◌, ℕ, ◌++◌, ◌∷◌, [], List, Option, OnErr, true, false, Ok, Err};
+ghost use Rattle.csv.specs.Reading.{error_kind, is_io};
+ghost use Rattle.csv.specs.Records.{fields_of};
+ghost use Rattle.nms_lines.specs.Layout.{Record};
+ghost use Rattle.nms_lines.specs.Records.{AreAllRecords, HasStopped, ReadsFrom};
+
+use crate::record_fault::RecordFault;
+use csv::{ByteRecord, Error, Reader, ReaderBuilder};
+use std::alloc::Global;
+use std::io::Read;
+
+/// A reader of the records of a text: comma, double quote, no header row, records of any length, nothing
+/// trimmed, blank lines and a byte order mark at the start dropped.
+///
+/// It takes no memory before the first read.
+pub fn open_records<R: Read>(alloc: Global, source: R) -> Reader<R>
+    ensures { ReadsFrom R.remaining result (R.remaining source) [] }
+{
+    ReaderBuilder::new()
+        .has_headers(false)
+        .flexible(true)
+        .from_reader(alloc, source)
+}
+
+/// Reads the next record into `row`, and tells whether there was one.
+///
+/// `Failed` is an error of the source, `NoMemory` is want of memory for the row or the source's error. After
+/// either the reader has stopped: it gives no record any more, and says that there is none.
+pub fn read_next<R: Read>(reader: &mut Reader<R>, row: &mut ByteRecord) -> Result<bool, RecordFault>
+    ensures found { (bytes : Option (List ℕ)) (seen : List Record)
+        → ReadsFrom R.remaining reader.old bytes seen → result ≡ Ok true
+        → ReadsFrom R.remaining reader.new bytes (seen ++ fields_of row.new ∷ []) }
+    ensures end { (bytes : Option (List ℕ)) (seen : List Record)
+        → ReadsFrom R.remaining reader.old bytes seen → result ≡ Ok false → AreAllRecords bytes seen }
+
+    // After a fault there is no record any more, and what was read before is the beginning of the text.
+    ensures stopped { (bytes : Option (List ℕ)) (seen : List Record)
+        → ReadsFrom R.remaining reader.old bytes seen → OnErr result (HasStopped reader.new) }
+    ensures over { HasStopped reader.old → result ≡ Ok false }
+{
+    match reader.read_byte_record(row) {
+        Ok(found) => Ok(found),
+        Err(error) => Err(fault_of(&error)),
+    }
+}
+
+/// Whether it was the source that failed. A reader of these layouts has no error but that and want of memory.
+fn fault_of(error: &Error) -> RecordFault
+    ensures failed { is_io (error_kind error.now) ≡ true → result ≡ RecordFault.Failed }
+    ensures memory { is_io (error_kind error.now) ≡ false → result ≡ RecordFault.NoMemory }
+{
+    if error.is_io_error() {
+        RecordFault::Failed
+    } else {
+        RecordFault::NoMemory
+    }
+}

@@ -1,6 +1,0 @@
-use Rattle.std.proofs.Common.{◌≡◌, ◌≤◌, length, take}
-use Rattle.nms_nbbo.specs.Ranking.{protected_among}
-use Rattle.nms_nbbo.proofs.rankings.protected_among.Given as goal
-
-abbrev pub invariant-loop-row : goal.invariant-loop-row
-invariant-loop-row l = (l.kept.items ≡ protected_among (take l.row-index l.rows)) × (length l.kept.items ≤ l.row-index)

@@ -1,0 +1,65 @@
+//! Where a walk over the pairs stands: `specs/Walk`.
+ghost use Rattle.std.specs.Prelude.{◌≡◌, ℕ, ◌+◌, ◌*◌, ◌<◌, ◌≤◌};
+ghost use Rattle.std.specs.Option.{SomeIff};
+
+use nms_quote::Part;
+use std::marker::Model;
+
+/// Where a walk over a symbol's pairs stands, 0 to 1,024: the pair of two participants is at 32 times
+/// the bid's place on the roster plus the offer's, and 1,024 is behind the last (this product's own rule).
+#[derive(Clone, Copy, Debug, PartialEq, Eq, PartialOrd, Ord, Hash)]
+pub struct PairPlace {
+    place: u16,
+}
+
+impl Model for PairPlace {
+    ghost Value = { ℕ };
+
+    ghost view = { λ p. p.place };
+
+    ghost invariant = { λ p. p.place ≤ 1024 };
+
+    ghost inverse = { λ n. record { place = n } };
+}
+
+impl PairPlace {
+    /// The place of that number, or `None` above 1,024.
+    pub fn new(place: u16) -> Option<Self>
+        ensures { SomeIff result (place ≤ 1024) place }
+    {
+        if place <= 1024 {
+            Some(PairPlace { place })
+        } else {
+            None
+        }
+    }
+
+    /// The number of the place.
+    pub fn get(self) -> u16
+        ensures place { result ≡ self }
+        ensures within { result ≤ 1024 }
+    {
+        self.place
+    }
+
+    /// The place of a bid and an offer.
+    pub(crate) fn of(bid: Part, offer: Part) -> Self
+        ensures place { result ≡ 32 * bid + offer }
+        ensures before_end { result < 1024 }
+        ensures narrow { offer < 32 }
+    {
+        PairPlace {
+            place: 32 * u16::from(bid.get()) + u16::from(offer.get()),
+        }
+    }
+
+    /// The place after this one.
+    pub(crate) fn next(self) -> Self
+        requires { self < 1024 }
+        ensures { result ≡ self + 1 }
+    {
+        PairPlace {
+            place: self.get() + 1,
+        }
+    }
+}

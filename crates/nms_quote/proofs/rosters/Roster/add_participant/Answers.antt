@@ -1,6 +1,0 @@
-use Rattle.std.proofs.Common.{sym, ◌∙◌}
-use Rattle.nms_quote.proofs.TableLemmas.{IsUtf8-part_name}
-use Rattle.nms_quote.proofs.rosters.Roster.add_participant.Goals as goal
-
-pub push-requires-clause-text : goal.push-requires-clause-text
-push-requires-clause-text c = IsUtf8-part_name c.args.name.now (sym c.is_part_name.ensures ∙ c.in_default.ensures.formed)

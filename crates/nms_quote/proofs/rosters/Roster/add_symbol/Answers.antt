@@ -1,6 +1,0 @@
-use Rattle.std.proofs.Common.{sym, ◌∙◌}
-use Rattle.nms_quote.proofs.TableLemmas.{IsUtf8-symbol_name}
-use Rattle.nms_quote.proofs.rosters.Roster.add_symbol.Goals as goal
-
-pub push-requires-clause-text : goal.push-requires-clause-text
-push-requires-clause-text c = IsUtf8-symbol_name c.args.name.now (sym c.is_symbol_name.ensures ∙ c.in_default.ensures.formed)

@@ -1,0 +1,54 @@
+//! What a participant sends: `specs/Tape`.
+ghost use Rattle.std.specs.Prelude.{◌≡◌};
+
+use crate::participant::Part;
+use crate::side_quote::{QState, SideQuote};
+use crate::symbol::Sym;
+
+/// A participant's change of its quotations. Each participant sends only its best bid and its best
+/// offer in a symbol (this product's own rule).
+#[derive(Clone, Copy, Debug, PartialEq, Eq, Hash)]
+pub enum Change {
+    /// Both sides of a symbol, `None` where there is no quotation, and their state.
+    Quote {
+        /// Who sends it.
+        part: Part,
+        /// What is quoted.
+        sym: Sym,
+        /// The state of both sides.
+        state: QState,
+        /// The best bid: a price in 1/10,000 dollar and 1 or more shares.
+        bid: Option<SideQuote>,
+        /// The best offer, likewise.
+        offer: Option<SideQuote>,
+    },
+    /// The state of the symbol's quotations alone.
+    State {
+        /// Who sends it.
+        part: Part,
+        /// Where its state changes.
+        sym: Sym,
+        /// The state of both sides from now on.
+        state: QState,
+    },
+    /// No quotation on any symbol.
+    Withdraw {
+        /// Who sends it.
+        part: Part,
+    },
+}
+
+impl Change {
+    ghost use Rattle.std.specs.Prelude.{◌≡◌};
+    ghost use Rattle.nms_quote.specs.Tape.{participant_of};
+
+    /// The participant that sends the change.
+    pub fn part(&self) -> Part
+        ensures { result ≡ participant_of self.now }
+    {
+        match *self {
+            Change::Quote { part, .. } | Change::State { part, .. } | Change::Withdraw { part } =>
+                part,
+        }
+    }
+}

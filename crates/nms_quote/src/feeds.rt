@@ -1,6 +1,0 @@
-/// The feed that a participant sends its changes on (this product's own rule).
-#[derive(Clone, Copy, Debug, PartialEq, Eq, Hash)]
-pub enum Feed {
-    A,
-    B,
-}

@@ -1,0 +1,47 @@
+//! Where to look first for a name.
+use std::alloc::{AllocError, Global};
+
+/// How many hints there are.
+const HINTS: usize = 4096;
+
+/// A place for each name that is tried before any other. Nothing is promised of it: two names may share a
+/// hint, and a name that is nowhere has one, so whoever asks compares the name that stands at the place.
+#[derive(Drop)]
+pub(crate) struct Hints {
+    places: Vec<u16>,
+}
+
+impl Hints {
+    /// Hints that all name the first place.
+    pub(crate) fn new(alloc: Global) -> Result<Self, AllocError> {
+        let mut places = Vec::new(alloc);
+        places.resize(HINTS, 0)?;
+        Ok(Hints { places })
+    }
+
+    /// The place to try first.
+    pub(crate) fn place_for(&self, name: &[u8]) -> Option<usize> {
+        self.places
+            .get(slot_of(name))
+            .map(|place| usize::from(*place))
+    }
+
+    /// Names a place as the first to try.
+    pub(crate) fn set(&mut self, name: &[u8], place: usize) {
+        if let (Some(slot), Ok(place)) = (
+            self.places.get_mut(slot_of(name)),
+            u16::try_from(place),
+        ) {
+            *slot = place;
+        }
+    }
+}
+
+/// Which hint is a name's: its last eight bytes as one number, spread over the hints by the golden ratio.
+fn slot_of(name: &[u8]) -> usize {
+    let mut word = 0u64;
+    for c in name {
+        word = word << 8 | u64::from(*c);
+    }
+    (word.wrapping_mul(0x9e37_79b9_7f4a_7c15) >> 52) as usize
+}

@@ -1,0 +1,12 @@
+//! A change and where it came from: `specs/Merge`.
+use crate::change::Change;
+use crate::feed::Feed;
+
+/// A change with its mark: the feed that brought it.
+#[derive(Clone, Copy, Debug, PartialEq, Eq, Hash)]
+pub struct Marked {
+    /// The feed that brought it.
+    pub feed: Feed,
+    /// The change itself.
+    pub change: Change,
+}

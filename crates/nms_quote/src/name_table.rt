@@ -1,0 +1,138 @@
+//! Entries under names, in order of adding: `specs/Names` and `specs/Roster`.
+ghost use Rattle.std.specs.Prelude.{◌≡◌, ℕ, ◌<◌, [], ◌∷◌, ◌++◌, length, option_map, slice_get, true, IfSome, IfNone, IfErr, IfOk, OnOk, OnErr};
+ghost use Rattle.std.specs.Str.{IsUtf8};
+ghost use Rattle.nms_quote.specs.Roster.{place_in, refusal_in};
+
+use crate::hints::Hints;
+use crate::roster_fault::RosterFault;
+use indexmap::IndexMap;
+use std::alloc::Global;
+use std::marker::Model;
+
+/// Entries under names, each name once. An entry's place is how many stood before it.
+#[derive(Drop)]
+pub(crate) struct NameTable<V: Copy> {
+    entries: IndexMap<String, V>,
+    hints: Hints,
+}
+
+impl<V: Copy> Model for NameTable<V> {
+    ghost use Rattle.std.specs.Prelude.{List, ℕ};
+    ghost use Rattle.std.specs.String.{string_eq};
+    ghost use Rattle.indexmap.specs.IndexMap.{IsUnique};
+    ghost use Rattle.nms_quote.specs.Names.{named};
+
+    ghost Value = { List (List ℕ × V) };
+
+    ghost view = { λ t. named t.entries.entries };
+
+    ghost invariant = { λ t. IsUnique string_eq t.entries };
+}
+
+impl<V: Copy> NameTable<V> {
+    /// A table with no entry.
+    pub(crate) fn new(alloc: Global) -> Result<Self, RosterFault>
+        ensures empty { IfOk result (λ table. table ≡ []) }
+        ensures memory { IfErr result (λ fault. fault ≡ RosterFault.NoMemory) }
+    {
+        let Ok(hints) = Hints::new(alloc) else {
+            return Err(RosterFault::NoMemory);
+        };
+        Ok(NameTable {
+            entries: IndexMap::new(alloc),
+            hints,
+        })
+    }
+
+    /// How many entries there are.
+    pub(crate) fn len(&self) -> usize
+        ensures { result ≡ length self.now }
+    {
+        self.entries.len()
+    }
+
+    /// The place of the entry of that name.
+    pub(crate) fn find(&self, name: &[u8]) -> Option<usize>
+        ensures place { result ≡ place_in self.now name.now }
+        ensures within { IfSome result (λ place. place < length self.now) }
+    {
+        match self.hints.place_for(name) {
+            Some(place) if place < self.len() && self.name_at(place).as_bytes() == name => Some(
+                place,
+            ),
+            _ => self.find_by_hash(name),
+        }
+    }
+
+    /// The same without a hint.
+    #[cold]
+    #[inline(never)]
+    fn find_by_hash(&self, name: &[u8]) -> Option<usize>
+        ensures place { result ≡ place_in self.now name.now }
+        ensures within { IfSome result (λ place. place < length self.now) }
+    {
+        let entries = &self.entries;
+        match std::str::from_utf8(name) {
+            Ok(text) => entries.get_index_of(text),
+            Err(_) => None,
+        }
+    }
+
+    /// The name at a place, which no other place has.
+    pub(crate) fn name_at(&self, place: usize) -> &str
+        requires { place < length self.now }
+        ensures name { option_map (λ entry. entry.0) (slice_get self.now place) ≡ Some result.now }
+        ensures found { place_in self.now result.now ≡ Some place }
+        ensures once { (other : ℕ) → option_map (λ entry. entry.0) (slice_get self.now other) ≡ Some result.now → other ≡ place }
+    {
+        let (name, _) = self.entries.get_index(place).unwrap();
+        name.as_str()
+    }
+
+    /// The value at a place.
+    pub(crate) fn value_at(&self, place: usize) -> V
+        requires { place < length self.now }
+        ensures { option_map (λ entry. entry.1) (slice_get self.now place) ≡ Some result }
+    {
+        let (_, value) = self.entries.get_index(place).unwrap();
+        *value
+    }
+
+    /// Why an entry may not be added, the first reason that holds: the form of its name, that the
+    /// name stands already, or that `most` entries are there.
+    pub(crate) fn refusal(&self, name: &[u8], is_name: bool, most: usize) -> Option<RosterFault>
+        ensures reason { result ≡ refusal_in (λ _. is_name) most self.now name.now }
+        ensures formed { IfNone result (is_name ≡ true) }
+    {
+        if !is_name {
+            Some(RosterFault::BadName)
+        } else if self.find(name).is_some() {
+            Some(RosterFault::Duplicate)
+        } else if self.len() < most {
+            None
+        } else {
+            Some(RosterFault::TooMany)
+        }
+    }
+
+    /// Adds an entry as the last one, under a name that is not there. Where memory is short, nothing
+    /// changes.
+    pub(crate) fn push(&mut self, name: &[u8], value: V) -> Result<(), RosterFault>
+        requires text { IsUtf8 name.now }
+        requires absent { place_in self.old name.now ≡ None }
+        ensures added { OnOk result (self.new ≡ self.old ++ (name.now, value) ∷ []) }
+        ensures unchanged { OnErr result (self.new ≡ self.old) }
+        ensures memory { IfErr result (λ fault. fault ≡ RosterFault.NoMemory) }
+    {
+        let text = std::str::from_utf8(name).unwrap();
+        let Ok(owned) = String::from_str(*self.entries.allocator(), text) else {
+            return Err(RosterFault::NoMemory);
+        };
+        let place = self.entries.len();
+        let Ok(_) = self.entries.insert(owned, value) else {
+            return Err(RosterFault::NoMemory);
+        };
+        self.hints.set(name, place);
+        Ok(())
+    }
+}

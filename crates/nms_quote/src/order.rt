@@ -1,0 +1,71 @@
+//! What is to be traded: `specs/Terms`.
+ghost use Rattle.std.specs.Prelude.{◌≡◌, ℕ, ◌≤◌};
+ghost use Rattle.std.specs.Option.{SomeIff};
+
+use crate::symbol::Sym;
+use nms_units::{Price, Shares};
+use std::marker::Model;
+
+/// Which way an order trades.
+#[derive(Clone, Copy, Debug, PartialEq, Eq, Hash)]
+pub enum OrderSide {
+    /// Takes offers at the limit price or below.
+    Buy,
+    /// Takes bids at the limit price or above.
+    Sell,
+}
+
+/// An order to plan: at least one share, at the limit price or better.
+#[derive(Clone, Copy, Debug, PartialEq, Eq, Hash)]
+pub struct Order {
+    /// Whether it buys or sells.
+    pub side: OrderSide,
+    /// What it trades.
+    pub sym: Sym,
+    /// How many shares, 1 to 999,999,999.
+    pub shares: Shares,
+    /// The worst price that it may trade at, in 1/10,000 dollar.
+    pub limit: Price,
+    /// Whether it may also trade with manual quotations.
+    pub manual: bool,
+}
+
+impl Model for Order {
+    ghost use Rattle.std.specs.Prelude.{◌≤◌};
+    ghost use Rattle.nms_quote.specs.Terms.{Terms};
+
+    ghost Value = { Terms };
+
+    ghost view = { λ o. record { side = o.side; sym = o.sym; shares = o.shares; limit = o.limit; manual = o.manual } };
+
+    ghost invariant = { λ o. 1 ≤ o.shares };
+
+    ghost inverse = { λ t. record { side = t.side; sym = t.sym; shares = t.shares; limit = t.limit; manual = t.manual } };
+}
+
+impl Order {
+    ghost use Rattle.nms_quote.specs.Terms.{Terms};
+
+    /// An order of those terms, or `None` where it is of 0 shares.
+    pub fn new(
+        side: OrderSide,
+        sym: Sym,
+        shares: Shares,
+        limit: Price,
+        manual: bool,
+    ) -> Option<Self>
+        ensures { SomeIff result (1 ≤ shares) (record { side = side; sym = sym; shares = shares; limit = limit; manual = manual }) }
+    {
+        if 1 <= shares.get() {
+            Some(Order {
+                side,
+                sym,
+                shares,
+                limit,
+                manual,
+            })
+        } else {
+            None
+        }
+    }
+}

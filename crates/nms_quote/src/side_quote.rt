@@ -1,0 +1,64 @@
+//! What a participant quotes on one side of a symbol: `specs/Content`.
+ghost use Rattle.std.specs.Prelude.{◌≡◌, ℕ, ◌<◌, ◌≤◌};
+ghost use Rattle.std.specs.Option.{SomeIff};
+
+use nms_units::{Price, Shares};
+use std::marker::Model;
+
+/// The two sides of a market (17 CFR 242.600, "bid or offer").
+#[derive(Clone, Copy, Debug, PartialEq, Eq, Hash)]
+pub enum Side {
+    /// The side of those who would buy: a higher price is better.
+    Bid,
+    /// The side of those who would sell: a lower price is better.
+    Offer,
+}
+
+/// How a participant's quotations in a symbol stand (17 CFR 242.600, "automated quotation" and
+/// "manual quotation"; `Halted` is this product's own rule).
+#[derive(Clone, Copy, Debug, PartialEq, Eq, Hash)]
+pub enum QState {
+    /// Ranked and protected.
+    Automated,
+    /// Ranked and not protected.
+    Manual,
+    /// Not ranked.
+    Halted,
+}
+
+/// A price and at least one share: what a participant quotes on one side of a symbol.
+#[derive(Clone, Copy, Debug, PartialEq, Eq, Hash)]
+pub struct SideQuote {
+    /// In 1/10,000 dollar.
+    pub price: Price,
+    /// What its message gives, 1 to 999,999,999; not yet rounded down to whole lots.
+    pub shares: Shares,
+}
+
+impl Model for SideQuote {
+    ghost use Rattle.std.specs.Prelude.{◌≤◌};
+    ghost use Rattle.nms_quote.specs.Content.{Content};
+
+    ghost Value = { Content };
+
+    ghost view = { λ q. record { price = q.price; shares = q.shares } };
+
+    ghost invariant = { λ q. 1 ≤ q.shares };
+
+    ghost inverse = { λ c. record { price = c.price; shares = c.shares } };
+}
+
+impl SideQuote {
+    ghost use Rattle.nms_quote.specs.Content.{Content};
+
+    /// A quote of one side, or `None` where the shares are 0.
+    pub fn new(price: Price, shares: Shares) -> Option<Self>
+        ensures { SomeIff result (1 ≤ shares) (record { price = price; shares = shares }) }
+    {
+        if 1 <= shares.get() {
+            Some(SideQuote { price, shares })
+        } else {
+            None
+        }
+    }
+}

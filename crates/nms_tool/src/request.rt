@@ -1,0 +1,12 @@
+use crate::subcommand::Subcommand;
+
+/// What the words of the command line ask for.
+#[derive(Debug, Drop)]
+pub struct Request {
+    /// What is to be done.
+    pub command: Subcommand,
+    /// The subcommand's own words, in order.
+    pub words: Vec<String>,
+    /// The file that `--setup` names.
+    pub setup: Option<String>,
+}

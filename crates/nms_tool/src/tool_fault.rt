@@ -1,0 +1,74 @@
+//! Why the program ends with another status than 0: the code that it tells, and the status.
+use crate::words_fault::WordsFault;
+use nms_board::BoardFault;
+use nms_engine::{ChangesFault, ReportFault, ScriptFault};
+use nms_fees::SetupFault;
+
+/// Why the program ends with another status than 0.
+#[derive(Debug, Drop)]
+pub(crate) enum ToolFault {
+    /// The parser refused the words.
+    Words(WordsFault),
+    /// A word is no UTF-8, or names nothing.
+    Usage,
+    /// A file could not be read.
+    Unreadable,
+    /// A setup is not UTF-8, or was refused.
+    Setup(SetupFault),
+    /// A script ended early.
+    Script(ScriptFault),
+    /// A report was not written.
+    Report(ReportFault),
+}
+
+impl ToolFault {
+    /// The exit status: 1 for streams and files, 2 for words, 3 for the setup, 5 for memory, 6 for lines
+    /// and lengths.
+    pub(crate) fn status(&self) -> u8 {
+        match self {
+            ToolFault::Words(WordsFault::NoMemory) => 5,
+            ToolFault::Words(WordsFault::Parser { .. }) | ToolFault::Usage => 2,
+            ToolFault::Unreadable => 1,
+            ToolFault::Setup(SetupFault::NoMemory) => 5,
+            ToolFault::Setup(_) => 3,
+            ToolFault::Script(fault) => status_of_script(*fault),
+            ToolFault::Report(fault) => status_of_report(*fault),
+        }
+    }
+
+    /// What the line on standard error names.
+    pub(crate) fn code(&self) -> &'static str {
+        match self {
+            ToolFault::Words(_) => "G2",
+            ToolFault::Usage => "usage",
+            ToolFault::Unreadable => "E1",
+            ToolFault::Setup(fault) => fault.code(),
+            ToolFault::Script(fault) => fault.code(),
+            ToolFault::Report(fault) => fault.code(),
+        }
+    }
+}
+
+fn status_of_script(fault: ScriptFault) -> u8 {
+    match fault {
+        ScriptFault::ReadFault | ScriptFault::WriteFault => 1,
+        ScriptFault::TooLong => 6,
+        ScriptFault::NoMemory => 5,
+    }
+}
+
+fn status_of_report(fault: ReportFault) -> u8 {
+    match fault {
+        ReportFault::Changes(fault) => status_of_changes(fault),
+        ReportFault::Board(BoardFault::NoMemory) | ReportFault::NoMemory => 5,
+        ReportFault::WriteFault => 1,
+    }
+}
+
+fn status_of_changes(fault: ChangesFault) -> u8 {
+    match fault {
+        ChangesFault::ReadFault => 1,
+        ChangesFault::Line(_) | ChangesFault::TapeFull => 6,
+        ChangesFault::NoMemory => 5,
+    }
+}

@@ -1,0 +1,10 @@
+use Rattle.std.proofs.Common.{ℕ, ◌^◌, ◌<◌, ◌≤◌, arith, length}
+use Rattle.nms_units.proofs.Powers.{scaled_below}
+use Rattle.nms_units.proofs.price.decimals_in.Goals as goal
+
+below_one_dollar : {n : ℕ} → n < 10 ^ 4 → n ≤ 9999
+below_one_dollar h = omega arith
+
+pub returns-clause-high : goal.returns-clause-high
+returns-clause-high c =
+    rw c.scale_of.ensures (below_one_dollar (scaled_below c.in_ok-number.number (length c.args.text.now) 4 c.in_ok-number.ensures.by_length c.in_ok-number.ensures.within))

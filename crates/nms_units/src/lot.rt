@@ -1,0 +1,65 @@
+//! Round lots: `specs/Lot`.
+ghost use Rattle.std.specs.Prelude.{◌≡◌, ℕ, ◌≤◌};
+ghost use Rattle.std.specs.Option.{SomeIff};
+ghost use Rattle.nms_units.specs.Lot.{displayed_size};
+
+use crate::MOST_LOT;
+use crate::shares::Shares;
+use std::marker::Model;
+
+/// A round lot: 1 to `MOST_LOT` (1,000) shares (17 CFR 242.600, "round lot").
+#[derive(Clone, Copy, Debug, PartialEq, Eq, PartialOrd, Ord, Hash)]
+pub struct Lot {
+    shares: u16,
+}
+
+impl Model for Lot {
+    ghost use Rattle.std.specs.Prelude.{ℕ, ◌≤◌};
+    ghost use Rattle.nms_units.specs.declared.TheConstants.{MOST_LOT};
+
+    ghost Value = { ℕ };
+
+    ghost view = { λ l. l.shares };
+
+    ghost invariant = { λ l. (1 ≤ l.shares) × (l.shares ≤ MOST_LOT) };
+
+    ghost inverse = { λ n. record { shares = n } };
+}
+
+impl Lot {
+    /// A lot of that many shares, or `None` where that is not 1 to `MOST_LOT`.
+    pub fn new(shares: u16) -> Option<Self>
+        ensures { SomeIff result ((1 ≤ shares) × (shares ≤ MOST_LOT)) shares }
+    {
+        if 1 <= shares && shares <= MOST_LOT {
+            Some(Lot { shares })
+        } else {
+            None
+        }
+    }
+
+    /// The number of shares in a lot, 1 to `MOST_LOT`.
+    pub fn get(self) -> u16
+        ensures number { result ≡ self }
+        ensures low { 1 ≤ result }
+        ensures high { result ≤ MOST_LOT }
+    {
+        self.shares
+    }
+
+    /// The displayed size of a side in shares: what its message gives, rounded down to whole lots.
+    pub fn displayed(self, shares: Shares) -> u32
+        ensures size { result ≡ displayed_size self shares }
+        ensures within { result ≤ shares }
+    {
+        let shares = shares.get();
+        match self.shares {
+            // The lots that stocks trade in. Dividing by a constant takes no division.
+            100 => shares / 100 * 100,
+            40 => shares / 40 * 40,
+            10 => shares / 10 * 10,
+            1 => shares,
+            lot => shares / u32::from(lot) * u32::from(lot),
+        }
+    }
+}

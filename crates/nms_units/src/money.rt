@@ -1,0 +1,162 @@
+//! Money in nanodollars: `specs/Money`.
+ghost use Rattle.std.specs.Prelude.{◌≡◌, ℤ, ◌<ℤ◌, pos, neg_ℤ, ◌^◌, ◌<◌, ◌≤◌, Some, IfSome};
+ghost use Rattle.nms_units.specs.Digits.{number_in};
+ghost use Rattle.nms_units.specs.Money.{whole_dollars, nine_decimals, nanodollars, amount_number, money_number, money_reading, three_digits, money_text};
+
+#[cfg(test)]
+mod tests;
+
+use crate::digits::{parse_digits, point_in};
+use crate::unit_fault::UnitFault;
+use std::fmt;
+use std::marker::Model;
+
+/// An amount of money in whole nanodollars (10^-9 dollar); negative money is received.
+#[derive(Clone, Copy, Debug, PartialEq, Eq, PartialOrd, Ord, Hash)]
+pub struct Money {
+    nanodollars: i128,
+}
+
+impl Model for Money {
+    ghost Value = { ℤ };
+
+    ghost view = { λ m. m.nanodollars };
+
+    ghost inverse = { λ z. record { nanodollars = z } };
+}
+
+impl Money {
+    /// That many nanodollars.
+    pub fn new(nanodollars: i128) -> Self
+        ensures { result ≡ nanodollars }
+    {
+        Self { nanodollars }
+    }
+
+    /// The number of nanodollars.
+    pub fn get(self) -> i128
+        ensures { result ≡ self }
+    {
+        self.nanodollars
+    }
+
+    /// Reads an optional minus, 1 to 20 digits, a point and nine digits, as dollars.
+    ///
+    /// Leading zeros are accepted, and so is a negative zero. Any other text is `BadMoney`.
+    pub fn parse(text: &[u8]) -> Result<Self, UnitFault>
+        ensures { result ≡ money_reading text.now }
+    {
+        let nanodollars = signed_amount_in(text).ok_or(UnitFault::BadMoney)?;
+        Ok(Money::new(nanodollars))
+    }
+
+    /// A law: what `Display` prints of money strictly between -10^20 and 10^20 dollars, `parse` reads as
+    /// that money.
+    pub fn reads_what_it_prints()
+        ensures { (money : ℤ) → neg_ℤ (pos (10 ^ 29)) <ℤ money → money <ℤ pos (10 ^ 29)
+            → money_reading (money_text money) ≡ Ok money }
+    {}
+}
+
+/// What a text of money's form writes, in nanodollars.
+fn signed_amount_in(text: &[u8]) -> Option<i128>
+    ensures { result ≡ money_number text.now }
+{
+    match text {
+        [b'-', amount @ ..] => {
+            let number = amount_in(amount)?;
+            Some(-(number as i128))
+        }
+        amount => {
+            let number = amount_in(amount)?;
+            Some(number as i128)
+        }
+    }
+}
+
+/// What 1 to 20 digits, a point and nine digits write, in nanodollars.
+fn amount_in(text: &[u8]) -> Option<u128>
+    ensures number { result ≡ amount_number text.now }
+    ensures high { IfSome result (λ n. n < 10 ^ 29) }
+{
+    let point = point_in(text)?;
+    nanodollars_in(&text[..point], &text[point + 1..])
+}
+
+/// What the digits on both sides of the point write, in nanodollars.
+fn nanodollars_in(whole: &[u8], behind: &[u8]) -> Option<u128>
+    ensures number { result ≡ nanodollars whole.now behind.now }
+    ensures high { IfSome result (λ n. n < 10 ^ 29) }
+{
+    let whole = whole_dollars_in(whole)?;
+    let behind = nine_decimals_in(behind)?;
+    Some(whole + u128::from(behind))
+}
+
+/// What 1 to 20 digits write as dollars, in nanodollars.
+fn whole_dollars_in(text: &[u8]) -> Option<u128>
+    ensures number { result ≡ whole_dollars text.now }
+    ensures high { IfSome result (λ n. n ≤ 99999999999999999999000000000) }
+{
+    let number = twenty_digits_in(text)?;
+    Some(number * 1_000_000_000)
+}
+
+/// What nine digits write.
+fn nine_decimals_in(text: &[u8]) -> Option<u64>
+    ensures number { result ≡ nine_decimals text.now }
+    ensures high { IfSome result (λ n. n ≤ 999999999) }
+{
+    if text.len() == 9 {
+        parse_digits(text, 9)
+    } else {
+        None
+    }
+}
+
+/// What 1 to 20 digits write: a twentieth is read apart, since it may not fit 64 bits.
+fn twenty_digits_in(text: &[u8]) -> Option<u128>
+    ensures number { result ≡ number_in 20 text.now }
+    ensures high { IfSome result (λ n. n < 10 ^ 20) }
+{
+    if text.len() != 20 {
+        let number = parse_digits(text, 19)?;
+        return Some(u128::from(number));
+    }
+    let (front, last) = text.split_at(19);
+    let front = parse_digits(front, 19)?;
+    let last = parse_digits(last, 1)?;
+    Some(u128::from(front) * 10 + u128::from(last))
+}
+
+/// The last three digits of a number.
+#[derive(Drop)]
+struct ThreeDigits(u128);
+
+impl fmt::Display for ThreeDigits {
+    ghost output = { λ d. Some (three_digits d.0) };
+
+    #[tactic(auto, using(std::proofs::lemmas::Fmt::decimal_digit))]
+    fn fmt<W: fmt::Write>(&self, f: &mut fmt::Formatter<W>) -> fmt::Result {
+        let (a, b, c) = (self.0 / 100 % 10, self.0 / 10 % 10, self.0 % 10);
+        write!(f, "{a}{b}{c}")
+    }
+}
+
+impl fmt::Display for Money {
+    ghost output = { λ m. Some (money_text m) };
+
+    /// A minus where negative, dollars with nine decimals, and no leading zeros but one before the
+    /// point.
+    fn fmt<W: fmt::Write>(&self, f: &mut fmt::Formatter<W>) -> fmt::Result {
+        let sign = if self.get() < 0 { "-" } else { "" };
+        let amount = self.get().unsigned_abs();
+        let dollars = amount / 1_000_000_000;
+        let (milli, micro, nano) = (
+            ThreeDigits(amount / 1_000_000),
+            ThreeDigits(amount / 1000),
+            ThreeDigits(amount),
+        );
+        write!(f, "{sign}{dollars}.{milli}{micro}{nano}")
+    }
+}
