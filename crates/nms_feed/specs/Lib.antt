@@ -1,0 +1,4 @@
+pub use Rattle.nms_quote.specs.Merge as Merge
+pub mod Known
+pub mod Lane
+pub mod Rule

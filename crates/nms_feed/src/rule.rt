@@ -1,0 +1,73 @@
+//! The rule of the lane's queue (specs/Rule), and what each step over the queue tells.
+ghost use Rattle.std.specs.Prelude.{◌≡◌, ◌<◌, ◌^◌, ◌∷◌, ◌++◌, [], length};
+ghost use Rattle.std.specs.List.{AllByRecursion};
+ghost use Rattle.nms_quote.specs.Merge.{of_feed};
+ghost use Rattle.nms_feed.specs.Known.{first_alone, first_sent, first_view, gathered, sender_view, spent_view, taken_in, taker_view, without_first};
+ghost use Rattle.nms_feed.specs.Rule.{Kept};
+
+use crate::known::Known;
+use crossbeam_queue::protocol::{Join, Lesson, Outcome, Protocol, Split};
+use crossbeam_queue::{Pass, RuledArrayQueue};
+use nms_quote::Marked;
+
+/// The queue inside a lane.
+pub type Line = RuledArrayQueue<Marked, Known, InOrder>;
+
+/// What one end of a lane knows of the queue. It has no bytes.
+pub type LinePass = Pass<Marked, Known>;
+
+/// The rule: what was taken, followed by what is in the queue, is what the senders sent.
+pub struct InOrder;
+
+impl Protocol<Marked, Known> for InOrder {
+    ghost holds = { Kept };
+
+    ghost first = { first_view };
+}
+
+/// A change is sent.
+pub struct Sends;
+
+impl Outcome<Marked, Known> for Sends {
+    ghost then = { λ known marked after. after ≡ sender_view marked.feed (first_sent known.sent ++ marked.change ∷ []) };
+}
+
+impl Lesson<Marked, Known> for Sends {
+    ghost fact = { λ known items. Unit {0} };
+}
+
+/// A change is taken.
+pub struct Takes;
+
+impl Outcome<Marked, Known> for Takes {
+    ghost then = { λ known marked after. (after ≡ taker_view (taken_in known ++ marked ∷ [])) × (length (taken_in known) < 2 ^ 41) };
+}
+
+impl Lesson<Marked, Known> for Takes {
+    ghost fact = { λ known items. Unit {0} };
+}
+
+/// A pass is cut off that may send for the first feed alone.
+pub struct FirstFeed;
+
+impl Split<Known> for FirstFeed {
+    ghost left = { without_first };
+
+    ghost right = { first_alone };
+}
+
+/// A pass takes in what another knows.
+pub struct Gathers;
+
+impl Join<Known> for Gathers {
+    ghost both = { gathered };
+
+    ghost spent = { spent_view };
+}
+
+/// What was sent for each feed is what was taken of it, followed by what is in the queue of it.
+pub struct Tallies;
+
+impl Lesson<Marked, Known> for Tallies {
+    ghost fact = { λ known items. AllByRecursion (λ sent. sent.changes ≡ of_feed sent.feed (taken_in known ++ items)) known.sent };
+}
