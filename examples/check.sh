@@ -28,6 +28,9 @@ example 0 $at/first.out $at/first.script
 example 0 $at/refused.out $at/refused.script
 example 0 $at/halt.out $at/halt.script
 example 0 $at/steps.out $at/steps.script script --setup $at/small.toml
+example 0 $at/full_tape.out $at/full_tape.script script --setup $at/full_tape.toml
+example 6 /dev/null /dev/null report $at/full_tape.changes ABC --setup $at/full_tape.toml
+grep -qx 'nms_tool: F4' "$err" || { echo "DIFFERS: $at/full_tape.changes is not refused as F4"; failed=1; }
 example 0 $at/lots.out $at/lots.script script --setup $at/lots.toml
 example 0 $at/market.out $at/market.script script --setup $at/market.toml
 example 0 $at/first.out $at/first.script script --setup $at/builtin.toml
@@ -35,4 +38,5 @@ example 0 $at/first.report /dev/null report $at/first.changes ABC
 example 0 $at/pairs.report /dev/null report $at/pairs.changes ABC
 example 3 /dev/null $at/first.script script --setup $at/over_cap.toml
 grep -qx 'nms_tool: C7' "$err" || { echo "DIFFERS: $at/over_cap.toml is not refused as C7"; failed=1; }
+$at/bundle.sh check || failed=1
 exit $failed
