@@ -1,16 +1,26 @@
 #!/usr/bin/env python3
 """Makes a load for the program: a script and the setup that it runs under.
 
-    generate.py PARTICIPANTS SYMBOLS RECORDS FOLDER [SEED]
+    generate.py LOAD RECORDS FOLDER [SEED]
 
-Writes FOLDER/load.csv and FOLDER/setup.toml. The same numbers and seed give the same bytes. Every 64th
-record publishes (`F`), every 16th in between looks (`N`), and the others are quotes (`Q`) of prices that
+LOAD is one of
+
+    quotes      quotations of 16 participants in 200 symbols, a look for the best bid and offer every 16
+                records, a publishing every 64
+    wide        the same, of 32 participants in 1,000 symbols
+    looks       as quotes, but 15 of 16 records look
+    withdraws   as wide, but every other record withdraws a participant from every symbol
+
+Writes FOLDER/load.csv and FOLDER/setup.toml. The same load, number and seed give the same bytes. Prices
 drift by a cent, so that sides repeat, improve, lock and cross as in a market.
 """
 
 import random
 import sys
 from pathlib import Path
+
+# Participants and symbols of each load.
+SIZES = {"quotes": (16, 200), "wide": (32, 1000), "looks": (16, 200), "withdraws": (32, 1000)}
 
 
 def name(place, letters):
@@ -36,30 +46,50 @@ def side(draw, cents):
     return f"{cents // 100}.{cents % 100:02},{100 * draw.randint(1, 20) + draw.choice((0, 0, 0, 37))}"
 
 
-def script(participants, symbols, records, draw):
-    middle = [draw.randint(500, 50_000) for _ in range(symbols)]
-    for number in range(1, records + 1):
-        symbol = draw.randrange(symbols)
+class Script:
+    """The records of a load, one after another."""
+
+    def __init__(self, load, seed):
+        self.load = load
+        self.participants, self.symbols = SIZES[load]
+        self.draw = random.Random(f"{load} {seed}")
+        self.middle = [self.draw.randint(500, 50_000) for _ in range(self.symbols)]
+
+    def participant(self):
+        return name(self.draw.randrange(self.participants), 2)
+
+    def look(self):
+        return f"N,{self.draw.randrange(4)},{name(self.draw.randrange(self.symbols), 3)}\n"
+
+    def quotation(self):
+        draw, symbol = self.draw, self.draw.randrange(self.symbols)
+        self.middle[symbol] = max(100, self.middle[symbol] + draw.choice((-1, 0, 0, 1)))
+        bid = side(draw, self.middle[symbol] - draw.randint(0, 4))
+        offer = side(draw, self.middle[symbol] + draw.randint(0, 4))
+        return f"Q,{self.participant()},{name(symbol, 3)},{draw.choice('AAAAAAAAAM')},{bid},{offer}\n"
+
+    def record(self, number):
         if number % 64 == 0:
-            yield "F\n"
-        elif number % 16 == 0:
-            yield f"N,{draw.randrange(4)},{name(symbol, 3)}\n"
-        else:
-            middle[symbol] = max(100, middle[symbol] + draw.choice((-1, 0, 0, 1)))
-            bid = side(draw, middle[symbol] - draw.randint(0, 4))
-            offer = side(draw, middle[symbol] + draw.randint(0, 4))
-            state = draw.choice("AAAAAAAAAM")
-            yield f"Q,{name(draw.randrange(participants), 2)},{name(symbol, 3)},{state},{bid},{offer}\n"
+            return "F\n"
+        looks = number % 16 == 0
+        if self.load == "looks":
+            looks = number % 16 != 8
+        if looks:
+            return self.look()
+        if self.load == "withdraws" and number % 2 == 0:
+            return f"X,{self.participant()}\n"
+        return self.quotation()
 
 
 def main(words):
-    participants, symbols, records = (int(word) for word in words[:3])
-    folder = Path(words[3])
-    draw = random.Random(int(words[4]) if len(words) > 4 else 1)
+    load, records, folder = words[0], int(words[1]), Path(words[2])
+    script = Script(load, int(words[3]) if len(words) > 3 else 1)
     folder.mkdir(parents=True, exist_ok=True)
-    (folder / "setup.toml").write_text("".join(setup(participants, symbols)))
-    with open(folder / "load.csv", "w") as load:
-        load.writelines(script(participants, symbols, records, draw))
+    (folder / "setup.toml").write_text("".join(setup(script.participants, script.symbols)))
+    with open(folder / "load.csv", "w") as file:
+        file.writelines(script.record(number) for number in range(1, records + 1))
 
 
+if len(sys.argv) < 4 or sys.argv[1] not in SIZES:
+    sys.exit(__doc__)
 main(sys.argv[1:])

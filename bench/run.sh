@@ -1,25 +1,23 @@
 #!/usr/bin/env bash
-# Prints how many records a second the built program answers, on four loads: 10,000 and 1,000,000
-# records, for 16 participants with 200 symbols and for 32 with 1,000. The best of five runs counts.
+# Prints how many records a second the built program answers, at 10,000 and 1,000,000 records of each load.
+# The best of RUNS runs counts (7 where it is not set). Needs python3.
+#
+#   bench/run.sh [LOAD ..]        quotes, wide, looks, withdraws; all of them by default
 set -eu
-bench=$(cd "$(dirname "$0")" && pwd)
-"$bench/../nms_tool" script </dev/null
-program=$bench/../crates/nms_tool/out/nms_tool
-loads=${BENCH_LOADS:-$bench/out}
-printf '%12s %8s %9s %10s %12s\n' participants symbols records seconds records/s
-for shape in "16 200" "32 1000"; do
-    read -r participants symbols <<<"$shape"
+. "$(dirname "$0")/loads.sh"
+[ $# -gt 0 ] || set -- quotes wide looks withdraws
+printf '%-10s %9s %10s %12s\n' load records seconds records/s
+for load in "$@"; do
     for records in 10000 1000000; do
-        folder=$loads/$participants-$symbols-$records
-        [ -e "$folder/load.csv" ] || python3 "$bench/generate.py" "$participants" "$symbols" "$records" "$folder"
+        folder=$(load_folder "$load" "$records")
         best=
-        for _ in 1 2 3 4 5; do
+        for ((run = 0; run < ${RUNS:-7}; run++)); do
             from=${EPOCHREALTIME/./}
             "$program" script --setup "$folder/setup.toml" <"$folder/load.csv" >/dev/null
             took=$((${EPOCHREALTIME/./} - from))
             [ -n "$best" ] && [ "$best" -le "$took" ] || best=$took
         done
-        awk -v p="$participants" -v s="$symbols" -v n="$records" -v t="$best" \
-            'BEGIN { printf "%12d %8d %9d %10.3f %12.0f\n", p, s, n, t / 1e6, n * 1e6 / t }'
+        awk -v l="$load" -v n="$records" -v t="$best" \
+            'BEGIN { printf "%-10s %9d %10.3f %12.0f\n", l, n, t / 1e6, n * 1e6 / t }'
     done
 done
