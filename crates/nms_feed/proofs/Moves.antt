@@ -1,5 +1,5 @@
 -- Each step over the lane's queue keeps the rule.
-use Rattle.std.proofs.Common.{ℕ, ◌≡◌, ◌≢◌, ◌+◌, ◌^◌, ◌<◌, ◌≤◌, ◌⊎◌, zero, suc, eqb, eq-eqb, ne_eqb, true, false, List, [], ◌∷◌, ◌++◌, length, set, Option, Some, None, sym, refl, ap, ◌∙◌, subst, inl, inr, ⊎_elim, append_assoc, arith, length-append, if◌then◌else◌}
+use Rattle.std.proofs.Common.{ℕ, ◌≡◌, ◌≢◌, ◌+◌, ◌*◌, ◌<◌, ◌≤◌, ◌⊎◌, zero, suc, eqb, eq-eqb, ne_eqb, true, false, List, [], ◌∷◌, ◌++◌, length, set, Option, Some, None, sym, refl, ap, ◌∙◌, subst, inl, inr, ⊎_elim, append_assoc, arith, length-append, if◌then◌else◌}
 use Rattle.std.specs.List.{AllByRecursion}
 use Rattle.std.proofs.lemmas.Bool.{cases_Bool}
 use Rattle.std.proofs.lemmas.Option.{none-some, same_Some}
@@ -14,6 +14,7 @@ use Rattle.nms_quote.specs.declared.feed.Feed.{Feed}
 use Rattle.nms_quote.specs.declared.feed.Feed.TheVariants as feed
 use Rattle.nms_quote.specs.declared.marked.Marked.{Marked}
 use Rattle.nms_quote.proofs.MergeLemmas.{of_feed-both, of_feed-mine, of_feed-other, same_feed-one, same_feed-self}
+use Rattle.nms_feed.specs.declared.TheConstants.{MOST_SENT}
 use Rattle.nms_feed.specs.declared.known.Known.{Known}
 use Rattle.nms_feed.specs.declared.known.Sent.{Sent}
 use Rattle.nms_feed.specs.Known.{IsSender, IsTaker, first_sent, first_view, gathered, sender_view, sent_for, spent_view, taken_in, taker_view}
@@ -76,8 +77,8 @@ begins = record {
 }
 
 -- each feed's list stays within its limit
-within_push : (g f : Feed) (whole : List Marked) (change : Change) → length (of_feed f whole) < 2 ^ 40 → length (of_feed g whole) ≤ 2 ^ 40
-    → length (of_feed g (whole ++ record { feed = f; change = change } ∷ [])) ≤ 2 ^ 40
+within_push : (g f : Feed) (whole : List Marked) (change : Change) → length (of_feed f whole) < MOST_SENT → length (of_feed g whole) ≤ MOST_SENT
+    → length (of_feed g (whole ++ record { feed = f; change = change } ∷ [])) ≤ MOST_SENT
 within_push g f whole change room le =
     let m : Marked = record { feed = f; change = change } in
     ⊎_elim
@@ -88,7 +89,7 @@ within_push g f whole change room le =
     (cases_Bool (is_same_feed g f))
 
 -- a sender's pass may send while there is room in its list
-pub sends : (n pass : ℕ) (f : Feed) (changes : List Change) (change : Change) → length changes < 2 ^ 40
+pub sends : (n pass : ℕ) (f : Feed) (changes : List Change) (change : Change) → length changes < MOST_SENT
     → Pushes Kept n pass (sender_view f changes) (record { feed = f; change = change }) (λ after. after ≡ sender_view f (changes ++ change ∷ []))
 sends n pass f changes change room items views short kept at =
     let m : Marked = record { feed = f; change = change } in
@@ -122,7 +123,7 @@ sends n pass f changes change room items views short kept at =
     )
 
 -- the taker's pass may take
-pub takes : (pass : ℕ) (taken : List Marked) → Pops Kept pass (taker_view taken) (λ m after. (after ≡ taker_view (taken ++ m ∷ [])) × (length taken < 2 ^ 41))
+pub takes : (pass : ℕ) (taken : List Marked) → Pops Kept pass (taker_view taken) (λ m after. (after ≡ taker_view (taken ++ m ∷ [])) × (length taken < 2 * MOST_SENT))
 takes pass taken m items views kept at =
     let mine : (kept.taker ≡ pass) × (taken ≡ kept.taken) = (kept.each pass (taker_view taken) at).takes taken refl in
     let after : Known = taker_view (taken ++ m ∷ []) in

@@ -1,9 +1,10 @@
 -- What a pass to the lane's queue knows, and how that is cut and put together. This product's own rule.
-use Rattle.std.specs.Prelude.{ℕ, ◌≡◌, ◌≤◌, ◌^◌, List, [], ◌∷◌, ◌++◌, length, map, take, drop, Some, None, unwrap_or}
+use Rattle.std.specs.Prelude.{ℕ, ◌≡◌, ◌≤◌, ◌*◌, List, [], ◌∷◌, ◌++◌, length, map, take, drop, Some, None, unwrap_or}
 use Rattle.nms_quote.specs.Merge.{feeds}
 use Rattle.nms_quote.specs.declared.change.Change.{Change}
 use Rattle.nms_quote.specs.declared.feed.Feed.{Feed}
 use Rattle.nms_quote.specs.declared.marked.Marked.{Marked}
+use Rattle.nms_feed.specs.declared.TheConstants.{MOST_SENT}
 use Rattle.nms_feed.specs.declared.known.Known.{Known}
 use Rattle.nms_feed.specs.declared.known.Sent.{Sent}
 
@@ -51,10 +52,10 @@ taken_in known = unwrap_or known.taken []
 pub record IsSender (known : Known) (feed : Feed) (count : ℕ) : Type 0 where
   pub one : known ≡ sender_view feed (first_sent known.sent)
   pub counted : count ≡ length (first_sent known.sent)
-  pub within : count ≤ 2 ^ 40
+  pub within : count ≤ MOST_SENT
 
 -- what the taker's pass knows: what was taken, so many changes
 pub record IsTaker (known : Known) (count : ℕ) : Type 0 where
   pub one : known ≡ taker_view (taken_in known)
   pub counted : count ≡ length (taken_in known)
-  pub within : count ≤ 2 ^ 41
+  pub within : count ≤ 2 * MOST_SENT

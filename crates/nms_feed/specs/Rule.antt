@@ -1,12 +1,13 @@
 -- The rule of the lane's queue: what was taken, followed by what is in the queue, is what the senders sent,
 -- and each pass knows its part of it. This product's own rule.
-use Rattle.std.specs.Prelude.{ℕ, ◌≡◌, ◌≤◌, ◌^◌, List, ◌++◌, length, Some}
+use Rattle.std.specs.Prelude.{ℕ, ◌≡◌, ◌≤◌, List, ◌++◌, length, Some}
 use Rattle.std.specs.List.{AllByRecursion}
 use mathlib.Core.Option.{some}
 use lib.ListN.{get_elem?}
 use Rattle.nms_quote.specs.Merge.{of_feed}
 use Rattle.nms_quote.specs.declared.feed.Feed.{Feed}
 use Rattle.nms_quote.specs.declared.marked.Marked.{Marked}
+use Rattle.nms_feed.specs.declared.TheConstants.{MOST_SENT}
 use Rattle.nms_feed.specs.declared.known.Known.{Known}
 use Rattle.nms_feed.specs.declared.known.Sent.{Sent}
 
@@ -29,5 +30,5 @@ pub record Kept (items : List Marked) (views : List Known) : Type 0 where
   pub holder : Feed → ℕ
   pub taker : ℕ
   pub order : whole ≡ taken ++ items
-  pub within : (feed : Feed) → length (of_feed feed whole) ≤ 2 ^ 40
+  pub within : (feed : Feed) → length (of_feed feed whole) ≤ MOST_SENT
   pub each : (pass : ℕ) (known : Known) → get_elem? views pass ≡ some known → Fits whole taken holder taker pass known

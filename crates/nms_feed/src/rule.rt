@@ -1,7 +1,8 @@
 //! The rule of the lane's queue (specs/Rule), and what each step over the queue tells.
-ghost use Rattle.std.specs.Prelude.{◌≡◌, ◌<◌, ◌^◌, ◌∷◌, ◌++◌, [], length};
+ghost use Rattle.std.specs.Prelude.{◌≡◌, ◌<◌, ◌*◌, ◌∷◌, ◌++◌, [], length};
 ghost use Rattle.std.specs.List.{AllByRecursion};
 ghost use Rattle.nms_quote.specs.Merge.{of_feed};
+ghost use Rattle.nms_feed.specs.declared.TheConstants.{MOST_SENT};
 ghost use Rattle.nms_feed.specs.Known.{first_alone, first_sent, first_view, gathered, sender_view, spent_view, taken_in, taker_view, without_first};
 ghost use Rattle.nms_feed.specs.Rule.{Kept};
 
@@ -40,7 +41,7 @@ impl Lesson<Marked, Known> for Sends {
 pub struct Takes;
 
 impl Outcome<Marked, Known> for Takes {
-    ghost then = { λ known marked after. (after ≡ taker_view (taken_in known ++ marked ∷ [])) × (length (taken_in known) < 2 ^ 41) };
+    ghost then = { λ known marked after. (after ≡ taker_view (taken_in known ++ marked ∷ [])) × (length (taken_in known) < 2 * MOST_SENT) };
 }
 
 impl Lesson<Marked, Known> for Takes {

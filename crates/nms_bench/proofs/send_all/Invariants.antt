@@ -1,0 +1,9 @@
+use Rattle.std.proofs.Common.{◌≡◌, ◌≤◌, length}
+use Rattle.nms_bench.proofs.send_all.Given as goal
+
+abbrev pub invariant-loop-sent : goal.invariant-loop-sent
+invariant-loop-sent g l = record {
+  lane : l.sender.lane ≡ l.initial.sender.lane;
+  feed : l.sender.feed ≡ l.initial.sender.feed;
+  few : length l.sender.sent ≤ l._sent;
+}
