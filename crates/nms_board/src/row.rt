@@ -1,7 +1,6 @@
 //! A row of a side, which is a quotation: `specs/Quotation`.
 use nms_quote::Part;
 use nms_units::Price;
-use std::default::MadeWith;
 
 /// A quotation: a participant's bid or offer in a symbol that shows at least one round lot
 /// (17 CFR 242.600, "bid or offer"). The wide fields stand first, so that a row takes 24 bytes.
@@ -20,8 +19,8 @@ pub struct Row {
 }
 
 /// The row that stands in a list's unused places.
-impl MadeWith<()> for Row {
-    fn made_with(_none: ()) -> Self {
+impl Default for Row {
+    fn default() -> Self {
         Row {
             price: Price::new(1).unwrap(),
             receipt: 0,

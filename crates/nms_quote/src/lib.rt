@@ -1,6 +1,7 @@
-//! What a quotation change and an order are, and who is on the roster.
+//! What a quotation change, an order, a plan and its certificate are, and who is on the roster.
 #![tactic(auto)]
 
+mod certificate;
 mod change;
 mod feed;
 mod hints;
@@ -9,6 +10,7 @@ mod name;
 mod name_table;
 mod order;
 mod participant;
+mod plan;
 mod roster;
 mod roster_fault;
 mod side_quote;
@@ -23,12 +25,14 @@ pub const MOST_SYMBOLS: u16 = 1000;
 /// The most changes of a tape. This product's own rule.
 pub const MOST_CHANGES: u64 = 10_000_000;
 
+pub use certificate::{Certificate, Cut, CutKind};
 pub use change::Change;
 pub use feed::Feed;
 pub use marked::Marked;
 pub use name::{is_part_name, is_symbol_name};
 pub use order::{Order, OrderSide};
 pub use participant::Part;
+pub use plan::{Leg, Plan};
 pub use roster::Roster;
 pub use roster_fault::RosterFault;
 pub use side_quote::{QState, Side, SideQuote};

@@ -6,9 +6,10 @@ use nms_units::{Price, Shares};
 use std::marker::Model;
 
 /// The two sides of a market (17 CFR 242.600, "bid or offer").
-#[derive(Clone, Copy, Debug, PartialEq, Eq, Hash)]
+#[derive(Clone, Copy, Debug, Default, PartialEq, Eq, Hash)]
 pub enum Side {
     /// The side of those who would buy: a higher price is better.
+    #[default]
     Bid,
     /// The side of those who would sell: a lower price is better.
     Offer,

@@ -1,0 +1,44 @@
+//! What is sent where to fill an order: a plan and its legs.
+use crate::order::Order;
+use crate::participant::Part;
+use arrayvec::ArrayVec;
+use nms_units::{Money, Price, Shares};
+
+/// An order that is routed to one participant, at the price of its quotation (17 CFR 242.600, "intermarket
+/// sweep order").
+#[derive(Clone, Copy, Debug, PartialEq, Eq)]
+pub struct Leg {
+    /// Where it goes.
+    pub part: Part,
+    /// Its limit price, in 1/10,000 dollar.
+    pub price: Price,
+    /// How many shares, 0 to 999,999,999. A lawful plan has no leg of 0.
+    pub shares: Shares,
+}
+
+/// The leg that stands in a list's unused places.
+impl Default for Leg {
+    fn default() -> Self {
+        Leg {
+            part: Part::new(0).unwrap(),
+            price: Price::new(1).unwrap(),
+            shares: Shares::new(0).unwrap(),
+        }
+    }
+}
+
+/// A plan to fill an order with quotations of one published version. It need not be lawful: `nms_rules` says
+/// what breaks it.
+#[derive(Debug, Drop)]
+pub struct Plan {
+    /// The number of the version that it was made on.
+    pub version: u64,
+    /// What was asked for.
+    pub order: Order,
+    /// What is sent where, at most one leg for each participant.
+    pub legs: ArrayVec<Leg, 32>,
+    /// The shares of all legs.
+    pub filled: u32,
+    /// What they cost with the participants' fees, in nanodollars; negative for a sale.
+    pub cost: Money,
+}

@@ -1,0 +1,62 @@
+-- The quotations that an order may trade with, and how shares are spread over them. A buyer trades with offers
+-- and a seller with bids, at the limit or better (17 CFR 242.600, "intermarket sweep order"). That a manual
+-- quotation may be used where the order says so is this product's own rule.
+use Rattle.std.specs.Prelude.{ℕ, ℤ, pos, neg_ℤ, ◌&&◌, ◌||◌, Bool, not, List, filter, map}
+use Rattle.nms_quote.specs.Terms.{Terms}
+use Rattle.nms_quote.specs.declared.order.OrderSide.{OrderSide}
+use Rattle.nms_quote.specs.declared.order.OrderSide.TheVariants.{Buy, Sell}
+use Rattle.nms_quote.specs.declared.side_quote.Side.{Side}
+use Rattle.nms_quote.specs.declared.side_quote.Side.TheVariants.{Bid, Offer}
+use Rattle.nms_board.specs.Ranking.{better_price}
+use Rattle.nms_board.specs.View.{Seen, rows_on}
+use Rattle.nms_board.specs.declared.row.Row.{Row}
+use Rattle.nms_fees.specs.Fees.{unit_cost_of}
+use Rattle.nms_fees.specs.declared.fee_schedule.FeeSchedule.{FeeSchedule}
+
+-- the side that an order trades with
+abbrev pub contra : OrderSide → Side
+contra Buy = Offer
+contra Sell = Bid
+
+abbrev pub contra_rows : OrderSide → Seen → List Row
+contra_rows side seen = rows_on (contra side) seen
+
+-- whether one price is better for the order than another
+abbrev pub is_better : OrderSide → ℕ → ℕ → Bool
+is_better side price other = better_price (contra side) price other
+
+-- a price's rank for the order: the lower, the better
+abbrev pub rank_of : OrderSide → ℕ → ℤ
+rank_of Buy price = pos price
+rank_of Sell price = neg_ℤ (pos price)
+
+-- a quotation that the order may trade with, but for its price: a protected one, or a manual one by its leave
+abbrev pub is_allowed : Terms → Row → Bool
+is_allowed order row = row.protected || order.manual
+
+-- and at its price: not beyond the limit
+abbrev pub is_usable : Terms → Row → Bool
+is_usable order row = is_allowed order row && not (is_better order.side order.limit row.price)
+
+-- a usable row with its rank, and what a share costs there with the fee
+pub record Usable : Type 0 where
+  pub part : ℕ
+  pub rank : ℤ
+  pub price : ℕ
+  pub size : ℕ
+  pub protected : Bool
+  pub cost : ℤ
+
+abbrev pub usable_row : Terms → List FeeSchedule → Row → Usable
+usable_row order fees row = record {
+  part = row.part;
+  rank = rank_of order.side row.price;
+  price = row.price;
+  size = row.size;
+  protected = row.protected;
+  cost = unit_cost_of fees row.part order.side row.price;
+}
+
+-- the usable rows, by participant place
+abbrev pub usable : Seen → Terms → List FeeSchedule → List Usable
+usable seen order fees = map (usable_row order fees) (filter (is_usable order) (contra_rows order.side seen))

@@ -1,0 +1,61 @@
+//! What breaks a plan.
+use nms_quote::Part;
+
+/// What breaks a plan, least number first. Only the first that holds is told.
+#[derive(Clone, Copy, Debug, PartialEq, Eq)]
+pub enum Breach {
+    /// P1: the plan is of another version than the view.
+    OtherVersion,
+    /// P2: the plan is for another order than the one given, or for another symbol than the view's.
+    OtherOrder,
+    /// P3: a leg's participant has no quotation on the contra side, or a manual one that the order does not
+    /// allow.
+    NoSuchQuotation,
+    /// P4: a leg's price is not that of the quotation.
+    PriceDiffers,
+    /// P5: a leg has 0 shares.
+    ZeroLeg,
+    /// P6: a leg has more shares than the quotation displays.
+    OverSize,
+    /// P7: two legs go to one participant.
+    Repeated,
+    /// P8: a leg's price is worse than the limit.
+    BeyondLimit,
+    /// P9: the legs have more shares than were asked for.
+    OverAsked,
+    /// P10: a protected quotation at a strictly better price than some leg's gets less than its full displayed
+    /// size (17 CFR 242.611).
+    TradedThrough {
+        /// Its participant, the least place where several are traded through.
+        part: Part,
+    },
+    /// P11: `filled` is not the sum of the legs' shares.
+    FilledWrong,
+    /// P12: `cost` is not what the legs cost with fees.
+    CostWrong,
+}
+
+impl Breach {
+    ghost use Rattle.std.specs.Prelude.{◌≡◌};
+    ghost use Rattle.nms_rules.specs.Codes.{code_of};
+
+    /// The code of the breach, `P1` to `P12`.
+    pub fn code(self) -> &'static str
+        ensures { result.now ≡ code_of self }
+    {
+        match self {
+            Breach::OtherVersion => "P1",
+            Breach::OtherOrder => "P2",
+            Breach::NoSuchQuotation => "P3",
+            Breach::PriceDiffers => "P4",
+            Breach::ZeroLeg => "P5",
+            Breach::OverSize => "P6",
+            Breach::Repeated => "P7",
+            Breach::BeyondLimit => "P8",
+            Breach::OverAsked => "P9",
+            Breach::TradedThrough { .. } => "P10",
+            Breach::FilledWrong => "P11",
+            Breach::CostWrong => "P12",
+        }
+    }
+}

@@ -1,0 +1,241 @@
+//! Tests of a leg against the quotation that it goes to, and of all legs together: `specs/Breach`.
+ghost use Rattle.std.specs.Prelude.{◌≡◌, ◌≤◌, ◌^◌, ◌+ℤ◌, ◌≤ℤ◌, neg_ℤ, pos, length};
+ghost use Rattle.nms_rules.specs.Breach.{first_traded_through, goes_to, has_leg_beyond, has_no_shares, has_other_price, has_repeat, is_beyond_limit, is_over_size, is_traded_through, lacks_quotation, row_for, some_has_no_shares, some_has_other_price, some_is_beyond_limit, some_is_over_size, some_lacks_quotation};
+ghost use Rattle.nms_rules.specs.Faultless.{cost_of, given_by, leg_cost, sum_of};
+ghost use Rattle.nms_rules.specs.Usable.{contra, is_better};
+
+use arrayvec::ArrayVec;
+use nms_board::{Row, View};
+use nms_fees::FeeBook;
+use nms_quote::{Leg, Order, OrderSide, Part, Side};
+use nms_units::{Money, Price};
+
+/// The side that an order trades with.
+pub(crate) fn contra(side: OrderSide) -> Side
+    ensures { result ≡ contra side }
+{
+    match side {
+        OrderSide::Buy => Side::Offer,
+        OrderSide::Sell => Side::Bid,
+    }
+}
+
+/// Whether a price is better for the order than another one.
+pub(crate) fn is_better(side: OrderSide, price: Price, other: Price) -> bool
+    ensures { result ≡ is_better side price other }
+{
+    match side {
+        OrderSide::Buy => price < other,
+        OrderSide::Sell => price > other,
+    }
+}
+
+/// The quotation that a leg goes to.
+fn row_for(view: &View, side: OrderSide, leg: &Leg) -> Option<Row>
+    ensures { result ≡ row_for view.now side leg.now }
+{
+    view.row(contra(side), leg.part)
+}
+
+/// Whether a leg goes to no quotation, or to a manual one without the order's leave.
+fn lacks_quotation(view: &View, order: &Order, leg: &Leg) -> bool
+    ensures { result ≡ lacks_quotation order.now (row_for view.now order.now.side leg.now) }
+{
+    match row_for(view, order.side, leg) {
+        None => true,
+        Some(row) => !(row.protected || order.manual),
+    }
+}
+
+/// Whether a leg has another price than its quotation.
+fn has_other_price(view: &View, order: &Order, leg: &Leg) -> bool
+    ensures { result ≡ has_other_price leg.now (row_for view.now order.now.side leg.now) }
+{
+    match row_for(view, order.side, leg) {
+        None => false,
+        Some(row) => leg.price != row.price,
+    }
+}
+
+/// Whether a leg has more shares than its quotation displays.
+fn is_over_size(view: &View, order: &Order, leg: &Leg) -> bool
+    ensures { result ≡ is_over_size leg.now (row_for view.now order.now.side leg.now) }
+{
+    match row_for(view, order.side, leg) {
+        None => false,
+        Some(row) => leg.shares.get() > row.size,
+    }
+}
+
+/// Whether a leg has no shares.
+fn has_no_shares(leg: &Leg) -> bool
+    ensures { result ≡ has_no_shares leg.now }
+{
+    leg.shares.get() == 0
+}
+
+/// Whether a leg's price is worse than the limit.
+fn is_beyond_limit(order: &Order, leg: &Leg) -> bool
+    ensures { result ≡ is_beyond_limit order.now leg.now }
+{
+    is_better(order.side, order.limit, leg.price)
+}
+
+/// Whether some leg goes to no quotation, or to a manual one without the order's leave.
+#[tactic(auto, unfolding(crate::specs::Breach::some_lacks_quotation))]
+pub(crate) fn some_lacks_quotation(view: &View, order: &Order, legs: &[Leg]) -> bool
+    ensures { result ≡ some_lacks_quotation view.now order.now legs.now }
+{
+    legs.iter().any(|leg| lacks_quotation(view, order, leg))
+}
+
+/// Whether some leg has another price than its quotation.
+#[tactic(auto, unfolding(crate::specs::Breach::some_has_other_price))]
+pub(crate) fn some_has_other_price(view: &View, order: &Order, legs: &[Leg]) -> bool
+    ensures { result ≡ some_has_other_price view.now order.now legs.now }
+{
+    legs.iter().any(|leg| has_other_price(view, order, leg))
+}
+
+/// Whether some leg has no shares.
+#[tactic(auto, unfolding(crate::specs::Breach::some_has_no_shares))]
+pub(crate) fn some_has_no_shares(legs: &[Leg]) -> bool
+    ensures { result ≡ some_has_no_shares legs.now }
+{
+    legs.iter().any(|leg| has_no_shares(leg))
+}
+
+/// Whether some leg has more shares than its quotation displays.
+#[tactic(auto, unfolding(crate::specs::Breach::some_is_over_size))]
+pub(crate) fn some_is_over_size(view: &View, order: &Order, legs: &[Leg]) -> bool
+    ensures { result ≡ some_is_over_size view.now order.now legs.now }
+{
+    legs.iter().any(|leg| is_over_size(view, order, leg))
+}
+
+/// Whether some leg's price is worse than the limit.
+#[tactic(auto, unfolding(crate::specs::Breach::some_is_beyond_limit))]
+pub(crate) fn some_is_beyond_limit(order: &Order, legs: &[Leg]) -> bool
+    ensures { result ≡ some_is_beyond_limit order.now legs.now }
+{
+    legs.iter().any(|leg| is_beyond_limit(order, leg))
+}
+
+/// Whether some leg goes to the participant.
+fn has_leg_to(legs: &[Leg], part: Part) -> bool
+    ensures { result ≡ goes_to part legs.now }
+{
+    legs.iter().any(|leg| leg.part == part)
+}
+
+/// Whether two legs go to one participant.
+#[tactic(auto, unfolding(crate::specs::Breach::has_repeat))]
+pub(crate) fn has_repeat(legs: &[Leg]) -> bool
+    ensures { result ≡ has_repeat legs.now }
+{
+    let mut behind = legs;
+    while let Some((leg, more)) = behind.split_first() {
+        if has_leg_to(more, leg.part) {
+            return true;
+        }
+        behind = more;
+    }
+    false
+}
+
+/// The shares of the legs to a participant.
+fn given_to(legs: &ArrayVec<Leg, 32>, part: Part) -> u64
+    ensures { result ≡ given_by legs.now.items part }
+{
+    let mut given = 0;
+    for leg in legs.as_slice() {
+        given += if leg.part == part {
+            u64::from(leg.shares.get())
+        } else {
+            0
+        };
+    }
+    given
+}
+
+/// The first protected quotation that the legs trade through, by participant place.
+pub(crate) fn first_traded_through(
+    view: &View,
+    side: OrderSide,
+    legs: &ArrayVec<Leg, 32>,
+) -> Option<Row>
+    ensures { result ≡ first_traded_through view.now side legs.now.items }
+{
+    for row in view.rows(contra(side)) {
+        if is_traded_through(side, legs, row) {
+            return Some(*row);
+        }
+    }
+    None
+}
+
+/// Whether the legs trade through a quotation: it is protected, gets less than its full size, and some leg has a
+/// worse price.
+#[tactic(auto, unfolding(crate::specs::Breach::is_traded_through))]
+fn is_traded_through(side: OrderSide, legs: &ArrayVec<Leg, 32>, row: &Row) -> bool
+    ensures { result ≡ is_traded_through side legs.now.items row.now }
+{
+    if !row.protected {
+        return false;
+    }
+    if given_to(legs, row.part) >= u64::from(row.size) {
+        return false;
+    }
+    has_leg_beyond(side, legs.as_slice(), row.price)
+}
+
+/// Whether some leg has a worse price than this one.
+fn has_leg_beyond(side: OrderSide, legs: &[Leg], price: Price) -> bool
+    ensures { result ≡ has_leg_beyond side price legs.now }
+{
+    legs.iter().any(|leg| is_better(side, price, leg.price))
+}
+
+/// The shares of all legs.
+pub(crate) fn sum_of(legs: &[Leg]) -> u64
+    requires { length legs.now ≤ 32 }
+    ensures { result ≡ sum_of legs.now }
+{
+    let mut sum = 0;
+    for leg in legs {
+        sum += u64::from(leg.shares.get());
+    }
+    sum
+}
+
+/// What all legs cost, with fees.
+pub(crate) fn cost_of(fees: &FeeBook, side: OrderSide, legs: &[Leg]) -> Money
+    requires { length legs.now ≤ 32 }
+    ensures { result ≡ cost_of fees.now side legs.now }
+{
+    let mut cost = Money::new(0);
+    for leg in legs {
+        cost = plus(cost, leg_cost(fees, side, leg));
+    }
+    cost
+}
+
+/// The sum of two amounts that are far from the ends of their type.
+fn plus(one: Money, other: Money) -> Money
+    requires low { (neg_ℤ (pos (2 ^ 100)) ≤ℤ one) × (neg_ℤ (pos (2 ^ 100)) ≤ℤ other) }
+    requires high { (one ≤ℤ pos (2 ^ 100)) × (other ≤ℤ pos (2 ^ 100)) }
+    ensures { result ≡ one +ℤ other }
+{
+    Money::new(one.get() + other.get())
+}
+
+/// What a leg costs, with its fee.
+fn leg_cost(fees: &FeeBook, side: OrderSide, leg: &Leg) -> Money
+    ensures cost { result ≡ leg_cost fees.now side leg.now }
+    ensures low { neg_ℤ (pos (2 ^ 93)) ≤ℤ result }
+    ensures high { result ≤ℤ pos (2 ^ 93) }
+{
+    let unit = fees.unit_cost(leg.part, side, leg.price).get();
+    let shares = leg.shares.get();
+    Money::new(unit * i128::from(shares))
+}
