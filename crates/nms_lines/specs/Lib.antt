@@ -9,6 +9,10 @@ pub mod Layout
 pub mod LineOf
 pub mod Lines
 pub mod Numbers
+pub mod PlanFaults
+pub mod PlanReading
+pub mod PlanText
+pub mod PlanWriter
 pub mod Records
 pub mod Sides
 pub mod Sources

@@ -12,6 +12,8 @@ mod line_fault;
 mod line_reading;
 mod name;
 mod number;
+mod plan_text_fault;
+mod plan_writing;
 mod record_fault;
 mod record_reading;
 mod side;
@@ -21,6 +23,8 @@ pub use laws::the_least_fault_is_read;
 pub use line::{Kind, Line, Reading};
 pub use line_fault::LineFault;
 pub use line_reading::read_line;
+pub use plan_text_fault::PlanTextFault;
+pub use plan_writing::write_plan;
 pub use record_fault::RecordFault;
 pub use record_reading::{open_records, read_next};
 

@@ -1,0 +1,62 @@
+-- A plan and its certificate as records: the plan, its legs, its cuts, and an end. This product's own rule.
+use Rattle.std.specs.Prelude.{ℕ, Bool, true, false, List, [], ◌∷◌, ◌++◌, codes, map}
+use Rattle.std.specs.List.{flat_map}
+use Rattle.std.specs.Fmt.{decimal}
+use Rattle.csv.specs.Writing.{default_writer, row_text}
+use Rattle.nms_units.specs.Price.{price_text}
+use Rattle.nms_units.specs.Money.{money_text}
+use Rattle.nms_quote.specs.Roster.{Listing, part_text, symbol_text}
+use Rattle.nms_quote.specs.declared.order.OrderSide.{OrderSide}
+use Rattle.nms_quote.specs.declared.order.OrderSide.TheVariants.{Buy, Sell}
+use Rattle.nms_quote.specs.declared.plan.Leg.{Leg}
+use Rattle.nms_quote.specs.declared.plan.Plan.{Plan}
+use Rattle.nms_quote.specs.declared.certificate.Cut.{Cut}
+use Rattle.nms_quote.specs.declared.certificate.CutKind.{CutKind}
+use Rattle.nms_quote.specs.declared.certificate.CutKind.TheVariants as kind
+use Rattle.nms_lines.specs.Layout.{Record}
+
+-- the letter of an order's side
+abbrev pub side_letter : OrderSide → List ℕ
+side_letter Buy = codes "B"
+side_letter Sell = codes "S"
+
+-- the flag of an order that may trade with manual quotations
+abbrev pub flag_text : Bool → List ℕ
+flag_text true = codes "M"
+flag_text false = []
+
+-- PLAN,version,side,sym,shares,limit,flag,filled,cost
+abbrev pub plan_record : Listing → Plan → Record
+plan_record roster plan =
+    codes "PLAN" ∷ decimal plan.version ∷ side_letter plan.order.side ∷ symbol_text roster plan.order.sym ∷ decimal plan.order.shares
+    ∷ price_text plan.order.limit ∷ flag_text plan.order.manual ∷ decimal plan.filled ∷ money_text plan.cost ∷ []
+
+-- LEG,part,price,shares
+abbrev pub leg_record : Listing → Leg → Record
+leg_record roster leg = codes "LEG" ∷ part_text roster leg.part ∷ price_text leg.price ∷ decimal leg.shares ∷ []
+
+-- what a cut says, and the money that one more share costs, where it says that
+abbrev pub kind_fields : CutKind → Record
+kind_fields kind.TooMuch = codes "TOOMUCH" ∷ [] ∷ []
+kind_fields kind.TooLittle = codes "TOOLITTLE" ∷ [] ∷ []
+kind_fields (kind.Marginal money) = codes "MARGINAL" ∷ money_text money ∷ []
+
+-- CUT,price,kind,value
+abbrev pub cut_record : Cut → Record
+cut_record cut = codes "CUT" ∷ price_text cut.price ∷ kind_fields cut.kind
+
+-- END
+abbrev pub end_record : Record
+end_record = codes "END" ∷ []
+
+-- all of them, in order
+abbrev pub plan_records : Listing → Plan → List Cut → List Record
+plan_records roster plan cuts = plan_record roster plan ∷ (map (leg_record roster) plan.legs.items ++ (map cut_record cuts ++ (end_record ∷ [])))
+
+-- records as `csv` writes them: commas, a line feed behind each, quotes where a field needs them
+abbrev pub csv_text : List Record → List ℕ
+csv_text records = flat_map (row_text default_writer) records
+
+-- the text of a plan and its certificate
+abbrev pub plan_text : Listing → Plan → List Cut → List ℕ
+plan_text roster plan cuts = csv_text (plan_records roster plan cuts)

@@ -1,0 +1,40 @@
+//! Why a plan was not read or written: `specs/PlanFaults`.
+use std::alloc::AllocError;
+use thiserror::Error;
+
+/// Why a plan was not read from text, or not written as text.
+#[derive(Clone, Copy, Debug, PartialEq, Eq, Error)]
+pub enum PlanTextFault {
+    /// L11: the text is not exactly that of a plan and its certificate.
+    #[error("L11: not the text of a plan")]
+    BadPlanText,
+    /// L12: memory ran out.
+    #[error("L12: out of memory")]
+    NoMemory,
+    /// L13: the text could not be written; how much of it went out is not said.
+    #[error("L13: a write failed")]
+    WriteFault,
+}
+
+impl PlanTextFault {
+    ghost use Rattle.std.specs.Prelude.{◌≡◌};
+    ghost use Rattle.nms_lines.specs.PlanFaults.{code_of};
+
+    /// The code that messages name it by, `L11` to `L13`.
+    pub fn code(self) -> &'static str
+        ensures { result.now ≡ code_of self }
+    {
+        match self {
+            PlanTextFault::BadPlanText => "L11",
+            PlanTextFault::NoMemory => "L12",
+            PlanTextFault::WriteFault => "L13",
+        }
+    }
+}
+
+/// Memory that ran out.
+impl From<AllocError> for PlanTextFault {
+    fn from(_: AllocError) -> Self {
+        PlanTextFault::NoMemory
+    }
+}

@@ -1,0 +1,219 @@
+//! A plan and its certificate as text: `specs/PlanText`.
+ghost use Rattle.std.specs.Prelude.{◌≡◌, ◌<◌, ◌++◌, ◌∷◌, [], ℕ, List, All, IfOk, OnOk, codes, length, map};
+ghost use Rattle.std.specs.Io.KnownBytes.{Appends};
+ghost use Rattle.csv.specs.Records.{fields_of, partial_of};
+ghost use Rattle.csv.specs.Writing.{row_text, default_writer};
+ghost use Rattle.nms_lines.specs.PlanText.{csv_text, cut_record, end_record, flag_text, kind_fields, leg_record, plan_record, plan_text, side_letter};
+ghost use Rattle.nms_lines.specs.PlanWriter.{HasWritten};
+
+use crate::plan_text_fault::PlanTextFault;
+use csv::{ByteRecord, Writer, WriterBuilder};
+use nms_quote::{Certificate, Cut, CutKind, Leg, OrderSide, Plan, Roster};
+use std::alloc::{AllocError, Global};
+use std::io::Write;
+
+/// Writes a plan and its certificate as text: a record of the plan, one for each leg, one for each cut, and an
+/// end; prices with four decimals, money with nine.
+///
+/// `NoMemory` where memory ran out, and then nothing was written; `WriteFault` where the writer failed, and then
+/// some of the text may have gone out. The writer is not flushed.
+pub fn write_plan<W: Write>(
+    alloc: Global,
+    plan: &Plan,
+    certificate: &Certificate,
+    roster: &Roster,
+    out: &mut W,
+) -> Result<(), PlanTextFault>
+    requires parts { All (λ leg. leg.part < length roster.now.parts) plan.now.legs.items }
+    requires sym { plan.now.order.sym < length roster.now.syms }
+    ensures written { OnOk result (Appends (W.contents out.old) (W.contents out.new) (plan_text roster.now plan.now certificate.now.items)) }
+{
+    let text = text_of_plan(alloc, plan, certificate, roster)?;
+    match out.write_all(text.as_slice()) {
+        Ok(()) => Ok(()),
+        Err(_) => Err(PlanTextFault::WriteFault),
+    }
+}
+
+/// The text of a plan and its certificate.
+fn text_of_plan(
+    alloc: Global,
+    plan: &Plan,
+    certificate: &Certificate,
+    roster: &Roster,
+) -> Result<Vec<u8>, PlanTextFault>
+    requires parts { All (λ leg. leg.part < length roster.now.parts) plan.now.legs.items }
+    requires sym { plan.now.order.sym < length roster.now.syms }
+    ensures text { IfOk result (λ text. text.items ≡ plan_text roster.now plan.now certificate.now.items) }
+{
+    let mut writer = WriterBuilder::new()
+        .flexible(true)
+        .from_writer(Vec::new(alloc));
+    let mut row = ByteRecord::new(alloc);
+    fill_plan(alloc, &mut row, plan, roster)?;
+    write_row(&mut writer, &row)?;
+    write_legs(alloc, &mut writer, &mut row, plan.legs.as_slice(), roster)?;
+    write_cuts(alloc, &mut writer, &mut row, certificate.as_slice())?;
+    fill_end(&mut row)?;
+    write_row(&mut writer, &row)?;
+    match writer.into_inner() {
+        Ok(text) => Ok(text),
+        Err(_) => Err(PlanTextFault::NoMemory),
+    }
+}
+
+/// Writes the records of legs.
+fn write_legs<W: Write + Drop>(
+    alloc: Global,
+    writer: &mut Writer<W>,
+    row: &mut ByteRecord,
+    legs: &[Leg],
+    roster: &Roster,
+) -> Result<(), PlanTextFault>
+    requires { All (λ leg. leg.part < length roster.now.parts) legs.now }
+    ensures { (text : List ℕ) → HasWritten W.contents writer.old text
+        → OnOk result (HasWritten W.contents writer.new (text ++ csv_text (map (leg_record roster.now) legs.now))) }
+{
+    for leg in legs {
+        fill_leg(alloc, row, leg, roster)?;
+        write_row(writer, row)?;
+    }
+    Ok(())
+}
+
+/// Writes the records of cuts.
+fn write_cuts<W: Write + Drop>(
+    alloc: Global,
+    writer: &mut Writer<W>,
+    row: &mut ByteRecord,
+    cuts: &[Cut],
+) -> Result<(), PlanTextFault>
+    ensures { (text : List ℕ) → HasWritten W.contents writer.old text
+        → OnOk result (HasWritten W.contents writer.new (text ++ csv_text (map cut_record cuts.now))) }
+{
+    for cut in cuts {
+        fill_cut(alloc, row, cut)?;
+        write_row(writer, row)?;
+    }
+    Ok(())
+}
+
+/// Makes the row the record of a plan.
+fn fill_plan(
+    alloc: Global,
+    row: &mut ByteRecord,
+    plan: &Plan,
+    roster: &Roster,
+) -> Result<(), AllocError>
+    requires { plan.now.order.sym < length roster.now.syms }
+    ensures { OnOk result (fields_of row.new ≡ plan_record roster.now plan.now) }
+{
+    row.clear();
+    push_text(row, "PLAN")?;
+    push_text(row, &plan.version.to_string(alloc)?)?;
+    push_text(row, letter_of(plan.order.side))?;
+    push_text(row, roster.sym_name(plan.order.sym))?;
+    push_text(row, &plan.order.shares.get().to_string(alloc)?)?;
+    push_text(row, &plan.order.limit.to_string(alloc)?)?;
+    push_text(row, flag_of(plan.order.manual))?;
+    push_text(row, &plan.filled.to_string(alloc)?)?;
+    push_text(row, &plan.cost.to_string(alloc)?)
+}
+
+/// Makes the row the record of a leg.
+fn fill_leg(
+    alloc: Global,
+    row: &mut ByteRecord,
+    leg: &Leg,
+    roster: &Roster,
+) -> Result<(), AllocError>
+    requires { leg.now.part < length roster.now.parts }
+    ensures { OnOk result (fields_of row.new ≡ leg_record roster.now leg.now) }
+{
+    row.clear();
+    push_text(row, "LEG")?;
+    push_text(row, roster.part_name(leg.part))?;
+    push_text(row, &leg.price.to_string(alloc)?)?;
+    push_text(row, &leg.shares.get().to_string(alloc)?)
+}
+
+/// Makes the row the record of a cut.
+fn fill_cut(alloc: Global, row: &mut ByteRecord, cut: &Cut) -> Result<(), AllocError>
+    ensures { OnOk result (fields_of row.new ≡ cut_record cut.now) }
+{
+    row.clear();
+    push_text(row, "CUT")?;
+    push_text(row, &cut.price.to_string(alloc)?)?;
+    push_kind(alloc, row, cut.kind)
+}
+
+/// Makes the row the end.
+fn fill_end(row: &mut ByteRecord) -> Result<(), AllocError>
+    ensures { OnOk result (fields_of row.new ≡ end_record) }
+{
+    row.clear();
+    push_text(row, "END")
+}
+
+/// Adds what a cut says, in two fields.
+fn push_kind(alloc: Global, row: &mut ByteRecord, kind: CutKind) -> Result<(), AllocError>
+    requires { partial_of row.old ≡ [] }
+    ensures fields { OnOk result (fields_of row.new ≡ fields_of row.old ++ kind_fields kind) }
+    ensures whole { OnOk result (partial_of row.new ≡ []) }
+{
+    match kind {
+        CutKind::TooMuch => {
+            push_text(row, "TOOMUCH")?;
+            push_text(row, "")
+        }
+        CutKind::TooLittle => {
+            push_text(row, "TOOLITTLE")?;
+            push_text(row, "")
+        }
+        CutKind::Marginal(money) => {
+            push_text(row, "MARGINAL")?;
+            push_text(row, &money.to_string(alloc)?)
+        }
+    }
+}
+
+/// Writes a record.
+#[tactic(auto, using(crate::proofs::PlanTextFacts::row_same))]
+fn write_row<W: Write + Drop>(
+    writer: &mut Writer<W>,
+    row: &ByteRecord,
+) -> Result<(), PlanTextFault>
+    ensures { (text : List ℕ) → HasWritten W.contents writer.old text
+        → OnOk result (HasWritten W.contents writer.new (text ++ row_text default_writer (fields_of row.now))) }
+{
+    match writer.write_byte_record(row) {
+        Ok(()) => Ok(()),
+        Err(_) => Err(PlanTextFault::NoMemory),
+    }
+}
+
+/// Adds a field to a record.
+fn push_text(row: &mut ByteRecord, text: &str) -> Result<(), AllocError>
+    requires { partial_of row.old ≡ [] }
+    ensures fields { OnOk result (fields_of row.new ≡ fields_of row.old ++ text.now ∷ []) }
+    ensures whole { OnOk result (partial_of row.new ≡ []) }
+{
+    row.push_field(text.as_bytes())
+}
+
+/// The letter of an order's side.
+fn letter_of(side: OrderSide) -> &'static str
+    ensures { result.now ≡ side_letter side }
+{
+    match side {
+        OrderSide::Buy => "B",
+        OrderSide::Sell => "S",
+    }
+}
+
+/// The flag of an order that may trade with manual quotations.
+fn flag_of(manual: bool) -> &'static str
+    ensures { result.now ≡ flag_text manual }
+{
+    if manual { "M" } else { "" }
+}
