@@ -1,5 +1,7 @@
 pub mod FaultsRead
 pub mod FieldFacts
 pub mod FirstFault
+pub mod LeftFacts
+pub mod PlanFacts
 pub mod PlanTextFacts
 pub mod ReadFacts

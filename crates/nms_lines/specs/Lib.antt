@@ -6,6 +6,7 @@ pub mod FieldFaults
 pub mod Fields
 pub mod Laws
 pub mod Layout
+pub mod Left
 pub mod LineOf
 pub mod Lines
 pub mod Numbers

@@ -1,6 +1,6 @@
 -- The plan and the certificate that records are, where they have exactly the layout: one record of the plan,
 -- at most 32 legs, at most 32 cuts, an end, and nothing behind it. This product's own rule.
-use Rattle.std.specs.Prelude.{ℕ, ℤ, Bool, true, false, ◌×◌, ◌==◌, ◌&&◌, List, [], ◌∷◌, codes, length, nat_le, Option, Some, None, option_map, if◌then◌else◌}
+use Rattle.std.specs.Prelude.{ℕ, ℤ, Bool, true, false, ◌==◌, ◌&&◌, List, [], ◌∷◌, codes, length, nat_le, Option, Some, None, option_map, if◌then◌else◌}
 use Rattle.nms_units.specs.Digits.{number_in}
 use Rattle.nms_units.specs.Price.{price_number}
 use Rattle.nms_units.specs.Money.{money_number}
@@ -64,11 +64,15 @@ leg_in roster fields = do
   shares ← shares_number (field fields 3)
   Some (record { part = part; price = price; shares = shares })
 
+-- what a cut says with an empty field behind it
+abbrev pub without_value : List ℕ → CutKind → Option CutKind
+without_value value said = if is_text [] value then Some said else None
+
 -- what a cut says: a word with an empty field behind it, or one with money
 abbrev pub kind_in : List ℕ → List ℕ → Option CutKind
 kind_in word value =
-    if is_text (codes "TOOMUCH") word then (if is_text [] value then Some kind.TooMuch else None)
-    else (if is_text (codes "TOOLITTLE") word then (if is_text [] value then Some kind.TooLittle else None)
+    if is_text (codes "TOOMUCH") word then without_value value kind.TooMuch
+    else (if is_text (codes "TOOLITTLE") word then without_value value kind.TooLittle
     else (if is_text (codes "MARGINAL") word then option_map kind.Marginal (money_number value) else None))
 
 -- CUT,price,kind,value

@@ -33,7 +33,7 @@ pub(crate) fn side_in(text: &[u8]) -> Result<OrderSide, LineFault>
     side_named(text).ok_or(LineFault::BadState)
 }
 
-fn side_named(text: &[u8]) -> Option<OrderSide>
+pub(crate) fn side_named(text: &[u8]) -> Option<OrderSide>
     ensures { result ≡ side_named text.now }
 {
     match text {

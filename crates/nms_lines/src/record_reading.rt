@@ -1,8 +1,9 @@
 //! The records of a text, one after another: `specs/Records`.
-ghost use Rattle.std.specs.Prelude.{◌≡◌, ℕ, ◌++◌, ◌∷◌, [], List, Option, OnErr, true, false, Ok, Err};
+ghost use Rattle.std.specs.Prelude.{◌≡◌, ℕ, ◌++◌, ◌∷◌, [], List, Option, Some, OnErr, true, false, Ok, Err};
 ghost use Rattle.csv.specs.Reading.{error_kind, is_io};
 ghost use Rattle.csv.specs.Records.{fields_of};
 ghost use Rattle.nms_lines.specs.Layout.{Record};
+ghost use Rattle.nms_lines.specs.Left.{AreLeft};
 ghost use Rattle.nms_lines.specs.Records.{AreAllRecords, HasStopped, ReadsFrom};
 
 use crate::record_fault::RecordFault;
@@ -15,7 +16,9 @@ use std::io::Read;
 ///
 /// It takes no memory before the first read.
 pub fn open_records<R: Read>(alloc: Global, source: R) -> Reader<R>
-    ensures { ReadsFrom R.remaining result (R.remaining source) [] }
+    ensures reads { ReadsFrom R.remaining result (R.remaining source) [] }
+    ensures left { (bytes : List ℕ) (records : List Record) → R.remaining source ≡ Some bytes
+        → AreAllRecords (Some bytes) records → AreLeft R.remaining result records }
 {
     ReaderBuilder::new()
         .has_headers(false)
@@ -33,6 +36,11 @@ pub fn read_next<R: Read>(reader: &mut Reader<R>, row: &mut ByteRecord) -> Resul
         → ReadsFrom R.remaining reader.new bytes (seen ++ fields_of row.new ∷ []) }
     ensures end { (bytes : Option (List ℕ)) (seen : List Record)
         → ReadsFrom R.remaining reader.old bytes seen → result ≡ Ok false → AreAllRecords bytes seen }
+
+    // The record is the first of those that were left, and where there is none none was left.
+    ensures more { (left : List Record) → AreLeft R.remaining reader.old left → result ≡ Ok true
+        → (more : List Record) × (left ≡ fields_of row.new ∷ more) × AreLeft R.remaining reader.new more }
+    ensures none { (left : List Record) → AreLeft R.remaining reader.old left → result ≡ Ok false → left ≡ [] }
 
     // After a fault there is no record any more, and what was read before is the beginning of the text.
     ensures stopped { (bytes : Option (List ℕ)) (seen : List Record)

@@ -2,8 +2,8 @@ use Rattle.std.proofs.Common.{rules}
 use Rattle.nms_lines.proofs.ReadFacts.{begins_first, stands_first}
 use Rattle.nms_lines.proofs.record_reading.open_records.Goals as goal
 
-pub returns : goal.returns
-returns g c = record {
+pub returns-clause-reads : goal.returns-clause-reads
+returns-clause-reads g c = record {
   plain = search rules;
   ready = search rules;
   flexible = search rules;

@@ -1,5 +1,6 @@
-use Rattle.std.proofs.Common.{◌≡◌, ◌++◌, ◌∷◌, [], true, ◌∙◌, inl}
+use Rattle.std.proofs.Common.{◌≡◌, ◌++◌, ◌∷◌, [], true, false, ◌∙◌, inl}
 use Rattle.csv.specs.Records.{fields_of}
+use Rattle.nms_lines.proofs.LeftFacts.{left_more, left_none}
 use Rattle.nms_lines.proofs.ReadFacts.{begins_read, stands_more}
 use Rattle.nms_lines.proofs.record_reading.read_next.Goals as goal
 
@@ -16,3 +17,15 @@ returns-in-Ok-clause-found g c = λ bytes seen reads found.
       stands = stands;
       begins = begins_read {R = g.row.R.Denot} g.R.Read.remaining c.read_byte_record.new.self bytes (seen ++ fields_of c.read_byte_record.new.row ∷ []) stands;
     }
+
+pub returns-in-Ok-clause-more : goal.returns-in-Ok-clause-more
+returns-in-Ok-clause-more g c = λ left was found.
+    let is_found : c.in-Ok.found ≡ true = cc found in
+    let read = rw is_found at (c.in-Ok.ensures.reads was.plain was.ready) in
+    left_more {R = g.row.R.Denot} g.R.Read.remaining c.args.reader.now c.read_byte_record.new.self left (fields_of c.read_byte_record.new.row) was read (inl (c.in-Ok.ensures.ready was.plain))
+
+pub returns-in-Ok-clause-none : goal.returns-in-Ok-clause-none
+returns-in-Ok-clause-none g c = λ left was found.
+    let is_found : c.in-Ok.found ≡ false = cc found in
+    let read = rw is_found at (c.in-Ok.ensures.reads was.plain was.ready) in
+    left_none {R = g.row.R.Denot} g.R.Read.remaining c.args.reader.now c.read_byte_record.new.self left (fields_of c.read_byte_record.new.row) was read

@@ -1,0 +1,10 @@
+use Rattle.std.proofs.Common.{Bool, Ok, ap, arith}
+use Rattle.nms_lines.proofs.plan_reading.need_end.Goals as goal
+
+pub returns-in-Ok-true-clause-refused : goal.returns-in-Ok-true-clause-refused
+returns-in-Ok-true-clause-refused g c = λ left was bad.
+    let next = c.in-Ok-true.ensures.more left was (ap (λ (found : Bool). Ok found) c.in-Ok-true.field-0-test) in
+    rw next.1 (omega arith)
+
+pub returns-in-Ok-false-clause-read : goal.returns-in-Ok-false-clause-read
+returns-in-Ok-false-clause-read g c = λ left was ok. c.in-Ok-false.ensures.none left was (ap (λ (found : Bool). Ok found) c.in-Ok-false.field-0-test)

@@ -1,0 +1,153 @@
+//! A plan and its certificate read from text: `specs/PlanReading`.
+ghost use Rattle.std.specs.Prelude.{◌⊎◌, ◌≡◌, ◌≢◌, ◌++◌, ◌∷◌, ◌<◌, [], ℕ, List, Some, None, true, false, IfOk, IfSome, OnErr, Ok, Err, length};
+ghost use Rattle.csv.specs.Records.{fields_of};
+ghost use Rattle.nms_lines.specs.Layout.{Record};
+ghost use Rattle.nms_lines.specs.Left.{AreLeft};
+ghost use Rattle.nms_lines.specs.PlanReading.{behind_legs, cuts_in, head_in, is_few, legs_of, plan_in, said_by};
+ghost use Rattle.nms_lines.specs.Records.{AreAllRecords};
+
+use crate::plan_record::{PlanHead, cut_in, head_in, is_end, leg_in};
+use crate::plan_text_fault::PlanTextFault;
+use crate::record_fault::RecordFault;
+use crate::record_reading::{open_records, read_next};
+use arrayvec::ArrayVec;
+use csv::{ByteRecord, Reader};
+use nms_quote::{Certificate, Leg, Plan, Roster};
+use std::alloc::Global;
+use std::io::Read;
+
+/// Reads a plan and its certificate from text, which has to have exactly the layout: the record of the plan, at
+/// most 32 legs, at most 32 cuts, an end, and nothing behind it. Names are of the roster; prices, share counts and
+/// money are as their types read them, a version is 1 to 8 digits, and the order is of at least one share.
+///
+/// What is read need not be lawful: `nms_rules` and `nms_cert` judge that. Any other text is `BadPlanText`;
+/// `NoMemory` where memory ran out, in place of either.
+pub fn read_plan(
+    alloc: Global,
+    text: &[u8],
+    roster: &Roster,
+) -> Result<(Plan, Certificate), PlanTextFault>
+    ensures read { (records : List Record) → AreAllRecords (Some text.now) records
+        → IfOk result (λ made. plan_in roster.now records ≡ Some (said_by made.0 made.1.items)) }
+    ensures refused { (records : List Record) → AreAllRecords (Some text.now) records
+        → result ≡ Err PlanTextFault.BadPlanText → plan_in roster.now records ≡ None }
+    ensures faults { result ≢ Err PlanTextFault.WriteFault }
+{
+    let mut reader = open_records(alloc, text);
+    let mut row = ByteRecord::new(alloc);
+    let head = read_head(&mut reader, &mut row, roster)?;
+    let legs = read_legs(&mut reader, &mut row, roster)?;
+    let certificate = read_cuts(&mut reader, &mut row)?;
+    let plan = Plan {
+        version: head.version,
+        order: head.order,
+        legs,
+        filled: head.filled,
+        cost: head.cost,
+    };
+    Ok((plan, certificate))
+}
+
+/// Reads the record of the plan.
+fn read_head<R: Read>(
+    reader: &mut Reader<R>,
+    row: &mut ByteRecord,
+    roster: &Roster,
+) -> Result<PlanHead, PlanTextFault>
+    ensures read { (left : List Record) → AreLeft R.remaining reader.old left
+        → IfOk result (λ head. (fields : Record) × (more : List Record) × (left ≡ fields ∷ more) × (head_in roster.now fields ≡ Some head) × AreLeft R.remaining reader.new more) }
+    ensures refused { (left : List Record) → AreLeft R.remaining reader.old left
+        → result ≡ Err PlanTextFault.BadPlanText → plan_in roster.now left ≡ None }
+    ensures faults { result ≢ Err PlanTextFault.WriteFault }
+{
+    need_row(reader, row)?;
+    head_in(row, roster).ok_or(PlanTextFault::BadPlanText)
+}
+
+/// Reads the legs, and the record behind them into the row.
+fn read_legs<R: Read>(
+    reader: &mut Reader<R>,
+    row: &mut ByteRecord,
+    roster: &Roster,
+) -> Result<ArrayVec<Leg, 32>, PlanTextFault>
+    ensures read { (left : List Record) → AreLeft R.remaining reader.old left
+        → IfOk result (λ legs. (more : List Record) × (legs.items ≡ legs_of roster.now left) × (behind_legs roster.now left ≡ fields_of row.new ∷ more) × AreLeft R.remaining reader.new more) }
+    ensures refused { (left : List Record) → AreLeft R.remaining reader.old left
+        → result ≡ Err PlanTextFault.BadPlanText → (behind_legs roster.now left ≡ []) ⊎ (is_few (legs_of roster.now left) ≡ false) }
+    ensures faults { result ≢ Err PlanTextFault.WriteFault }
+{
+    let mut legs = ArrayVec::new_in(());
+    // one turn for each leg, and one for what comes behind them
+    for _ in 0_usize..33 {
+        need_row(reader, row)?;
+        let Some(leg) = leg_in(row, roster) else {
+            return Ok(legs);
+        };
+        if legs.try_push(leg).is_err() {
+            return Err(PlanTextFault::BadPlanText);
+        }
+    }
+    Err(PlanTextFault::BadPlanText)
+}
+
+/// Reads the cuts, the first of which is the row where there is one, and the end.
+fn read_cuts<R: Read>(
+    reader: &mut Reader<R>,
+    row: &mut ByteRecord,
+) -> Result<Certificate, PlanTextFault>
+    ensures read { (left : List Record) → AreLeft R.remaining reader.old left
+        → IfOk result (λ cuts. cuts_in (fields_of row.old ∷ left) ≡ Some cuts.items) }
+    ensures refused { (left : List Record) → AreLeft R.remaining reader.old left
+        → result ≡ Err PlanTextFault.BadPlanText → IfSome (cuts_in (fields_of row.old ∷ left)) (λ cuts. is_few cuts ≡ false) }
+    ensures faults { result ≢ Err PlanTextFault.WriteFault }
+{
+    let mut cuts = ArrayVec::new_in(());
+    // one turn for each cut, and one for the end
+    for _ in 0_usize..33 {
+        if is_end(row) {
+            need_end(reader, row)?;
+            return Ok(cuts);
+        }
+        let cut = cut_in(row).ok_or(PlanTextFault::BadPlanText)?;
+        if cuts.try_push(cut).is_err() {
+            return Err(PlanTextFault::BadPlanText);
+        }
+        need_row(reader, row)?;
+    }
+    Err(PlanTextFault::BadPlanText)
+}
+
+/// Reads the next record, which there has to be.
+fn need_row<R: Read>(reader: &mut Reader<R>, row: &mut ByteRecord) -> Result<(), PlanTextFault>
+    ensures read { (left : List Record) → AreLeft R.remaining reader.old left
+        → result ≡ Ok tt → (more : List Record) × (left ≡ fields_of row.new ∷ more) × AreLeft R.remaining reader.new more }
+    ensures refused { (left : List Record) → AreLeft R.remaining reader.old left → result ≡ Err PlanTextFault.BadPlanText → left ≡ [] }
+    ensures faults { result ≢ Err PlanTextFault.WriteFault }
+{
+    match read_next(reader, row) {
+        Ok(true) => Ok(()),
+        Ok(false) => Err(PlanTextFault::BadPlanText),
+        Err(fault) => Err(want_of_memory(fault)),
+    }
+}
+
+/// Reads on, where there has to be nothing.
+fn need_end<R: Read>(reader: &mut Reader<R>, row: &mut ByteRecord) -> Result<(), PlanTextFault>
+    ensures read { (left : List Record) → AreLeft R.remaining reader.old left → result ≡ Ok tt → left ≡ [] }
+    ensures refused { (left : List Record) → AreLeft R.remaining reader.old left
+        → result ≡ Err PlanTextFault.BadPlanText → 0 < length left }
+    ensures faults { result ≢ Err PlanTextFault.WriteFault }
+{
+    match read_next(reader, row) {
+        Ok(true) => Err(PlanTextFault::BadPlanText),
+        Ok(false) => Ok(()),
+        Err(fault) => Err(want_of_memory(fault)),
+    }
+}
+
+/// Why a record of a text in memory was not read: nothing but memory can fail.
+fn want_of_memory(_: RecordFault) -> PlanTextFault
+    ensures { result ≡ PlanTextFault.NoMemory }
+{
+    PlanTextFault::NoMemory
+}

@@ -1,0 +1,173 @@
+//! The records of a plan's text, one by one: `specs/PlanReading`.
+ghost use Rattle.std.specs.Prelude.{◌≡◌, ◌≤◌, IfSome, codes};
+ghost use Rattle.csv.specs.Records.{fields_of};
+ghost use Rattle.nms_lines.specs.Layout.{is_text};
+ghost use Rattle.nms_lines.specs.Numbers.{above_zero, shares_number};
+ghost use Rattle.nms_lines.specs.PlanReading.{cut_in, flag_named, head_in, is_record, kind_in, leg_in, without_value};
+ghost use Rattle.nms_units.specs.Price.{price_number};
+ghost use Rattle.nms_units.specs.Money.{money_number};
+
+use crate::field::field;
+use crate::letter::side_named;
+use csv::ByteRecord;
+use nms_quote::{Cut, CutKind, Leg, Order, Roster};
+use nms_units::{Money, Price, Shares, parse_digits};
+use std::marker::Model;
+
+/// What the record of a plan says.
+#[derive(Drop)]
+pub(crate) struct PlanHead {
+    pub(crate) version: u64,
+    pub(crate) order: Order,
+    pub(crate) filled: u32,
+    pub(crate) cost: Money,
+}
+
+impl Model for PlanHead {
+    ghost use Rattle.nms_lines.specs.PlanReading.{Head};
+
+    ghost Value = { Head };
+
+    ghost view = { λ h. record { version = h.version; order = h.order; filled = h.filled; cost = h.cost } };
+}
+
+/// What the record of a plan says, where the row is one.
+pub(crate) fn head_in(row: &ByteRecord, roster: &Roster) -> Option<PlanHead>
+    ensures { result ≡ head_in roster.now (fields_of row.now) }
+{
+    if !is_record(row, b"PLAN", 9) {
+        return None;
+    }
+    let version = parse_digits(field(row, 1), 8)?;
+    let side = side_named(field(row, 2))?;
+    let sym = roster.find_sym(field(row, 3))?;
+    let shares = some_shares_in(field(row, 4))?;
+    let limit = price_in(field(row, 5))?;
+    let manual = flag_named(field(row, 6))?;
+    let filled = shares_in(field(row, 7))?.get();
+    let cost = money_in(field(row, 8))?;
+    let order = Order::new(side, sym, shares, limit, manual)?;
+    Some(PlanHead {
+        version,
+        order,
+        filled,
+        cost,
+    })
+}
+
+/// The leg that the row is, where it is one.
+pub(crate) fn leg_in(row: &ByteRecord, roster: &Roster) -> Option<Leg>
+    ensures { result ≡ leg_in roster.now (fields_of row.now) }
+{
+    if !is_record(row, b"LEG", 4) {
+        return None;
+    }
+    let part = roster.find_part(field(row, 1))?;
+    let price = price_in(field(row, 2))?;
+    let shares = shares_in(field(row, 3))?;
+    Some(Leg {
+        part,
+        price,
+        shares,
+    })
+}
+
+/// The cut that the row is, where it is one.
+pub(crate) fn cut_in(row: &ByteRecord) -> Option<Cut>
+    ensures { result ≡ cut_in (fields_of row.now) }
+{
+    if !is_record(row, b"CUT", 4) {
+        return None;
+    }
+    let price = price_in(field(row, 1))?;
+    let kind = kind_in(field(row, 2), field(row, 3))?;
+    Some(Cut { price, kind })
+}
+
+/// Whether the row is the end.
+pub(crate) fn is_end(row: &ByteRecord) -> bool
+    ensures { result ≡ is_record (codes "END") 1 (fields_of row.now) }
+{
+    is_record(row, b"END", 1)
+}
+
+/// Whether the row is a record of that word and of so many fields.
+fn is_record(row: &ByteRecord, word: &[u8], count: usize) -> bool
+    ensures { result ≡ is_record word.now count (fields_of row.now) }
+{
+    row.len() == count && is_word(field(row, 0), word)
+}
+
+/// What a cut says.
+fn kind_in(word: &[u8], value: &[u8]) -> Option<CutKind>
+    ensures { result ≡ kind_in word.now value.now }
+{
+    if is_word(word, b"TOOMUCH") {
+        return without_value(value, CutKind::TooMuch);
+    }
+    if is_word(word, b"TOOLITTLE") {
+        return without_value(value, CutKind::TooLittle);
+    }
+    if is_word(word, b"MARGINAL") {
+        return money_in(value).map(CutKind::Marginal);
+    }
+    None
+}
+
+/// Whether a field is a word.
+fn is_word(text: &[u8], word: &[u8]) -> bool
+    ensures { result ≡ is_text word.now text.now }
+{
+    text == word
+}
+
+/// What a cut says with an empty field behind it.
+fn without_value(value: &[u8], kind: CutKind) -> Option<CutKind>
+    ensures { result ≡ without_value value.now kind }
+{
+    match value {
+        b"" => Some(kind),
+        _ => None,
+    }
+}
+
+/// Whether manual quotations may be traded with, where the flag is `M` or empty.
+fn flag_named(text: &[u8]) -> Option<bool>
+    ensures { result ≡ flag_named text.now }
+{
+    match text {
+        b"M" => Some(true),
+        b"" => Some(false),
+        _ => None,
+    }
+}
+
+/// A price above zero.
+fn price_in(text: &[u8]) -> Option<Price>
+    ensures { result ≡ above_zero (price_number text.now) }
+{
+    Price::parse(text).ok()
+}
+
+/// Shares, 0 among them.
+fn shares_in(text: &[u8]) -> Option<Shares>
+    ensures { result ≡ shares_number text.now }
+{
+    Shares::parse(text).ok()
+}
+
+/// At least one share.
+fn some_shares_in(text: &[u8]) -> Option<Shares>
+    ensures shares { result ≡ above_zero (shares_number text.now) }
+    ensures some { IfSome result (λ shares. 1 ≤ shares) }
+{
+    let shares = shares_in(text)?;
+    if shares.get() > 0 { Some(shares) } else { None }
+}
+
+/// Money.
+fn money_in(text: &[u8]) -> Option<Money>
+    ensures { result ≡ money_number text.now }
+{
+    Money::parse(text).ok()
+}
