@@ -2,7 +2,8 @@
 use Rattle.std.proofs.Common.{arith, ℕ, ◌≡◌, ◌<◌, ◌≤◌, ◌+◌, ◌&&◌, ◌==◌, Bool, true, false, List, [], ◌∷◌, ◌++◌, refl, sym, ap, ◌∙◌, Option, Some, None, inl, inr, length, append_assoc}
 use Rattle.std.specs.Option.{ok_or}
 use Rattle.std.specs.Prelude.{◌⊎◌, IfOk, IfSome, Result, Ok, Err, codes, nat_le, option_map}
-use Rattle.std.proofs.lemmas.Bool.{and_parts, eqb-true, lt-leb, ne_eqb}
+use Rattle.std.proofs.lemmas.Bool.{and_parts, eqb-true, le-leb, lt-leb, ne_eqb}
+use Rattle.std.proofs.Math.Bool.{and-false}
 use Rattle.nms_lines.specs.Layout.{field, is_text}
 use Rattle.std.proofs.lemmas.Iterator.Adapters.{option_map_id}
 use Rattle.std.proofs.lemmas.List.{append-nil, length-append}
@@ -151,3 +152,30 @@ pub cuts_many : (all left : List Record) (cuts : List Cut) (fields : Record) (cu
     → CutsRead all cuts (fields ∷ left) → is_record (codes "END") 1 fields ≡ false → cut_in fields ≡ Some cut → 32 ≤ length cuts → NoCuts all
 cuts_many all left cuts fields cut was other one full =
     cuts_over all (cuts ++ cut ∷ []) left (cuts_more all left cuts fields cut was other one) (omega (arith, length-append cuts (cut ∷ [])))
+
+-- ---- the whole
+
+few : {A : Type 0} (list : List A) → length list ≤ 32 → is_few list ≡ true
+few list within = le-leb (length list) 32 within
+
+pub plan_found : (roster : Listing) (all more rest : List Record) (fields row : Record) (head : Head) (legs : List Leg) (cuts : List Cut)
+    → all ≡ fields ∷ more → head_in roster fields ≡ Some head → legs ≡ legs_of roster more → behind_legs roster more ≡ row ∷ rest
+    → cuts_in (row ∷ rest) ≡ Some cuts → length legs ≤ 32 → length cuts ≤ 32
+    → plan_in roster all ≡ Some (record { head = head; legs = legs; cuts = cuts })
+plan_found roster all more rest fields row head legs cuts is one these behind cut within most =
+    rw (is, one, behind, cut, ← these, few legs within, few cuts most) refl
+
+-- too many cuts are none
+abbrev made : Head → List Leg → List Cut → Option Said
+made head legs cuts = do
+  few ← check (is_few legs && is_few cuts)
+  Some (record { head = head; legs = legs; cuts = cuts })
+
+after_cuts : (head : Head) (legs : List Leg) (found : Option (List Cut)) → IfSome found (λ cuts. is_few cuts ≡ false) → (found >>= made head legs) ≡ None
+after_cuts head legs None many = refl
+after_cuts head legs (Some cuts) many = rw (many, and-false (is_few legs)) refl
+
+pub no_cuts : (roster : Listing) (all more rest : List Record) (fields row : Record) (head : Head)
+    → all ≡ fields ∷ more → head_in roster fields ≡ Some head → behind_legs roster more ≡ row ∷ rest → NoCuts (row ∷ rest) → plan_in roster all ≡ None
+no_cuts roster all more rest fields row head is one behind none = rw (is, one, behind) (after_cuts head (legs_of roster more) (cuts_in (row ∷ rest)) none)
+
