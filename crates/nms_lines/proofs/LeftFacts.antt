@@ -1,7 +1,7 @@
 -- The records that a reader has still to give, after it gave one.
 use Rattle.std.proofs.Common.{◌≡◌, ℕ, true, false, List, [], ◌∷◌, refl, sym, ap, ◌∙◌}
-use Rattle.std.specs.Prelude.{Option, Some, None}
-use Rattle.csv.specs.Machine.{Read, next_record}
+use Rattle.std.specs.Prelude.{Option, Some}
+use Rattle.csv.specs.Machine.{Read}
 use Rattle.csv.specs.Reading.{AreRecords, ReadRecord, Reached, Ready, default_config, reader_config, reader_state, reader_trim, source_of, strip_bom}
 use Rattle.csv.specs.declared.parser.Config.{Config}
 use Rattle.csv.specs.declared.parser.State.{State}

@@ -3,5 +3,6 @@ pub mod FieldFacts
 pub mod FirstFault
 pub mod LeftFacts
 pub mod PlanFacts
+pub mod PlanRoundTrip
 pub mod PlanTextFacts
 pub mod ReadFacts

@@ -1,7 +1,7 @@
 -- Reading a plan from records, step by step.
-use Rattle.std.proofs.Common.{arith, ℕ, ◌≡◌, ◌<◌, ◌≤◌, ◌+◌, ◌&&◌, ◌==◌, Bool, true, false, List, [], ◌∷◌, ◌++◌, refl, sym, ap, ◌∙◌, Option, Some, None, inl, inr, length, append_assoc}
+use Rattle.std.proofs.Common.{arith, ◌≡◌, ◌<◌, ◌≤◌, ◌&&◌, ◌==◌, true, false, List, [], ◌∷◌, ◌++◌, refl, sym, ap, ◌∙◌, Option, Some, None, inl, inr, length, append_assoc}
 use Rattle.std.specs.Option.{ok_or}
-use Rattle.std.specs.Prelude.{◌⊎◌, IfOk, IfSome, Result, Ok, Err, codes, nat_le, option_map}
+use Rattle.std.specs.Prelude.{◌⊎◌, IfOk, IfSome, Result, codes, option_map}
 use Rattle.std.proofs.lemmas.Bool.{and_parts, eqb-true, le-leb, lt-leb, ne_eqb}
 use Rattle.std.proofs.Math.Bool.{and-false}
 use Rattle.nms_lines.specs.Layout.{field, is_text}
@@ -178,4 +178,3 @@ after_cuts head legs (Some cuts) many = rw (many, and-false (is_few legs)) refl
 pub no_cuts : (roster : Listing) (all more rest : List Record) (fields row : Record) (head : Head)
     → all ≡ fields ∷ more → head_in roster fields ≡ Some head → behind_legs roster more ≡ row ∷ rest → NoCuts (row ∷ rest) → plan_in roster all ≡ None
 no_cuts roster all more rest fields row head is one behind none = rw (is, one, behind) (after_cuts head (legs_of roster more) (cuts_in (row ∷ rest)) none)
-

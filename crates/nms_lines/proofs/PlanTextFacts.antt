@@ -1,5 +1,5 @@
 -- A writer that allows records of different lengths writes each as one that does not.
-use Rattle.std.proofs.Common.{arith, ℕ, ◌≡◌, ◌==◌, true, false, Bool, List, [], ◌∷◌, ◌++◌, refl, ap, sym, ◌∙◌, ◌<◌, ◌+◌, zero, suc, append_assoc, get_or, map, take, if◌then◌else◌, length}
+use Rattle.std.proofs.Common.{arith, ℕ, ◌≡◌, List, [], ◌∷◌, ◌++◌, refl, ap, sym, ◌∙◌, ◌<◌, ◌+◌, zero, suc, append_assoc, get_or, map, take, length}
 use Rattle.std.proofs.lemmas.List.{append-nil}
 use Rattle.nms_lines.specs.Layout.{Record}
 use Rattle.std.proofs.lemmas.List.Concat.{flat_map-append}
@@ -7,7 +7,7 @@ use Rattle.nms_quote.specs.Roster.{Listing}
 use Rattle.nms_quote.specs.declared.plan.Plan.{Plan}
 use Rattle.nms_quote.specs.declared.certificate.Cut.{Cut}
 use Rattle.nms_lines.specs.PlanText.{csv_text, cut_record, end_record, leg_record, plan_record, plan_text}
-use Rattle.csv.specs.Writing.{default_writer, escaped, field_text, fields_text, is_blank, needs_quotes, by_style, quoted, row_body, row_text}
+use Rattle.csv.specs.Writing.{default_writer, escaped, field_text, fields_text, is_blank, row_body, row_text}
 use Rattle.nms_lines.specs.PlanWriter.{flexible_writer}
 
 pub escaped_same : (text : List ℕ) → escaped flexible_writer text ≡ escaped default_writer text
@@ -56,7 +56,7 @@ written_more record_of items i item below is =
 -- the text of a plan is that of its records, kind by kind
 pub plan_written : (roster : Listing) (plan : Plan) (cuts : List Cut)
     → ((row_text default_writer (plan_record roster plan) ++ csv_text (map (leg_record roster) plan.legs.items)) ++ csv_text (map cut_record cuts))
-        ++ row_text default_writer end_record ≡ plan_text roster plan cuts
+    ++ row_text default_writer end_record ≡ plan_text roster plan cuts
 plan_written roster plan cuts =
     let head : List ℕ = row_text default_writer (plan_record roster plan) in
     let legs : List Record = map (leg_record roster) plan.legs.items in
@@ -65,6 +65,6 @@ plan_written roster plan cuts =
     append_assoc (head ++ csv_text legs) (csv_text made) end
     ∙ append_assoc head (csv_text legs) (csv_text made ++ end)
     ∙ ap (λ (text : List ℕ). head ++ text)
-        (ap (λ (text : List ℕ). csv_text legs ++ (csv_text made ++ text)) (sym (append-nil end))
-        ∙ ap (λ (text : List ℕ). csv_text legs ++ text) (sym (flat_map-append (row_text default_writer) made (end_record ∷ [])))
-        ∙ sym (flat_map-append (row_text default_writer) legs (made ++ (end_record ∷ []))))
+    (ap (λ (text : List ℕ). csv_text legs ++ (csv_text made ++ text)) (sym (append-nil end))
+    ∙ ap (λ (text : List ℕ). csv_text legs ++ text) (sym (flat_map-append (row_text default_writer) made (end_record ∷ [])))
+    ∙ sym (flat_map-append (row_text default_writer) legs (made ++ (end_record ∷ []))))

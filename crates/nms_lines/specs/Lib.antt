@@ -11,6 +11,7 @@ pub mod LineOf
 pub mod Lines
 pub mod Numbers
 pub mod PlanFaults
+pub mod PlanLaws
 pub mod PlanReading
 pub mod PlanText
 pub mod PlanWriter

@@ -21,7 +21,7 @@ mod record_reading;
 mod side;
 
 pub use csv::{ByteRecord, Reader};
-pub use laws::the_least_fault_is_read;
+pub use laws::{a_plan_reads_as_written, the_least_fault_is_read};
 pub use line::{Kind, Line, Reading};
 pub use line_fault::LineFault;
 pub use line_reading::read_line;

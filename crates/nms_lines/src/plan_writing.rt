@@ -179,10 +179,7 @@ fn push_kind(alloc: Global, row: &mut ByteRecord, kind: CutKind) -> Result<(), A
 
 /// Writes a record.
 #[tactic(auto, using(crate::proofs::PlanTextFacts::row_same))]
-fn write_row<W: Write + Drop>(
-    writer: &mut Writer<W>,
-    row: &ByteRecord,
-) -> Result<(), PlanTextFault>
+fn write_row<W: Write + Drop>(writer: &mut Writer<W>, row: &ByteRecord) -> Result<(), PlanTextFault>
     ensures { (text : List ℕ) → HasWritten W.contents writer.old text
         → OnOk result (HasWritten W.contents writer.new (text ++ row_text default_writer (fields_of row.now))) }
 {

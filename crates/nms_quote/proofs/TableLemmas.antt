@@ -1,9 +1,10 @@
 -- A table of names, as the entries of the map that holds it.
-use Rattle.std.proofs.Common.{◌≡◌, ℕ, zero, suc, ◌+◌, ◌<◌, Bool, true, false, cond, not, nat_lt, List, [], ◌∷◌, ◌++◌, map, slice_get, position, Option, Some, None, option_map, is_some, refl, sym, ap, subst, ◌∙◌, true≢false, lit<, arith}
+use Rattle.std.proofs.Common.{◌≡◌, ℕ, zero, suc, ◌+◌, ◌<◌, Bool, true, false, cond, not, nat_lt, List, [], ◌∷◌, ◌++◌, map, slice_get, position, Option, Some, None, option_map, is_some, refl, sym, ap, subst, ◌∙◌, true≢false, lit<, arith, length}
+use Rattle.std.specs.Prelude.{unwrap_or}
 use Rattle.std.proofs.lemmas.Bool.{and_parts, false_from_ne_true}
 use Rattle.std.proofs.lemmas.Bool.Decides.{nat_tests}
 use Rattle.std.proofs.lemmas.List.{length-map, map-append}
-use Rattle.std.proofs.lemmas.Option.{same_Some, none-some, slice_get-map}
+use Rattle.std.proofs.lemmas.Option.{same_Some, none-some, slice_get-get_or, slice_get-map}
 use Rattle.std.proofs.lemmas.Slice.Eq.{bytes_eq-Decides}
 use Rattle.std.proofs.lemmas.Str.{IsUtf8-string_bytes, IsUtf8-from_ascii}
 use Rattle.std.specs.List.{list_all, position_or_len, IsDistinct}
@@ -116,3 +117,9 @@ IsUtf8-part_name name h = IsUtf8-from_name is_name_char is_name_char-small 4 nam
 
 pub IsUtf8-symbol_name : (name : Name) → is_symbol_name name ≡ true → IsUtf8 name
 IsUtf8-symbol_name name h = IsUtf8-from_name is_symbol_char is_symbol_char-small 8 name h
+
+-- an entry that is there has the name that stands at its place
+pub named_at : {Z : Type 0} (entries : List (Name × Z)) (place : ℕ) → place < length entries
+    → option_map (λ entry. entry.0) (slice_get entries place) ≡ Some (unwrap_or (option_map (λ entry. entry.0) (slice_get entries place)) [])
+named_at [] place there = absurd (omega arith)
+named_at (first ∷ entries) place there = rw (slice_get-get_or (first ∷ entries) place first there) refl

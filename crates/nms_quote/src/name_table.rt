@@ -1,5 +1,5 @@
 //! Entries under names, in order of adding: `specs/Names` and `specs/Roster`.
-ghost use Rattle.std.specs.Prelude.{◌≡◌, ℕ, ◌<◌, [], ◌∷◌, ◌++◌, length, option_map, slice_get, true, IfSome, IfNone, IfErr, IfOk, OnOk, OnErr};
+ghost use Rattle.std.specs.Prelude.{◌≡◌, ℕ, List, Some, ◌<◌, [], ◌∷◌, ◌++◌, length, option_map, slice_get, true, IfSome, IfNone, IfErr, IfOk, OnOk, OnErr};
 ghost use Rattle.std.specs.Str.{IsUtf8};
 ghost use Rattle.nms_quote.specs.Roster.{place_in, refusal_in};
 
@@ -113,6 +113,13 @@ impl<V: Copy> NameTable<V> {
         } else {
             Some(RosterFault::TooMany)
         }
+    }
+
+    /// A law: each entry is found under its name.
+    pub(crate) fn finds_each_name(&self)
+        ensures { (place : ℕ) (name : List ℕ) → option_map (λ entry. entry.0) (slice_get self.now place) ≡ Some name → place_in self.now name ≡ Some place }
+    {
+        let _ = self.entries.len();
     }
 
     /// Adds an entry as the last one, under a name that is not there. Where memory is short, nothing

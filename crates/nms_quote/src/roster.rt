@@ -1,6 +1,6 @@
 //! Who is on the roster: `specs/Roster`.
 ghost use Rattle.std.specs.Prelude.{◌≡◌, ℕ, ◌<◌, ◌≤◌, ◌↔◌, [], ◌∷◌, ◌++◌, length, option_map, slice_get, nat_lt, true, IsTrue, IfSome, IfOk, IfErr, OnErr};
-ghost use Rattle.nms_quote.specs.Roster.{place_in, is_part_name, is_symbol_name, part_refusal, sym_refusal, sizes_of, holds};
+ghost use Rattle.nms_quote.specs.Roster.{part_text, place_in, symbol_text, is_part_name, is_symbol_name, part_refusal, sym_refusal, sizes_of, holds};
 
 use crate::change::Change;
 use crate::feed::Feed;
@@ -157,6 +157,15 @@ impl Roster {
         ensures within { result ≤ MOST_SYMBOLS }
     {
         self.syms.len()
+    }
+
+    /// A law: each participant and each symbol is found under its name.
+    pub fn finds_each_name(&self)
+        ensures parts { (part : ℕ) → part < length self.now.parts → place_in self.now.parts (part_text self.now part) ≡ Some part }
+        ensures syms { (sym : ℕ) → sym < length self.now.syms → place_in self.now.syms (symbol_text self.now sym) ≡ Some sym }
+    {
+        self.parts.finds_each_name();
+        self.syms.finds_each_name();
     }
 
     /// Whether a change speaks of participants and symbols of the roster alone.

@@ -1,5 +1,6 @@
 //! Numbers in decimal digits, and the point between them: `specs/Digits`.
-ghost use Rattle.std.specs.Prelude.{◌≡◌, ◌^◌, ◌<◌, ◌≤◌, IfSome, OnSome, length};
+ghost use Rattle.std.specs.Prelude.{◌≡◌, ℕ, ◌^◌, ◌<◌, ◌≤◌, Some, IfSome, OnSome, length};
+ghost use Rattle.std.specs.Fmt.{decimal};
 ghost use Rattle.nms_units.specs.Digits.{number_in, point_in};
 
 /// The number that a text of 1 to `most` decimal digits writes, leading zeros among them, or `None`
@@ -23,6 +24,11 @@ pub fn parse_digits(text: &[u8], most: usize) -> Option<u64>
     }
     Some(number)
 }
+
+/// A law: what is printed of a number of at most `most` digits, `parse_digits` reads as that number.
+pub fn digits_read_as_printed()
+    ensures { (most n : ℕ) → 0 < most → n < 10 ^ most → n < 10 ^ 64 → number_in most (decimal n) ≡ Some n }
+{}
 
 /// Where the first point stands.
 pub(crate) fn point_in(text: &[u8]) -> Option<usize>

@@ -20,7 +20,7 @@ pub const MOST_SHARES: u32 = 999_999_999;
 /// The most shares of a round lot. This product's own rule.
 pub const MOST_LOT: u16 = 1000;
 
-pub use digits::parse_digits;
+pub use digits::{digits_read_as_printed, parse_digits};
 pub use lot::Lot;
 pub use money::Money;
 pub use price::Price;

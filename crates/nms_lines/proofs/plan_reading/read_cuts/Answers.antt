@@ -1,7 +1,6 @@
-use Rattle.std.proofs.Common.{rules, arith, ◌≡◌, ◌≤◌, ◌++◌, ◌∷◌, ◌+◌, ◌∙◌, [], ℕ, List, Some, None, Err, Ok, refl, sym, true, false, length}
+use Rattle.std.proofs.Common.{rules, arith, ◌≡◌, ◌≤◌, ◌++◌, ◌∷◌, ◌∙◌, [], Some, None, Err, refl, sym, length}
 use Rattle.std.proofs.lemmas.List.{length-append}
 use Rattle.csv.specs.Records.{fields_of}
-use Rattle.nms_lines.specs.Layout.{Record}
 use Rattle.nms_lines.specs.PlanReading.{cut_in}
 use Rattle.nms_lines.specs.declared.plan_text_fault.PlanTextFault.TheVariants as fault
 use Rattle.nms_lines.proofs.PlanFacts.{cuts_bad, cuts_behind, cuts_end, cuts_many, cuts_more, cuts_out, cuts_over}
@@ -42,12 +41,14 @@ returns-in_err-need_row-clause-refused g c = λ left was bad.
 pub loop-preserved : goal.loop-preserved
 loop-preserved g c =
     let pushed : c.try_push.new.self.items ≡ c.loop.cuts.items ++ c.in_ok-cut.cut ∷ [] = search rules in
-    let one : cut_in (fields_of c.loop.row) ≡ Some c.in_ok-cut.cut = search rules in
-    (rw pushed (omega (arith, length-append c.loop.cuts.items (c.in_ok-cut.cut ∷ []), c.loop.invariant.0)), λ left was.
-        let here = c.loop.invariant.1 left was in
-        let row = c.in_ok-need_row.ensures.read here.0 here.2 refl in
-        let next = cuts_more (fields_of c.args.row.now ∷ left) here.0 c.loop.cuts.items (fields_of c.loop.row) c.in_ok-cut.cut here.1 (sym c.is_end.ensures ∙ c.if-is_end.false) one in
-        (row.0, rw (pushed, ← row.1) next, row.2))
+    let one : cut_in (fields_of c.loop.row) ≡ Some c.in_ok-cut.cut = search rules in (
+      rw pushed (omega (arith, length-append c.loop.cuts.items (c.in_ok-cut.cut ∷ []), c.loop.invariant.0)),
+      λ left was.
+          let here = c.loop.invariant.1 left was in
+          let row = c.in_ok-need_row.ensures.read here.0 here.2 refl in
+          let next = cuts_more (fields_of c.args.row.now ∷ left) here.0 c.loop.cuts.items (fields_of c.loop.row) c.in_ok-cut.cut here.1 (sym c.is_end.ensures ∙ c.if-is_end.false) one in
+          (row.0, rw (pushed, ← row.1) next, row.2),
+    )
 
 pub returns-clause-refused : goal.returns-clause-refused
 returns-clause-refused g c = λ left was bad.

@@ -1,8 +1,6 @@
-use Rattle.std.proofs.Common.{rules, arith, ◌≡◌, ◌≤◌, ◌++◌, ◌∷◌, ◌+◌, ◌∙◌, [], ℕ, List, Some, None, Err, Ok, refl, sym, inl, inr, length}
+use Rattle.std.proofs.Common.{rules, arith, ◌≡◌, ◌≤◌, ◌++◌, ◌∷◌, ◌∙◌, [], Err, refl, sym, inl, inr, length}
 use Rattle.std.proofs.lemmas.List.{length-append}
 use Rattle.csv.specs.Records.{fields_of}
-use Rattle.nms_lines.specs.Layout.{Record}
-use Rattle.nms_lines.specs.PlanReading.{leg_in}
 use Rattle.nms_lines.specs.declared.plan_text_fault.PlanTextFault.TheVariants as fault
 use Rattle.nms_lines.proofs.PlanFacts.{legs_end, legs_many, legs_more, legs_out, legs_over}
 use Rattle.nms_lines.proofs.plan_reading.read_legs.Goals as goal
@@ -37,11 +35,13 @@ returns-then-is_err-clause-refused g c = λ left was bad.
 -- src/plan_reading.rt:81:5
 pub loop-preserved : goal.loop-preserved
 loop-preserved g c =
-    let pushed : c.try_push.new.self.items ≡ c.loop.legs.items ++ c.in-Some.leg ∷ [] = search rules in
-    (rw pushed (omega (arith, length-append c.loop.legs.items (c.in-Some.leg ∷ []), c.loop.invariant.0)), λ left was.
-        let here = c.loop.invariant.1 left was in
-        let next = c.in_ok-need_row.ensures.read here.0 here.2 refl in
-        (next.0, rw pushed (legs_more c.args.roster.now left here.0 next.0 c.loop.legs.items (fields_of c.need_row.new.row) c.in-Some.leg here.1 next.1 (sym c.leg_in.ensures ∙ c.in-Some.is)), next.2))
+    let pushed : c.try_push.new.self.items ≡ c.loop.legs.items ++ c.in-Some.leg ∷ [] = search rules in (
+      rw pushed (omega (arith, length-append c.loop.legs.items (c.in-Some.leg ∷ []), c.loop.invariant.0)),
+      λ left was.
+          let here = c.loop.invariant.1 left was in
+          let next = c.in_ok-need_row.ensures.read here.0 here.2 refl in
+          (next.0, rw pushed (legs_more c.args.roster.now left here.0 next.0 c.loop.legs.items (fields_of c.need_row.new.row) c.in-Some.leg here.1 next.1 (sym c.leg_in.ensures ∙ c.in-Some.is)), next.2),
+    )
 
 -- src/plan_reading.rt:68:1
 pub returns-clause-refused : goal.returns-clause-refused

@@ -1,6 +1,5 @@
-use Rattle.std.proofs.Common.{rules, arith, ◌≡◌, ◌≤◌, ◌∷◌, ◌∙◌, ℕ, List, Some, None, Err, refl, sym, length}
+use Rattle.std.proofs.Common.{rules, ◌≡◌, ◌≤◌, Err, refl, length}
 use Rattle.csv.specs.Records.{fields_of}
-use Rattle.nms_lines.specs.Layout.{Record}
 use Rattle.nms_lines.specs.declared.plan_text_fault.PlanTextFault.TheVariants as fault
 use Rattle.nms_lines.proofs.PlanFacts.{no_cuts, no_legs, plan_found}
 use Rattle.nms_lines.proofs.plan_reading.read_plan.Goals as goal

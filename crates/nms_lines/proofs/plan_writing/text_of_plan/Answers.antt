@@ -16,5 +16,7 @@ returns-in-Ok c =
     let cuts = rw c.as_slice-2.ensures.value at cut in
     let last = c.in_ok-write_row-2.ensures ((row_text default_writer (plan_record c.args.roster.now c.args.plan.now) ++ csv_text (map (leg_record c.args.roster.now) c.args.plan.now.legs.items)) ++ csv_text (map cut_record c.args.certificate.now.items)) cuts in
     let end = rw c.in_ok-fill_end.ensures at last in
-    record { text = c.in-Ok.ensures.ok ∙ ap (λ (known : Option (List ℕ)). unwrap_or known []) end.text
-        ∙ plan_written c.args.roster.now c.args.plan.now c.args.certificate.now.items }
+    record {
+      text = c.in-Ok.ensures.ok ∙ ap (λ (known : Option (List ℕ)). unwrap_or known []) end.text
+          ∙ plan_written c.args.roster.now c.args.plan.now c.args.certificate.now.items;
+    }

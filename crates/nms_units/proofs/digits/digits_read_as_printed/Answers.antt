@@ -1,0 +1,5 @@
+use Rattle.nms_units.proofs.DecimalLemmas.{number_in-decimal}
+use Rattle.nms_units.proofs.digits.digits_read_as_printed.Goals as goal
+
+pub returns : goal.returns
+returns c = number_in-decimal
