@@ -3,6 +3,7 @@ mod FindLemmas
 mod GivenLemmas
 mod LawfulLemmas
 mod MemberLemmas
+mod NeverLemmas
 mod NoneLemmas
 mod OrderLemmas
 mod SumLemmas

@@ -6,5 +6,6 @@ pub mod Assignment
 pub mod Breach
 pub mod Codes
 pub mod Faultless
+pub mod Laws
 pub mod Through
 pub mod Usable
