@@ -38,7 +38,7 @@ pool cutoff rows = total (pool_part cutoff) rows
 
 -- how much less than the marginal the shares of the pool cost, where they cost less
 abbrev pub savings_part : ℤ → ℤ → Usable → ℤ
-savings_part cutoff marginal row = if is_pooled cutoff row then int_max (pos 0) (marginal -ℤ row.cost) *ℤ pos row.size else pos 0
+savings_part cutoff marginal row = if is_pooled cutoff row then int_max (marginal -ℤ row.cost) (pos 0) *ℤ pos row.size else pos 0
 
 abbrev pub savings : ℤ → ℤ → List Usable → ℤ
 savings cutoff marginal rows = amount (savings_part cutoff marginal) rows
