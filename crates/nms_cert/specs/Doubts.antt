@@ -15,6 +15,7 @@ use Rattle.nms_rules.specs.Assignment.{fillable}
 use Rattle.nms_rules.specs.Breach.{breach_of}
 use Rattle.nms_rules.specs.Cutoff.{least_cost, pool, swept}
 use Rattle.nms_rules.specs.Usable.{Usable, is_better, rank_of, usable}
+use Rattle.nms_rules.specs.declared.breach_kind.Breach.{Breach}
 use Rattle.nms_cert.specs.declared.doubt.Doubt.{Doubt}
 use Rattle.nms_cert.specs.declared.doubt.Doubt.TheVariants as doubt
 
@@ -93,9 +94,13 @@ cuts_doubt side rows most cost cuts =
     or_else when (some_is_out_of_range cuts) doubt.MarginalRange
     or_else option_map (λ cut. doubt.BoundFails cut) (first_failing side rows most cost cuts)
 
+-- what breaks a plan makes it doubtful
+abbrev pub breach_doubt : Option Breach → Option Doubt
+breach_doubt found = option_map (λ breach. doubt.Breach breach) found
+
 -- the first doubt of a plan and its cuts, and none where nothing is doubtful
 abbrev pub doubt_of : Seen → Terms → List FeeSchedule → Plan → List Cut → Option Doubt
 doubt_of seen order fees plan cuts =
-    option_map (λ breach. doubt.Breach breach) (breach_of seen order fees plan)
+    breach_doubt (breach_of seen order fees plan)
     or_else when (not (plan.filled == fillable (usable seen order fees) order.shares)) doubt.NotMost
     or_else cuts_doubt order.side (usable seen order fees) (fillable (usable seen order fees) order.shares) plan.cost cuts

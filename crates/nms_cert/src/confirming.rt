@@ -8,7 +8,7 @@ ghost use Rattle.nms_rules.specs.Assignment.{IsOptimal};
 ghost use Rattle.nms_rules.specs.Breach.{breach_of};
 ghost use Rattle.nms_rules.specs.Faultless.{IsFaultless, given_by};
 ghost use Rattle.nms_rules.specs.Usable.{contra_rows, usable};
-ghost use Rattle.nms_cert.specs.Doubts.{cuts_doubt, doubt_of, when};
+ghost use Rattle.nms_cert.specs.Doubts.{breach_doubt, cuts_doubt, doubt_of, when};
 
 use crate::cutoff::fillable;
 use crate::cuts::{
@@ -20,7 +20,7 @@ use crate::usable_row::{UsableRow, usable_rows};
 use nms_board::View;
 use nms_fees::FeeBook;
 use nms_quote::{Certificate, Cut, Order, OrderSide, Plan};
-use nms_rules::breach;
+use nms_rules::{Breach, breach};
 use nms_units::Money;
 
 /// Confirms that a plan for an order on a view is optimal: it is lawful, no lawful plan fills more, and none that
@@ -56,13 +56,21 @@ fn find_doubt(
     ensures lawful { IsNone (breach_of view.now order.now fees.now plan.now) ↔ IsFaultless view.now order.now fees.now plan.now }
     ensures rising { OnOk result (IsStrictlyIncreasing (map (λ row. row.part) (contra_rows order.now.side view.now))) }
 {
-    if let Some(breach) = breach(view, order, fees, plan) {
-        return Err(Doubt::Breach(breach));
-    }
+    refuse_breach(breach(view, order, fees, plan))?;
     let rows = usable_rows(view, order, fees);
     let most = fillable(rows.as_slice(), order.shares);
     refuse_if(u64::from(plan.filled) != most, Doubt::NotMost)?;
     check_cuts(order.side, rows.as_slice(), most, plan.cost, cuts)
+}
+
+/// The breach of a plan, as a doubt.
+fn refuse_breach(found: Option<Breach>) -> Result<(), Doubt>
+    ensures { result_err result ≡ breach_doubt found }
+{
+    let Some(breach) = found else {
+        return Ok(());
+    };
+    Err(Doubt::Breach(breach))
 }
 
 /// Tests the cuts against the rows, where so many shares can be filled and the plan costs so much.
