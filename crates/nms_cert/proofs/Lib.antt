@@ -1,0 +1,7 @@
+mod AcceptedLemmas
+mod FindLemmas
+mod GivenLemmas
+mod OptimalLemmas
+mod SignedLemmas
+mod SoundLemmas
+mod SumLemmas

@@ -1,0 +1,107 @@
+//! Whether a certificate shows that a plan is optimal: `specs/Doubts`, and `specs/Accepted` of `nms_rules` for one
+//! without a doubt.
+ghost use Rattle.std.specs.Prelude.{◌≡◌, ◌≤◌, ◌↔◌, IsNone, IsOk, OnOk, map, length};
+ghost use Rattle.std.specs.Result.{result_err};
+ghost use Rattle.std.specs.List.Sorted.{IsStrictlyIncreasing};
+ghost use Rattle.nms_rules.specs.Accepted.{IsAccepted};
+ghost use Rattle.nms_rules.specs.Assignment.{IsOptimal};
+ghost use Rattle.nms_rules.specs.Breach.{breach_of};
+ghost use Rattle.nms_rules.specs.Faultless.{IsFaultless, given_by};
+ghost use Rattle.nms_rules.specs.Usable.{contra_rows, usable};
+ghost use Rattle.nms_cert.specs.Doubts.{breach_doubt, cuts_doubt, doubt_of, when};
+
+use crate::cutoff::fillable;
+use crate::cuts::{
+    first_failing, is_out_of_order, some_is_extra, some_is_out_of_range, some_is_wrong_kind,
+    some_lacks_cut,
+};
+use crate::doubt::Doubt;
+use crate::usable_row::{UsableRow, usable_rows};
+use nms_board::View;
+use nms_fees::FeeBook;
+use nms_quote::{Certificate, Cut, Order, OrderSide, Plan};
+use nms_rules::{Breach, breach};
+use nms_units::Money;
+
+/// Confirms that a plan for an order on a view is optimal: it is lawful, no lawful plan fills more, and none that
+/// fills as much costs less with fees. Shares may be spread in any way that is lawful.
+///
+/// `Ok` comes exactly where the certificate is accepted, else the doubt of least number that holds. Takes no memory,
+/// and looks at each pair of a cut and a row a few times, at most 1,024 pairs. Costs are in nanodollars, with the
+/// fees of the book.
+pub fn confirm(
+    view: &View,
+    order: &Order,
+    fees: &FeeBook,
+    plan: &Plan,
+    certificate: &Certificate,
+) -> Result<(), Doubt>
+    ensures first { result_err result ≡ doubt_of view.now order.now fees.now plan.now certificate.now.items }
+    ensures accepted { IsOk result ↔ IsAccepted view.now order.now fees.now plan.now certificate.now.items }
+    ensures optimal { OnOk result (IsOptimal (usable view.now order.now fees.now) order.now.shares (given_by plan.now.legs.items)) }
+{
+    find_doubt(view, order, fees, plan, certificate.as_slice())
+}
+
+/// The first doubt, as a refusal.
+fn find_doubt(
+    view: &View,
+    order: &Order,
+    fees: &FeeBook,
+    plan: &Plan,
+    cuts: &[Cut],
+) -> Result<(), Doubt>
+    requires { length cuts.now ≤ 32 }
+    ensures first { result_err result ≡ doubt_of view.now order.now fees.now plan.now cuts.now }
+    ensures lawful { IsNone (breach_of view.now order.now fees.now plan.now) ↔ IsFaultless view.now order.now fees.now plan.now }
+    ensures rising { OnOk result (IsStrictlyIncreasing (map (λ row. row.part) (contra_rows order.now.side view.now))) }
+{
+    refuse_breach(breach(view, order, fees, plan))?;
+    let rows = usable_rows(view, order, fees);
+    let most = fillable(rows.as_slice(), order.shares);
+    refuse_if(u64::from(plan.filled) != most, Doubt::NotMost)?;
+    check_cuts(order.side, rows.as_slice(), most, plan.cost, cuts)
+}
+
+/// The breach of a plan, as a doubt.
+fn refuse_breach(found: Option<Breach>) -> Result<(), Doubt>
+    ensures { result_err result ≡ breach_doubt found }
+{
+    let Some(breach) = found else {
+        return Ok(());
+    };
+    Err(Doubt::Breach(breach))
+}
+
+/// Tests the cuts against the rows, where so many shares can be filled and the plan costs so much.
+fn check_cuts(
+    side: OrderSide,
+    rows: &[UsableRow],
+    most: u64,
+    cost: Money,
+    cuts: &[Cut],
+) -> Result<(), Doubt>
+    requires rows { length rows.now ≤ 32 }
+    requires cuts { length cuts.now ≤ 32 }
+    requires most { most ≤ 999999999 }
+    ensures { result_err result ≡ cuts_doubt side rows.now most cost cuts.now }
+{
+    refuse_if(some_lacks_cut(rows, cuts), Doubt::CutMissing)?;
+    refuse_if(
+        some_is_extra(rows, cuts) || is_out_of_order(side, cuts),
+        Doubt::CutExtra,
+    )?;
+    refuse_if(some_is_wrong_kind(side, rows, most, cuts), Doubt::WrongKind)?;
+    refuse_if(some_is_out_of_range(cuts), Doubt::MarginalRange)?;
+    match first_failing(side, rows, most, cost, cuts) {
+        Some(cut) => Err(Doubt::BoundFails { cut }),
+        None => Ok(()),
+    }
+}
+
+/// The doubt, where it holds.
+fn refuse_if(holds: bool, doubt: Doubt) -> Result<(), Doubt>
+    ensures { result_err result ≡ when holds doubt }
+{
+    if holds { Err(doubt) } else { Ok(()) }
+}

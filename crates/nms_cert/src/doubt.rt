@@ -1,0 +1,47 @@
+//! Why a plan and its certificate are not confirmed.
+use nms_rules::Breach;
+
+/// Why a plan and its certificate are not confirmed, least number first. Only the first that holds is told.
+#[derive(Clone, Copy, Debug, PartialEq, Eq)]
+pub enum Doubt {
+    /// K1: the plan is not lawful, or not summed rightly.
+    Breach(Breach),
+    /// K2: the plan fills less than can be filled.
+    NotMost,
+    /// K3: a price of a usable quotation has no cut.
+    CutMissing,
+    /// K4: a cut is at no price of a usable quotation, or the cuts do not stand best price first, each price
+    /// once.
+    CutExtra,
+    /// K5: a cut is of the wrong kind: `TooMuch` where the better protected quotations are no more than can be
+    /// filled, `TooLittle` where what may be traded with is no less, or `Marginal` where the better protected
+    /// quotations are more.
+    WrongKind,
+    /// K6: a marginal is below -10^18 or above 10^18 nanodollars.
+    MarginalRange,
+    /// K7: a cut's bound is below the plan's cost.
+    BoundFails {
+        /// The first such cut, counted from 0.
+        cut: u8,
+    },
+}
+
+impl Doubt {
+    ghost use Rattle.std.specs.Prelude.{◌≡◌};
+    ghost use Rattle.nms_cert.specs.Codes.{code_of};
+
+    /// The code of the doubt, `K1` to `K7`.
+    pub fn code(self) -> &'static str
+        ensures { result.now ≡ code_of self }
+    {
+        match self {
+            Doubt::Breach(_) => "K1",
+            Doubt::NotMost => "K2",
+            Doubt::CutMissing => "K3",
+            Doubt::CutExtra => "K4",
+            Doubt::WrongKind => "K5",
+            Doubt::MarginalRange => "K6",
+            Doubt::BoundFails { .. } => "K7",
+        }
+    }
+}

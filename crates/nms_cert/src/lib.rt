@@ -1,0 +1,13 @@
+//! The checker of plans: it confirms by a certificate that a plan is optimal, and knows nothing of how the plan
+//! was found.
+#![tactic(auto)]
+
+mod confirming;
+mod cutoff;
+mod cuts;
+mod doubt;
+mod rank;
+mod usable_row;
+
+pub use confirming::confirm;
+pub use doubt::Doubt;
