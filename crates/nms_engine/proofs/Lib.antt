@@ -5,3 +5,4 @@ mod ChangeFacts
 mod ColumnFacts
 mod PairFacts
 mod ReportFacts
+mod ThroughFacts

@@ -12,6 +12,7 @@ use Rattle.nms_board.specs.View.{Seen, rows_on}
 use Rattle.nms_board.specs.declared.row.Row.{Row}
 use Rattle.nms_nbbo.specs.Best.{IsBestOf}
 use Rattle.nms_lines.specs.Text.{text_of}
+use Rattle.nms_rules.specs.Through.{traded_through_at}
 use Rattle.nms_flow.specs.Flow.{State, IsAfter, WentOn}
 use Rattle.nms_flow.specs.Run.{Answer, Event, took}
 use Rattle.nms_flow.specs.declared.step.Step.{Step}
@@ -21,9 +22,10 @@ use Rattle.nms_flow.specs.declared.step_fault.StepFault.TheVariants as fault
 use Rattle.nms_flow.specs.declared.reply.Reply.{Reply}
 use Rattle.nms_flow.specs.declared.reply.Reply.TheVariants as reply
 use Rattle.nms_flow.proofs.RunLemmas.{goes_on}
-use Rattle.nms_engine.specs.Answers.{best_record, told_by}
+use Rattle.nms_engine.specs.Answers.{best_record, through_records, told_by}
 use Rattle.nms_engine.specs.Progress.{TakesSome, TakesUntil}
-use Rattle.nms_engine.specs.Script.{AsksAll, AsksOne, Sends, Serves, ShowsBest, is_refusal}
+use Rattle.nms_engine.specs.Script.{AsksAll, AsksOne, Sends, Serves, ShowsBest, ShowsThrough, is_refusal}
+use Rattle.nms_engine.proofs.ThroughFacts.{through_refuses_none}
 
 -- a reply is no want of memory
 pub no_want : (r : Reply) → (let a : Answer = Ok r in a) ≢ Err fault.NoMemory
@@ -67,6 +69,14 @@ pub shows_best : (roster : Listing) (old new : State) (desk sym : ℕ) (seen : S
     → after ≡ before ++ text_of (best_record roster desk seen bid offer ∷ []) → Serves (ShowsBest roster desk sym) old new (Some before) (Some after) false
 shows_best roster old new desk sym seen bid offer before after went best_bid best_offer text events h =
     ((step.Look desk sym, Ok (reply.Seen seen)) ∷ [], best_record roster desk seen bid offer ∷ [], (seen, bid, offer, refl, best_bid, best_offer, refl), goes_on old new events (step.Look desk sym, Ok (reply.Seen seen)) went h, text, refl)
+
+-- a look at what a price trades through
+pub shows_through : (roster : Listing) (old new : State) (desk sym price : ℕ) (seen : Seen) (before after : List ℕ)
+    → WentOn old new (step.Look desk sym, Ok (reply.Seen seen)) → after ≡ before ++ text_of (through_records roster desk seen price (traded_through_at seen price))
+    → Serves (ShowsThrough roster desk sym price) old new (Some before) (Some after) false
+shows_through roster old new desk sym price seen before after went text events h =
+    let told = through_records roster desk seen price (traded_through_at seen price) in
+    ((step.Look desk sym, Ok (reply.Seen seen)) ∷ [], told, (seen, refl, refl), goes_on old new events (step.Look desk sym, Ok (reply.Seen seen)) went h, text, through_refuses_none roster desk seen price (traded_through_at seen price))
 
 -- one more was taken
 pub takes_more : (old now new : State) (r : Reply) → TakesSome old now → WentOn now new (step.Take, Ok r) → TakesSome old new

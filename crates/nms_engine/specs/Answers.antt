@@ -1,9 +1,11 @@
 -- What a script is told: records of text. This product's own rule.
-use Rattle.std.specs.Prelude.{ℕ, List, [], ◌∷◌, ◌++◌, codes, Option, Some, None, Ok, Err}
+use Rattle.std.specs.Prelude.{ℕ, List, [], ◌∷◌, ◌++◌, codes, length, map, Option, Some, None, Ok, Err}
 use Rattle.std.specs.List.{flat_map, join_with_byte}
 use Rattle.std.specs.Fmt.{decimal}
 use Rattle.nms_units.specs.Price.{price_text}
 use Rattle.nms_quote.specs.Roster.{Listing, part_text, symbol_text}
+use Rattle.nms_quote.specs.declared.side_quote.Side.{Side}
+use Rattle.nms_quote.specs.declared.side_quote.Side.TheVariants.{Bid, Offer}
 use Rattle.nms_board.specs.View.{Seen}
 use Rattle.nms_board.specs.declared.row.Row.{Row}
 use Rattle.nms_nbbo.specs.Market.{market_of}
@@ -56,3 +58,21 @@ look_text desk sym version market = join_with_byte 44 (codes "BEST" ∷ decimal 
 -- the fields of both rows behind those, and the end of the record
 abbrev pub rows_text : Listing → Option Row → Option Row → List ℕ
 rows_text roster bid offer = later_fields (best_fields roster bid) ++ later_fields (best_fields roster offer) ++ 10 ∷ []
+
+abbrev pub side_word : Side → List ℕ
+side_word Bid = codes "BID"
+side_word Offer = codes "OFFER"
+
+-- how many quotations a trade at a price trades through, of what a desk saw
+abbrev pub through_head : Listing → ℕ → Seen → ℕ → ℕ → Record
+through_head roster desk seen price count =
+    codes "THRU" ∷ decimal desk ∷ symbol_text roster seen.sym ∷ decimal seen.version ∷ price_text price ∷ decimal count ∷ []
+
+-- one of them: side, participant, price, displayed size
+abbrev pub through_row : Listing → Side × Row → Record
+through_row roster quotation =
+    codes "ROW" ∷ side_word quotation.0 ∷ part_text roster quotation.1.part ∷ price_text quotation.1.price ∷ decimal quotation.1.size ∷ []
+
+-- their number, then each of them
+abbrev pub through_records : Listing → ℕ → Seen → ℕ → List (Side × Row) → List Record
+through_records roster desk seen price quotations = through_head roster desk seen price (length quotations) ∷ map (through_row roster) quotations

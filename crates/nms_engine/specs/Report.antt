@@ -16,7 +16,7 @@ use Rattle.nms_nbbo.specs.declared.market_kind.Market.{Market}
 use Rattle.nms_nbbo.specs.declared.pair.Pair.{Pair}
 use Rattle.nms_nbbo.specs.declared.pair.Clause.{Clause}
 use Rattle.nms_nbbo.specs.declared.pair.Clause.TheVariants as clause
-use Rattle.nms_engine.specs.Answers.{market_word}
+use Rattle.nms_engine.specs.Answers.{market_word, side_word}
 
 -- a text at the left of a column, then spaces; one longer than the column stands as it is
 abbrev pub at_left : ℕ → List ℕ → List ℕ
@@ -33,10 +33,6 @@ line_of columns = join_with_byte 32 columns ++ 10 ∷ []
 -- the symbol, the version, and how the best bid and offer stand to each other
 abbrev pub header_line : Listing → Seen → Market → List ℕ
 header_line roster seen market = line_of (at_left 8 (symbol_text roster seen.sym) ∷ at_right 8 (decimal seen.version) ∷ market_word market ∷ [])
-
-abbrev pub side_word : Side → List ℕ
-side_word Bid = codes "BID"
-side_word Offer = codes "OFFER"
 
 -- P for a protected quotation, M for a manual one
 abbrev pub state_word : Bool → List ℕ

@@ -22,13 +22,14 @@ use Rattle.nms_lines.specs.declared.line.Line.TheVariants as line
 use Rattle.nms_lines.specs.declared.line.Reading.TheVariants as source
 use Rattle.nms_lines.specs.declared.line_fault.LineFault.{LineFault}
 use Rattle.nms_lines.specs.declared.line_fault.LineFault.TheVariants as line_fault
+use Rattle.nms_rules.specs.Through.{traded_through_at}
 use Rattle.nms_flow.specs.Flow.{State, IsAfter, room_under}
 use Rattle.nms_flow.specs.Run.{Answer, Event, IsRun, published_by, taken_by, took}
 use Rattle.nms_flow.specs.declared.step.Step.{Step}
 use Rattle.nms_flow.specs.declared.step.Step.TheVariants as step
 use Rattle.nms_flow.specs.declared.reply.Reply.TheVariants as reply
 use Rattle.nms_flow.specs.declared.step_fault.StepFault.TheVariants as fault
-use Rattle.nms_engine.specs.Answers.{refusal, told_by, best_record}
+use Rattle.nms_engine.specs.Answers.{refusal, told_by, best_record, through_records}
 use Rattle.nms_engine.specs.declared.TheConstants.{MOST_RECORDS}
 use Rattle.nms_engine.specs.declared.counts.Counts.{Counts}
 use Rattle.nms_engine.specs.declared.script_fault.ScriptFault.{ScriptFault}
@@ -65,6 +66,11 @@ ShowsBest roster desk sym events told =
     × IsBestOf Bid (rows_on Bid seen) bid × IsBestOf Offer (rows_on Offer seen) offer
     × (told ≡ best_record roster desk seen bid offer ∷ [])
 
+-- a desk looked, and is told the protected quotations that a trade at the price trades through (17 CFR 242.611)
+abbrev pub ShowsThrough : Listing → ℕ → ℕ → ℕ → List Event → List Record → Type 0
+ShowsThrough roster desk sym price events told =
+    (seen : Seen) × (events ≡ (step.Look desk sym, Ok (reply.Seen seen)) ∷ []) × (told ≡ through_records roster desk seen price (traded_through_at seen price))
+
 -- a refused record asks for no step
 abbrev pub IsRefused : ℕ → LineFault → List Event → List Record → Type 0
 IsRefused number fault events told = (events ≡ []) × (told ≡ refusal number (line_faults.code_of fault) ∷ [])
@@ -77,7 +83,7 @@ AnswersLine settings number line.TakeAll events told = AsksAll number events tol
 AnswersLine settings number line.Publish events told = AsksOne number step.Publish events told
 AnswersLine settings number (line.Tell desk) events told = AsksOne number (step.Tell desk) events told
 AnswersLine settings number (line.Best desk sym) events told = ShowsBest settings.roster desk sym events told
-AnswersLine settings number (line.Through desk sym price) events told = IsRefused number line_fault.UnknownKind events told
+AnswersLine settings number (line.Through desk sym price) events told = ShowsThrough settings.roster desk sym price events told
 AnswersLine settings number (line.Sweep desk order) events told = IsRefused number line_fault.UnknownKind events told
 
 abbrev pub AnswersReading : Settings → ℕ → Result Line LineFault → List Event → List Record → Type 0

@@ -1,15 +1,19 @@
 //! What a script is told, as text (specs/Answers).
-ghost use Rattle.std.specs.Prelude.{◌≡◌, ◌<◌, ◌++◌, ◌∷◌, [], length, OnOk, IfSome, Ok, Err};
+ghost use Rattle.std.specs.Prelude.{◌≡◌, ◌<◌, ◌++◌, ◌∷◌, [], All, length, map, OnOk, IfSome, Ok, Err};
 ghost use Rattle.nms_lines.specs.Text.{text_of};
-ghost use Rattle.nms_board.specs.View.{Seen};
+ghost use Rattle.nms_quote.specs.declared.side_quote.Side.{Side};
+ghost use Rattle.nms_board.specs.View.{Seen, rows_on};
+ghost use Rattle.nms_rules.specs.Through.{traded_through_at};
 ghost use Rattle.nms_flow.specs.declared.reply.Reply.TheVariants as reply;
-ghost use Rattle.nms_engine.specs.Answers.{best_fields, best_record, later_fields, look_text, market_word, refusal, rows_text, told_by};
+ghost use Rattle.nms_engine.specs.Answers.{best_fields, best_record, later_fields, look_text, market_word, refusal, rows_text, side_word, through_head, through_records, through_row, told_by};
 
 use crate::fields::{push_number, push_price, push_text};
-use nms_board::Row;
+use nms_board::{Row, View};
 use nms_flow::BestRows;
 use nms_nbbo::{Market, market_between};
-use nms_quote::{Roster, Sym};
+use nms_quote::{Roster, Side, Sym};
+use nms_rules::traded_through;
+use nms_units::Price;
 use std::alloc::AllocError;
 
 /// Appends the record that refuses the one of that number.
@@ -68,6 +72,16 @@ pub(crate) fn word_of_market(market: Market) -> &'static str
         Market::Normal => "NORMAL",
         Market::Locked => "LOCKED",
         Market::Crossed => "CROSSED",
+    }
+}
+
+/// The word for a side.
+pub(crate) fn word_of_side(side: Side) -> &'static str
+    ensures { result.now ≡ side_word side }
+{
+    match side {
+        Side::Bid => "BID",
+        Side::Offer => "OFFER",
     }
 }
 
@@ -136,4 +150,76 @@ fn tell_row(out: &mut Vec<u8>, roster: &Roster, row: &Option<Row>) -> Result<(),
             push_number(out, row.receipt)
         }
     }
+}
+
+/// Appends the protected quotations that a trade at a price trades through, of what a desk saw.
+pub(crate) fn tell_through(
+    out: &mut Vec<u8>,
+    roster: &Roster,
+    desk: u8,
+    view: &View,
+    price: Price,
+) -> Result<(), AllocError>
+    requires sym { view.now.sym < length roster.now.syms }
+    requires parts { (side : Side) → All (λ row. row.part < length roster.now.parts) (rows_on side view.now) }
+    ensures { OnOk result (out.new.items ≡ out.old.items
+        ++ text_of (through_records roster.now desk view.now price (traded_through_at view.now price))) }
+{
+    let quotations = traded_through(view, price);
+    tell_through_head(out, roster, desk, view, price, quotations.len())?;
+    tell_through_rows(out, roster, quotations.as_slice())
+}
+
+/// Appends how many quotations a trade at a price trades through.
+fn tell_through_head(
+    out: &mut Vec<u8>,
+    roster: &Roster,
+    desk: u8,
+    view: &View,
+    price: Price,
+    count: usize,
+) -> Result<(), AllocError>
+    requires { view.now.sym < length roster.now.syms }
+    ensures { OnOk result (out.new.items ≡ out.old.items ++ text_of (through_head roster.now desk view.now price count ∷ [])) }
+{
+    out.extend_from_slice(b"THRU")?;
+    push_number(out, u64::from(desk))?;
+    push_text(out, roster.sym_name(view.sym()))?;
+    push_number(out, view.version())?;
+    push_price(out, price)?;
+    push_number(out, count as u64)?;
+    end(out)
+}
+
+/// Appends quotations that are traded through, a record each.
+fn tell_through_rows(
+    out: &mut Vec<u8>,
+    roster: &Roster,
+    quotations: &[(Side, Row)],
+) -> Result<(), AllocError>
+    requires { All (λ quotation. quotation.1.part < length roster.now.parts) quotations.now }
+    ensures { OnOk result (out.new.items ≡ out.old.items ++ text_of (map (through_row roster.now) quotations.now)) }
+{
+    for (side, row) in quotations {
+        tell_through_row(out, roster, *side, row)?;
+    }
+    Ok(())
+}
+
+/// Appends a quotation that is traded through.
+fn tell_through_row(
+    out: &mut Vec<u8>,
+    roster: &Roster,
+    side: Side,
+    row: &Row,
+) -> Result<(), AllocError>
+    requires { row.now.part < length roster.now.parts }
+    ensures { OnOk result (out.new.items ≡ out.old.items ++ text_of (through_row roster.now (side, row.now) ∷ [])) }
+{
+    out.extend_from_slice(b"ROW")?;
+    push_text(out, word_of_side(side))?;
+    push_text(out, roster.part_name(row.part))?;
+    push_price(out, row.price)?;
+    push_number(out, u64::from(row.size))?;
+    end(out)
 }

@@ -5,9 +5,9 @@ ghost use Rattle.nms_units.specs.Price.{price_text};
 ghost use Rattle.nms_quote.specs.declared.side_quote.Side.{Side};
 ghost use Rattle.nms_board.specs.View.{rows_on};
 ghost use Rattle.nms_nbbo.specs.Pairs.{pairs_from};
-ghost use Rattle.nms_engine.specs.Report.{IsReport, at_right, clause_word, header_line, is_best, mark_word, pair_line, pair_word, pairs_text, row_line, side_text, side_word, state_word};
+ghost use Rattle.nms_engine.specs.Report.{IsReport, at_right, clause_word, header_line, is_best, mark_word, pair_line, pair_word, pairs_text, row_line, side_text, state_word};
 
-use crate::answer::word_of_market;
+use crate::answer::{word_of_market, word_of_side};
 use crate::script_fault::ScriptFault;
 use nms_board::{Row, View};
 use nms_nbbo::{Clause, Market, Pair, PairPlace, best, market_between, next_pair};
@@ -168,15 +168,6 @@ fn is_best(best: &Option<Row>, row: &Row) -> bool
     match best {
         None => false,
         Some(best) => best.part == row.part,
-    }
-}
-
-fn word_of_side(side: Side) -> &'static str
-    ensures { result.now ≡ side_word side }
-{
-    match side {
-        Side::Bid => "BID",
-        Side::Offer => "OFFER",
     }
 }
 

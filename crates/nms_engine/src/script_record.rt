@@ -9,13 +9,14 @@ ghost use Rattle.nms_engine.specs.Answers.{told_by};
 ghost use Rattle.nms_flow.specs.Flow.{room_of, room_under};
 ghost use Rattle.nms_flow.specs.declared.step.Step.TheVariants as step;
 ghost use Rattle.nms_engine.specs.Progress.{TakesUntil};
-ghost use Rattle.nms_engine.specs.Script.{AnswersLine, AnswersRecord, AsksAll, AsksOne, IsRefused, Sends, Serves, ShowsBest};
+ghost use Rattle.nms_engine.specs.Script.{AnswersLine, AnswersRecord, AsksAll, AsksOne, IsRefused, Sends, Serves, ShowsBest, ShowsThrough};
 
-use crate::answer::{tell_best, tell_published, tell_refusal, tell_taken, tell_told};
+use crate::answer::{tell_best, tell_published, tell_refusal, tell_taken, tell_through, tell_told};
 use nms_fees::Setup;
 use nms_flow::{Flow, StepFault};
 use nms_lines::{ByteRecord, Line, LineFault, Reading, read_line};
 use nms_quote::{Change, Roster, Sym};
+use nms_units::Price;
 use std::alloc::AllocError;
 
 /// Answers a record: moves the machine, and appends what is told of it. Tells whether it was refused.
@@ -66,9 +67,10 @@ fn serve_line(
         Line::Publish => serve_publish(flow, number, out),
         Line::Tell { desk } => serve_tell(flow, desk, number, out),
         Line::Best { desk, sym } => serve_best(flow, setup.roster(), desk, sym, out),
-        Line::Through { .. } | Line::Sweep { .. } => {
-            refuse(flow, number, LineFault::UnknownKind, out)
+        Line::Through { desk, sym, price } => {
+            serve_through(flow, setup.roster(), desk, sym, price, out)
         }
+        Line::Sweep { .. } => refuse(flow, number, LineFault::UnknownKind, out),
     }
 }
 
@@ -181,5 +183,26 @@ fn serve_best(
 {
     let best = flow.best(sym);
     tell_best(out, roster, desk, sym, flow.published(), &best)?;
+    Ok(false)
+}
+
+/// Lets a desk look, and appends the protected quotations that a trade at the price trades through.
+///
+/// Not inlined: a view is large, and the other records are to pay nothing for one.
+#[inline(never)]
+fn serve_through(
+    flow: &Flow,
+    roster: &Roster,
+    desk: u8,
+    sym: Sym,
+    price: Price,
+    out: &mut Vec<u8>,
+) -> Result<bool, AllocError>
+    requires room { flow.now.board.sizes ≡ sizes_of roster.now }
+    requires sym { sym < length roster.now.syms }
+    ensures { IfOk result (Serves (ShowsThrough roster.now desk sym price) flow.now flow.now (Some out.old.items) (Some out.new.items)) }
+{
+    let view = flow.look(sym);
+    tell_through(out, roster, desk, &view, price)?;
     Ok(false)
 }

@@ -8,9 +8,8 @@ use Rattle.nms_lines.specs.declared.line.Kind.TheVariants as kind
 use Rattle.nms_lines.specs.declared.line.Reading.{Reading}
 use Rattle.nms_lines.specs.declared.line.Reading.TheVariants as source
 
--- the kinds that a script serves: a trade-through test and an order are not among them yet
+-- the kinds that a script serves: an order is not among them yet
 abbrev pub is_served : Kind → Bool
-is_served kind.Through = false
 is_served kind.Sweep = false
 is_served _ = true
 

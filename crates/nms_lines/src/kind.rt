@@ -52,7 +52,7 @@ fn brings(from: Reading, kind: Kind) -> bool
 fn is_served(kind: Kind) -> bool
     ensures { result ≡ is_served kind }
 {
-    !matches!(kind, Kind::Through | Kind::Sweep)
+    kind != Kind::Sweep
 }
 
 fn is_change_kind(kind: Kind) -> bool
