@@ -12,8 +12,6 @@ mod script;
 mod script_fault;
 mod script_record;
 mod setup_k;
-#[cfg(test)]
-mod tests;
 
 /// The most records of a script. This product's own rule.
 pub const MOST_RECORDS: u64 = 10_000_000;

@@ -1,15 +1,22 @@
-//! Runs the examples that come on standard input and writes what each gives. The gate compares it with
-//! `stdout`, byte for byte. `examples/bundle.sh` makes the input of the files in `examples/`.
-//!
-//! A line `== setup`, `== script TITLE` or `== report SYM TITLE` begins an example; what follows up to the next
-//! one is its text. A setup holds for the examples behind it; an empty one is the built-in setup.
+//! Runs the examples that come on standard input and writes what each gives, or whether it gives what it says
+//! that it must. The gate compares that with `stdout`, byte for byte. `examples/README.md` has the form of the
+//! input, and `examples/bundle.sh` makes it.
 #![tactic(auto)]
 
-use nms_engine::{SETUP_K, report_changes, run_script};
+mod escapes;
+mod example;
+mod faults;
+
+use example::give;
+use nms_engine::SETUP_K;
 use nms_fees::{Setup, read_setup};
+use std::alloc::Global;
 use std::io::{Read, Write};
 use std::process::ExitCode;
 use std::{io, str};
+
+/// The line behind which an example says what it must give.
+const GIVES: &str = "-- gives\n";
 
 /// The input is no list of examples, or a stream failed.
 #[derive(Debug, Drop)]
@@ -22,57 +29,58 @@ fn main(rt: HostRuntime) -> ExitCode {
     }
 }
 
-/// Shows each example.
+/// Shows the examples under each setup.
 fn show_all(rt: &HostRuntime) -> Result<(), Failed> {
     let mut input = Vec::new(rt.alloc());
     rt.reader().read_to_end(&mut input).map_err(|_| Failed)?;
     let text = str::from_utf8(&input).map_err(|_| Failed)?;
     let answers = &mut io::writer(rt);
-    let mut setup = read_setup(rt.alloc(), SETUP_K).map_err(|_| Failed)?;
-    for example in text.split("== ").skip(1) {
-        let (title, body) = example.split_once('\n').ok_or(Failed)?;
-        for part in [b"== ".as_slice(), title.as_bytes(), b"\n"] {
-            answers.write_all(part).map_err(|_| Failed)?;
-        }
-        if title == "setup" {
-            setup = setup_of(rt, body)?;
-        } else {
-            show(rt, &setup, title, body, answers)?;
-        }
+    for part in text.split("== setup").skip(1) {
+        show_part(rt.alloc(), part, answers)?;
     }
     Ok(())
 }
 
-/// The setup of a text, or the built-in one of an empty text.
-fn setup_of<T: AllocGlobal>(rt: &T, text: &str) -> Result<Setup, Failed> {
-    let document = if text.is_empty() { SETUP_K } else { text };
-    read_setup(rt.alloc(), document).map_err(|_| Failed)
+/// Shows the examples that stand behind a setup. An empty one is the built-in setup.
+fn show_part<W: Write>(alloc: Global, part: &str, answers: &mut W) -> Result<(), Failed> {
+    let (head, examples) = part.split_once("== ").ok_or(Failed)?;
+    let (_, document) = head.split_once('\n').ok_or(Failed)?;
+    let document = if document.is_empty() {
+        SETUP_K
+    } else {
+        document
+    };
+    let Ok(setup) = read_setup(alloc, document) else {
+        return Err(Failed);
+    };
+    for example in examples.split("== ") {
+        let (title, body) = example.split_once('\n').ok_or(Failed)?;
+        for piece in [b"== ".as_slice(), title.as_bytes(), b"\n"] {
+            answers.write_all(piece).map_err(|_| Failed)?;
+        }
+        show(alloc, &setup, title, body, answers)?;
+    }
+    Ok(())
 }
 
-/// Writes what an example gives, and the code of what ended it early.
-fn show<T: AllocGlobal, W: Write>(
-    rt: &T,
+/// Writes what an example gives; or, of one that says what it must give, whether it does.
+fn show<W: Write>(
+    alloc: Global,
     setup: &Setup,
     title: &str,
     body: &str,
     answers: &mut W,
 ) -> Result<(), Failed> {
-    let (kind, rest) = title.split_once(' ').ok_or(Failed)?;
-    if kind == "script" {
-        return match run_script(rt.alloc(), setup, body.as_bytes(), answers) {
-            Ok(_) => Ok(()),
-            Err(fault) => tell(answers, fault.code()),
-        };
+    let Some((input, wanted)) = body.split_once(GIVES) else {
+        let given = give(alloc, setup, title, body)?;
+        return answers.write_all(&given).map_err(|_| Failed);
+    };
+    let given = give(alloc, setup, title, input)?;
+    if given.as_slice() == wanted.as_bytes() {
+        return answers.write_all(b"as it must\n").map_err(|_| Failed);
     }
-    let (symbol, _) = rest.split_once(' ').ok_or(Failed)?;
-    let sym = setup.roster().find_sym(symbol.as_bytes()).ok_or(Failed)?;
-    match report_changes(rt.alloc(), setup, body.as_bytes(), sym, answers) {
-        Ok(()) => Ok(()),
-        Err(fault) => tell(answers, fault.code()),
-    }
-}
-
-/// Writes the code of what ended an example early, as the program does.
-fn tell<W: Write>(answers: &mut W, code: &str) -> Result<(), Failed> {
-    writeln!(answers, "nms_tool: {code}").map_err(|_| Failed)
+    answers
+        .write_all(b"NOT AS IT MUST, but:\n")
+        .map_err(|_| Failed)?;
+    answers.write_all(&given).map_err(|_| Failed)
 }

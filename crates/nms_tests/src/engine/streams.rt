@@ -1,0 +1,72 @@
+use std::cell::Cell;
+use std::io;
+use std::io::{ErrorKind, Read, Write};
+
+/// Gives a text so many times, then fails once where it is to, and goes on with what stands behind.
+#[derive(Drop)]
+pub(super) struct Source<'a> {
+    pub(super) text: &'a [u8],
+    pub(super) times: u32,
+    pub(super) fails: bool,
+    pub(super) behind: &'a [u8],
+    pub(super) rest: &'a [u8],
+}
+
+impl<'a> Read for Source<'a> {
+    fn read(&mut self, buf: &mut [u8]) -> io::Result<usize> {
+        if self.rest.is_empty() && self.times > 0 {
+            self.rest = self.text;
+            self.times -= 1;
+        } else if self.rest.is_empty() && self.fails {
+            self.fails = false;
+            return Err(io::Error::from(ErrorKind::BrokenPipe));
+        } else if self.rest.is_empty() {
+            self.rest = self.behind;
+            self.behind = b"";
+        }
+        self.rest.read(buf)
+    }
+}
+
+/// Takes so many more writes and flushes, and fails from then on. Tells how many bytes are out: written, and
+/// flushed since.
+#[derive(Drop)]
+pub(super) struct Pipe<'a> {
+    pub(super) bytes: usize,
+    pub(super) writes: usize,
+    pub(super) flushes: usize,
+    pub(super) out: &'a Cell<usize>,
+}
+
+impl<'a> Pipe<'a> {
+    pub(super) fn taking(writes: usize, flushes: usize, out: &'a Cell<usize>) -> Self {
+        Pipe {
+            bytes: 0,
+            writes,
+            flushes,
+            out,
+        }
+    }
+}
+
+impl<'a> Write for Pipe<'a> {
+    fn write(&mut self, buf: &[u8]) -> io::Result<usize> {
+        self.writes = one_less(self.writes)?;
+        self.bytes = self.bytes.saturating_add(buf.len());
+        Ok(buf.len())
+    }
+
+    fn flush(&mut self) -> io::Result<()> {
+        self.flushes = one_less(self.flushes)?;
+        self.out.set(self.bytes);
+        Ok(())
+    }
+}
+
+/// One less; a failure where there is none.
+fn one_less(left: usize) -> io::Result<usize> {
+    match left {
+        0 => Err(io::Error::from(ErrorKind::BrokenPipe)),
+        left => Ok(left - 1),
+    }
+}
