@@ -23,6 +23,3 @@ pub use line_fault::LineFault;
 pub use line_reading::read_line;
 pub use record_fault::RecordFault;
 pub use record_reading::{open_records, read_next};
-
-#[cfg(test)]
-mod tests;

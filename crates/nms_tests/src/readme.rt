@@ -19,7 +19,10 @@ pub fn look(
     changes: &[Change],
     sym: Sym,
 ) -> Result<(Market, Option<Row>, Option<Row>), LookFault> {
-    let mut board = Boards::new(alloc, roster).map_err(LookFault::Board)?;
+    let mut board = match Boards::new(alloc, roster) {
+        Ok(board) => board,
+        Err(fault) => return Err(LookFault::Board(fault)),
+    };
     for (place, change) in changes.iter().enumerate() {
         if !board.takes(change) {
             return Err(LookFault::Refused(place));

@@ -1,7 +1,8 @@
 //! Tests of what no clause says: that the calls succeed and come back, and a run of two threads.
 ghost use Rattle.std.specs.Prelude.{◌≡◌, ◌≤◌, ◌+◌, [], length, IfOk};
 
-use crate::{Delivered, Full, LaneFault, NotEmpty, Sender, Taker, close, open_lane};
+use crate::fixture::prints;
+use nms_feed::{Delivered, Full, LaneFault, NotEmpty, Sender, Taker, close, open_lane};
 use nms_quote::{Change, Part, QState, SideQuote, Sym};
 use nms_units::{Price, Shares};
 use std::alloc::AllocError;
@@ -214,9 +215,6 @@ fn two_threads_send_1000_changes_each_through_a_lane_of_4(rt: HostRuntime) -> Re
 #[test]
 fn faults_print_their_codes(rt: HostRuntime) -> Result<(), Fail> {
     let change = bid_of(0, 1).ok_or("a bid")?;
-    let fault = format!(in rt.alloc(); "{}", LaneFault::NoMemory)?;
-    let full = format!(in rt.alloc(); "{}", Full { change })?;
-    assert_eq!(rt; fault.as_str(), "N1: out of memory");
-    assert_eq!(rt; full.as_str(), "N2: the lane is full");
-    Ok(())
+    prints(&rt, rt.alloc(), LaneFault::NoMemory, "N1: out of memory")?;
+    prints(&rt, rt.alloc(), Full { change }, "N2: the lane is full")
 }
