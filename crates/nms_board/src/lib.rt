@@ -6,8 +6,6 @@ mod board_fault;
 mod cell;
 mod laws;
 mod row;
-#[cfg(test)]
-mod tests;
 mod view;
 
 /// The most rows of a side of a symbol: one for each participant's place. This product's own rule.

@@ -11,8 +11,6 @@ mod not_empty;
 mod rule;
 mod sender;
 mod taker;
-#[cfg(test)]
-mod tests;
 
 /// The fewest changes that a lane can be made to hold at once. This product's own rule.
 pub const LEAST_CAPACITY: usize = 2;

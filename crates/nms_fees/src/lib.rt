@@ -11,8 +11,6 @@ mod section;
 mod setup;
 mod setup_fault;
 mod setup_reading;
-#[cfg(test)]
-mod tests;
 mod toml_table;
 
 pub use fee_book::FeeBook;

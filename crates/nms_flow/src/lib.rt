@@ -10,8 +10,6 @@ mod laws;
 mod reply;
 mod step;
 mod step_fault;
-#[cfg(test)]
-mod tests;
 
 pub use best_rows::BestRows;
 pub use flow::Flow;

@@ -30,6 +30,3 @@ pub use plan_text_fault::PlanTextFault;
 pub use plan_writing::write_plan;
 pub use record_fault::RecordFault;
 pub use record_reading::{open_records, read_next};
-
-#[cfg(test)]
-mod tests;

@@ -8,8 +8,6 @@ mod pair;
 mod pair_place;
 mod pair_walk;
 mod ranking;
-#[cfg(test)]
-mod tests;
 
 pub use laws::{
     better_price_ranks_first, earlier_receipt_ranks_first_at_equal_size,

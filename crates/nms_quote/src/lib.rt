@@ -15,8 +15,6 @@ mod roster;
 mod roster_fault;
 mod side_quote;
 mod symbol;
-#[cfg(test)]
-mod tests;
 
 /// The most participants of a roster: their places are 0 to 31. This product's own rule.
 pub const MOST_PARTICIPANTS: u8 = 32;

@@ -1,5 +1,32 @@
-//! Tests of what no clause says, a module for each crate that they test.
+//! The tests of the crates below, a module for each crate: what no clause says, worked examples by values
+//! from outside, and that each call succeeds where there is memory.
+//!
+//! They stand here because the gate proves a crate once more for its own tests.
 #![tactic(auto)]
 
 #[cfg(test)]
+mod board;
+#[cfg(test)]
 mod engine;
+#[cfg(test)]
+mod feed;
+#[cfg(test)]
+mod fees;
+#[cfg(test)]
+mod fixture;
+#[cfg(test)]
+mod flow;
+#[cfg(test)]
+mod lines;
+#[cfg(test)]
+mod nbbo;
+#[cfg(test)]
+mod plan_text;
+#[cfg(test)]
+mod quote;
+#[cfg(test)]
+mod readme;
+#[cfg(test)]
+mod rules;
+#[cfg(test)]
+mod units;

@@ -9,8 +9,6 @@ mod lot;
 mod money;
 mod price;
 mod shares;
-#[cfg(test)]
-mod tests;
 mod unit_fault;
 
 /// The highest price in 1/10,000 dollar: 9,999,999.9999 dollars. This product's own rule.

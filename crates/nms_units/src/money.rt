@@ -3,9 +3,6 @@ ghost use Rattle.std.specs.Prelude.{◌≡◌, ℤ, ◌<ℤ◌, pos, neg_ℤ, �
 ghost use Rattle.nms_units.specs.Digits.{number_in};
 ghost use Rattle.nms_units.specs.Money.{whole_dollars, nine_decimals, nanodollars, amount_number, money_number, money_reading, three_digits, money_text};
 
-#[cfg(test)]
-mod tests;
-
 use crate::digits::{parse_digits, point_in};
 use crate::unit_fault::UnitFault;
 use std::fmt;

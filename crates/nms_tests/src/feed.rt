@@ -1,0 +1,220 @@
+//! Tests of what no clause says: that the calls succeed and come back, and a run of two threads.
+ghost use Rattle.std.specs.Prelude.{◌≡◌, ◌≤◌, ◌+◌, [], length, IfOk};
+
+use crate::fixture::prints;
+use nms_feed::{Delivered, Full, LaneFault, NotEmpty, Sender, Taker, close, open_lane};
+use nms_quote::{Change, Part, QState, SideQuote, Sym};
+use nms_units::{Price, Shares};
+use std::alloc::AllocError;
+use std::process::Abort;
+use std::snapshot::Snapshot;
+use std::sync::Wait;
+use std::test::Fail;
+use std::thread;
+use std::thread::{Promise, Threads};
+
+/// A bid of so many shares by the participant at a place: the number tells it from its other ones.
+fn bid_of(place: u8, shares: u32) -> Option<Change> {
+    let bid = SideQuote::new(Price::new(100_000)?, Shares::new(shares)?);
+    Some(Change::Quote {
+        part: Part::new(place)?,
+        sym: Sym::new(0)?,
+        state: QState::Automated,
+        bid,
+        offer: None,
+    })
+}
+
+/// The participant and the shares of a bid.
+fn told_by(change: &Change) -> Option<(u8, u32)> {
+    match *change {
+        Change::Quote { part, bid, .. } => Some((part.get(), bid?.shares.get())),
+        _ => None,
+    }
+}
+
+#[test]
+fn a_full_lane_gives_the_change_back_and_closing_waits_for_the_taker(
+    rt: HostRuntime,
+) -> Result<(), Fail> {
+    let (mut a, mut b, taker) = open_lane(rt.alloc(), 2)?;
+    let a1 = &bid_of(0, 1).ok_or("a bid")?;
+    let a2 = &bid_of(0, 2).ok_or("a bid")?;
+    let b1 = &bid_of(1, 1).ok_or("a bid")?;
+    a.send(&rt, *a1);
+    b.send(&rt, *b1);
+    assert_eq!(rt; a.try_send(&rt, *a2), Err(Full { change: *a2 }));
+    let Err(
+        NotEmpty {
+            mut a,
+            b,
+            mut taker,
+        },
+    ) = close(a, b, taker)
+    else {
+        return Err("a lane with changes was closed")?;
+    };
+    assert_eq!(rt; taker.take(&rt), Some(*a1));
+    a.send(&rt, *a2);
+    assert_eq!(rt; taker.take(&rt), Some(*b1));
+    assert_eq!(rt; taker.take(&rt), Some(*a2));
+    assert_eq!(rt; taker.take(&rt), None);
+    let closed = close(a, b, taker).ok();
+    let told = Delivered {
+        sent_a: 2,
+        sent_b: 1,
+        taken: 3,
+    };
+    assert_eq!(rt; closed, Some(told));
+    Ok(())
+}
+
+#[test]
+fn a_new_lane_takes_a_change_at_once(rt: HostRuntime) -> Result<(), Fail> {
+    let (mut a, _b, _taker) = open_lane(rt.alloc(), 1024)?;
+    let change = bid_of(0, 1).ok_or("a bid")?;
+    assert_eq!(rt; a.try_send(&rt, change), Ok(()));
+    Ok(())
+}
+
+#[test]
+fn a_taker_that_stops_and_takes_again_loses_nothing(rt: HostRuntime) -> Result<(), Fail> {
+    let (mut a, mut b, mut taker) = open_lane(rt.alloc(), 4)?;
+    let a1 = &bid_of(0, 1).ok_or("a bid")?;
+    let a2 = &bid_of(0, 2).ok_or("a bid")?;
+    let b1 = &bid_of(1, 1).ok_or("a bid")?;
+    assert_eq!(rt; taker.take(&rt), None);
+    a.send(&rt, *a1);
+    b.send(&rt, *b1);
+    a.send(&rt, *a2);
+    assert_eq!(rt; taker.take(&rt), Some(*a1));
+    let Err(NotEmpty { a, b, mut taker }) = close(a, b, taker) else {
+        return Err("a lane with changes was closed")?;
+    };
+    assert_eq!(rt; taker.take(&rt), Some(*b1));
+    assert_eq!(rt; taker.take(&rt), Some(*a2));
+    assert_eq!(rt; taker.take(&rt), None);
+    let told = Delivered {
+        sent_a: 2,
+        sent_b: 1,
+        taken: 3,
+    };
+    assert_eq!(rt; close(a, b, taker).ok(), Some(told));
+    Ok(())
+}
+
+/// What comes back from a thread is the same end of the same lane.
+#[derive(Drop)]
+struct SameEnd(Snapshot<Sender>);
+
+impl Promise<Sender> for SameEnd {
+    ghost kept_by = { λ promise back. (back.lane ≡ promise.0.value.lane) × (back.feed ≡ promise.0.value.feed) };
+}
+
+/// Sends 1,000 bids of the participant at a place, of 1 to 1,000 shares.
+fn send_1000<R: Wait>(rt: &R, mut sender: Sender, place: u8) -> Sender
+    requires { sender.sent ≡ [] }
+    ensures lane { result.lane ≡ sender.lane }
+    ensures feed { result.feed ≡ sender.feed }
+{
+    for number in 0..1000u32 {
+        if let Some(bid) = bid_of(place, number + 1) {
+            sender.send(rt, bid);
+        }
+    }
+    sender
+}
+
+/// Takes bids until there were so many. Each participant's come in the order of their shares.
+fn take_all<R: Wait + Abort>(rt: &R, mut taker: Taker, count: u32) -> Taker
+    ensures { result.lane ≡ taker.lane }
+{
+    let mut last = [0u32; 2];
+    let mut taken = 0u32;
+    for _ in rt.forever() {
+        if taken >= count {
+            break;
+        }
+        let Some(bid) = taker.take(rt) else {
+            thread::yield_now();
+            continue;
+        };
+        taken += 1;
+        let told = told_by(&bid);
+        if last[0] < 1000 && told == Some((0, last[0] + 1)) {
+            last[0] += 1;
+        } else {
+            assert!(rt;
+                last[1] < 1000 && told == Some((1, last[1] + 1)),
+                "{told:?} after {last:?}"
+            );
+            last[1] += 1;
+        }
+    }
+    taker
+}
+
+/// Sends 1,000 bids from each of two threads, and takes them on the caller's own.
+fn run_both<R: Threads + Wait + Abort + Sync>(
+    rt: &R,
+    a: Sender,
+    b: Sender,
+    taker: Taker,
+) -> Result<(Sender, Sender, Taker), AllocError>
+    requires { (a.sent ≡ []) × (b.sent ≡ []) }
+    ensures a { IfOk result (λ ends. (ends.0.lane ≡ a.lane) × (ends.0.feed ≡ a.feed)) }
+    ensures b { IfOk result (λ ends. (ends.1.lane ≡ b.lane) × (ends.1.feed ≡ b.feed)) }
+    ensures taker { IfOk result (λ ends. ends.2.lane ≡ taker.lane) }
+{
+    thread::scope(
+        thread::scope_env(),
+        rt,
+        |scope| -> Result<(Sender, Sender, Taker), AllocError>
+            requires { (a.sent ≡ []) × (b.sent ≡ []) }
+            ensures a { IfOk result (λ ends. (ends.0.lane ≡ a.lane) × (ends.0.feed ≡ a.feed)) }
+            ensures b { IfOk result (λ ends. (ends.1.lane ≡ b.lane) × (ends.1.feed ≡ b.feed)) }
+            ensures taker { IfOk result (λ ends. ends.2.lane ≡ taker.lane) }
+        {
+            let promise_a = SameEnd(Snapshot::of(&a));
+            let promise_b = SameEnd(Snapshot::of(&b));
+            let child_a = scope.spawn_with(
+                promise_a,
+                move ||
+                    requires { a.sent ≡ [] }
+                { send_1000(rt, a, 0) },
+            )?;
+            let Ok(child_b) = scope.spawn_with(
+                promise_b,
+                move ||
+                    requires { b.sent ≡ [] }
+                { send_1000(rt, b, 1) },
+            ) else {
+                // The first thread ends once its changes are taken.
+                take_all(rt, taker, 1000);
+                return Err(AllocError);
+            };
+            let taker = take_all(rt, taker, 2000);
+            Ok((child_a.join(rt), child_b.join(rt), taker))
+        },
+    )
+}
+
+#[test]
+fn two_threads_send_1000_changes_each_through_a_lane_of_4(rt: HostRuntime) -> Result<(), Fail> {
+    let (a, b, taker) = open_lane(rt.alloc(), 4)?;
+    let (a, b, taker) = run_both(&rt, a, b, taker)?;
+    let told = Delivered {
+        sent_a: 1000,
+        sent_b: 1000,
+        taken: 2000,
+    };
+    assert_eq!(rt; close(a, b, taker).ok(), Some(told));
+    Ok(())
+}
+
+#[test]
+fn faults_print_their_codes(rt: HostRuntime) -> Result<(), Fail> {
+    let change = bid_of(0, 1).ok_or("a bid")?;
+    prints(&rt, rt.alloc(), LaneFault::NoMemory, "N1: out of memory")?;
+    prints(&rt, rt.alloc(), Full { change }, "N2: the lane is full")
+}
