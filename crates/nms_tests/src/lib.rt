@@ -7,6 +7,8 @@
 #[cfg(test)]
 mod board;
 #[cfg(test)]
+mod cert;
+#[cfg(test)]
 mod engine;
 #[cfg(test)]
 mod feed;

@@ -58,6 +58,9 @@ fn line_text(alloc: Global, line: Line) -> Result<String, Fail> {
         Line::Change(change) => change_text(alloc, change),
         Line::Tell { desk } => Ok(format!(in alloc; "tell {desk}")?),
         Line::Best { desk, sym } => Ok(format!(in alloc; "best {desk} {}", sym.get())?),
+        Line::Through { desk, sym, price } => {
+            Ok(format!(in alloc; "through {desk} {} {price}", sym.get())?)
+        }
         Line::Sweep { desk, order } => order_text(alloc, desk, order),
         line => Ok(format!(in alloc; "{line:?}")?),
     }
@@ -164,7 +167,8 @@ fn each_place_brings_its_own_kinds(rt: HostRuntime) -> Result<(), Fail> {
         "N,00,ABC|best 0 0|L1|L1|L1",
         "N,0,|L4|L1|L1|L1",
         "X,Y|Y withdraws|L9|Y withdraws|L1",
-        "E,1,ABC,10|L1|L1|L1|L1",
+        "E,1,ABC,10|through 1 0 10.0000|L1|L1|L1",
+        "E,1,ABC,0|L6|L1|L1|L1",
         "O,0,B,ABC,100,10.01|L1|L1|L1|0 orders Buy 0 100 10.0100 false",
         "O,1,S,DEF,100,10.01,M|L1|L1|L1|1 orders Sell 1 100 10.0100 true",
     ] {
@@ -176,16 +180,19 @@ fn each_place_brings_its_own_kinds(rt: HostRuntime) -> Result<(), Fail> {
 #[test]
 fn the_fault_of_the_least_number_is_told(rt: HostRuntime) -> Result<(), Fail> {
     for (code, rows) in [
-        ("L1", "Z,9 q,N,ABC,A,,,, QQ,N,ABC,A,,,, ,N \"\" E O"),
+        ("L1", "Z,9 q,N,ABC,A,,,, QQ,N,ABC,A,,,, ,N \"\" O"),
         (
             "L2",
-            "F,1 T, P,P L X,N, S,Q,XYZ N,2,XYZ, Q,N,ABC,A,10.00,100 Q,Q,XYZ,Z,x,x,,,",
+            "F,1 T, P,P L E X,N, S,Q,XYZ N,2,XYZ, Q,N,ABC,A,10.00,100 Q,Q,XYZ,Z,x,x,,,",
         ),
         (
             "L3",
             "Q,Q,ABC,A,10.00,100,, Q,Q,XYZ,Z,x,x,, Q,n,ABC,A,,,, S,,XYZ,Z X,NN",
         ),
-        ("L4", "Q,N,XYZ,A,,,, Q,N,XYZ,Z,x,x,, S,N,AB,Z N,2,XYZ"),
+        (
+            "L4",
+            "Q,N,XYZ,A,,,, Q,N,XYZ,Z,x,x,, S,N,AB,Z N,2,XYZ E,2,XYZ,0",
+        ),
         ("L5", "Q,N,ABC,Z,,,, Q,N,ABC,Z,x,x,, Q,N,ABC,a,,,, S,N,ABC,"),
         ("L6", "Q,N,ABC,A,10.00001,100,, Q,N,ABC,A,,,-1,100"),
         ("L7", "Q,N,ABC,A,10.00,1x,, Q,N,ABC,A,10.00,,11,1234567890"),
@@ -193,7 +200,7 @@ fn the_fault_of_the_least_number_is_told(rt: HostRuntime) -> Result<(), Fail> {
             "L8",
             "Q,N,ABC,A,10.00,,, Q,N,ABC,A,,0,, Q,N,ABC,A,10,100,,100",
         ),
-        ("L10", "L,2 L, N,2,ABC N,,ABC N,000,ABC"),
+        ("L10", "L,2 L, N,2,ABC N,,ABC N,000,ABC E,2,ABC,10"),
     ] {
         each_is_refused(&rt, rt.alloc(), SCRIPT, code, rows)?;
     }
