@@ -83,3 +83,8 @@ pub record ReportsFile (settings : Settings) (bytes : Option (List ℕ)) (sym : 
 abbrev pub IsReportFault : Settings → Option (List ℕ) → ReportFault → Type 0
 IsReportFault settings bytes (report_fault.Changes refused) = IsFileFault settings bytes refused
 IsReportFault settings bytes _ = ⊤
+
+-- a report that is refused is not begun: where it was not the writer that failed nothing was written
+abbrev pub WritesNothing : Option (List ℕ) → Option (List ℕ) → ReportFault → Type 0
+WritesNothing old new report_fault.WriteFault = ⊤
+WritesNothing old new _ = new ≡ old

@@ -6,7 +6,7 @@ ghost use Rattle.nms_quote.specs.declared.side_quote.Side.{Side};
 ghost use Rattle.nms_quote.specs.declared.TheConstants.{MOST_CHANGES};
 ghost use Rattle.nms_board.specs.View.{rows_on, view_of};
 ghost use Rattle.nms_lines.specs.Layout.{Record};
-ghost use Rattle.nms_engine.specs.ChangeFile.{HasTaken, IsFileFault, IsFileTape, IsRefusedAfter, IsReportFault, IsTapeOf, ReportsFile, change_reading, is_of_line};
+ghost use Rattle.nms_engine.specs.ChangeFile.{HasTaken, IsFileFault, IsFileTape, IsRefusedAfter, IsReportFault, IsTapeOf, ReportsFile, WritesNothing, change_reading, is_of_line};
 
 use crate::changes_fault::{ChangesFault, ReportFault};
 use crate::report_text::report;
@@ -144,6 +144,7 @@ pub fn report_changes<R: Read + Drop, W: Write>(
     requires { sym < length setup.now.roster.syms }
     ensures written { OnOk result (ReportsFile setup.now (R.remaining source) sym (W.contents writer.old) (W.contents writer.new)) }
     ensures refused { IfErr result (IsReportFault setup.now (R.remaining source)) }
+    ensures unwritten { IfErr result (WritesNothing (W.contents writer.old) (W.contents writer.new)) }
 {
     let changes = match read_changes(alloc, setup, source) {
         Ok(changes) => changes,

@@ -8,6 +8,11 @@ use nms_units::{Money, Price};
 use std::alloc::{AllocError, Global};
 use std::marker::Model;
 
+/// One dollar, in 1/10,000 dollar.
+const ONE_DOLLAR: u64 = 10_000;
+/// The nanodollars in 1/10,000 dollar.
+const NANODOLLARS: u64 = 100_000;
+
 /// The access fees of all participants, by place.
 #[derive(Drop)]
 pub struct FeeBook {
@@ -78,7 +83,7 @@ fn fee_for(schedule: FeeSchedule, price: Price) -> Money
     ensures low { negsuc 9999999 ≤ℤ result }
     ensures high { result ≤ℤ pos 10000000 }
 {
-    if price.get() >= 10_000 {
+    if price.get() >= ONE_DOLLAR {
         Money::new(i128::from(schedule.fee))
     } else {
         Money::new(i128::from(price.get()) * i128::from(schedule.rate))
@@ -91,7 +96,7 @@ fn price_for(side: OrderSide, price: Price) -> Money
     ensures low { negsuc 9999999999999999 ≤ℤ result }
     ensures high { result ≤ℤ pos 10000000000000000 }
 {
-    let nanodollars = i128::from(price.get() * 100_000);
+    let nanodollars = i128::from(price.get() * NANODOLLARS);
     match side {
         OrderSide::Buy => Money::new(nanodollars),
         OrderSide::Sell => Money::new(-nanodollars),

@@ -33,11 +33,5 @@ pub(crate) fn has_repeat(alloc: Global, rows: &[Value]) -> Result<bool, SetupFau
 fn name_in(row: &Value) -> Option<&str>
     ensures { option_copied result ≡ name_in (view row.now) }
 {
-    match row.as_table() {
-        Some(table) => match value_at(table, "name") {
-            Some(value) => value.as_str(),
-            None => None,
-        },
-        None => None,
-    }
+    value_at(row.as_table()?, "name")?.as_str()
 }

@@ -20,11 +20,11 @@ pub(crate) fn value_at<'a>(table: &'a Table, key: &str) -> Option<&'a Value>
 pub(crate) fn text_at<'a>(table: &'a Table, key: &str) -> &'a str
     ensures { result.now ≡ text_at key.now (table_view table.now) }
 {
-    match value_at(table, key) {
-        Some(value) => match value.as_str() {
-            Some(text) => text,
-            None => "",
-        },
+    let Some(value) = value_at(table, key) else {
+        return "";
+    };
+    match value.as_str() {
+        Some(text) => text,
         None => "",
     }
 }
@@ -33,11 +33,11 @@ pub(crate) fn text_at<'a>(table: &'a Table, key: &str) -> &'a str
 pub(crate) fn number_at(table: &Table, key: &str) -> i64
     ensures { result ≡ number_at key.now (table_view table.now) }
 {
-    match value_at(table, key) {
-        Some(value) => match value.as_integer() {
-            Some(number) => number,
-            None => 0,
-        },
+    let Some(value) = value_at(table, key) else {
+        return 0;
+    };
+    match value.as_integer() {
+        Some(number) => number,
         None => 0,
     }
 }
@@ -63,11 +63,11 @@ pub(crate) fn rows_in(value: &Value) -> Option<&[Value]>
 pub(crate) fn rows_at<'a>(table: &'a Table, key: &str) -> &'a [Value]
     ensures { map view result.now ≡ rows_at key.now (table_view table.now) }
 {
-    match value_at(table, key) {
-        Some(value) => match rows_in(value) {
-            Some(rows) => rows,
-            None => &[],
-        },
+    let Some(value) = value_at(table, key) else {
+        return &[];
+    };
+    match rows_in(value) {
+        Some(rows) => rows,
         None => &[],
     }
 }
