@@ -34,6 +34,7 @@ bundle() {
     script first.script
     script refused.script
     script halt.script
+    script through.script
     report ABC first.changes
     report ABC pairs.changes
     setup builtin.toml

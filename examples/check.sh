@@ -27,6 +27,7 @@ at=examples
 example 0 $at/first.out $at/first.script
 example 0 $at/refused.out $at/refused.script
 example 0 $at/halt.out $at/halt.script
+example 0 $at/through.out $at/through.script
 example 0 $at/steps.out $at/steps.script script --setup $at/small.toml
 example 0 $at/full_tape.out $at/full_tape.script script --setup $at/full_tape.toml
 example 6 /dev/null /dev/null report $at/full_tape.changes ABC --setup $at/full_tape.toml
