@@ -1,6 +1,8 @@
 -- The codes by which faults are told. This product's own rule.
 use Rattle.std.specs.Prelude.{ℕ, List, codes}
 use Rattle.nms_lines.specs.Faults as line_faults
+use Rattle.nms_engine.specs.declared.audit_fault.AuditFault.{AuditFault}
+use Rattle.nms_engine.specs.declared.audit_fault.AuditFault.TheVariants as audit_fault
 use Rattle.nms_engine.specs.declared.changes_fault.ChangesFault.{ChangesFault}
 use Rattle.nms_engine.specs.declared.changes_fault.ChangesFault.TheVariants as changes_fault
 use Rattle.nms_engine.specs.declared.changes_fault.ReportFault.{ReportFault}
@@ -25,3 +27,8 @@ code_of_report (report_fault.Changes fault) = code_of_changes fault
 code_of_report (report_fault.Board fault) = codes "B1"
 code_of_report report_fault.WriteFault = codes "E2"
 code_of_report report_fault.NoMemory = codes "E4"
+
+abbrev pub code_of_audit : AuditFault → List ℕ
+code_of_audit audit_fault.VersionBeyondTape = codes "A1"
+code_of_audit (audit_fault.Doubt doubt) = codes "A2"
+code_of_audit audit_fault.NoMemory = codes "A3"

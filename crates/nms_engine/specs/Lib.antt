@@ -5,7 +5,9 @@ pub use Rattle.nms_nbbo.specs.Best as Best
 pub use Rattle.nms_nbbo.specs.Market as Market
 pub use Rattle.nms_rules.specs.Through as Through
 pub use Rattle.nms_flow.specs.Run as Run
+pub use Rattle.nms_cert.specs.Doubts as Doubts
 pub mod Answers
+pub mod Audit
 pub mod Progress
 pub mod Report
 pub mod Script

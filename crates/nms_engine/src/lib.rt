@@ -1,8 +1,10 @@
-//! Scripts over the quote board: records in, answers out; files of changes; and the report that a reviewer
-//! reads.
+//! Scripts over the quote board: records in, answers out; files of changes; the report that a reviewer reads;
+//! and the audit of a plan.
 #![tactic(auto)]
 
 mod answer;
+mod audit_fault;
+mod auditing;
 mod change_file;
 mod changes_fault;
 mod counts;
@@ -16,6 +18,8 @@ mod setup_k;
 /// The most records of a script. This product's own rule.
 pub const MOST_RECORDS: u64 = 10_000_000;
 
+pub use audit_fault::AuditFault;
+pub use auditing::audit;
 pub use change_file::{read_changes, report_changes};
 pub use changes_fault::{ChangesFault, ReportFault};
 pub use counts::Counts;

@@ -29,6 +29,7 @@ pub fn read_plan(
 ) -> Result<(Plan, Certificate), PlanTextFault>
     ensures read { (records : List Record) → AreAllRecords (Some text.now) records
         → IfOk result (λ made. plan_in roster.now records ≡ Some (said_by made.0 made.1.items)) }
+    ensures there { IfOk result (λ made. made.0.order.sym < length roster.now.syms) }
     ensures refused { (records : List Record) → AreAllRecords (Some text.now) records
         → result ≡ Err PlanTextFault.BadPlanText → plan_in roster.now records ≡ None }
     ensures faults { result ≢ Err PlanTextFault.WriteFault }
@@ -56,6 +57,7 @@ fn read_head<R: Read>(
 ) -> Result<PlanHead, PlanTextFault>
     ensures read { (left : List Record) → AreLeft R.remaining reader.old left
         → IfOk result (λ head. (fields : Record) × (more : List Record) × (left ≡ fields ∷ more) × (head_in roster.now fields ≡ Some head) × AreLeft R.remaining reader.new more) }
+    ensures there { IfOk result (λ head. head.order.sym < length roster.now.syms) }
     ensures refused { (left : List Record) → AreLeft R.remaining reader.old left
         → result ≡ Err PlanTextFault.BadPlanText → plan_in roster.now left ≡ None }
     ensures faults { result ≢ Err PlanTextFault.WriteFault }

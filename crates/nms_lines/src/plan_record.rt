@@ -1,5 +1,5 @@
 //! The records of a plan's text, one by one: `specs/PlanReading`.
-ghost use Rattle.std.specs.Prelude.{◌≡◌, ◌≤◌, IfSome, codes};
+ghost use Rattle.std.specs.Prelude.{◌≡◌, ◌<◌, ◌≤◌, IfSome, codes, length};
 ghost use Rattle.csv.specs.Records.{fields_of};
 ghost use Rattle.nms_lines.specs.Layout.{is_text};
 ghost use Rattle.nms_lines.specs.Numbers.{above_zero, shares_number};
@@ -33,7 +33,8 @@ impl Model for PlanHead {
 
 /// What the record of a plan says, where the row is one.
 pub(crate) fn head_in(row: &ByteRecord, roster: &Roster) -> Option<PlanHead>
-    ensures { result ≡ head_in roster.now (fields_of row.now) }
+    ensures head { result ≡ head_in roster.now (fields_of row.now) }
+    ensures there { IfSome result (λ head. head.order.sym < length roster.now.syms) }
 {
     if !is_record(row, b"PLAN", 9) {
         return None;

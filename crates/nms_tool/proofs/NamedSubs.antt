@@ -7,7 +7,7 @@ use Rattle.clap.specs.Takes.{entered_passes, walk_passes}
 use Rattle.clap.proofs.OnLiterals.{clap_on_literals}
 use Rattle.nms_tool.specs.CommandLine.{name_of, tool}
 use Rattle.nms_tool.specs.declared.subcommand.Subcommand.{Subcommand}
-use Rattle.nms_tool.specs.declared.subcommand.Subcommand.TheVariants.{Script, Report}
+use Rattle.nms_tool.specs.declared.subcommand.Subcommand.TheVariants.{Script, Report, Check}
 
 -- where the walk stands that met a subcommand, with the words after its name
 abbrev met : Text → List Text → Walk
@@ -33,6 +33,7 @@ named_stops : (sub : Subcommand) (rest : List Text) → stop_after above.rules s
 unfolding clap_on_literals
 named_stops Script rest = ap (λ (w : Walk). w.stopped) (met_rest above.rules sub_names (codes "script") [] rest)
 named_stops Report rest = ap (λ (w : Walk). w.stopped) (met_rest above.rules sub_names (codes "report") [] rest)
+named_stops Check rest = ap (λ (w : Walk). w.stopped) (met_rest above.rules sub_names (codes "check") [] rest)
 
 -- the subcommand reads the rest
 pub named_reads : (sub : Subcommand) (rest : List Text) → subcommand_of tool (name_of sub ∷ rest) ≡ entered (built tool) (Some (name_of sub, rest))
@@ -43,3 +44,4 @@ pub named_takes : (sub : Subcommand) (rest : List Text) → entered_passes (buil
 unfolding clap_on_literals
 named_takes Script rest passes = rw (met_rest above.rules sub_names (codes "script") [] rest, met_passes above sub_names (codes "script") [] rest, passes) refl
 named_takes Report rest passes = rw (met_rest above.rules sub_names (codes "report") [] rest, met_passes above sub_names (codes "report") [] rest, passes) refl
+named_takes Check rest passes = rw (met_rest above.rules sub_names (codes "check") [] rest, met_passes above sub_names (codes "check") [] rest, passes) refl

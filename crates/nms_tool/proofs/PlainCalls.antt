@@ -12,7 +12,7 @@ use Rattle.nms_tool.specs.CommandLine.{Asked, IsPlainCall, asked_by, asked_in, a
 use Rattle.nms_tool.proofs.NamedSubs.{above, named_reads, named_takes}
 use Rattle.nms_tool.proofs.WalkSteps.{IsPlainOption, IsPlainShape, PassesCall, call_passes, call_rows, call_taken}
 use Rattle.nms_tool.specs.declared.subcommand.Subcommand.{Subcommand}
-use Rattle.nms_tool.specs.declared.subcommand.Subcommand.TheVariants.{Script, Report}
+use Rattle.nms_tool.specs.declared.subcommand.Subcommand.TheVariants.{Script, Report, Check}
 
 -- the parser takes the words, and they ask for this
 pub record IsTaken (words : List Text) (asked : Asked) : Type 0 where
@@ -31,18 +31,22 @@ leaf sub = unwrap_or (find (λ s. bytes_eq s.name (name_of sub)) (built tool).su
 level_of : (sub : Subcommand) (rest : List Text) → entered_passes (built tool) (Some (name_of sub, rest)) ≡ level_passes (leaf sub) [] nothing_held rest false
 level_of Script rest = refl
 level_of Report rest = refl
+level_of Check rest = refl
 
 rows_of_level : (sub : Subcommand) (rest : List Text) → entered (built tool) (Some (name_of sub, rest)) ≡ Some (name_of sub, rows_after (leaf sub).rules [] rest)
 rows_of_level Script rest = refl
 rows_of_level Report rest = refl
+rows_of_level Check rest = refl
 
 named : (sub : Subcommand) → sub_named (name_of sub) ≡ Some sub
 named Script = refl
 named Report = refl
+named Check = refl
 
 leaf_plain : (sub : Subcommand) → IsPlainShape (leaf sub)
 leaf_plain Script = record { single = refl; setup = record { rule = filled setup_rule; by_long = refl; by_id = refl; id = refl; takes = refl; one = refl } }
 leaf_plain Report = record { single = refl; setup = record { rule = filled setup_rule; by_long = refl; by_id = refl; id = refl; takes = refl; one = refl } }
+leaf_plain Check = record { single = refl; setup = record { rule = filled setup_rule; by_long = refl; by_id = refl; id = refl; takes = refl; one = refl } }
 
 -- ---- a call of a subcommand
 
@@ -67,6 +71,11 @@ answers Report (changes ∷ []) setup counted = absurd (omega arith)
 answers Report (changes ∷ sym ∷ []) None counted = record { passes = record { words = refl; settles = refl; last = refl }; asks = refl }
 answers Report (changes ∷ sym ∷ []) (Some file) counted = record { passes = record { words = refl; settles = refl; last = refl }; asks = refl }
 answers Report (changes ∷ sym ∷ word ∷ rest) setup counted = absurd (omega arith)
+answers Check [] setup counted = absurd (omega arith)
+answers Check (changes ∷ []) setup counted = absurd (omega arith)
+answers Check (changes ∷ plan ∷ []) None counted = record { passes = record { words = refl; settles = refl; last = refl }; asks = refl }
+answers Check (changes ∷ plan ∷ []) (Some file) counted = record { passes = record { words = refl; settles = refl; last = refl }; asks = refl }
+answers Check (changes ∷ plan ∷ word ∷ rest) setup counted = absurd (omega arith)
 
 call_taken_by : (sub : Subcommand) (own : List Text) (setup : Option Text) → list_all is_plain_word own ≡ true → IsPlainOption setup → Answers sub own setup
     → IsTaken ((name_of sub ∷ own) ++ setup_words setup) (call sub own setup)

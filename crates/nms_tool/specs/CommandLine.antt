@@ -10,7 +10,7 @@ use Rattle.clap.specs.declared.error.kind.ErrorKind.{ErrorKind}
 use Rattle.clap.specs.declared.error.kind.ErrorKind.TheVariants.{DisplayHelp, DisplayVersion}
 use Rattle.nms_tool.specs.declared.request.Request.{Request}
 use Rattle.nms_tool.specs.declared.subcommand.Subcommand.{Subcommand}
-use Rattle.nms_tool.specs.declared.subcommand.Subcommand.TheVariants.{Script, Report}
+use Rattle.nms_tool.specs.declared.subcommand.Subcommand.TheVariants.{Script, Report, Check}
 use Rattle.nms_tool.specs.declared.words_fault.WordsFault.{WordsFault}
 use Rattle.nms_tool.specs.declared.words_fault.WordsFault.TheVariants.{Parser, NoMemory}
 
@@ -26,15 +26,17 @@ pub record Asked : Type 0 where
 abbrev pub name_of : Subcommand → Text
 name_of Script = codes "script"
 name_of Report = codes "report"
+name_of Check = codes "check"
 
 -- the names of a subcommand's own words, in order
 abbrev pub own_names : Subcommand → List Text
 own_names Script = []
 own_names Report = codes "CHANGES" ∷ codes "SYM" ∷ []
+own_names Check = codes "CHANGES" ∷ codes "PLANFILE" ∷ []
 
 -- each subcommand
 abbrev pub subs : List Subcommand
-subs = Script ∷ Report ∷ []
+subs = Script ∷ Report ∷ Check ∷ []
 
 -- the subcommand of that name
 abbrev pub sub_named : Text → Option Subcommand

@@ -13,8 +13,9 @@ Exit statuses:
   1  a file or stream could not be read or written
   2  the words were refused
   3  the setup was refused
+  4  a plan is not confirmed
   5  out of memory
-  6  an input record or a length was refused
+  6  an input record, a plan or a length was refused
 
 Records that are refused, of a script (answered ERR,number,code) or of a file:
   L1   the first field is no kind of record that is served here
@@ -31,6 +32,35 @@ Records that are refused, of a script (answered ERR,number,code) or of a file:
   F3   a take, and the queue is empty
   F4   a change beyond the limit of the tape
   F5   out of memory at a take
+
+Plans that can't be read or written:
+  L11  not the text of a plan
+  L12  out of memory
+  L13  the text could not be written
+
+Plans that are not confirmed (told as DOUBT,CODE; a breach as DOUBT,K1,CODE):
+  A1   the plan's version is beyond the changes
+  A2   a doubt, told by its own code
+  A3   out of memory
+  K1   the plan is not lawful, or not summed rightly
+  K2   it fills less than can be filled
+  K3   a price that it may trade at has no cut
+  K4   a cut at another price, twice, or out of order
+  K5   a cut of the wrong kind
+  K6   a marginal beyond 10^18 nanodollars either way
+  K7   a cut's bound is below the plan's cost
+  P1   another version
+  P2   another order
+  P3   a leg to a participant without a quotation for it
+  P4   a leg at another price than the quotation's
+  P5   a leg of 0 shares
+  P6   a leg of more shares than are displayed
+  P7   two legs to one participant
+  P8   a leg beyond the limit
+  P9   more shares than were asked for
+  P10  a better protected quotation is traded through
+  P11  the shares are summed wrongly
+  P12  the cost is summed wrongly
 
 Runs that end early (told as nms_tool: CODE, as are the codes below):
   E1   a file or the input could not be read

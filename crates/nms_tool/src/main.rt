@@ -1,8 +1,11 @@
 //! The program: the quote board's command line.
 #![tactic(auto)]
 
+mod check;
 mod command_line;
 mod command_words;
+mod ending;
+mod files;
 mod help_text;
 mod program;
 mod request;

@@ -1,13 +1,16 @@
 //! What the program does with its words, its streams and its files.
 
+use crate::check::serve_check;
 use crate::command_words::read_words;
+use crate::ending::Ending;
+use crate::files::{read_file, unread};
 use crate::request::Request;
 use crate::subcommand::Subcommand;
 use crate::tool_fault::ToolFault;
 use crate::words_fault::WordsFault;
 use nms_engine::{SETUP_K, ScriptFault, report_changes, run_script};
 use nms_fees::{Setup, SetupFault, read_setup};
-use std::io::{ErrorKind, Read, Write};
+use std::io::{Read, Write};
 use std::rt::Files;
 use std::{fs, io, str};
 
@@ -23,7 +26,7 @@ pub fn run_tool<T: Files + AllocGlobal, R: Read + Drop, W: Write, E: Write>(
     errors: &mut E,
 ) -> u8 {
     match serve_words(rt, words, input, answers) {
-        Ok(()) => 0,
+        Ok(ending) => ending.status(),
         Err(fault) => tell_fault(&fault, errors),
     }
 }
@@ -52,7 +55,7 @@ fn serve_words<T: Files + AllocGlobal, R: Read + Drop, W: Write>(
     words: &[&str],
     input: R,
     answers: &mut W,
-) -> Result<(), ToolFault> {
+) -> Result<Ending, ToolFault> {
     let request = match read_words(rt.alloc(), words) {
         Ok(request) => request,
         Err(WordsFault::Parser { text, help: true }) => return tell_help(answers, text.as_str()),
@@ -62,11 +65,13 @@ fn serve_words<T: Files + AllocGlobal, R: Read + Drop, W: Write>(
     match request.command {
         Subcommand::Script => serve_script(rt, &setup, input, answers),
         Subcommand::Report => serve_report(rt, &setup, &request.words, answers),
+        Subcommand::Check => serve_check(rt, &setup, &request.words, answers),
     }
 }
 
-fn tell_help<W: Write>(answers: &mut W, help: &str) -> Result<(), ToolFault> {
-    tell(answers, help).map_err(|_| ToolFault::Script(ScriptFault::WriteFault))
+fn tell_help<W: Write>(answers: &mut W, help: &str) -> Result<Ending, ToolFault> {
+    tell(answers, help).map_err(|_| ToolFault::Script(ScriptFault::WriteFault))?;
+    Ok(Ending::Done)
 }
 
 /// The setup of the file that the request names, or the built-in one.
@@ -81,27 +86,14 @@ fn setup_of<T: Files + AllocGlobal>(rt: &T, request: &Request) -> Result<Setup, 
     read_setup(rt.alloc(), text).map_err(ToolFault::Setup)
 }
 
-fn read_file<T: Files + AllocGlobal>(rt: &T, path: &str) -> Result<Vec<u8>, ToolFault> {
-    fs::read(rt, path).map_err(|error| unread(&error))
-}
-
-/// Why a file could not be read.
-fn unread(error: &io::Error) -> ToolFault {
-    if error.kind() == ErrorKind::OutOfMemory {
-        ToolFault::Script(ScriptFault::NoMemory)
-    } else {
-        ToolFault::Unreadable
-    }
-}
-
 fn serve_script<T: AllocGlobal, R: Read + Drop, W: Write>(
     rt: &T,
     setup: &Setup,
     input: R,
     answers: &mut W,
-) -> Result<(), ToolFault> {
+) -> Result<Ending, ToolFault> {
     run_script(rt.alloc(), setup, input, answers).map_err(ToolFault::Script)?;
-    Ok(())
+    Ok(Ending::Done)
 }
 
 /// Reports the symbol after all the changes of a file.
@@ -110,7 +102,7 @@ fn serve_report<T: Files + AllocGlobal, W: Write>(
     setup: &Setup,
     words: &[String],
     answers: &mut W,
-) -> Result<(), ToolFault> {
+) -> Result<Ending, ToolFault> {
     let [changes, symbol] = words else {
         return Err(ToolFault::Usage);
     };
@@ -118,5 +110,6 @@ fn serve_report<T: Files + AllocGlobal, W: Write>(
         return Err(ToolFault::Usage);
     };
     let file = fs::open(rt, changes.as_str()).map_err(|error| unread(&error))?;
-    report_changes(rt.alloc(), setup, file, sym, answers).map_err(ToolFault::Report)
+    report_changes(rt.alloc(), setup, file, sym, answers).map_err(ToolFault::Report)?;
+    Ok(Ending::Done)
 }

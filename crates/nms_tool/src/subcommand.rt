@@ -5,6 +5,8 @@ pub enum Subcommand {
     Script,
     /// Reports on a file of changes. Its own words are `CHANGES` and `SYM`.
     Report,
+    /// Says whether a plan is confirmed on a file of changes. Its own words are `CHANGES` and `PLANFILE`.
+    Check,
 }
 
 /// A word of a subcommand's own, with its explanation in the help.
@@ -27,12 +29,23 @@ static REPORT_WORDS: [OwnWord; 2] = [
     },
 ];
 
+static CHECK_WORDS: [OwnWord; 2] = [
+    OwnWord {
+        name: "CHANGES",
+        help: "The file of the quotation changes",
+    },
+    OwnWord {
+        name: "PLANFILE",
+        help: "The file of the plan and its certificate",
+    },
+];
+
 impl Subcommand {
     ghost use Rattle.std.specs.Prelude.{◌≡◌, map};
     ghost use Rattle.nms_tool.specs.CommandLine.{name_of, own_names, sub_named};
 
     /// Each of them.
-    pub(crate) const ALL: [Self; 2] = [Self::Script, Self::Report];
+    pub(crate) const ALL: [Self; 3] = [Self::Script, Self::Report, Self::Check];
 
     /// The word that asks for it.
     pub(crate) fn name(self) -> &'static str
@@ -41,6 +54,7 @@ impl Subcommand {
         match self {
             Subcommand::Script => "script",
             Subcommand::Report => "report",
+            Subcommand::Check => "check",
         }
     }
 
@@ -49,6 +63,7 @@ impl Subcommand {
         match self {
             Subcommand::Script => "Answers the script on standard input, as with no command",
             Subcommand::Report => "Reports what a file of changes leaves of a symbol",
+            Subcommand::Check => "Says whether a plan is lawful and none is better",
         }
     }
 
@@ -59,6 +74,7 @@ impl Subcommand {
         match self {
             Subcommand::Script => NO_WORDS.as_slice(),
             Subcommand::Report => REPORT_WORDS.as_slice(),
+            Subcommand::Check => CHECK_WORDS.as_slice(),
         }
     }
 

@@ -1,8 +1,9 @@
 //! Why the program ends with another status than 0: the code that it tells, and the status.
 use crate::words_fault::WordsFault;
 use nms_board::BoardFault;
-use nms_engine::{ChangesFault, ReportFault, ScriptFault};
+use nms_engine::{AuditFault, ChangesFault, ReportFault, ScriptFault};
 use nms_fees::SetupFault;
+use nms_lines::PlanTextFault;
 
 /// Why the program ends with another status than 0.
 #[derive(Debug, Drop)]
@@ -19,11 +20,17 @@ pub(crate) enum ToolFault {
     Script(ScriptFault),
     /// A report was not written.
     Report(ReportFault),
+    /// A file of changes is no tape.
+    Changes(ChangesFault),
+    /// A file of a plan could not be read as one.
+    Plan(PlanTextFault),
+    /// There was no memory for an audit.
+    NoAudit,
 }
 
 impl ToolFault {
-    /// The exit status: 1 for streams and files, 2 for words, 3 for the setup, 5 for memory, 6 for lines
-    /// and lengths.
+    /// The exit status: 1 for streams and files, 2 for words, 3 for the setup, 5 for memory, 6 for lines,
+    /// plans and lengths.
     pub(crate) fn status(&self) -> u8 {
         match self {
             ToolFault::Words(WordsFault::NoMemory) => 5,
@@ -33,6 +40,9 @@ impl ToolFault {
             ToolFault::Setup(_) => 3,
             ToolFault::Script(fault) => status_of_script(*fault),
             ToolFault::Report(fault) => status_of_report(*fault),
+            ToolFault::Changes(fault) => status_of_changes(*fault),
+            ToolFault::Plan(fault) => status_of_plan(*fault),
+            ToolFault::NoAudit => 5,
         }
     }
 
@@ -45,6 +55,9 @@ impl ToolFault {
             ToolFault::Setup(fault) => fault.code(),
             ToolFault::Script(fault) => fault.code(),
             ToolFault::Report(fault) => fault.code(),
+            ToolFault::Changes(fault) => fault.code(),
+            ToolFault::Plan(fault) => fault.code(),
+            ToolFault::NoAudit => AuditFault::NoMemory.code(),
         }
     }
 }
@@ -70,5 +83,13 @@ fn status_of_changes(fault: ChangesFault) -> u8 {
         ChangesFault::ReadFault => 1,
         ChangesFault::Line(_) | ChangesFault::TapeFull => 6,
         ChangesFault::NoMemory => 5,
+    }
+}
+
+fn status_of_plan(fault: PlanTextFault) -> u8 {
+    match fault {
+        PlanTextFault::BadPlanText => 6,
+        PlanTextFault::NoMemory => 5,
+        PlanTextFault::WriteFault => 1,
     }
 }

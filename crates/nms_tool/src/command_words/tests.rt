@@ -130,6 +130,7 @@ Usage: nms_tool [COMMAND]
 Commands:
   script  Answers the script on standard input, as with no command
   report  Reports what a file of changes leaves of a symbol
+  check   Says whether a plan is lawful and none is better
 
 Options:
   -h, --help     Print help

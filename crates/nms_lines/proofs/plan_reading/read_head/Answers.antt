@@ -21,7 +21,7 @@ returns-clause-read g c = λ left was.
     let row : Record = fields_of c.need_row.new.row in
     if_ok_or (λ (head : Head). (fields : Record) × (more : List Record) × (left ≡ fields ∷ more) × (head_in c.args.roster.now fields ≡ Some head) × AreLeft g.R.Read.remaining c.need_row.new.reader more)
     c.head_in.result fault.BadPlanText c.ok_or.result c.ok_or.ensures.value
-    (λ head one. (row, next.0, next.1, sym c.head_in.ensures ∙ one, next.2))
+    (λ head one. (row, next.0, next.1, sym c.head_in.ensures.head ∙ one, next.2))
 
 -- src/plan_reading.rt:52:1
 pub returns-clause-refused : goal.returns-clause-refused

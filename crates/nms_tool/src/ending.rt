@@ -1,0 +1,18 @@
+/// How a request ends that was served.
+#[derive(Clone, Copy, Debug, PartialEq, Eq)]
+pub(crate) enum Ending {
+    /// All that was asked for was done; of a plan, that it is confirmed.
+    Done,
+    /// A plan was judged and is not confirmed.
+    NotConfirmed,
+}
+
+impl Ending {
+    /// The exit status.
+    pub(crate) fn status(self) -> u8 {
+        match self {
+            Ending::Done => 0,
+            Ending::NotConfirmed => 4,
+        }
+    }
+}

@@ -1,0 +1,20 @@
+//! Files, and why one could not be read.
+use crate::tool_fault::ToolFault;
+use nms_engine::ScriptFault;
+use std::io::ErrorKind;
+use std::rt::Files;
+use std::{fs, io};
+
+/// The bytes of a file.
+pub(crate) fn read_file<T: Files + AllocGlobal>(rt: &T, path: &str) -> Result<Vec<u8>, ToolFault> {
+    fs::read(rt, path).map_err(|error| unread(&error))
+}
+
+/// Why a file could not be read.
+pub(crate) fn unread(error: &io::Error) -> ToolFault {
+    if error.kind() == ErrorKind::OutOfMemory {
+        ToolFault::Script(ScriptFault::NoMemory)
+    } else {
+        ToolFault::Unreadable
+    }
+}
