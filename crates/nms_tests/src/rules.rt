@@ -4,8 +4,8 @@ use arrayvec::ArrayVec;
 use nms_board::View;
 use nms_engine::SETUP_K;
 use nms_fees::{FeeBook, Setup, read_setup};
-use nms_lines::{ByteRecord, Line, Reading, open_records, read_line, read_next, read_plan};
-use nms_quote::{Leg, Order, Part, Plan, Side, SideQuote};
+use nms_lines::read_plan;
+use nms_quote::{Leg, Order, Part, Plan, Side};
 use nms_rules::{Breach, breach, traded_through};
 use nms_units::{Money, Price, Shares};
 use std::alloc::Global;
@@ -15,17 +15,11 @@ use std::test::Fail;
 /// Offers of N and P at 10.00 and of Y at 10.01.
 const MARKET: &str = "Q,N,ABC,A,,,10,300\nQ,P,ABC,A,,,10,500\nQ,Y,ABC,A,,,10.01,200\n";
 
-/// The order that an `O` record says.
-fn order_in(alloc: Global, setup: &Setup, record: &str) -> Result<Order, Fail> {
-    // The prover has to have met this type before a line is moved.
-    let _seen: Option<SideQuote> = None;
-    let mut reader = open_records(alloc, record.as_bytes());
-    let mut row = ByteRecord::new(alloc);
-    read_next(&mut reader, &mut row)?;
-    match read_line(&row, setup.roster(), Reading::Orders { desks: 2 })? {
-        Line::Sweep { order, .. } => Ok(order),
-        _ => Err("no order".into()),
-    }
+/// The order of those fields of a plan's record: side, symbol, shares, limit and flag.
+fn order_in(alloc: Global, setup: &Setup, fields: &str) -> Result<Order, Fail> {
+    let text = format!(in alloc; "PLAN,0,{fields},0,0.000000000\nEND\n")?;
+    let (plan, _) = read_plan(alloc, text.as_bytes(), setup.roster())?;
+    Ok(plan.order)
 }
 
 /// The code of a breach.
@@ -42,43 +36,43 @@ fn worked_plans_have_the_breaches_worked_out_by_hand(rt: HostRuntime) -> Result<
     let view = view_after(&rt, rt.alloc(), MARKET)?;
     for (order, plan, told) in [
         (
-            "O,0,B,ABC,600,10.01",
+            "B,ABC,600,10.01,",
             "PLAN,3,B,ABC,600,10.01,,600,6001.700000000\nLEG,N,10,100\nLEG,P,10,500\nEND\n",
             "none",
         ),
         (
-            "O,0,B,ABC,100,10.01",
+            "B,ABC,100,10.01,",
             "PLAN,3,B,ABC,100,10.01,,100,1000.980000000\nLEG,Y,10.01,100\nEND\n",
             "P10",
         ),
         (
-            "O,0,B,ABC,100,10",
+            "B,ABC,100,10,",
             "PLAN,3,B,ABC,100,10,,100,1000.980000000\nLEG,Y,10.01,100\nEND\n",
             "P8",
         ),
         (
-            "O,0,B,ABC,100,10.01",
+            "B,ABC,100,10.01,",
             "PLAN,3,B,ABC,100,10.01,,100,1002.280000000\nLEG,Z,10.02,100\nEND\n",
             "P3",
         ),
         (
-            "O,0,B,ABC,100,10.01",
+            "B,ABC,100,10.01,",
             "PLAN,3,B,ABC,100,10.01,,100,1001.300000000\nLEG,N,10.01,100\nEND\n",
             "P4",
         ),
         (
-            "O,0,B,ABC,100,10.01",
+            "B,ABC,100,10.01,",
             "PLAN,3,B,ABC,100,10.01,,100,1000.300000000\nLEG,N,10,50\nLEG,N,10,50\nEND\n",
             "P7",
         ),
         (
-            "O,0,B,ABC,100,10.01",
+            "B,ABC,100,10.01,",
             "PLAN,2,B,ABC,100,10.01,,100,1000.300000000\nLEG,N,10,100\nEND\n",
             "P1",
         ),
         // P's better offer is swept in part.
         (
-            "O,0,B,ABC,800,10.01",
+            "B,ABC,800,10.01,",
             "PLAN,3,B,ABC,800,10.01,,800,8003.000000000\nLEG,N,10,300\nLEG,P,10,400\nLEG,Y,10.01,100\nEND\n",
             "P10",
         ),
@@ -151,9 +145,9 @@ fn spoil(legs: &mut ArrayVec<Leg, 32>, way: u8) -> Result<(), Fail> {
 /// The order: 2,000 shares, or fewer than the plan has.
 fn asked(alloc: Global, setup: &Setup, few: bool) -> Result<Order, Fail> {
     if few {
-        order_in(alloc, setup, "O,0,B,ABC,700,10.01")
+        order_in(alloc, setup, "B,ABC,700,10.01,")
     } else {
-        order_in(alloc, setup, "O,0,B,ABC,2000,10.01")
+        order_in(alloc, setup, "B,ABC,2000,10.01,")
     }
 }
 
@@ -184,7 +178,7 @@ fn spoilt(alloc: Global, setup: &Setup, view: &View, ways: [u8; 2]) -> Result<&'
         cost: Money::new(cost),
     };
     let given = if has(2) {
-        order_in(alloc, setup, "O,0,B,ABC,2000,10.01,M")?
+        order_in(alloc, setup, "B,ABC,2000,10.01,M")?
     } else {
         order
     };
