@@ -1,7 +1,10 @@
 //! Plans as text: worked plans byte by byte, the largest plan, and texts that are none.
+use arrayvec::ArrayVec;
 use nms_engine::SETUP_K;
 use nms_fees::{Setup, read_setup};
 use nms_lines::{PlanTextFault, read_plan, write_plan};
+use nms_quote::{Order, OrderSide, Plan, Sym};
+use nms_units::{Money, Price, Shares};
 use std::alloc::Global;
 use std::io;
 use std::io::Write;
@@ -20,36 +23,36 @@ fn refused(alloc: Global, setup: &Setup, text: &str) -> &'static str {
     }
 }
 
-/// A plan's text read and written again.
-fn again(rt: &impl Abort, alloc: Global, setup: &Setup, text: &str) -> Result<Vec<u8>, Fail> {
+/// What a plan's text says: the version, what is filled and at what cost, the legs and how many cuts.
+fn said(alloc: Global, setup: &Setup, text: &str) -> Result<String, Fail> {
     let (plan, certificate) = read_plan(alloc, text.as_bytes(), setup.roster())?;
-    let mut written = Vec::new(alloc);
+    let cuts = certificate.as_slice().len();
+    let mut said = format!(in alloc; "{} {} {} {cuts}", plan.version, plan.filled, plan.cost)?;
     for leg in plan.legs.as_slice() {
-        assert!(rt; u16::from(leg.part.get()) < setup.roster().parts() as u16);
+        let (part, shares) = (leg.part.get(), leg.shares.get());
+        let leg = format!(in alloc; ";{part} {} {shares}", leg.price)?;
+        said.push_str(leg.as_str())?;
     }
-    assert!(rt; setup.roster().has_sym(plan.order.sym));
-    write_plan(alloc, &plan, &certificate, setup.roster(), &mut written)?;
-    Ok(written)
+    Ok(said)
 }
 
 #[test]
-fn a_plan_is_written_as_it_was_read(rt: HostRuntime) -> Result<(), Fail> {
+fn a_plan_is_read_as_its_text_says(rt: HostRuntime) -> Result<(), Fail> {
     let setup = read_setup(rt.alloc(), SETUP_K)?;
-    let written = again(&rt, rt.alloc(), &setup, PLAN)?;
-    assert!(rt; written.as_slice() == PLAN.as_bytes());
-    // What a plan may be written like, and how it is written again.
     for (text, told) in [
+        (PLAN, "3 600 6001.700000000 2;0 10.0000 100;1 10.0000 500"),
+        // Leading zeros, a byte order mark, blank lines, fewer decimals, quoted fields, legs in any order.
         (
             "\u{feff}PLAN,00000003,S,PNY,000000600,10,M,0,-0.000000000\r\n\r\nEND",
-            "PLAN,3,S,PNY,600,10.0000,M,0,0.000000000\nEND\n",
+            "3 0 0.000000000 0",
         ),
         (
             "\"PLAN\",0,B,ABC,1,0.0001,,999999999,-99999999999999999999.999999999\nLEG,Y,10,0\nLEG,N,9.9,1\nCUT,1,TOOLITTLE,\nEND\n",
-            "PLAN,0,B,ABC,1,0.0001,,999999999,-99999999999999999999.999999999\nLEG,Y,10.0000,0\nLEG,N,9.9000,1\nCUT,1.0000,TOOLITTLE,\nEND\n",
+            "0 999999999 -99999999999999999999.999999999 1;2 10.0000 0;0 9.9000 1",
         ),
     ] {
-        let written = again(&rt, rt.alloc(), &setup, text)?;
-        assert!(rt; written.as_slice() == told.as_bytes(), "{text}");
+        let found = said(rt.alloc(), &setup, text)?;
+        assert_eq!(rt; found.as_str(), told, "{text}");
     }
     Ok(())
 }
@@ -133,14 +136,15 @@ fn widest(alloc: Global, legs: u32, cuts: u32) -> Result<String, Fail> {
 }
 
 #[test]
-fn the_largest_plan_is_written_as_it_was_read(rt: HostRuntime) -> Result<(), Fail> {
+fn a_plan_has_at_most_32_legs_and_32_cuts(rt: HostRuntime) -> Result<(), Fail> {
     let setup = crowd(rt.alloc())?;
-    let text = widest(rt.alloc(), 32, 32)?;
-    let written = again(&rt, rt.alloc(), &setup, text.as_str())?;
-    assert!(rt; written.as_slice() == text.as_bytes());
-    for (legs, cuts) in [(33, 0), (0, 33)] {
+    for (legs, cuts, told) in [(32, 32, "none"), (33, 0, "L11"), (0, 33, "L11")] {
         let text = widest(rt.alloc(), legs, cuts)?;
-        assert_eq!(rt; refused(rt.alloc(), &setup, text.as_str()), "L11", "{legs}");
+        assert_eq!(rt;
+            refused(rt.alloc(), &setup, text.as_str()),
+            told,
+            "{legs} and {cuts}"
+        );
     }
     Ok(())
 }
@@ -159,17 +163,44 @@ impl Write for Broken {
     }
 }
 
-#[test]
-fn a_writer_that_fails_is_a_write_fault(rt: HostRuntime) -> Result<(), Fail> {
-    let setup = read_setup(rt.alloc(), SETUP_K)?;
-    let (plan, certificate) = read_plan(
-        rt.alloc(),
-        b"PLAN,0,B,ABC,1,1,,0,0.000000000\nEND\n",
-        setup.roster(),
-    )?;
+/// A plan without legs, for one share of a symbol.
+fn empty(sym: Sym) -> Result<Plan, Fail> {
+    let (shares, limit) = (Shares::new(1), Price::new(1));
+    let (shares, limit) = (shares.ok_or("shares")?, limit.ok_or("a price")?);
+    let order = Order::new(OrderSide::Sell, sym, shares, limit, true).ok_or("an order")?;
+    Ok(Plan {
+        version: 7,
+        order,
+        legs: ArrayVec::new_in(()),
+        filled: 0,
+        cost: Money::new(-1),
+    })
+}
+
+/// Writes a plan without legs, and tells what came of it.
+fn write_empty<W: Write>(
+    rt: &impl Abort,
+    alloc: Global,
+    setup: &Setup,
+    plan: &Plan,
+    out: &mut W,
+) -> Option<PlanTextFault> {
     assert!(rt; plan.legs.as_slice().is_empty());
     assert!(rt; setup.roster().has_sym(plan.order.sym));
-    let told = write_plan(rt.alloc(), &plan, &certificate, setup.roster(), &mut Broken);
-    assert!(rt; told == Err(PlanTextFault::WriteFault));
+    let cuts = ArrayVec::new_in(());
+    write_plan(alloc, plan, &cuts, setup.roster(), out).err()
+}
+
+#[test]
+fn a_plan_is_written_where_the_writer_takes_it(rt: HostRuntime) -> Result<(), Fail> {
+    let setup = read_setup(rt.alloc(), SETUP_K)?;
+    let sym = setup.roster().find_sym(b"PNY").ok_or("a symbol")?;
+    let plan = &empty(sym)?;
+    let mut text = Vec::new(rt.alloc());
+    assert!(rt; write_empty(&rt, rt.alloc(), &setup, plan, &mut text).is_none());
+    let told = b"PLAN,7,S,PNY,1,0.0001,M,0,-0.000000001\nEND\n".as_slice();
+    assert!(rt; text.as_slice() == told);
+    let broken = write_empty(&rt, rt.alloc(), &setup, plan, &mut Broken);
+    assert!(rt; broken == Some(PlanTextFault::WriteFault));
     Ok(())
 }
