@@ -15,6 +15,7 @@ published() { seq 16 16 "$1" | sed 's/^/PUB,/'; }
 
 # The tape holds 1,000: 62 batches of 16, then 7, then 1 of the last 3.
 filled() {
+    setup
     echo '== script a full tape ends the taking and keeps what was taken'
     quotes 999
     printf '%s\n' F Q,P,ABC,A,5000,100,, Q,P,ABC,A,6000,100,, Q,P,ABC,A,7000,100,, F N,0,ABC F '-- gives'
@@ -27,6 +28,55 @@ filled() {
     published 1000
     printf '%s\n' PUB,1000 PUB,1000 BEST,0,ABC,1000,ONESIDED,N,1000.0000,100,1000,,,, \
         '1066 read, 0 refused, 1000 taken, 1000 published'
+}
+
+# A setup file of so many participants, each with its place as its fee, and of so many symbols.
+crowd() {
+    awk -v participants="$1" -v symbols="$2" 'BEGIN {
+        print "tape_limit = 9\nqueue = 9\ndesks = 2"
+        printf "participant = ["
+        for (place = 0; place < participants; place++)
+            printf "{name = \"EX%d\", feed = \"A\", fee = %d, rate = 0}, ", place + 10, place
+        printf "]\nsymbol = ["
+        for (place = 0; place < symbols; place++) printf "{name = \"%d.ABC\", lot = 1}, ", place
+        print "]"
+    }'
+}
+
+# A plan of so many legs and cuts, with every number as wide as it can be.
+widest() {
+    echo 'PLAN,99999999,S,0.ABC,999999999,9999999.9999,M,999999999,-99999999999999999999.999999999'
+    seq "$1" | awk '{ print "LEG,EX" $1 % 32 + 10 ",9999999.9999,999999999" }'
+    seq "$2" | awk '{ print "CUT,9999999.9999,MARGINAL,-99999999999999999999.999999999" }'
+    echo END
+}
+
+# The most participants and symbols, legs and cuts, and one more of each.
+crowds() {
+    setup
+    echo '== settings the most participants and symbols'
+    crowd 32 1000
+    printf '%s\n' '-- gives' '9 9 2 32 1000'
+    echo '== settings one participant too many'
+    crowd 33 1
+    printf '%s\n' '-- gives' 'C8: too many participants or symbols'
+    echo '== settings one symbol too many'
+    crowd 1 1001
+    printf '%s\n' '-- gives' 'C8: too many participants or symbols'
+    echo '== settings one participant too many, and no symbol'
+    crowd 33 0 | grep -v symbol
+    printf '%s\n' '-- gives' 'C2: a key is missing'
+    echo '== settings the last of the most participants has its own fee'
+    crowd 32 1
+    printf '%s\n' '-- costs' '31 buy 1' '30 sell 1' '-- gives' 1.000000031 -0.999999970
+    echo '== setup of the most participants'
+    crowd 32 1
+    echo '== plan one leg too many'
+    widest 33 0
+    printf '%s\n' '-- gives' 'L11: not the text of a plan'
+    echo '== plan one cut too many'
+    widest 0 33
+    printf '%s\n' '-- gives' 'L11: not the text of a plan'
 }
 
 bundle() {
@@ -52,8 +102,9 @@ bundle() {
     echo '-- gives'
     cat builtin.toml
     cat cases/texts.cases cases/quotes.cases cases/refused.cases cases/records.cases cases/reports.cases cases/limits.cases
-    cat cases/chance.cases
+    cat cases/chance.cases cases/chance_plans.cases cases/markets.cases cases/numbers.cases cases/lines.cases cases/settings.cases cases/plans.cases cases/audits.cases
     filled
+    crowds
 }
 
 if [ "${1:-}" = check ]; then

@@ -3,13 +3,17 @@
 use crate::Failed;
 use crate::escapes::bytes_of;
 use crate::faults::tell_faults;
+use crate::numbers::give_numbers;
+use crate::plans::{give_audit, give_plan};
+use crate::records::give_lines;
+use crate::settings::give_settings;
 use nms_engine::{Counts, SETUP_K, report_changes, run_script};
 use nms_fees::Setup;
 use std::alloc::Global;
 use std::io::Write;
 
-/// What an example gives: its answers and what they come to, or its report; then the code of what ended it
-/// early, if anything did.
+/// What an example gives, which is as its title's first word says; then the code of what ended it early, if
+/// anything did.
 pub(crate) fn give(
     alloc: Global,
     setup: &Setup,
@@ -19,20 +23,28 @@ pub(crate) fn give(
     let input = bytes_of(alloc, body)?;
     let mut given = Vec::new(alloc);
     let (kind, rest) = title.split_once(' ').ok_or(Failed)?;
-    if kind == "script" {
-        give_script(alloc, setup, &input, &mut given)?;
-    } else if kind == "report" {
-        give_report(alloc, setup, &input, rest, &mut given)?;
-    } else if rest == "built-in setup" {
-        given
-            .extend_from_slice(SETUP_K.as_bytes())
-            .map_err(|_| Failed)?;
-    } else {
-        tell_faults(&mut given)?;
+    match kind {
+        "script" => give_script(alloc, setup, &input, &mut given)?,
+        "report" => give_report(alloc, setup, &input, rest, &mut given)?,
+        "check" => give_audit(alloc, setup, &input, &mut given)?,
+        "plan" => give_plan(alloc, setup, &input, &mut given)?,
+        "lines" => give_lines(alloc, setup, &input, rest, &mut given)?,
+        "settings" => give_settings(alloc, &input, &mut given)?,
+        "numbers" => give_numbers(&input, &mut given)?,
+        _ => give_text(rest, &mut given)?,
     }
     Ok(given)
 }
 
+/// Adds one of the program's own texts.
+fn give_text(title: &str, given: &mut Vec<u8>) -> Result<(), Failed> {
+    if title != "built-in setup" {
+        return tell_faults(given);
+    }
+    given
+        .extend_from_slice(SETUP_K.as_bytes())
+        .map_err(|_| Failed)
+}
 /// Adds the answers of a script and what they come to.
 fn give_script(
     alloc: Global,

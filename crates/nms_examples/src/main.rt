@@ -6,6 +6,10 @@
 mod escapes;
 mod example;
 mod faults;
+mod numbers;
+mod plans;
+mod records;
+mod settings;
 
 use example::give;
 use nms_engine::SETUP_K;

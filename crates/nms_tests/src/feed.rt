@@ -1,7 +1,6 @@
 //! Tests of what no clause says: that the calls succeed and come back, and a run of two threads.
 ghost use Rattle.std.specs.Prelude.{◌≡◌, ◌≤◌, ◌+◌, [], length, IfOk};
 
-use crate::fixture::prints;
 use nms_feed::{Delivered, Full, LaneFault, NotEmpty, Sender, Taker, close, open_lane};
 use nms_quote::{Change, Part, QState, SideQuote, Sym};
 use nms_units::{Price, Shares};
@@ -215,6 +214,7 @@ fn two_threads_send_1000_changes_each_through_a_lane_of_4(rt: HostRuntime) -> Re
 #[test]
 fn faults_print_their_codes(rt: HostRuntime) -> Result<(), Fail> {
     let change = bid_of(0, 1).ok_or("a bid")?;
-    prints(&rt, rt.alloc(), LaneFault::NoMemory, "N1: out of memory")?;
-    prints(&rt, rt.alloc(), Full { change }, "N2: the lane is full")
+    let told = format!(in rt.alloc(); "{}; {}", LaneFault::NoMemory, Full { change })?;
+    assert_eq!(rt; told.as_str(), "N1: out of memory; N2: the lane is full");
+    Ok(())
 }

@@ -1,13 +1,9 @@
-//! The tests of the crates below, a module for each crate: what no clause says, worked examples by values
-//! from outside, and that each call succeeds where there is memory.
+//! The tests of the crates below, a module for each crate: what no clause says and no example of `nms_examples`
+//! shows. Streams that fail, threads, limits, and that each call succeeds where there is memory.
 //!
 //! They stand here because the gate proves a crate once more for its own tests.
 #![tactic(auto)]
 
-#[cfg(test)]
-mod board;
-#[cfg(test)]
-mod cert;
 #[cfg(test)]
 mod engine;
 #[cfg(test)]
@@ -15,13 +11,9 @@ mod feed;
 #[cfg(test)]
 mod fees;
 #[cfg(test)]
-mod fixture;
-#[cfg(test)]
 mod flow;
 #[cfg(test)]
 mod lines;
-#[cfg(test)]
-mod nbbo;
 #[cfg(test)]
 mod plan_text;
 #[cfg(test)]

@@ -1,0 +1,56 @@
+//! What records say in each place that reads.
+
+use crate::Failed;
+use nms_fees::Setup;
+use nms_lines::{ByteRecord, Reading, open_records, read_line, read_next};
+use nms_quote::{Feed, Roster};
+use std::alloc::Global;
+use std::io::Write;
+
+/// The most records of an example.
+const MOST: usize = 1000;
+
+/// Adds what each record says in the place that the title names, or its fault, a line each.
+pub(crate) fn give_lines(
+    alloc: Global,
+    setup: &Setup,
+    input: &[u8],
+    title: &str,
+    given: &mut Vec<u8>,
+) -> Result<(), Failed> {
+    let (place, _) = title.split_once(' ').ok_or(Failed)?;
+    let from = reading_named(place).ok_or(Failed)?;
+    let mut reader = open_records(alloc, input);
+    let mut row = ByteRecord::new(alloc);
+    for _ in 0..MOST {
+        if !read_next(&mut reader, &mut row).map_err(|_| Failed)? {
+            return Ok(());
+        }
+        tell_line(&row, setup.roster(), from, given)?;
+    }
+    Err(Failed)
+}
+
+/// The place that reads under that name, which has two desks where it has any.
+fn reading_named(place: &str) -> Option<Reading> {
+    match place {
+        "script" => Some(Reading::Script { desks: 2 }),
+        "feed" => Some(Reading::FromFeed(Feed::A)),
+        "changes" => Some(Reading::Changes),
+        "orders" => Some(Reading::Orders { desks: 2 }),
+        _ => None,
+    }
+}
+
+/// Adds what a record says.
+fn tell_line(
+    row: &ByteRecord,
+    roster: &Roster,
+    from: Reading,
+    given: &mut Vec<u8>,
+) -> Result<(), Failed> {
+    match read_line(row, roster, from) {
+        Ok(line) => writeln!(given, "{line:?}").map_err(|_| Failed),
+        Err(fault) => writeln!(given, "{fault}").map_err(|_| Failed),
+    }
+}
