@@ -71,6 +71,10 @@ crowds() {
     printf '%s\n' '-- costs' '31 buy 1' '30 sell 1' '-- gives' 1.000000031 -0.999999970
     echo '== setup of the most participants'
     crowd 32 1
+    echo '== rewrite the widest plan'
+    widest 32 32
+    echo '-- gives'
+    widest 32 32
     echo '== plan one leg too many'
     widest 33 0
     printf '%s\n' '-- gives' 'L11: not the text of a plan'
@@ -102,7 +106,7 @@ bundle() {
     echo '-- gives'
     cat builtin.toml
     cat cases/texts.cases cases/quotes.cases cases/refused.cases cases/records.cases cases/reports.cases cases/limits.cases
-    cat cases/chance.cases cases/chance_plans.cases cases/markets.cases cases/numbers.cases cases/lines.cases cases/settings.cases cases/plans.cases cases/audits.cases
+    cat cases/chance.cases cases/chance_plans.cases cases/markets.cases cases/numbers.cases cases/lines.cases cases/settings.cases cases/plans.cases cases/audits.cases cases/breaches.cases
     filled
     crowds
 }

@@ -1,10 +1,11 @@
 //! What one example gives.
 
 use crate::Failed;
+use crate::breaches::give_breach;
 use crate::escapes::bytes_of;
 use crate::faults::tell_faults;
 use crate::numbers::give_numbers;
-use crate::plans::{give_audit, give_plan};
+use crate::plans::{give_audit, give_plan, rewrite_plan};
 use crate::records::give_lines;
 use crate::settings::give_settings;
 use nms_engine::{Counts, SETUP_K, report_changes, run_script};
@@ -27,7 +28,9 @@ pub(crate) fn give(
         "script" => give_script(alloc, setup, &input, &mut given)?,
         "report" => give_report(alloc, setup, &input, rest, &mut given)?,
         "check" => give_audit(alloc, setup, &input, &mut given)?,
+        "breach" => give_breach(alloc, setup, &input, &mut given)?,
         "plan" => give_plan(alloc, setup, &input, &mut given)?,
+        "rewrite" => rewrite_plan(alloc, setup, &input, &mut given)?,
         "lines" => give_lines(alloc, setup, &input, rest, &mut given)?,
         "settings" => give_settings(alloc, &input, &mut given)?,
         "numbers" => give_numbers(&input, &mut given)?,

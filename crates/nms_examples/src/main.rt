@@ -3,6 +3,7 @@
 //! input, and `examples/bundle.sh` makes it.
 #![tactic(auto)]
 
+mod breaches;
 mod escapes;
 mod example;
 mod faults;

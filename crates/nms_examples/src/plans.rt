@@ -4,7 +4,8 @@ use crate::Failed;
 use nms_cert::Doubt;
 use nms_engine::{AuditFault, audit, read_changes};
 use nms_fees::Setup;
-use nms_lines::read_plan;
+use nms_lines::{read_plan, write_plan};
+use nms_quote::{Certificate, Plan};
 use std::alloc::Global;
 use std::io::Write;
 use std::str;
@@ -20,16 +21,30 @@ pub(crate) fn give_plan(
     given: &mut Vec<u8>,
 ) -> Result<(), Failed> {
     match read_plan(alloc, input, setup.roster()) {
-        Ok((plan, certificate)) => {
-            let (legs, cuts) = (plan.legs.as_slice(), certificate.as_slice());
-            let (version, order) = (plan.version, plan.order);
-            writeln!(given, "{version} {order:?}").map_err(|_| Failed)?;
-            writeln!(given, "{} {}", plan.filled, plan.cost).map_err(|_| Failed)?;
-            writeln!(given, "{legs:?}").map_err(|_| Failed)?;
-            writeln!(given, "{cuts:?}").map_err(|_| Failed)
-        }
+        Ok((plan, certificate)) => tell_plan(&plan, &certificate, given),
         Err(fault) => writeln!(given, "{fault}").map_err(|_| Failed),
     }
+}
+
+/// Adds a plan and its certificate as values.
+fn tell_plan(plan: &Plan, certificate: &Certificate, given: &mut Vec<u8>) -> Result<(), Failed> {
+    let (version, order, filled, cost) = (plan.version, plan.order, plan.filled, plan.cost);
+    writeln!(given, "{version} {order:?} {filled} {cost}").map_err(|_| Failed)?;
+    writeln!(given, "{:?}", plan.legs.as_slice()).map_err(|_| Failed)?;
+    writeln!(given, "{:?}", certificate.as_slice()).map_err(|_| Failed)
+}
+
+/// Adds the text that is written of what a plan's text says.
+pub(crate) fn rewrite_plan(
+    alloc: Global,
+    setup: &Setup,
+    input: &[u8],
+    given: &mut Vec<u8>,
+) -> Result<(), Failed> {
+    let Ok((plan, certificate)) = read_plan(alloc, input, setup.roster()) else {
+        return Err(Failed);
+    };
+    write_plan(alloc, &plan, &certificate, setup.roster(), given).map_err(|_| Failed)
 }
 
 /// Adds what an audit of a plan on a file of changes finds.

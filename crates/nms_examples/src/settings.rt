@@ -19,19 +19,23 @@ const COSTS: &str = "-- costs\n";
 pub(crate) fn give_settings(alloc: Global, input: &[u8], given: &mut Vec<u8>) -> Result<(), Failed> {
     let text = str::from_utf8(input).map_err(|_| Failed)?;
     if let Some((document, changes)) = text.split_once(CHANGES) {
-        for change in changes.lines() {
-            give_changed(alloc, document, change, given)?;
-        }
-        return Ok(());
+        return give_changes(alloc, document, changes, given);
     }
-    let Some((document, costs)) = text.split_once(COSTS) else {
-        return give_setup(alloc, text, given);
-    };
-    let Ok(setup) = read_setup(alloc, document) else {
-        return Err(Failed);
-    };
-    for question in costs.lines() {
-        give_cost(&setup, question, given)?;
+    match text.split_once(COSTS) {
+        Some((document, costs)) => give_costs(alloc, document, costs, given),
+        None => give_setup(alloc, text, given),
+    }
+}
+
+/// Adds what a document is read as with each change made to it alone.
+fn give_changes(
+    alloc: Global,
+    document: &str,
+    changes: &str,
+    given: &mut Vec<u8>,
+) -> Result<(), Failed> {
+    for change in changes.lines() {
+        give_changed(alloc, document, change, given)?;
     }
     Ok(())
 }
@@ -52,17 +56,41 @@ fn give_changed(
 /// Adds the numbers of a setup, or its fault.
 fn give_setup(alloc: Global, document: &str, given: &mut Vec<u8>) -> Result<(), Failed> {
     match read_setup(alloc, document) {
-        Ok(setup) => {
-            let (tape, queue, desks) = (setup.tape_limit(), setup.queue(), setup.desks());
-            let (parts, syms) = (setup.roster().parts(), setup.roster().syms());
-            writeln!(given, "{tape} {queue} {desks} {parts} {syms}").map_err(|_| Failed)
-        }
+        Ok(setup) => tell_setup(&setup, given),
         Err(fault) => writeln!(given, "{fault}").map_err(|_| Failed),
     }
 }
 
+/// Adds the tape limit, the queue, the desks, and how many participants and symbols there are.
+fn tell_setup(setup: &Setup, given: &mut Vec<u8>) -> Result<(), Failed> {
+    let (tape, queue, desks) = (setup.tape_limit(), setup.queue(), setup.desks());
+    let (parts, syms) = (setup.roster().parts(), setup.roster().syms());
+    writeln!(given, "{tape} {queue} {desks} {parts} {syms}").map_err(|_| Failed)
+}
+
+/// Adds what a share costs by each question, under the setup of a document.
+fn give_costs(
+    alloc: Global,
+    document: &str,
+    costs: &str,
+    given: &mut Vec<u8>,
+) -> Result<(), Failed> {
+    match read_setup(alloc, document) {
+        Ok(setup) => tell_costs(&setup, costs, given),
+        Err(_) => Err(Failed),
+    }
+}
+
+/// Adds what a share costs by each question.
+fn tell_costs(setup: &Setup, costs: &str, given: &mut Vec<u8>) -> Result<(), Failed> {
+    for question in costs.lines() {
+        tell_cost(setup, question, given)?;
+    }
+    Ok(())
+}
+
 /// Adds what a share costs.
-fn give_cost(setup: &Setup, question: &str, given: &mut Vec<u8>) -> Result<(), Failed> {
+fn tell_cost(setup: &Setup, question: &str, given: &mut Vec<u8>) -> Result<(), Failed> {
     let (place, rest) = question.split_once(' ').ok_or(Failed)?;
     let (side, price) = rest.split_once(' ').ok_or(Failed)?;
     let place = place.parse::<u8>().map_err(|_| Failed)?;

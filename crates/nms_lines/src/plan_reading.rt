@@ -1,5 +1,5 @@
 //! A plan and its certificate read from text: `specs/PlanReading`.
-ghost use Rattle.std.specs.Prelude.{◌⊎◌, ◌≡◌, ◌≢◌, ◌++◌, ◌∷◌, ◌<◌, [], ℕ, List, Some, None, true, false, IfOk, IfSome, OnErr, Ok, Err, length};
+ghost use Rattle.std.specs.Prelude.{◌⊎◌, ◌≡◌, ◌≢◌, ◌++◌, ◌∷◌, ◌<◌, [], ℕ, List, Some, None, true, false, All, IfOk, IfSome, OnErr, Ok, Err, length};
 ghost use Rattle.csv.specs.Records.{fields_of};
 ghost use Rattle.nms_lines.specs.Layout.{Record};
 ghost use Rattle.nms_lines.specs.Left.{AreLeft};
@@ -20,7 +20,8 @@ use std::io::Read;
 /// most 32 legs, at most 32 cuts, an end, and nothing behind it. Names are of the roster; prices, share counts and
 /// money are as their types read them, a version is 1 to 8 digits, and the order is of at least one share.
 ///
-/// What is read need not be lawful: `nms_rules` and `nms_cert` judge that. Any other text is `BadPlanText`;
+/// What is read can be written by `write_plan` on the same roster. It need not be lawful: `nms_rules` and
+/// `nms_cert` judge that. Any other text is `BadPlanText`;
 /// `NoMemory` where memory ran out, in place of either.
 pub fn read_plan(
     alloc: Global,
@@ -29,7 +30,8 @@ pub fn read_plan(
 ) -> Result<(Plan, Certificate), PlanTextFault>
     ensures read { (records : List Record) → AreAllRecords (Some text.now) records
         → IfOk result (λ made. plan_in roster.now records ≡ Some (said_by made.0 made.1.items)) }
-    ensures there { IfOk result (λ made. made.0.order.sym < length roster.now.syms) }
+    ensures parts { IfOk result (λ made. All (λ leg. leg.part < length roster.now.parts) made.0.legs.items) }
+    ensures sym { IfOk result (λ made. made.0.order.sym < length roster.now.syms) }
     ensures refused { (records : List Record) → AreAllRecords (Some text.now) records
         → result ≡ Err PlanTextFault.BadPlanText → plan_in roster.now records ≡ None }
     ensures faults { result ≢ Err PlanTextFault.WriteFault }
@@ -74,6 +76,7 @@ fn read_legs<R: Read>(
 ) -> Result<ArrayVec<Leg, 32>, PlanTextFault>
     ensures read { (left : List Record) → AreLeft R.remaining reader.old left
         → IfOk result (λ legs. (more : List Record) × (legs.items ≡ legs_of roster.now left) × (behind_legs roster.now left ≡ fields_of row.new ∷ more) × AreLeft R.remaining reader.new more) }
+    ensures there { IfOk result (λ legs. All (λ leg. leg.part < length roster.now.parts) legs.items) }
     ensures refused { (left : List Record) → AreLeft R.remaining reader.old left
         → result ≡ Err PlanTextFault.BadPlanText → (behind_legs roster.now left ≡ []) ⊎ (is_few (legs_of roster.now left) ≡ false) }
     ensures faults { result ≢ Err PlanTextFault.WriteFault }

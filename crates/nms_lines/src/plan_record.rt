@@ -58,7 +58,8 @@ pub(crate) fn head_in(row: &ByteRecord, roster: &Roster) -> Option<PlanHead>
 
 /// The leg that the row is, where it is one.
 pub(crate) fn leg_in(row: &ByteRecord, roster: &Roster) -> Option<Leg>
-    ensures { result ≡ leg_in roster.now (fields_of row.now) }
+    ensures leg { result ≡ leg_in roster.now (fields_of row.now) }
+    ensures there { IfSome result (λ leg. leg.part < length roster.now.parts) }
 {
     if !is_record(row, b"LEG", 4) {
         return None;

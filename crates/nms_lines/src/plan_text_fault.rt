@@ -1,5 +1,4 @@
 //! Why a plan was not read or written: `specs/PlanFaults`.
-use std::alloc::AllocError;
 use thiserror::Error;
 
 /// Why a plan was not read from text, or not written as text.
@@ -29,12 +28,5 @@ impl PlanTextFault {
             PlanTextFault::NoMemory => "L12",
             PlanTextFault::WriteFault => "L13",
         }
-    }
-}
-
-/// Memory that ran out.
-impl From<AllocError> for PlanTextFault {
-    fn from(_: AllocError) -> Self {
-        PlanTextFault::NoMemory
     }
 }

@@ -1,5 +1,5 @@
 //! A plan and its certificate as text: `specs/PlanText`.
-ghost use Rattle.std.specs.Prelude.{◌≡◌, ◌<◌, ◌++◌, ◌∷◌, [], ℕ, List, All, IfOk, OnOk, codes, length, map};
+ghost use Rattle.std.specs.Prelude.{◌≡◌, ◌≢◌, ◌<◌, ◌++◌, ◌∷◌, [], ℕ, List, All, IfOk, OnOk, Err, codes, length, map};
 ghost use Rattle.std.specs.Io.KnownBytes.{Appends};
 ghost use Rattle.csv.specs.Records.{fields_of, partial_of};
 ghost use Rattle.csv.specs.Writing.{row_text, default_writer};
@@ -27,8 +27,12 @@ pub fn write_plan<W: Write>(
     requires parts { All (λ leg. leg.part < length roster.now.parts) plan.now.legs.items }
     requires sym { plan.now.order.sym < length roster.now.syms }
     ensures written { OnOk result (Appends (W.contents out.old) (W.contents out.new) (plan_text roster.now plan.now certificate.now.items)) }
+    ensures unwritten { result ≡ Err PlanTextFault.NoMemory → W.contents out.new ≡ W.contents out.old }
+    ensures faults { result ≢ Err PlanTextFault.BadPlanText }
 {
-    let text = text_of_plan(alloc, plan, certificate, roster)?;
+    let Ok(text) = text_of_plan(alloc, plan, certificate, roster) else {
+        return Err(PlanTextFault::NoMemory);
+    };
     match out.write_all(text.as_slice()) {
         Ok(()) => Ok(()),
         Err(_) => Err(PlanTextFault::WriteFault),
@@ -41,7 +45,7 @@ fn text_of_plan(
     plan: &Plan,
     certificate: &Certificate,
     roster: &Roster,
-) -> Result<Vec<u8>, PlanTextFault>
+) -> Result<Vec<u8>, AllocError>
     requires parts { All (λ leg. leg.part < length roster.now.parts) plan.now.legs.items }
     requires sym { plan.now.order.sym < length roster.now.syms }
     ensures text { IfOk result (λ text. text.items ≡ plan_text roster.now plan.now certificate.now.items) }
@@ -58,7 +62,7 @@ fn text_of_plan(
     write_row(&mut writer, &row)?;
     match writer.into_inner() {
         Ok(text) => Ok(text),
-        Err(_) => Err(PlanTextFault::NoMemory),
+        Err(_) => Err(AllocError),
     }
 }
 
@@ -69,7 +73,7 @@ fn write_legs<W: Write + Drop>(
     row: &mut ByteRecord,
     legs: &[Leg],
     roster: &Roster,
-) -> Result<(), PlanTextFault>
+) -> Result<(), AllocError>
     requires { All (λ leg. leg.part < length roster.now.parts) legs.now }
     ensures { (text : List ℕ) → HasWritten W.contents writer.old text
         → OnOk result (HasWritten W.contents writer.new (text ++ csv_text (map (leg_record roster.now) legs.now))) }
@@ -87,7 +91,7 @@ fn write_cuts<W: Write + Drop>(
     writer: &mut Writer<W>,
     row: &mut ByteRecord,
     cuts: &[Cut],
-) -> Result<(), PlanTextFault>
+) -> Result<(), AllocError>
     ensures { (text : List ℕ) → HasWritten W.contents writer.old text
         → OnOk result (HasWritten W.contents writer.new (text ++ csv_text (map cut_record cuts.now))) }
 {
@@ -179,13 +183,13 @@ fn push_kind(alloc: Global, row: &mut ByteRecord, kind: CutKind) -> Result<(), A
 
 /// Writes a record.
 #[tactic(auto, using(crate::proofs::PlanTextFacts::row_same))]
-fn write_row<W: Write + Drop>(writer: &mut Writer<W>, row: &ByteRecord) -> Result<(), PlanTextFault>
+fn write_row<W: Write + Drop>(writer: &mut Writer<W>, row: &ByteRecord) -> Result<(), AllocError>
     ensures { (text : List ℕ) → HasWritten W.contents writer.old text
         → OnOk result (HasWritten W.contents writer.new (text ++ row_text default_writer (fields_of row.now))) }
 {
     match writer.write_byte_record(row) {
         Ok(()) => Ok(()),
-        Err(_) => Err(PlanTextFault::NoMemory),
+        Err(_) => Err(AllocError),
     }
 }
 

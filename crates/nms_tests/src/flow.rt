@@ -1,39 +1,62 @@
 //! The machine over a few steps, by answers worked out by hand.
 use nms_fees::read_setup;
 use nms_flow::{Flow, Reply, Step, StepFault};
-use nms_quote::{Change, Feed, Part, QState, Sym};
+use nms_quote::{Change, Feed, Part, QState, Side, SideQuote, Sym};
+use nms_units::{Price, Shares};
 use std::alloc::Global;
 use std::process::Abort;
 use std::test::Fail;
 
-/// N on feed A and Y on feed B, ABC in lots of 100, a queue of 2, a tape of 3.
+/// N and P on feed A and Y on feed B, ABC in lots of 100, a queue of 2, a tape of 3.
 fn small() -> &'static str {
     r#"tape_limit = 3
 queue = 2
 desks = 1
-participant = [{name = "N", feed = "A", fee = 0, rate = 0}, {name = "Y", feed = "B", fee = 0, rate = 0}]
-symbol = [{name = "ABC", lot = 100}]
+[[participant]]
+name = "N"
+feed = "A"
+fee = 0
+rate = 0
+[[participant]]
+name = "P"
+feed = "A"
+fee = 0
+rate = 0
+[[participant]]
+name = "Y"
+feed = "B"
+fee = 0
+rate = 0
+[[symbol]]
+name = "ABC"
+lot = 100
 "#
 }
 
-/// What a step was answered: of a view its version, of a refusal its code.
+/// What a step was answered: of a view its version and its number of offers, of a refusal its code.
 fn reply_text(alloc: Global, answer: Result<Reply, StepFault>) -> Result<String, Fail> {
     Ok(match answer {
         Ok(Reply::Sent) => String::from_str(alloc, "sent")?,
         Ok(Reply::Taken { version }) => format!(in alloc; "taken {version}")?,
         Ok(Reply::Published { version }) => format!(in alloc; "published {version}")?,
         Ok(Reply::Told { desk, version }) => format!(in alloc; "told {desk} {version}")?,
-        Ok(Reply::Seen(view)) => format!(in alloc; "seen {}", view.version())?,
+        Ok(Reply::Seen(view)) => {
+            let offers = view.count(Side::Offer);
+            format!(in alloc; "seen {} {offers}", view.version())?
+        }
         Err(fault) => String::from_str(alloc, fault.code())?,
     })
 }
 
-/// The participant at a place is halted in ABC.
-fn halt(place: u8) -> Option<Change> {
-    Some(Change::State {
+/// An offer of 100 shares of ABC at 10.00 by the participant at a place.
+fn offer_of(place: u8) -> Option<Change> {
+    let offer = SideQuote::new(Price::new(100_000)?, Shares::new(100)?);
+    Some(Change::Quote {
         part: Part::new(place)?,
         sym: Sym::new(0)?,
-        state: QState::Halted,
+        state: QState::Automated,
+        bid: None,
+        offer,
     })
 }
 
@@ -47,8 +70,9 @@ fn step_named(word: &str) -> Option<Step> {
             desk: 0,
             sym: Sym::new(0)?,
         }),
-        "N" => Some(Step::Send(Feed::A, halt(0)?)),
-        _ => Some(Step::Send(Feed::B, halt(1)?)),
+        "N" => Some(Step::Send(Feed::A, offer_of(0)?)),
+        "P" => Some(Step::Send(Feed::A, offer_of(1)?)),
+        _ => Some(Step::Send(Feed::B, offer_of(2)?)),
     }
 }
 
@@ -67,22 +91,22 @@ fn steps_are_answered_as_worked_out_by_hand(rt: HostRuntime) -> Result<(), Fail>
     for (word, answer) in [
         ("tell", "told 0 0"),
         ("N", "sent"),
-        ("N", "sent"),
+        ("P", "sent"),
         ("Y", "F2"),
         ("take", "taken 1"),
-        ("look", "seen 0"),
+        ("look", "seen 0 0"),
         ("take", "taken 2"),
         ("take", "F3"),
         ("publish", "published 2"),
-        ("look", "seen 2"),
+        ("look", "seen 2 2"),
         ("Y", "sent"),
         ("N", "sent"),
         ("take", "taken 3"),
         ("take", "F4"),
-        ("look", "seen 2"),
+        ("look", "seen 2 2"),
         ("publish", "published 3"),
         ("tell", "told 0 3"),
-        ("look", "seen 3"),
+        ("look", "seen 3 3"),
     ] {
         let told = go(&rt, rt.alloc(), &mut flow, word)?;
         assert_eq!(rt; told.as_str(), answer, "at {word}");

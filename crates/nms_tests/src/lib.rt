@@ -21,6 +21,4 @@ mod quote;
 #[cfg(test)]
 mod readme;
 #[cfg(test)]
-mod rules;
-#[cfg(test)]
 mod units;

@@ -1,4 +1,5 @@
 use crate::program::run_tool;
+use std::alloc::Global;
 use std::io::{ErrorKind, Read, Write};
 use std::process::Abort;
 use std::rt::Files;
@@ -172,6 +173,35 @@ fn a_line_of_changes_is_refused_by_its_code(rt: HostRuntime) -> Result<(), Fail>
         assert_ends(&rt, &words, "", (6, "", error))?;
     }
     Ok(())
+}
+
+/// Three offers of ABC, and a later change.
+fn offers() -> &'static str {
+    "Q,N,ABC,A,,,10,300\nQ,P,ABC,A,,,10,500\nQ,Y,ABC,A,,,10.01,200\nX,Y\n"
+}
+
+/// A plan of the third version but for its cost, with its certificate.
+fn plan_at(alloc: Global, cost: &str) -> Result<String, Fail> {
+    Ok(format!(in alloc;
+        "PLAN,3,B,ABC,600,10.01,,600,{cost}\nLEG,N,10,100\nLEG,P,10,500\nCUT,10,MARGINAL,10.003000000\nCUT,10.01,TOOMUCH,\nEND\n"
+    )?)
+}
+
+#[test]
+fn a_plan_is_confirmed_or_doubted(rt: HostRuntime) -> Result<(), Fail> {
+    fs::write(&rt, "offers.changes", offers())?;
+    for (cost, changes, ends) in [
+        ("6001.700000000", "offers.changes", (0, "CONFIRMED\n", "")),
+        ("6001.700000001", "offers.changes", (4, "DOUBT,K1,P12\n", "")),
+        ("6001.7", "offers.changes", (6, "", "nms_tool: L11\n")),
+        ("6001.7", "no_such.changes", (1, "", "nms_tool: E1\n")),
+    ] {
+        let plan = plan_at(rt.alloc(), cost)?;
+        fs::write(&rt, "offers.plan", plan.as_str())?;
+        assert_ends(&rt, &["check", changes, "offers.plan"], "", ends)?;
+    }
+    let words = ["check", "offers.changes", "no_such.plan"];
+    assert_ends(&rt, &words, "", (1, "", "nms_tool: E1\n"))
 }
 
 /// A stream that always fails.
