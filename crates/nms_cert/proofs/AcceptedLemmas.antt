@@ -20,12 +20,13 @@ use Rattle.nms_rules.specs.Assignment.{fillable}
 use Rattle.nms_rules.specs.Breach.{breach_of}
 use Rattle.nms_rules.specs.Cutoff.{KindHolds, least_cost, pool, swept}
 use Rattle.nms_rules.specs.Faultless.{IsFaultless}
+use Rattle.nms_rules.specs.First.{when, ◌or_else◌}
 use Rattle.nms_rules.specs.Usable.{Usable, is_better, rank_of, usable}
-use Rattle.nms_cert.specs.Doubts.{cuts_doubt, doubt_of, fails_bound, first_failing, is_not_better, is_out_of_order, is_out_of_range, is_wrong_kind, some_is_extra, some_is_out_of_range, some_is_wrong_kind, some_lacks_cut, when, ◌or_else◌}
+use Rattle.nms_cert.specs.Doubts.{cuts_doubt, doubt_of, fails_bound, first_failing, is_not_better, is_out_of_order, is_out_of_range, is_wrong_kind, some_is_extra, some_is_out_of_range, some_is_wrong_kind, some_lacks_cut}
 use Rattle.nms_cert.specs.declared.doubt.Doubt.{Doubt}
 use Rattle.nms_cert.specs.declared.doubt.Doubt.TheVariants as doubt
 use Rattle.nms_cert.proofs.FindLemmas.{all_fail, none_position, position_none}
-use Rattle.nms_cert.proofs.SignedLemmas.{lt-false, false-lt}
+use Rattle.nms_rules.proofs.SignedLemmas.{lt-false, false-lt}
 
 -- ---- prices
 

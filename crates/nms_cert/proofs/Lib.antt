@@ -1,7 +1,2 @@
 mod AcceptedLemmas
 mod FindLemmas
-mod GivenLemmas
-mod OptimalLemmas
-mod SignedLemmas
-mod SoundLemmas
-mod SumLemmas

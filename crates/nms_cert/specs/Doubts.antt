@@ -1,6 +1,6 @@
 -- What makes a plan and its certificate doubtful. Each doubt says by itself when it holds; of those that hold the
 -- first is told. This product's own rule.
-use Rattle.std.specs.Prelude.{ℕ, ℤ, pos, neg_ℤ, ◌+◌, ◌^◌, ◌==◌, ◌||◌, Bool, false, not, nat_le, nat_lt, List, [], ◌∷◌, Option, Some, None, option_map, position, if◌then◌else◌}
+use Rattle.std.specs.Prelude.{ℕ, ℤ, pos, neg_ℤ, ◌+◌, ◌^◌, ◌==◌, ◌||◌, Bool, false, not, nat_le, nat_lt, List, [], ◌∷◌, Option, option_map, position}
 use Rattle.std.specs.Int.RustNames.{int_lt}
 use Rattle.std.specs.List.{list_any}
 use Rattle.nms_quote.specs.Terms.{Terms}
@@ -14,6 +14,7 @@ use Rattle.nms_fees.specs.declared.fee_schedule.FeeSchedule.{FeeSchedule}
 use Rattle.nms_rules.specs.Assignment.{fillable}
 use Rattle.nms_rules.specs.Breach.{breach_of}
 use Rattle.nms_rules.specs.Cutoff.{least_cost, pool, swept}
+use Rattle.nms_rules.specs.First.{when, ◌or_else◌}
 use Rattle.nms_rules.specs.Usable.{Usable, is_better, rank_of, usable}
 use Rattle.nms_rules.specs.declared.breach_kind.Breach.{Breach}
 use Rattle.nms_cert.specs.declared.doubt.Doubt.{Doubt}
@@ -75,15 +76,6 @@ abbrev pub first_failing : OrderSide → List Usable → ℕ → ℤ → List Cu
 first_failing side rows most cost cuts = position (λ cut. fails_bound rows most cost (rank_of side cut.price) cut.kind) cuts
 
 -- ---- the first that holds
-
--- the first finding, or else the second
-infixr 10 ◌or_else◌
-abbrev pub ◌or_else◌ : Option Doubt → Option Doubt → Option Doubt
-(Some found) or_else more = Some found
-None or_else more = more
-
-abbrev pub when : Bool → Doubt → Option Doubt
-when holds found = if holds then Some found else None
 
 -- what is doubtful of the cuts, where so many can be filled and the plan costs so much
 abbrev pub cuts_doubt : OrderSide → List Usable → ℕ → ℤ → List Cut → Option Doubt

@@ -7,20 +7,19 @@ ghost use Rattle.nms_rules.specs.Accepted.{IsAccepted};
 ghost use Rattle.nms_rules.specs.Assignment.{IsOptimal};
 ghost use Rattle.nms_rules.specs.Breach.{breach_of};
 ghost use Rattle.nms_rules.specs.Faultless.{IsFaultless, given_by};
+ghost use Rattle.nms_rules.specs.First.{when};
 ghost use Rattle.nms_rules.specs.Usable.{contra_rows, usable};
-ghost use Rattle.nms_cert.specs.Doubts.{breach_doubt, cuts_doubt, doubt_of, when};
+ghost use Rattle.nms_cert.specs.Doubts.{breach_doubt, cuts_doubt, doubt_of};
 
-use crate::cutoff::fillable;
 use crate::cuts::{
     first_failing, is_out_of_order, some_is_extra, some_is_out_of_range, some_is_wrong_kind,
     some_lacks_cut,
 };
 use crate::doubt::Doubt;
-use crate::usable_row::{UsableRow, usable_rows};
 use nms_board::View;
 use nms_fees::FeeBook;
 use nms_quote::{Certificate, Cut, Order, OrderSide, Plan};
-use nms_rules::{Breach, breach};
+use nms_rules::{Breach, UsableRow, breach, fillable, usable_rows};
 use nms_units::Money;
 
 /// Confirms that a plan for an order on a view is optimal: it is lawful, no lawful plan fills more, and none that

@@ -3,10 +3,8 @@ ghost use Rattle.std.specs.Prelude.{◌≡◌, ◌≤◌, false, length};
 ghost use Rattle.nms_cert.specs.Doubts.{fails_bound, first_failing, has_cut, has_row, is_not_better, is_out_of_order, is_out_of_range, is_wrong_kind, some_is_extra, some_is_out_of_range, some_is_wrong_kind, some_lacks_cut};
 ghost use Rattle.nms_rules.specs.Usable.{rank_of};
 
-use crate::cutoff::{least_cost, pool, swept};
-use crate::rank::Rank;
-use crate::usable_row::{UsableRow, is_better};
 use nms_quote::{Cut, CutKind, OrderSide};
+use nms_rules::{Rank, UsableRow, is_better, least_cost, pool, swept};
 use nms_units::{Money, Price};
 
 /// The most that a marginal may be, in nanodollars, and the least with a minus.

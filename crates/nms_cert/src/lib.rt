@@ -3,11 +3,8 @@
 #![tactic(auto)]
 
 mod confirming;
-mod cutoff;
 mod cuts;
 mod doubt;
-mod rank;
-mod usable_row;
 
 pub use confirming::confirm;
 pub use doubt::Doubt;

@@ -1,9 +1,15 @@
-mod ApartLemmas
+pub mod ApartLemmas
+pub mod CutoffLemmas
 mod FindLemmas
-mod GivenLemmas
-mod LawfulLemmas
-mod MemberLemmas
+pub mod GivenLemmas
+pub mod LawfulLemmas
+mod LegLemmas
+pub mod MemberLemmas
 mod NeverLemmas
 mod NoneLemmas
-mod OrderLemmas
-mod SumLemmas
+pub mod OptimalLemmas
+pub mod OrderLemmas
+mod PaidLemmas
+pub mod SignedLemmas
+mod SoundLemmas
+pub mod SumLemmas

@@ -1,6 +1,6 @@
 -- What breaks a plan. Each breach says by itself when it holds; of those that hold the first is told. This
 -- product's own rule, after 17 CFR 242.600, "intermarket sweep order" and "trade-through", and 242.611.
-use Rattle.std.specs.Prelude.{ℕ, ◌==◌, ◌&&◌, ◌||◌, Bool, true, false, not, nat_lt, List, [], ◌∷◌, Option, Some, None, option_map, if◌then◌else◌}
+use Rattle.std.specs.Prelude.{ℕ, ◌==◌, ◌&&◌, ◌||◌, Bool, true, false, not, nat_lt, List, [], ◌∷◌, Option, Some, None, option_map}
 use Rattle.std.specs.List.{find, list_any}
 use Rattle.std.specs.Ordering.{int_eq}
 use Rattle.nms_quote.specs.Terms.{Terms}
@@ -12,6 +12,7 @@ use Rattle.nms_board.specs.View.{Seen}
 use Rattle.nms_board.specs.declared.row.Row.{Row}
 use Rattle.nms_fees.specs.declared.fee_schedule.FeeSchedule.{FeeSchedule}
 use Rattle.nms_rules.specs.Faultless.{cost_of, given_by, sum_of}
+use Rattle.nms_rules.specs.First.{when, ◌or_else◌}
 use Rattle.nms_rules.specs.Usable.{contra_rows, is_allowed, is_better}
 use Rattle.nms_rules.specs.declared.breach_kind.Breach.{Breach}
 use Rattle.nms_rules.specs.declared.breach_kind.Breach.TheVariants as breach
@@ -111,15 +112,6 @@ abbrev pub is_over_asked : Terms → List Leg → Bool
 is_over_asked order legs = nat_lt order.shares (sum_of legs)
 
 -- ---- the first that holds
-
--- the first finding, or else the second
-infixr 10 ◌or_else◌
-abbrev pub ◌or_else◌ : Option Breach → Option Breach → Option Breach
-(Some found) or_else more = Some found
-None or_else more = more
-
-abbrev pub when : Bool → Breach → Option Breach
-when holds found = if holds then Some found else None
 
 -- what is wrong with a leg by itself
 abbrev pub leg_breach : Seen → Terms → List Leg → Option Breach

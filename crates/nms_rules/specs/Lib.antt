@@ -8,6 +8,7 @@ pub mod Breach
 pub mod Codes
 pub mod Cutoff
 pub mod Faultless
+pub mod First
 pub mod Laws
 pub mod Through
 pub mod Usable

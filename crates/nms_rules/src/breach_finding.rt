@@ -2,8 +2,9 @@
 ghost use Rattle.std.specs.Prelude.{◌≡◌, ◌≤◌, ◌↔◌, IsNone, length};
 ghost use Rattle.std.specs.Result.{result_err};
 ghost use Rattle.nms_board.specs.View.{AreRows};
-ghost use Rattle.nms_rules.specs.Breach.{breach_of, leg_breach, sum_breach, when};
+ghost use Rattle.nms_rules.specs.Breach.{breach_of, leg_breach, sum_breach};
 ghost use Rattle.nms_rules.specs.Faultless.{IsFaultless};
+ghost use Rattle.nms_rules.specs.First.{when};
 
 use crate::breach_kind::Breach;
 use crate::leg_test::{

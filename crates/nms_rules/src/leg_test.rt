@@ -20,8 +20,8 @@ pub(crate) fn contra(side: OrderSide) -> Side
     }
 }
 
-/// Whether a price is better for the order than another one.
-pub(crate) fn is_better(side: OrderSide, price: Price, other: Price) -> bool
+/// Whether a price is better for an order than another one: lower for a buyer, higher for a seller.
+pub fn is_better(side: OrderSide, price: Price, other: Price) -> bool
     ensures { result ≡ is_better side price other }
 {
     match side {

@@ -1,13 +1,21 @@
-//! What a lawful plan of an intermarket sweep order is, what breaks one, and what a price trades through.
+//! What a lawful plan of an intermarket sweep order is, what breaks one, and what a price trades
+//! through; and what must be swept, and may be taken, at a price.
 #![tactic(auto)]
 
 mod breach_finding;
 mod breach_kind;
+mod cutoff;
 mod laws;
 mod leg_test;
+mod rank;
 mod through;
+mod usable_row;
 
 pub use breach_finding::breach;
 pub use breach_kind::Breach;
-pub use laws::a_lawful_plan_never_trades_through;
+pub use cutoff::{fillable, is_pooled, is_swept, least_cost, pool, swept};
+pub use laws::{a_lawful_plan_never_trades_through, an_accepted_plan_is_optimal};
+pub use leg_test::is_better;
+pub use rank::Rank;
 pub use through::traded_through;
+pub use usable_row::{UsableRow, usable_rows};

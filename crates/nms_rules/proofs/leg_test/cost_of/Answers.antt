@@ -3,7 +3,7 @@ use Rattle.std.proofs.lemmas.Int.{ints}
 use Rattle.std.proofs.lemmas.List.{take_more}
 use Rattle.nms_quote.specs.declared.plan.Leg.{Leg}
 use Rattle.nms_rules.specs.Faultless.{cost_of}
-use Rattle.nms_rules.proofs.SumLemmas.{cost_of-none, cost_of-push}
+use Rattle.nms_rules.proofs.LegLemmas.{cost_of-none, cost_of-push}
 use Rattle.nms_rules.proofs.leg_test.cost_of.Goals as goal
 
 pub loop-leg-init : goal.loop-leg-init

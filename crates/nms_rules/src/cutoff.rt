@@ -1,0 +1,220 @@
+//! What must be swept at a cutoff, what the pool has, and the least that filling so many can cost:
+//! `specs/Cutoff`.
+ghost use Rattle.std.specs.Prelude.{◌≡◌, ◌≤◌, ◌*◌, ◌^◌, ◌+ℤ◌, ◌-ℤ◌, ◌*ℤ◌, ◌≤ℤ◌, neg_ℤ, pos, length};
+ghost use Rattle.std.specs.Int.{int_max};
+ghost use Rattle.nms_rules.specs.Assignment.{fillable, total};
+ghost use Rattle.nms_rules.specs.Cutoff.{is_pooled, is_swept, least_cost, pool, pool_part, savings, savings_part, swept, swept_cost, swept_cost_part, swept_part};
+
+use crate::rank::Rank;
+use crate::usable_row::UsableRow;
+use nms_units::{Money, Shares};
+
+/// How many shares can be filled: all that the rows show, or what is asked where that is less.
+///
+/// There are at most 32 rows, one for each participant.
+pub fn fillable(rows: &[UsableRow], asked: Shares) -> u64
+    requires { length rows.now ≤ 32 }
+    ensures most { result ≡ fillable rows.now asked }
+    ensures within { result ≤ 999999999 }
+{
+    shown(rows).min(u64::from(asked.get()))
+}
+
+/// How many shares the rows show.
+#[tactic(auto, using(crate::proofs::SumLemmas::total_none, crate::proofs::SumLemmas::total_more))]
+fn shown(rows: &[UsableRow]) -> u64
+    requires { length rows.now ≤ 32 }
+    ensures { result ≡ total (λ row. row.size) rows.now }
+{
+    let mut sum = 0;
+    for row in rows {
+        sum += u64::from(row.size);
+    }
+    sum
+}
+
+/// Whether a row must be swept before a price of that rank may be traded at: it is protected and at a better price
+/// (17 CFR 242.600, "intermarket sweep order").
+pub fn is_swept(row: &UsableRow, cutoff: Rank) -> bool
+    ensures { result ≡ is_swept cutoff row.now }
+{
+    row.protected && row.rank < cutoff
+}
+
+/// Whether a row is in the pool at a price of that rank: it is at that price or better, and need not be swept.
+pub fn is_pooled(row: &UsableRow, cutoff: Rank) -> bool
+    ensures { result ≡ is_pooled cutoff row.now }
+{
+    row.rank <= cutoff && !is_swept(row, cutoff)
+}
+
+/// How many of a row's shares must be swept.
+fn swept_part(row: &UsableRow, cutoff: Rank) -> u64
+    ensures part { result ≡ swept_part cutoff row.now }
+    ensures within { result ≤ 4294967295 }
+{
+    if is_swept(row, cutoff) {
+        u64::from(row.size)
+    } else {
+        0
+    }
+}
+
+/// How many of a row's shares are in the pool.
+fn pool_part(row: &UsableRow, cutoff: Rank) -> u64
+    ensures part { result ≡ pool_part cutoff row.now }
+    ensures within { result ≤ 4294967295 }
+{
+    if is_pooled(row, cutoff) {
+        u64::from(row.size)
+    } else {
+        0
+    }
+}
+
+/// How many shares must be swept before a price of that rank may be traded at: those of the protected rows at
+/// better prices (17 CFR 242.600, "intermarket sweep order").
+#[tactic(auto, using(crate::proofs::SumLemmas::total_none, crate::proofs::SumLemmas::total_more))]
+pub fn swept(rows: &[UsableRow], cutoff: Rank) -> u64
+    requires { length rows.now ≤ 32 }
+    ensures sum { result ≡ swept cutoff rows.now }
+    ensures within { result ≤ 2 ^ 37 }
+{
+    let mut sum = 0;
+    for row in rows {
+        sum += swept_part(row, cutoff);
+    }
+    sum
+}
+
+/// How many shares are in the pool: those of the other rows at a price of that rank or better.
+#[tactic(auto, using(crate::proofs::SumLemmas::total_none, crate::proofs::SumLemmas::total_more))]
+pub fn pool(rows: &[UsableRow], cutoff: Rank) -> u64
+    requires { length rows.now ≤ 32 }
+    ensures sum { result ≡ pool cutoff rows.now }
+    ensures within { result ≤ 2 ^ 37 }
+{
+    let mut sum = 0;
+    for row in rows {
+        sum += pool_part(row, cutoff);
+    }
+    sum
+}
+
+/// What a row's shares that must be swept cost.
+fn swept_cost_part(row: &UsableRow, cutoff: Rank) -> Money
+    ensures part { result ≡ swept_cost_part cutoff row.now }
+    ensures low { neg_ℤ (pos (2 ^ 100)) ≤ℤ result }
+    ensures high { result ≤ℤ pos (2 ^ 100) }
+{
+    if is_swept(row, cutoff) {
+        times(row.cost, u64::from(row.size))
+    } else {
+        Money::new(0)
+    }
+}
+
+/// How much less than the marginal a row's share costs, if it does.
+fn saved_by(row: &UsableRow, marginal: Money) -> Money
+    requires low { neg_ℤ (pos (10 ^ 18)) ≤ℤ marginal }
+    requires high { marginal ≤ℤ pos (10 ^ 18) }
+    ensures value { result ≡ int_max (marginal -ℤ row.now.cost) (pos 0) }
+    ensures low { pos 0 ≤ℤ result }
+    ensures high { result ≤ℤ pos (2 ^ 62) }
+{
+    let difference = marginal.get() - row.cost.get();
+    Money::new(difference.max(0))
+}
+
+/// What a row's shares in the pool cost less than the marginal, where they cost less.
+fn savings_part(row: &UsableRow, cutoff: Rank, marginal: Money) -> Money
+    requires low { neg_ℤ (pos (10 ^ 18)) ≤ℤ marginal }
+    requires high { marginal ≤ℤ pos (10 ^ 18) }
+    ensures part { result ≡ savings_part cutoff marginal row.now }
+    ensures low { neg_ℤ (pos (2 ^ 100)) ≤ℤ result }
+    ensures high { result ≤ℤ pos (2 ^ 100) }
+{
+    if is_pooled(row, cutoff) {
+        times(saved_by(row, marginal), u64::from(row.size))
+    } else {
+        Money::new(0)
+    }
+}
+
+/// An amount for each of so many shares.
+fn times(amount: Money, shares: u64) -> Money
+    requires low { neg_ℤ (pos (2 ^ 62)) ≤ℤ amount }
+    requires high { amount ≤ℤ pos (2 ^ 62) }
+    requires shares { shares ≤ 2 ^ 37 }
+    ensures product { result ≡ amount *ℤ pos shares }
+    ensures low { neg_ℤ (pos (2 ^ 100)) ≤ℤ result }
+    ensures high { result ≤ℤ pos (2 ^ 100) }
+{
+    Money::new(amount.get() * i128::from(shares))
+}
+
+/// The sum of two amounts that are far from the ends of their type.
+fn plus(one: Money, other: Money) -> Money
+    requires low { (neg_ℤ (pos (2 ^ 110)) ≤ℤ one) × (neg_ℤ (pos (2 ^ 110)) ≤ℤ other) }
+    requires high { (one ≤ℤ pos (2 ^ 110)) × (other ≤ℤ pos (2 ^ 110)) }
+    ensures { result ≡ one +ℤ other }
+{
+    Money::new(one.get() + other.get())
+}
+
+/// The difference of two amounts that are far from the ends of their type.
+fn minus(one: Money, other: Money) -> Money
+    requires low { (neg_ℤ (pos (2 ^ 112)) ≤ℤ one) × (neg_ℤ (pos (2 ^ 112)) ≤ℤ other) }
+    requires high { (one ≤ℤ pos (2 ^ 112)) × (other ≤ℤ pos (2 ^ 112)) }
+    ensures { result ≡ one -ℤ other }
+{
+    Money::new(one.get() - other.get())
+}
+
+/// What the shares that must be swept cost.
+#[tactic(auto, using(crate::proofs::SumLemmas::amount_none, crate::proofs::SumLemmas::amount_more))]
+fn swept_cost(rows: &[UsableRow], cutoff: Rank) -> Money
+    requires { length rows.now ≤ 32 }
+    ensures sum { result ≡ swept_cost cutoff rows.now }
+    ensures low { neg_ℤ (pos (2 ^ 105)) ≤ℤ result }
+    ensures high { result ≤ℤ pos (2 ^ 105) }
+{
+    let mut sum = Money::new(0);
+    for row in rows {
+        sum = plus(sum, swept_cost_part(row, cutoff));
+    }
+    sum
+}
+
+/// What the shares of the pool cost less than the marginal, where they cost less.
+#[tactic(auto, using(crate::proofs::SumLemmas::amount_none, crate::proofs::SumLemmas::amount_more))]
+fn savings(rows: &[UsableRow], cutoff: Rank, marginal: Money) -> Money
+    requires rows { length rows.now ≤ 32 }
+    requires low { neg_ℤ (pos (10 ^ 18)) ≤ℤ marginal }
+    requires high { marginal ≤ℤ pos (10 ^ 18) }
+    ensures sum { result ≡ savings cutoff marginal rows.now }
+    ensures low { neg_ℤ (pos (2 ^ 105)) ≤ℤ result }
+    ensures high { result ≤ℤ pos (2 ^ 105) }
+{
+    let mut sum = Money::new(0);
+    for row in rows {
+        sum = plus(sum, savings_part(row, cutoff, marginal));
+    }
+    sum
+}
+
+/// The least that it can cost to fill so many and to trade at a price of that rank, and at no worse one, by a
+/// marginal: the price, in nanodollars, of one more share. This product's own rule.
+///
+/// The marginal is from -10^18 to 10^18.
+pub fn least_cost(rows: &[UsableRow], most: u64, cutoff: Rank, marginal: Money) -> Money
+    requires rows { length rows.now ≤ 32 }
+    requires most { most ≤ 999999999 }
+    requires low { neg_ℤ (pos (10 ^ 18)) ≤ℤ marginal }
+    requires high { marginal ≤ℤ pos (10 ^ 18) }
+    ensures { result ≡ least_cost rows.now most cutoff marginal }
+{
+    let rest = most.saturating_sub(swept(rows, cutoff));
+    let paid = plus(swept_cost(rows, cutoff), times(marginal, rest));
+    minus(paid, savings(rows, cutoff, marginal))
+}

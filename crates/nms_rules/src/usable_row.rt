@@ -1,0 +1,111 @@
+//! The quotations that an order may trade with, as they stand in a view: `specs/Usable`.
+ghost use Rattle.std.specs.Prelude.{◌≡◌, map};
+ghost use Rattle.std.specs.List.Sorted.{IsStrictlyIncreasing};
+ghost use Rattle.nms_rules.specs.Usable.{contra_rows, is_usable, usable, usable_row};
+
+use crate::leg_test::{contra, is_better};
+use crate::rank::Rank;
+use arrayvec::ArrayVec;
+use nms_board::{Row, View};
+use nms_fees::FeeBook;
+use nms_quote::{Order, OrderSide, Part};
+use nms_units::{Money, Price};
+use std::marker::Model;
+
+/// A quotation that an order may trade with: protected, or manual where the order allows it, and not beyond the
+/// limit (17 CFR 242.600, "intermarket sweep order"; manual ones are this product's own rule).
+#[derive(Clone, Copy, Debug)]
+pub struct UsableRow {
+    /// Whose it is.
+    pub part: Part,
+    /// How good its price is.
+    pub rank: Rank,
+    /// In 1/10,000 dollar.
+    pub price: Price,
+    /// The displayed size, in shares.
+    pub size: u32,
+    /// Whether it is protected; else it is manual.
+    pub protected: bool,
+    /// What a share costs there with the fee, in nanodollars.
+    pub cost: Money,
+}
+
+impl Model for UsableRow {
+    ghost use Rattle.std.specs.Prelude.{negsuc, pos, ◌≤ℤ◌};
+    ghost use Rattle.nms_rules.specs.Usable.{Usable};
+
+    ghost Value = { Usable };
+
+    ghost view = { λ r. record {
+      part = r.part;
+      rank = r.rank;
+      price = r.price;
+      size = r.size;
+      protected = r.protected;
+      cost = r.cost;
+    } };
+
+    ghost invariant = { λ r. (negsuc 10000000009999999 ≤ℤ r.cost) × (r.cost ≤ℤ pos 10000000010000000) };
+
+    ghost inverse = { λ u. record {
+      part = u.part;
+      rank = u.rank;
+      price = u.price;
+      size = u.size;
+      protected = u.protected;
+      cost = u.cost;
+    } };
+}
+
+/// The row that stands in a list's unused places.
+impl Default for UsableRow {
+    fn default() -> Self {
+        let price = Price::new(1).unwrap();
+        UsableRow {
+            part: Part::new(0).unwrap(),
+            rank: Rank::of(OrderSide::Buy, price),
+            price,
+            size: 0,
+            protected: false,
+            cost: Money::new(0),
+        }
+    }
+}
+
+/// The rows of a view that an order may trade with, by participant place. Takes no memory.
+pub fn usable_rows(view: &View, order: &Order, fees: &FeeBook) -> ArrayVec<UsableRow, 32>
+    ensures rows { result.items ≡ usable view.now order.now fees.now }
+    ensures rising { IsStrictlyIncreasing (map (λ row. row.part) (contra_rows order.now.side view.now)) }
+{
+    let mut usable = ArrayVec::new_in(());
+    for row in view.rows(contra(order.side)) {
+        if is_usable(order, row) {
+            usable.push(usable_row(order, fees, row));
+        }
+    }
+    usable
+}
+
+/// Whether an order may trade with a row.
+fn is_usable(order: &Order, row: &Row) -> bool
+    ensures { result ≡ is_usable order.now row.now }
+{
+    if !row.protected && !order.manual {
+        return false;
+    }
+    !is_better(order.side, order.limit, row.price)
+}
+
+/// A row as an order may trade with it.
+fn usable_row(order: &Order, fees: &FeeBook, row: &Row) -> UsableRow
+    ensures { result ≡ usable_row order.now fees.now row.now }
+{
+    UsableRow {
+        part: row.part,
+        rank: Rank::of(order.side, row.price),
+        price: row.price,
+        size: row.size,
+        protected: row.protected,
+        cost: fees.unit_cost(row.part, order.side, row.price),
+    }
+}

@@ -1,0 +1,10 @@
+mod ChoiceLemmas
+mod CutLemmas
+mod FitLemmas
+mod LegLemmas
+mod MarginalLemmas
+mod OrderLemmas
+mod PlanLemmas
+mod SumFacts
+mod TierLemmas
+mod TotalLemmas

@@ -1,0 +1,11 @@
+//! The planner of intermarket sweep orders: it finds a lawful plan that fills most, and of those the one of least
+//! cost with fees, and writes the certificate that shows it.
+#![tactic(auto)]
+
+mod choice;
+mod cutting;
+mod legs;
+mod planning;
+mod row_order;
+
+pub use planning::plan;

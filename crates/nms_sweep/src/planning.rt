@@ -1,0 +1,49 @@
+//! The plan of least cost for an order, and the certificate that shows it: `specs/Accepted` of `nms_rules`.
+ghost use Rattle.std.specs.Prelude.{◌≡◌, None};
+ghost use Rattle.nms_rules.specs.Accepted.{IsAccepted};
+ghost use Rattle.nms_rules.specs.Assignment.{IsOptimal, fillable};
+ghost use Rattle.nms_rules.specs.Breach.{breach_of};
+ghost use Rattle.nms_rules.specs.Faultless.{given_by};
+ghost use Rattle.nms_rules.specs.Usable.{usable};
+
+use crate::choice::{chosen, cost_chosen};
+use crate::cutting::cuts_of;
+use crate::legs::legs_chosen;
+use crate::row_order::{Key, in_order};
+use nms_board::View;
+use nms_fees::FeeBook;
+use nms_quote::{Certificate, Order, Plan};
+use nms_rules::{fillable, usable_rows};
+
+/// Plans an intermarket sweep order on a view (17 CFR 242.600; 242.611(b)(5) and (6)), and gives the certificate
+/// that the plan is optimal: no lawful plan fills more, and none that fills as much costs less with fees.
+///
+/// It always answers, and takes no memory. Legs stand by price, best first, then by participant place. Among equally
+/// good plans the choice is fixed: the cutoff at the best price; there the protected quotations that are better in
+/// full, then the others by unit cost, then better price, then place. The work is that of a few passes over the
+/// usable quotations for each of their prices, of which there are at most 32.
+pub fn plan(view: &View, order: &Order, fees: &FeeBook) -> (Plan, Certificate)
+    requires { order.now.sym ≡ view.now.sym }
+    ensures lawful { breach_of view.now order.now fees.now result.0 ≡ None }
+    ensures most { result.0.filled ≡ fillable (usable view.now order.now fees.now) order.now.shares }
+    ensures accepted { IsAccepted view.now order.now fees.now result.0 result.1.items }
+    ensures optimal { IsOptimal (usable view.now order.now fees.now) order.now.shares (given_by result.0.legs.items) }
+{
+    let usable = usable_rows(view, order, fees);
+    let rows = usable.as_slice();
+    let most = fillable(rows, order.shares);
+    let best_first = in_order(Key::Price, rows);
+    let by_price = best_first.as_slice();
+    let cheapest_first = in_order(Key::Cost, by_price);
+    let cuts = cuts_of(rows, by_price, cheapest_first.as_slice(), most);
+    let choice = chosen(order.side, rows, most, &cuts);
+    let legs = legs_chosen(rows, most, &choice, by_price);
+    let plan = Plan {
+        version: view.version(),
+        order: *order,
+        legs,
+        filled: most as u32,
+        cost: cost_chosen(&choice),
+    };
+    (plan, cuts)
+}
