@@ -1,0 +1,6 @@
+pub mod BatchLemmas
+pub mod Beginnings
+mod HistoryLemmas
+mod LawLemmas
+pub mod PublishLemmas
+mod RuleLemmas

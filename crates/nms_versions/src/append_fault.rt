@@ -1,0 +1,13 @@
+//! Why a change was not appended.
+use thiserror::Error;
+
+/// Why a change was not appended.
+#[derive(Clone, Copy, Debug, PartialEq, Eq, Error)]
+pub enum AppendFault {
+    /// V3: out of memory.
+    #[error("V3: out of memory")]
+    NoMemory,
+    /// V4: the tape has as many changes as it may.
+    #[error("V4: the tape is full")]
+    TapeFull,
+}

@@ -1,0 +1,123 @@
+//! A desk, which looks at what is published (specs/Taped).
+ghost use Rattle.std.specs.Prelude.{◌≡◌, ◌<◌, ◌∷◌, ◌↔◌, length, IfErr, IfOk, IsErr, OnErr, OnOk};
+ghost use Rattle.std.specs.List.{AllByRecursion, Contains};
+ghost use Rattle.nms_quote.specs.Tape.{Tape};
+ghost use Rattle.nms_board.specs.View.{view_of};
+ghost use Rattle.nms_versions.specs.Published.{changes, publications};
+ghost use Rattle.nms_versions.specs.Rule.{IsShown};
+ghost use Rattle.nms_versions.specs.Taped.{AllBegin, longest_of};
+ghost use Rattle.nms_versions.specs.declared.settled.Unsettled.TheVariants as unsettled;
+
+use crate::history::Token;
+use crate::memory::Memory;
+use crate::no_reading::NoReading;
+use crate::receipt::Receipt;
+use crate::rule::{PairReader, Reading};
+use crate::settled::{Settled, Unsettled};
+use crate::shown::Shown;
+use core::mem::replace_with;
+use nms_board::View;
+use nms_quote::Sym;
+use std::marker::Model;
+
+/// Looks at what is published, and never at a version older than one that it saw or was told of.
+#[derive(Drop)]
+pub struct Desk {
+    pub(crate) reader: PairReader,
+    pub(crate) memory: Memory,
+    /// The longest version that it knows, and how many changes that has.
+    pub(crate) newest: Token,
+    pub(crate) longest: u64,
+}
+
+impl Model for Desk {
+    ghost use Rattle.std.specs.Prelude.{map};
+    ghost use Rattle.nms_versions.specs.Memory.{Remembers};
+    ghost use Rattle.nms_versions.specs.Published.{changes};
+    ghost use Rattle.nms_versions.specs.Rule.{IsNamed, sizes_known};
+    ghost use Rattle.nms_versions.specs.Taped.{Knowing};
+
+    ghost Value = { Knowing };
+
+    ghost view = { λ d. record { opening = d.newest.book; sizes = sizes_known d.reader.place.me.0.client; known = map changes d.memory } };
+
+    ghost invariant = { λ d. IsNamed d.reader.place.me.0.client d.newest.book × Remembers d.newest.log d.longest d.memory };
+}
+
+impl Desk {
+    /// Learns of the version that a receipt of its own opening stands for. No look shows an older one from then on.
+    pub fn learn(&mut self, receipt: Receipt)
+        requires opening { receipt.opening ≡ self.old.opening }
+        ensures { self.new ≡ record self.old { known = changes receipt.published ∷ self.old.known } }
+    {
+        let Receipt { seen, version } = receipt;
+        let mut both = self.newest.again();
+        both.learn(&seen);
+        self.memory = self.memory.with(seen.again());
+        if version <= self.longest {
+            return;
+        }
+        self.longest = version;
+        self.newest = seen;
+    }
+
+    /// What the published version shows of a symbol; no rows for a symbol out of the roster. Waits for nobody and
+    /// takes no memory. `NoReading` leaves the desk as it was.
+    pub fn look(&mut self, sym: Sym) -> Result<View, NoReading>
+        ensures shown { IfOk result (λ view. (version : Tape) × (view ≡ view_of self.old.sizes version sym)
+            × AllBegin version self.old.known × (self.new ≡ record self.old { known = version ∷ self.old.known })) }
+        ensures unchanged { OnErr result (self.new ≡ self.old) }
+    {
+        let Ok(Shown { view, seen }) = replace_with(&mut self.reader, sym, take_shown) else {
+            return Err(NoReading);
+        };
+        let version = view.version();
+        let mut both = self.newest.again();
+        both.learn(&seen);
+        if version < self.longest {
+            return Err(NoReading);
+        }
+        self.memory = self.memory.with(seen.again());
+        self.longest = version;
+        self.newest = seen;
+        Ok(view)
+    }
+
+    /// Ends the desk on a receipt of its own opening: each version that it knew begins the receipt's, and was
+    /// published. `Newer` where it knows a longer one than the receipt's; it comes back as it was.
+    pub fn settle(self, receipt: Receipt) -> Result<Settled, Unsettled>
+        requires opening { receipt.opening ≡ self.opening }
+        ensures begins { OnOk result (AllBegin (changes receipt.published) self.known) }
+        ensures published { OnOk result (AllByRecursion (λ version. Contains (publications receipt.published) (length version)) self.known) }
+        ensures settled { IfOk result (λ settled. settled.version ≡ longest_of self.known) }
+        ensures newer { IsErr result ↔ (length (changes receipt.published) < longest_of self.known) }
+        ensures back { IfErr result (λ left. left ≡ unsettled.Newer self (longest_of self.known)) }
+    {
+        let version = self.longest;
+        if version > receipt.version {
+            return Err(Unsettled::Newer {
+                desk: self,
+                version,
+            });
+        }
+        let mut both = self.newest.again();
+        both.learn(&receipt.seen);
+        Ok(Settled { version })
+    }
+}
+
+/// Takes what is shown of a symbol, and gives the reader back.
+fn take_shown(reader: PairReader, sym: Sym) -> (PairReader, Result<Shown, NoReading>)
+    ensures same { result.0.place.me.0.client ≡ reader.place.me.0.client }
+    ensures shown { IfOk result.1 (IsShown reader.place.me.0.client sym) }
+{
+    match reader.enter_as::<Reading>() {
+        Ok(reading) => {
+            let sealed = reading.get();
+            let view = sealed.boards.view(sym);
+            let seen = sealed.seen.again();
+            (reading.leave(), Ok(Shown { view, seen }))
+        }
+        Err(reader) => (reader, Err(NoReading)),
+    }
+}

@@ -1,0 +1,30 @@
+//! The published versions: one publisher appends changes and publishes them in batches, and each desk looks at
+//! the version published last, which is never older than one that it saw or was told of.
+#![tactic(auto)]
+
+mod append_fault;
+mod batch;
+mod desk;
+mod history;
+mod known;
+mod laws;
+mod memory;
+mod no_reading;
+mod open_fault;
+mod opening;
+mod publisher;
+mod receipt;
+mod rule;
+mod sealed;
+mod settled;
+mod shown;
+
+pub use append_fault::AppendFault;
+pub use desk::Desk;
+pub use laws::publications_are_what_changes_bear;
+pub use no_reading::NoReading;
+pub use open_fault::OpenFault;
+pub use opening::open_tape;
+pub use publisher::Publisher;
+pub use receipt::Receipt;
+pub use settled::{Settled, Unsettled};

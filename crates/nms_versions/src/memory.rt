@@ -1,0 +1,50 @@
+//! What a desk saw or was told of (specs/Memory). It exists in proofs alone and has no bytes.
+ghost use Rattle.std.specs.Prelude.{◌≡◌, ◌∷◌, []};
+
+use crate::history::Token;
+use std::marker::Model;
+use std::snapshot::Snapshot;
+
+/// What was seen or told last, and what before that.
+#[derive(Drop)]
+pub struct Memory {
+    last: Token,
+    before: Option<Snapshot<Memory>>,
+}
+
+impl Model for Memory {
+    ghost use Rattle.std.specs.Prelude.{List, ◌∷◌, length};
+    ghost use Rattle.std.proofs.Common.{arith};
+    ghost use Rattle.nms_versions.specs.Published.{Batches};
+    ghost use Rattle.nms_versions.specs.Memory.{recalled};
+
+    ghost Value = { List Batches };
+
+    ghost view = { λ m. m.last.log ∷ recalled m.before };
+
+    ghost size = { length };
+
+    ghost size_decreases = { λ m h. Prim.grind (arith) };
+}
+
+impl Memory {
+    /// A memory of one history.
+    pub(crate) fn of(seen: Token) -> Self
+        ensures { result ≡ seen.log ∷ [] }
+    {
+        Memory {
+            last: seen,
+            before: None,
+        }
+    }
+
+    /// A memory of one more.
+    pub(crate) fn with(&self, seen: Token) -> Self
+        ensures { result ≡ seen.log ∷ self.now }
+    {
+        Memory {
+            last: seen,
+            before: Some(Snapshot::of(self)),
+        }
+    }
+}

@@ -1,0 +1,188 @@
+//! The publisher, which appends changes to the tape and publishes it (specs/Taped).
+ghost use Rattle.std.specs.Prelude.{◌≡◌, ◌+◌, ◌≤◌, ◌⊎◌, ◌∷◌, ◌++◌, ◌↔◌, ℕ, [], All, length, drop, true, Err, OnErr, OnOk};
+ghost use Rattle.std.specs.List.{Contains};
+ghost use Rattle.std.specs.Vec.{vec_len, vec_capacity};
+ghost use Rattle.nms_quote.specs.Roster.{holds};
+ghost use Rattle.nms_quote.specs.declared.TheConstants.{MOST_CHANGES};
+ghost use Rattle.nms_versions.specs.Published.{NoneEmpty, changes, committed, publications};
+ghost use Rattle.nms_versions.specs.Publishing.{Follows};
+ghost use Rattle.nms_versions.specs.Taped.{tape_of};
+
+use crate::append_fault::AppendFault;
+use crate::batch::Batch;
+use crate::history::History;
+use crate::receipt::Receipt;
+use crate::rule::{PairWriter, Showing};
+use core::mem::{replace, replace_with};
+use nms_quote::{Change, SideQuote};
+use std::alloc::Global;
+use std::marker::Model;
+use std::sync::Wait;
+use std::thread;
+
+/// Appends changes to the tape, and publishes it to the desks of its opening. It is not `Drop`: end it by `close`.
+pub struct Publisher {
+    pub(crate) alloc: Global,
+    pub(crate) writer: PairWriter,
+    pub(crate) history: History,
+    /// All that was appended.
+    pub(crate) tape: Vec<Change>,
+    /// What was appended since the last publishing.
+    pub(crate) fresh: Vec<Change>,
+    /// How many changes the published version has.
+    pub(crate) published: u64,
+    pub(crate) limit: u64,
+}
+
+impl Model for Publisher {
+    ghost use Rattle.std.specs.Prelude.{drop};
+    ghost use Rattle.nms_versions.specs.Publishing.{IsSound, IsTaped};
+    ghost use Rattle.nms_versions.specs.Taped.{Taped};
+
+    ghost Value = { Taped };
+
+    ghost view = { λ p. record {
+      opening = p.history.opening;
+      published = p.history.published;
+      pending = p.fresh.items;
+      sizes = p.writer.desk.shown.value.boards.sizes;
+      limit = p.limit;
+    } };
+
+    ghost invariant = { λ p. IsSound p.writer.desk.shown.value (drop p.writer.behind p.writer.log.items) p.history
+        × IsTaped p.history p.tape.items p.fresh.items p.published p.limit p.writer.desk.shown.value.boards.sizes };
+}
+
+impl Publisher {
+    /// Whether a change speaks of participants and symbols of the setup's roster alone.
+    pub fn holds(&self, change: &Change) -> bool
+        ensures { result ≡ holds self.now.sizes change.now }
+    {
+        self.writer.published().boards.holds(change)
+    }
+
+    /// Appends a change of the roster to the tape. It is published by the next `publish`. `TapeFull` where the tape
+    /// has as many changes as it may, else `NoMemory`; both leave all as it was.
+    pub fn append(&mut self, change: Change) -> Result<(), AppendFault>
+        requires held { holds self.old.sizes change ≡ true }
+        ensures added { OnOk result (self.new ≡ record self.old { pending = self.old.pending ++ change ∷ [] }) }
+        ensures unchanged { OnErr result (self.new ≡ self.old) }
+        ensures full { (result ≡ Err AppendFault.TapeFull) ↔ (length (tape_of self.old) ≡ self.old.limit) }
+    {
+        if self.tape.len() as u64 == self.limit {
+            return Err(AppendFault::TapeFull);
+        }
+        if self.tape.reserve(1).is_err() {
+            return Err(AppendFault::NoMemory);
+        }
+        if self.fresh.reserve(1).is_err() {
+            return Err(AppendFault::NoMemory);
+        }
+        if !self.history.be_open() {
+            return Err(AppendFault::NoMemory);
+        }
+        let change = &change;
+        put(&mut self.tape, *change);
+        put(&mut self.fresh, *change);
+        Ok(())
+    }
+
+    /// Makes the whole tape the published version, in one step. Waits for looks at the version before the last.
+    pub fn publish<R: Wait>(&mut self, rt: &R)
+        ensures published { self.new ≡ record self.old { published = committed self.old.published self.old.pending; pending = [] } }
+        ensures whole { changes self.new.published ≡ tape_of self.old }
+        ensures publications { (n : ℕ) → Contains (publications self.new.published) n
+            ↔ Contains (publications self.old.published) n ⊎ (n ≡ length (tape_of self.old)) }
+    {
+        if self.fresh.is_empty() {
+            return;
+        }
+        self.history.close(&self.fresh);
+        let batch = Batch {
+            changes: replace(&mut self.fresh, Vec::new(self.alloc)),
+            seen: self.history.token(),
+        };
+        replace_with(&mut self.writer, (rt, batch), publish_batch);
+        self.published = self.tape.len() as u64;
+    }
+
+    /// Word of the published version, and of all publications, for a desk.
+    pub fn receipt(&mut self) -> Receipt
+        ensures opening { result.opening ≡ self.old.opening }
+        ensures published { result.published ≡ self.old.published }
+        ensures unchanged { self.new ≡ self.old }
+    {
+        Receipt {
+            seen: self.history.token(),
+            version: self.published,
+        }
+    }
+
+    /// All that was appended. Told of every publisher: it is within its limit, and no publishing was of nothing.
+    pub fn tape(&self) -> &[Change]
+        ensures tape { result.now ≡ tape_of self.now }
+        ensures within { length (tape_of self.now) ≤ self.now.limit }
+        ensures batches { NoneEmpty self.now.published }
+    {
+        self.tape.as_slice()
+    }
+
+    /// Ends the publishing, and gives all that was appended. Waits for looks. Desks show nothing from then on.
+    pub fn close<R: Wait>(self, rt: &R) -> Vec<Change>
+        ensures { result.items ≡ tape_of self }
+    {
+        let Publisher {
+            alloc: _,
+            writer,
+            history: _history,
+            tape,
+            fresh: _fresh,
+            published: _,
+            limit: _,
+        } = self;
+        writer.take(rt);
+        tape
+    }
+}
+
+/// Appends a change where there is room for it.
+fn put(tape: &mut Vec<Change>, change: Change)
+    requires { vec_len tape.old + 1 ≤ vec_capacity tape.old }
+    ensures { tape.new.items ≡ tape.old.items ++ change ∷ [] }
+{
+    // Moving a change takes a mention of the type in it: the prover has to have seen it.
+    let _seen: Option<SideQuote> = None;
+    let _put = tape.push(change);
+}
+
+/// Gives a batch to the pair, and shows the board that has it.
+#[tactic(auto, using(crate::proofs::PublishLemmas::sizes_taken))]
+fn publish_batch<R: Wait>(writer: PairWriter, with: (&R, Batch)) -> (PairWriter, ())
+    requires idle { drop writer.behind writer.log.items ≡ [] }
+    requires follows { Follows writer.desk.shown.value with.1 }
+    ensures idle { drop result.0.behind result.0.log.items ≡ [] }
+    ensures shown { result.0.desk.shown.value.seen ≡ with.entry.1.seen }
+    ensures sizes { result.0.desk.shown.value.boards.sizes ≡ writer.desk.shown.value.boards.sizes }
+{
+    let (rt, batch) = with;
+    let mut writer = writer;
+    give(rt, &mut writer, batch);
+    let (writer, _published) = writer.publish_as::<Showing, R>(rt);
+    (writer, ())
+}
+
+/// Gives a batch to the pair. The pair has room for it since the opening.
+fn give<R: Wait>(rt: &R, writer: &mut PairWriter, batch: Batch)
+    ensures desk { writer.new.desk ≡ writer.old.desk }
+    ensures pending { drop writer.new.behind writer.new.log.items ≡ drop writer.old.behind writer.old.log.items ++ batch ∷ [] }
+{
+    let mut batch = batch;
+    for _ in rt.forever() {
+        match writer.append(batch) {
+            Ok(()) => return,
+            Err(back) => batch = back,
+        }
+        thread::yield_now();
+    }
+    unreachable!()
+}

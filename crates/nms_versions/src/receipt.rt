@@ -1,0 +1,34 @@
+//! A receipt: word of what was published, for a desk to learn or to settle on (specs/Taped).
+ghost use Rattle.std.specs.Prelude.{◌≡◌, length};
+ghost use Rattle.nms_versions.specs.Published.{changes};
+
+use crate::history::Token;
+use std::marker::Model;
+
+/// Word of the version that was published when it was given, and of all publications up to it.
+#[derive(Drop)]
+pub struct Receipt {
+    pub(crate) seen: Token,
+    pub(crate) version: u64,
+}
+
+impl Model for Receipt {
+    ghost use Rattle.std.specs.Prelude.{◌≡◌, length};
+    ghost use Rattle.nms_versions.specs.Published.{changes};
+    ghost use Rattle.nms_versions.specs.Taped.{Receipted};
+
+    ghost Value = { Receipted };
+
+    ghost view = { λ r. record { opening = r.seen.book; published = r.seen.log } };
+
+    ghost invariant = { λ r. r.version ≡ length (changes r.seen.log) };
+}
+
+impl Receipt {
+    /// The version's number: how many changes it has.
+    pub fn version(&self) -> u64
+        ensures { result ≡ length (changes self.now.published) }
+    {
+        self.version
+    }
+}

@@ -1,0 +1,67 @@
+//! The rule of the pair of boards (specs/Rule), and what each step over it tells.
+ghost use Rattle.std.specs.Prelude.{◌≡◌};
+ghost use Rattle.nms_board.specs.Cells.{StandsFor};
+ghost use Rattle.nms_versions.specs.Published.{changes};
+ghost use Rattle.nms_versions.specs.Rule.{IsOf, Kept, Names, unnamed};
+
+use crate::batch::Batch;
+use crate::known::Known;
+use crate::sealed::Sealed;
+use atomic_table::{Join, Split};
+use crossbeam_utils::rule::{Outcome, Protocol};
+use left_right::reader::Reader;
+use left_right::writer::Writer;
+
+/// The writer's end of the pair.
+pub type PairWriter = Writer<Sealed, Batch, Known, Faithful>;
+
+/// A reader's end of the pair.
+pub type PairReader = Reader<Sealed, Known, Faithful>;
+
+/// The rule: what is shown stands for its history, and is of the opening that is known.
+pub struct Faithful;
+
+impl Protocol<Sealed, Known> for Faithful {
+    ghost holds = { Kept };
+
+    ghost first = { unnamed };
+}
+
+/// The writer publishes, and knows from then on which opening the pair is of.
+pub struct Naming;
+
+impl Outcome<Sealed, Known> for Naming {
+    ghost then = { Names };
+}
+
+/// The writer publishes.
+pub struct Showing;
+
+impl Outcome<Sealed, Known> for Showing {
+    ghost then = { λ before old new after. after ≡ before };
+}
+
+/// A reader takes what is shown.
+pub struct Reading;
+
+impl Outcome<Sealed, Known> for Reading {
+    ghost then = { λ before shown same after. (after ≡ before) × StandsFor shown.boards (changes shown.seen.log) × IsOf shown before };
+}
+
+/// The writer tells what it knows.
+pub struct Telling;
+
+impl Split<Known> for Telling {
+    ghost left = { λ known. known };
+
+    ghost right = { λ known. known };
+}
+
+/// A reader learns what the writer knows.
+pub struct Learning;
+
+impl Join<Known> for Learning {
+    ghost both = { λ known told. told };
+
+    ghost spent = { unnamed };
+}

@@ -1,0 +1,26 @@
+//! How settling ends.
+use crate::desk::Desk;
+
+/// A desk was settled: all that it knew is of the publisher's own tape.
+#[derive(Clone, Copy, Debug, PartialEq, Eq, Hash)]
+pub struct Settled {
+    /// The longest version that the desk knew: how many changes it has.
+    pub version: u64,
+}
+
+/// A desk was not settled. It comes back as it was; the receipt is used up.
+#[derive(Drop)]
+pub enum Unsettled {
+    /// The desk knows a longer version than the receipt's.
+    Newer {
+        /// The desk.
+        desk: Desk,
+        /// The longest version that it knows: how many changes that has.
+        version: u64,
+    },
+    /// V5: the pair of boards gave no reading.
+    NoReading {
+        /// The desk.
+        desk: Desk,
+    },
+}
