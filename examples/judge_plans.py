@@ -249,4 +249,5 @@ def main():
         write_case(chance, number)
 
 
-main()
+if __name__ == "__main__":
+    main()

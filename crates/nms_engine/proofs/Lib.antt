@@ -6,3 +6,4 @@ mod ColumnFacts
 mod PairFacts
 mod ReportFacts
 mod ThroughFacts
+mod PlanFacts

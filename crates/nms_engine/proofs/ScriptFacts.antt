@@ -11,7 +11,13 @@ use Rattle.nms_quote.specs.declared.side_quote.Side.TheVariants.{Bid, Offer}
 use Rattle.nms_board.specs.View.{Seen, rows_on}
 use Rattle.nms_board.specs.declared.row.Row.{Row}
 use Rattle.nms_nbbo.specs.Best.{IsBestOf}
+use Rattle.nms_quote.specs.Terms.{Terms}
+use Rattle.nms_quote.specs.declared.certificate.Cut.{Cut}
+use Rattle.nms_quote.specs.declared.plan.Plan.{Plan}
+use Rattle.nms_fees.specs.Settings.{Settings}
+use Rattle.nms_lines.specs.PlanText.{plan_records}
 use Rattle.nms_lines.specs.Text.{text_of}
+use Rattle.nms_rules.specs.Accepted.{IsAccepted}
 use Rattle.nms_rules.specs.Through.{traded_through_at}
 use Rattle.nms_flow.specs.Flow.{State, IsAfter, WentOn}
 use Rattle.nms_flow.specs.Run.{Answer, Event, took}
@@ -24,7 +30,8 @@ use Rattle.nms_flow.specs.declared.reply.Reply.TheVariants as reply
 use Rattle.nms_flow.proofs.RunLemmas.{goes_on}
 use Rattle.nms_engine.specs.Answers.{best_record, through_records, told_by}
 use Rattle.nms_engine.specs.Progress.{TakesSome, TakesUntil}
-use Rattle.nms_engine.specs.Script.{AsksAll, AsksOne, Sends, Serves, ShowsBest, ShowsThrough, is_refusal}
+use Rattle.nms_engine.specs.Script.{AsksAll, AsksOne, Sends, Serves, ShowsBest, ShowsPlan, ShowsThrough, is_refusal}
+use Rattle.nms_engine.proofs.PlanFacts.{plan_refuses_none}
 use Rattle.nms_engine.proofs.ThroughFacts.{through_refuses_none}
 
 -- a reply is no want of memory
@@ -77,6 +84,13 @@ pub shows_through : (roster : Listing) (old new : State) (desk sym price : ℕ) 
 shows_through roster old new desk sym price seen before after went text events h =
     let told = through_records roster desk seen price (traded_through_at seen price) in
     ((step.Look desk sym, Ok (reply.Seen seen)) ∷ [], told, (seen, refl, refl), goes_on old new events (step.Look desk sym, Ok (reply.Seen seen)) went h, text, through_refuses_none roster desk seen price (traded_through_at seen price))
+
+-- a look, and a plan of what it showed
+pub shows_plan : (settings : Settings) (old new : State) (desk : ℕ) (order : Terms) (seen : Seen) (plan : Plan) (cuts : List Cut) (before after : List ℕ)
+    → WentOn old new (step.Look desk order.sym, Ok (reply.Seen seen)) → IsAccepted seen order settings.fees plan cuts
+    → after ≡ before ++ text_of (plan_records settings.roster plan cuts) → Serves (ShowsPlan settings desk order) old new (Some before) (Some after) false
+shows_plan settings old new desk order seen plan cuts before after went accepted text events h =
+    ((step.Look desk order.sym, Ok (reply.Seen seen)) ∷ [], plan_records settings.roster plan cuts, (seen, plan, cuts, refl, accepted, refl), goes_on old new events (step.Look desk order.sym, Ok (reply.Seen seen)) went h, text, plan_refuses_none settings.roster plan cuts)
 
 -- one more was taken
 pub takes_more : (old now new : State) (r : Reply) → TakesSome old now → WentOn now new (step.Take, Ok r) → TakesSome old new

@@ -22,6 +22,11 @@ use Rattle.nms_lines.specs.declared.line.Line.TheVariants as line
 use Rattle.nms_lines.specs.declared.line.Reading.TheVariants as source
 use Rattle.nms_lines.specs.declared.line_fault.LineFault.{LineFault}
 use Rattle.nms_lines.specs.declared.line_fault.LineFault.TheVariants as line_fault
+use Rattle.nms_quote.specs.Terms.{Terms}
+use Rattle.nms_quote.specs.declared.plan.Plan.{Plan}
+use Rattle.nms_quote.specs.declared.certificate.Cut.{Cut}
+use Rattle.nms_lines.specs.PlanText.{plan_records}
+use Rattle.nms_rules.specs.Accepted.{IsAccepted}
 use Rattle.nms_rules.specs.Through.{traded_through_at}
 use Rattle.nms_flow.specs.Flow.{State, IsAfter, room_under}
 use Rattle.nms_flow.specs.Run.{Answer, Event, IsRun, published_by, taken_by, took}
@@ -71,6 +76,13 @@ abbrev pub ShowsThrough : Listing → ℕ → ℕ → ℕ → List Event → Lis
 ShowsThrough roster desk sym price events told =
     (seen : Seen) × (events ≡ (step.Look desk sym, Ok (reply.Seen seen)) ∷ []) × (told ≡ through_records roster desk seen price (traded_through_at seen price))
 
+-- a desk looked, and is told a plan of what it saw with a certificate that is accepted there: no lawful plan fills
+-- more, or as much for less with fees (17 CFR 242.600, "intermarket sweep order")
+abbrev pub ShowsPlan : Settings → ℕ → Terms → List Event → List Record → Type 0
+ShowsPlan settings desk order events told =
+    (seen : Seen) × (plan : Plan) × (cuts : List Cut) × (events ≡ (step.Look desk order.sym, Ok (reply.Seen seen)) ∷ [])
+    × IsAccepted seen order settings.fees plan cuts × (told ≡ plan_records settings.roster plan cuts)
+
 -- a refused record asks for no step
 abbrev pub IsRefused : ℕ → LineFault → List Event → List Record → Type 0
 IsRefused number fault events told = (events ≡ []) × (told ≡ refusal number (line_faults.code_of fault) ∷ [])
@@ -84,7 +96,7 @@ AnswersLine settings number line.Publish events told = AsksOne number step.Publi
 AnswersLine settings number (line.Tell desk) events told = AsksOne number (step.Tell desk) events told
 AnswersLine settings number (line.Best desk sym) events told = ShowsBest settings.roster desk sym events told
 AnswersLine settings number (line.Through desk sym price) events told = ShowsThrough settings.roster desk sym price events told
-AnswersLine settings number (line.Sweep desk order) events told = IsRefused number line_fault.UnknownKind events told
+AnswersLine settings number (line.Sweep desk order) events told = ShowsPlan settings desk order events told
 
 abbrev pub AnswersReading : Settings → ℕ → Result Line LineFault → List Event → List Record → Type 0
 AnswersReading settings number (Err fault) events told = IsRefused number fault events told

@@ -55,7 +55,7 @@ pub(crate) fn tell_told(out: &mut Vec<u8>, desk: u8, version: u64) -> Result<(),
 }
 
 /// Ends a record.
-fn end(out: &mut Vec<u8>) -> Result<(), AllocError>
+pub(crate) fn end(out: &mut Vec<u8>) -> Result<(), AllocError>
     ensures { OnOk result (out.new.items ≡ out.old.items ++ 10 ∷ []) }
 {
     out.push(b'\n')?;

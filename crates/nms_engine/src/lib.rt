@@ -9,6 +9,7 @@ mod change_file;
 mod changes_fault;
 mod counts;
 mod fields;
+mod plan_answer;
 mod report_text;
 mod script;
 mod script_fault;

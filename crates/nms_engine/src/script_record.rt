@@ -9,13 +9,15 @@ ghost use Rattle.nms_engine.specs.Answers.{told_by};
 ghost use Rattle.nms_flow.specs.Flow.{room_of, room_under};
 ghost use Rattle.nms_flow.specs.declared.step.Step.TheVariants as step;
 ghost use Rattle.nms_engine.specs.Progress.{TakesUntil};
-ghost use Rattle.nms_engine.specs.Script.{AnswersLine, AnswersRecord, AsksAll, AsksOne, IsRefused, Sends, Serves, ShowsBest, ShowsThrough};
+ghost use Rattle.nms_engine.specs.Script.{AnswersLine, AnswersRecord, AsksAll, AsksOne, IsRefused, Sends, Serves, ShowsBest, ShowsPlan, ShowsThrough};
 
 use crate::answer::{tell_best, tell_published, tell_refusal, tell_taken, tell_through, tell_told};
+use crate::plan_answer::tell_plan;
 use nms_fees::Setup;
 use nms_flow::{Flow, StepFault};
 use nms_lines::{ByteRecord, Line, LineFault, Reading, read_line};
-use nms_quote::{Change, Roster, Sym};
+use nms_quote::{Change, Order, Roster, Sym};
+use nms_sweep::plan;
 use nms_units::Price;
 use std::alloc::AllocError;
 
@@ -70,7 +72,7 @@ fn serve_line(
         Line::Through { desk, sym, price } => {
             serve_through(flow, setup.roster(), desk, sym, price, out)
         }
-        Line::Sweep { .. } => refuse(flow, number, LineFault::UnknownKind, out),
+        Line::Sweep { desk, order } => serve_sweep(flow, setup, desk, &order, out),
     }
 }
 
@@ -204,5 +206,27 @@ fn serve_through(
 {
     let view = flow.look(sym);
     tell_through(out, roster, desk, &view, price)?;
+    Ok(false)
+}
+
+/// Lets a desk look, plans its order on what it sees, and appends the plan with its certificate.
+///
+/// Not inlined: a view is large, and the other records are to pay nothing for one.
+#[inline(never)]
+fn serve_sweep(
+    flow: &Flow,
+    setup: &Setup,
+    desk: u8,
+    order: &Order,
+    out: &mut Vec<u8>,
+) -> Result<bool, AllocError>
+    requires room { flow.now.board.sizes ≡ sizes_of setup.now.roster }
+    requires sym { order.now.sym < length setup.now.roster.syms }
+    ensures { IfOk result (Serves (ShowsPlan setup.now desk order.now) flow.now flow.now (Some out.old.items) (Some out.new.items)) }
+{
+    let _ = desk;
+    let view = flow.look(order.sym);
+    let (plan, certificate) = plan(&view, order, setup.fees());
+    tell_plan(out, setup.roster(), &plan, &certificate)?;
     Ok(false)
 }

@@ -16,7 +16,11 @@ const CHANGES: &str = "-- changes\n";
 const COSTS: &str = "-- costs\n";
 
 /// Adds what a document is read as; or, where changes or questions stand behind it, what each of these gives.
-pub(crate) fn give_settings(alloc: Global, input: &[u8], given: &mut Vec<u8>) -> Result<(), Failed> {
+pub(crate) fn give_settings(
+    alloc: Global,
+    input: &[u8],
+    given: &mut Vec<u8>,
+) -> Result<(), Failed> {
     let text = str::from_utf8(input).map_err(|_| Failed)?;
     if let Some((document, changes)) = text.split_once(CHANGES) {
         return give_changes(alloc, document, changes, given);

@@ -8,11 +8,6 @@ use Rattle.nms_lines.specs.declared.line.Kind.TheVariants as kind
 use Rattle.nms_lines.specs.declared.line.Reading.{Reading}
 use Rattle.nms_lines.specs.declared.line.Reading.TheVariants as source
 
--- the kinds that a script serves: an order is not among them yet
-abbrev pub is_served : Kind → Bool
-is_served kind.Sweep = false
-is_served _ = true
-
 -- the kinds that are a participant's change
 abbrev pub is_change_kind : Kind → Bool
 is_change_kind kind.Quote = true
@@ -27,7 +22,7 @@ is_order_kind _ = false
 
 -- the kinds that a source brings
 abbrev pub brings : Reading → Kind → Bool
-brings (source.Script desks) kind = is_served kind
+brings (source.Script desks) kind = true
 brings (source.FromFeed feed) kind = is_change_kind kind
 brings source.Changes kind = is_change_kind kind
 brings (source.Orders desks) kind = is_order_kind kind

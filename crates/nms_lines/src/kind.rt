@@ -2,7 +2,7 @@
 ghost use Rattle.std.specs.Prelude.{◌≡◌, IfSome, true};
 ghost use Rattle.csv.specs.Records.{fields_of};
 ghost use Rattle.nms_lines.specs.Layout.{is_count, kind_named};
-ghost use Rattle.nms_lines.specs.Sources.{brings, is_change_kind, is_served, kind_in};
+ghost use Rattle.nms_lines.specs.Sources.{brings, is_change_kind, kind_in};
 
 use crate::field::field;
 use crate::line::{Kind, Reading};
@@ -42,17 +42,10 @@ fn brings(from: Reading, kind: Kind) -> bool
     ensures { result ≡ brings from kind }
 {
     match from {
-        Reading::Script { .. } => is_served(kind),
+        Reading::Script { .. } => true,
         Reading::FromFeed(_) | Reading::Changes => is_change_kind(kind),
         Reading::Orders { .. } => kind == Kind::Sweep,
     }
-}
-
-/// Whether scripts serve the kind.
-fn is_served(kind: Kind) -> bool
-    ensures { result ≡ is_served kind }
-{
-    kind != Kind::Sweep
 }
 
 fn is_change_kind(kind: Kind) -> bool

@@ -6,7 +6,7 @@ use nms_units::Price;
 /// Where a record comes from, which decides the kinds that it may have. This product's own rule.
 #[derive(Clone, Copy, Debug, PartialEq, Eq)]
 pub enum Reading {
-    /// A script: every kind that scripts serve, which is all but `O`.
+    /// A script: every kind.
     Script {
         /// The setup's number of desks, 1 to 16.
         desks: u8,

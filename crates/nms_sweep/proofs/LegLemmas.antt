@@ -1,6 +1,6 @@
 -- The legs at a cutoff and a marginal: what they give each row, how many shares they are, and what they cost.
-use Rattle.std.proofs.Common.{ℕ, suc, ◌≡◌, ◌<◌, ◌≤◌, ◌+◌, ◌-◌, ◌==◌, true, false, List, [], ◌∷◌, ◌⊎◌, inl, inr, refl, ap, sym, ◌∙◌, subst, arith, min}
-use Rattle.std.specs.Prelude.{ℤ, pos, ◌+ℤ◌, ◌-ℤ◌, ◌*ℤ◌, ◌≤ℤ◌}
+use Rattle.std.proofs.Common.{ℕ, ◌≡◌, ◌<◌, ◌≤◌, ◌+◌, ◌==◌, true, false, List, [], ◌∷◌, ◌⊎◌, inl, inr, refl, ap, sym, ◌∙◌, subst, arith, min}
+use Rattle.std.specs.Prelude.{ℤ, pos, ◌+ℤ◌, ◌*ℤ◌}
 use Rattle.std.proofs.lemmas.Bool.{cases_Bool, cases_lt, eqb-false, eqb-true, lt-ltb, le-ltb}
 use Rattle.std.proofs.lemmas.Int.{ints}
 use Rattle.std.proofs.lemmas.List.Sums.{sum_by-cons}
@@ -10,14 +10,14 @@ use Rattle.nms_quote.specs.declared.plan.Leg.{Leg}
 use Rattle.nms_fees.specs.Fees.{unit_cost_of}
 use Rattle.nms_fees.specs.declared.fee_schedule.FeeSchedule.{FeeSchedule}
 use Rattle.nms_rules.specs.Assignment.{amount, total}
-use Rattle.nms_rules.specs.Cutoff.{savings, savings_part, swept, swept_cost, swept_cost_part, swept_part}
-use Rattle.nms_rules.specs.Faultless.{cost_of, given_by, leg_cost, sum_of}
+use Rattle.nms_rules.specs.Cutoff.{savings, swept, swept_cost, swept_part}
+use Rattle.nms_rules.specs.Faultless.{cost_of, given_by, sum_of}
 use Rattle.nms_rules.specs.Usable.{Usable}
 use Rattle.nms_rules.proofs.ApartLemmas.{Apart}
 use Rattle.nms_rules.proofs.GivenLemmas.{given-cons, given-none, gives, gives-other, gives-own, leg_part, row_part}
 use Rattle.nms_rules.proofs.MemberLemmas.{In}
 use Rattle.nms_rules.proofs.SignedLemmas.{times-plus}
-use Rattle.nms_sweep.specs.Choice.{below, below_part, left_after, legs_of, share_of, with_leg}
+use Rattle.nms_sweep.specs.Choice.{below, left_after, legs_of, share_of, with_leg}
 use Rattle.nms_sweep.proofs.TierLemmas.{Gets, gets, level_part, share_costs, share_counts, tier}
 
 abbrev pub level : ℤ → ℤ → List Usable → ℕ

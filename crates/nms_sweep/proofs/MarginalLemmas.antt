@@ -1,7 +1,7 @@
 -- What share number so and so of the pool costs: the shares that cost less are no more, and with those that cost as
 -- much there are enough.
-use Rattle.std.proofs.Common.{ℕ, ◌≡◌, ◌<◌, ◌≤◌, ◌+◌, ◌-◌, Bool, true, false, ◌&&◌, List, [], ◌∷◌, ◌⊎◌, inl, inr, refl, ap, sym, ◌∙◌, subst, arith, nat_le}
-use Rattle.std.specs.Prelude.{ℤ, pos, ◌≤ℤ◌}
+use Rattle.std.proofs.Common.{ℕ, ◌≡◌, ◌≤◌, ◌+◌, ◌-◌, true, false, ◌&&◌, List, [], ◌∷◌, ◌⊎◌, inl, inr, refl, ap, sym, ◌∙◌, subst, arith, nat_le}
+use Rattle.std.specs.Prelude.{ℤ, ◌≤ℤ◌}
 use Rattle.std.specs.List.{AllByRecursion}
 use Rattle.std.proofs.lemmas.Bool.{and_parts, cases_Bool, cond-true, cond-false, leb-false, leb-true}
 use Rattle.std.proofs.lemmas.Int.{ints}
@@ -13,7 +13,7 @@ use Rattle.nms_sweep.specs.Choice.{below, share_cost}
 use Rattle.nms_sweep.specs.declared.row_order.Key.TheVariants.{Cost}
 use Rattle.nms_sweep.proofs.LegLemmas.{level}
 use Rattle.nms_sweep.proofs.OrderLemmas.{NoLess, Ordered}
-use Rattle.nms_sweep.proofs.TierLemmas.{below_dear, level_own, level_part, pool_tiers, tier}
+use Rattle.nms_sweep.proofs.TierLemmas.{below_dear, level_own, pool_tiers, tier}
 
 pub record IsMarginal (cutoff : ℤ) (rows : List Usable) (number : ℕ) (marginal : ℤ) : Type 0 where
   pub covers : below cutoff marginal rows ≤ number

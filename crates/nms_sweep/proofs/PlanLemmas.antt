@@ -1,13 +1,13 @@
 -- The plan is lawful, fills all that can be filled, and is accepted with its certificate.
-use Rattle.std.proofs.Common.{ℕ, ◌≡◌, ◌<◌, ◌≤◌, ◌+◌, ◌-◌, ◌==◌, Bool, true, false, List, [], ◌∷◌, length, map, min, All, Any, Option, Some, None, nat_eq, nat_lt, ◌⊎◌, inl, inr, refl, ap, sym, ◌∙◌, subst, arith}
-use Rattle.std.specs.Prelude.{ℤ, pos, ◌+ℤ◌, ◌-ℤ◌, ◌*ℤ◌, ◌<ℤ◌, ◌≤ℤ◌, AllPairs}
+use Rattle.std.proofs.Common.{ℕ, ◌≡◌, ◌<◌, ◌≤◌, ◌+◌, ◌-◌, true, List, [], ◌∷◌, map, All, Any, Option, Some, None, nat_eq, ◌⊎◌, inl, inr, refl, ap, sym, ◌∙◌, subst, arith}
+use Rattle.std.specs.Prelude.{ℤ, pos, ◌*ℤ◌, ◌<ℤ◌, ◌≤ℤ◌, AllPairs}
 use Rattle.std.specs.Int.RustNames.{int_lt}
 use Rattle.std.specs.List.{filter}
 use Rattle.std.specs.List.Sorted.{IsPermutation, IsStrictlyIncreasing}
 use Rattle.std.specs.Option.{is_some, unwrap_or}
 use Rattle.std.proofs.lemmas.Bool.{cases_lt, and_from, false≢true, le-ltb, lt-ltb}
 use Rattle.std.proofs.lemmas.Int.{ints}
-use Rattle.std.proofs.lemmas.List.Sorted.{All-permutation, IsPermutation-map, IsPermutation-sym, IsPermutation-trans, length_permutation}
+use Rattle.std.proofs.lemmas.List.Sorted.{All-permutation, IsPermutation-map, IsPermutation-sym, IsPermutation-trans}
 use Rattle.std.proofs.lemmas.Map.Keys.{IsDistinct-IsPermutation}
 use Rattle.nms_quote.specs.Terms.{Terms}
 use Rattle.nms_quote.specs.declared.certificate.Cut.{Cut}
@@ -21,8 +21,8 @@ use Rattle.nms_board.specs.declared.row.Row.{Row}
 use Rattle.nms_fees.specs.Fees.{unit_cost_of}
 use Rattle.nms_fees.specs.declared.fee_schedule.FeeSchedule.{FeeSchedule}
 use Rattle.nms_rules.specs.Accepted.{IsAccepted}
-use Rattle.nms_rules.specs.Assignment.{IsLawful, IsOnUsable, SweepsBetter, fillable, filled, total}
-use Rattle.nms_rules.specs.Cutoff.{IsBounded, KindHolds, is_swept, least_cost, pool, pool_part, savings, savings_part, swept, swept_cost, swept_cost_part, swept_part}
+use Rattle.nms_rules.specs.Assignment.{IsLawful, SweepsBetter, fillable, total}
+use Rattle.nms_rules.specs.Cutoff.{IsBounded, KindHolds, least_cost, pool, pool_part, savings_part, swept, swept_cost_part, swept_part}
 use Rattle.nms_rules.specs.Faultless.{IsFaultless, cost_of, given_by, sum_of}
 use Rattle.nms_rules.specs.Usable.{Usable, contra_rows, is_better, is_usable, rank_of, usable, usable_row}
 use Rattle.nms_rules.proofs.ApartLemmas.{Apart, Apart-IsDistinct, Apart-filter, Apart-map, Apart-rising, IsDistinct-Apart}
@@ -34,10 +34,10 @@ use Rattle.nms_sweep.specs.Order.{IsOrdered}
 use Rattle.nms_sweep.specs.declared.choice.Choice.{Choice}
 use Rattle.nms_sweep.specs.declared.row_order.Key.TheVariants.{Price, Cost}
 use Rattle.nms_sweep.proofs.ChoiceLemmas.{IsNoDearer, Offered, chosen_least, chosen_offered, offer}
-use Rattle.nms_sweep.proofs.CutLemmas.{IsCutOf, best_first, cut_of_row, row_of_cut}
-use Rattle.nms_sweep.proofs.FitLemmas.{Fits, fits, shown}
+use Rattle.nms_sweep.proofs.CutLemmas.{best_first, cut_of_row, row_of_cut}
+use Rattle.nms_sweep.proofs.FitLemmas.{Fits, fits}
 use Rattle.nms_sweep.proofs.LegLemmas.{GoesTo, cost_legs, given_gets, goes_to_row, legs_apart, level, sum_legs}
-use Rattle.nms_sweep.proofs.MarginalLemmas.{IsMarginal, marginal_is}
+use Rattle.nms_sweep.proofs.MarginalLemmas.{marginal_is}
 use Rattle.nms_sweep.proofs.OrderLemmas.{Ordered, ordered_from}
 use Rattle.nms_sweep.proofs.TierLemmas.{Gets, level_part}
 use Rattle.nms_sweep.proofs.TotalLemmas.{amount_same, total_same}
@@ -282,6 +282,9 @@ cost-nothing : (fees : List FeeSchedule) (side : OrderSide) → cost_of fees sid
 unfolding cost_of
 cost-nothing fees side = refl
 
+none-some : (found : Option Choice) (choice : Choice) → found ≡ None → found ≡ Some choice → {X : Type 0} → X
+none-some found choice none some = absurd (false≢true (ap is_some (sym none ∙ some)))
+
 -- so the legs fill what can be filled
 fills-found : (side : OrderSide) (fees : List FeeSchedule) (rows by_price by_cost : List Usable) → Table side fees rows by_price by_cost → (asked : ℕ) (found : Option Choice)
     → chosen side rows (fillable rows asked) None (cuts_of (kind_at rows by_cost (fillable rows asked)) by_price) ≡ found
@@ -299,7 +302,7 @@ fills-found side fees rows (row ∷ by_price) by_cost table' asked None e =
     let one = fits row by_price most table'.ordered_price (omega (arith, all)) in
     let some = some-offer side fees rows (row ∷ by_price) by_cost table' most one.0 one.1 one.2 in
     let found = chosen_least side rows most None (cuts_of (kind_at rows by_cost most) (row ∷ by_price)) some.0 some.1 in
-    absurd (false≢true (ap is_some (sym e ∙ found.is)))
+    none-some (chosen side rows most None (cuts_of (kind_at rows by_cost most) (row ∷ by_price))) found.choice e found.is
 
 pub fills : (side : OrderSide) (fees : List FeeSchedule) (rows by_price by_cost : List Usable) → Table side fees rows by_price by_cost → (asked : ℕ)
     → Fills side fees by_price (fillable rows asked) (cost_chosen (chosen side rows (fillable rows asked) None (cuts_of (kind_at rows by_cost (fillable rows asked)) by_price)))

@@ -37,6 +37,7 @@ IsInRange TooMuch = Unit {0}
 IsInRange TooLittle = Unit {0}
 IsInRange (Marginal marginal) = (neg_ℤ (pos (10 ^ 18)) ≤ℤ marginal) × (marginal ≤ℤ pos (10 ^ 18))
 
+-- the first of the rows is at a price
 abbrev pub starts_at : ℕ → List Usable → Bool
 starts_at price [] = false
 starts_at price (row ∷ rows) = row.price == price
@@ -61,19 +62,22 @@ cheaper None other = other
 cheaper (Some one) None = Some one
 cheaper (Some one) (Some other) = if int_lt other.cost one.cost then Some other else Some one
 
+-- the best of those so far and of each cut in turn
 unfoldable pub chosen : OrderSide → List Usable → ℕ → Option Choice → List Cut → Option Choice
 chosen side rows most best [] = best
 chosen side rows most best (cut ∷ cuts) = chosen side rows most (cheaper best (candidate rows most (rank_of side cut.price) cut.kind)) cuts
 
 -- ---- the legs
 
--- a row of the pool that costs less than the marginal, or just as much
+-- a row of the pool that costs less than the marginal
 abbrev pub is_below : ℤ → ℤ → Usable → Bool
 is_below cutoff marginal row = is_pooled cutoff row && int_lt row.cost marginal
 
+-- a row of the pool that costs just the marginal
 abbrev pub is_level : ℤ → ℤ → Usable → Bool
 is_level cutoff marginal row = is_pooled cutoff row && not (int_lt row.cost marginal) && not (int_lt marginal row.cost)
 
+-- how many shares such rows have
 abbrev pub below_part : ℤ → ℤ → Usable → ℕ
 below_part cutoff marginal row = if is_below cutoff marginal row then row.size else 0
 
@@ -93,6 +97,8 @@ left_after cutoff marginal left row = if is_level cutoff marginal row then left 
 abbrev pub with_leg : Usable → ℕ → List Leg → List Leg
 with_leg row shares legs = if nat_lt 0 shares then record { part = row.part; price = row.price; shares = shares } ∷ legs else legs
 
+-- the legs, of rows in the order of their prices: so of those at the marginal the better price is first, then the
+-- lower place
 unfoldable pub legs_of : ℤ → ℤ → ℕ → List Usable → List Leg
 legs_of cutoff marginal left [] = []
 legs_of cutoff marginal left (row ∷ rows) = with_leg row (share_of cutoff marginal left row) (legs_of cutoff marginal (left_after cutoff marginal left row) rows)
@@ -103,6 +109,7 @@ legs_chosen rows most None by_price = []
 legs_chosen rows most (Some choice) by_price =
     legs_of choice.cutoff choice.marginal (most - swept choice.cutoff rows - below choice.cutoff choice.marginal rows) by_price
 
+-- what is paid there
 abbrev pub cost_chosen : Option Choice → ℤ
 cost_chosen None = pos 0
 cost_chosen (Some choice) = choice.cost

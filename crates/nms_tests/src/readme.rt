@@ -1,7 +1,4 @@
 //! The block of Rust in the README, letter for letter, and its test.
-use nms_engine::{SETUP_K, read_changes};
-use nms_fees::read_setup;
-use std::test::Fail;
 use nms_board::{BoardFault, Boards, Row};
 use nms_nbbo::{Market, best, market};
 use nms_quote::{Change, Roster, Side, Sym};
@@ -38,31 +35,40 @@ fn look(
     Ok((market(&view), bid, offer))
 }
 
-/// The market and the receipt of the best offer that this tells after those changes, or the place of the change
-/// that it refuses.
-fn told(alloc: Global, records: &str) -> Result<String, Fail> {
-    let setup = read_setup(alloc, SETUP_K)?;
-    let changes = read_changes(alloc, &setup, records.as_bytes())?;
-    let sym = Sym::new(0).ok_or("ABC")?;
-    match look(alloc, setup.roster(), changes.as_slice(), sym) {
-        Ok((market, bid, offer)) => {
-            let receipt = offer.map(|row| row.receipt);
-            Ok(format!(in alloc; "{market:?} {} {receipt:?}", bid.is_some())?)
-        }
-        Err(fault) => Ok(format!(in alloc; "{fault:?}")?),
-    }
-}
+mod shown {
+    use super::look;
+    use nms_engine::{SETUP_K, read_changes};
+    use nms_fees::read_setup;
+    use nms_quote::Sym;
+    use std::alloc::Global;
+    use std::test::Fail;
 
-#[test]
-fn the_block_answers(rt: HostRuntime) -> Result<(), Fail> {
-    for (records, text) in [
-        (
-            "Q,N,ABC,A,,,10,100\nQ,P,ABC,A,,,10,100\n",
-            "OneSided false Some(1)",
-        ),
-        ("", "Empty false None"),
-    ] {
-        assert_eq!(rt; told(rt.alloc(), records)?.as_str(), text, "{records}");
+    /// The market and the receipt of the best offer that the block tells after those changes, or the place of the
+    /// change that it refuses.
+    fn told(alloc: Global, records: &str) -> Result<String, Fail> {
+        let setup = read_setup(alloc, SETUP_K)?;
+        let changes = read_changes(alloc, &setup, records.as_bytes())?;
+        let sym = Sym::new(0).ok_or("ABC")?;
+        match look(alloc, setup.roster(), changes.as_slice(), sym) {
+            Ok((market, bid, offer)) => {
+                let receipt = offer.map(|row| row.receipt);
+                Ok(format!(in alloc; "{market:?} {} {receipt:?}", bid.is_some())?)
+            }
+            Err(fault) => Ok(format!(in alloc; "{fault:?}")?),
+        }
     }
-    Ok(())
+
+    #[test]
+    fn the_block_answers(rt: HostRuntime) -> Result<(), Fail> {
+        for (records, text) in [
+            (
+                "Q,N,ABC,A,,,10,100\nQ,P,ABC,A,,,10,100\n",
+                "OneSided false Some(1)",
+            ),
+            ("", "Empty false None"),
+        ] {
+            assert_eq!(rt; told(rt.alloc(), records)?.as_str(), text, "{records}");
+        }
+        Ok(())
+    }
 }

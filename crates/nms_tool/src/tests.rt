@@ -192,7 +192,11 @@ fn a_plan_is_confirmed_or_doubted(rt: HostRuntime) -> Result<(), Fail> {
     fs::write(&rt, "offers.changes", offers())?;
     for (cost, changes, ends) in [
         ("6001.700000000", "offers.changes", (0, "CONFIRMED\n", "")),
-        ("6001.700000001", "offers.changes", (4, "DOUBT,K1,P12\n", "")),
+        (
+            "6001.700000001",
+            "offers.changes",
+            (4, "DOUBT,K1,P12\n", ""),
+        ),
         ("6001.7", "offers.changes", (6, "", "nms_tool: L11\n")),
         ("6001.7", "no_such.changes", (1, "", "nms_tool: E1\n")),
     ] {

@@ -1,4 +1,4 @@
-use Rattle.std.proofs.Common.{◌≡◌, ◌≤◌, List, Option, None, refl, ap, sym, ◌∙◌, subst, arith}
+use Rattle.std.proofs.Common.{◌≡◌, ◌≤◌, List, Option, ap, sym, ◌∙◌, subst, arith}
 use Rattle.nms_quote.specs.Terms.{Terms}
 use Rattle.nms_quote.specs.contracts.order.Order.{the_view}
 use Rattle.nms_quote.specs.declared.certificate.Cut.{Cut}
