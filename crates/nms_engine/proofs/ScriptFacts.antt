@@ -7,6 +7,7 @@ use Rattle.nms_quote.specs.Roster.{Listing, feed_at}
 use Rattle.nms_quote.specs.Tape.{participant_of}
 use Rattle.nms_quote.specs.declared.change.Change.{Change}
 use Rattle.nms_quote.specs.declared.feed.Feed.{Feed}
+use Rattle.nms_quote.specs.declared.side_quote.Side.{Side}
 use Rattle.nms_quote.specs.declared.side_quote.Side.TheVariants.{Bid, Offer}
 use Rattle.nms_board.specs.View.{Seen, rows_on}
 use Rattle.nms_board.specs.declared.row.Row.{Row}
@@ -28,7 +29,7 @@ use Rattle.nms_flow.specs.declared.step_fault.StepFault.TheVariants as fault
 use Rattle.nms_flow.specs.declared.reply.Reply.{Reply}
 use Rattle.nms_flow.specs.declared.reply.Reply.TheVariants as reply
 use Rattle.nms_flow.proofs.RunLemmas.{goes_on}
-use Rattle.nms_engine.specs.Answers.{best_record, through_records, told_by}
+use Rattle.nms_engine.specs.Answers.{best_record, through_head, through_records, told_by}
 use Rattle.nms_engine.specs.Progress.{TakesSome, TakesUntil}
 use Rattle.nms_engine.specs.Script.{AsksAll, AsksOne, Sends, Serves, ShowsBest, ShowsPlan, ShowsThrough, is_refusal}
 use Rattle.nms_engine.proofs.PlanFacts.{plan_refuses_none}
@@ -84,6 +85,14 @@ pub shows_through : (roster : Listing) (old new : State) (desk sym price : ℕ) 
 shows_through roster old new desk sym price seen before after went text events h =
     let told = through_records roster desk seen price (traded_through_at seen price) in
     ((step.Look desk sym, Ok (reply.Seen seen)) ∷ [], told, (seen, refl, refl), goes_on old new events (step.Look desk sym, Ok (reply.Seen seen)) went h, text, through_refuses_none roster desk seen price (traded_through_at seen price))
+
+-- a look at a price that trades through nothing
+pub shows_nothing_through : (roster : Listing) (old new : State) (desk symbol price : ℕ) (seen : Seen) (before after : List ℕ)
+    → WentOn old new (step.Look desk symbol, Ok (reply.Seen seen)) → traded_through_at seen price ≡ [] → after ≡ before ++ text_of (through_head roster desk seen price 0 ∷ [])
+    → Serves (ShowsThrough roster desk symbol price) old new (Some before) (Some after) false
+shows_nothing_through roster old new desk symbol price seen before after went none text =
+    shows_through roster old new desk symbol price seen before after went
+    (subst (λ (quotations : List (Side × Row)). after ≡ before ++ text_of (through_records roster desk seen price quotations)) (sym none) text)
 
 -- a look, and a plan of what it showed
 pub shows_plan : (settings : Settings) (old new : State) (desk : ℕ) (order : Terms) (seen : Seen) (plan : Plan) (cuts : List Cut) (before after : List ℕ)

@@ -21,7 +21,6 @@ use Rattle.nms_lines.specs.declared.line.Line.{Line}
 use Rattle.nms_lines.specs.declared.line.Line.TheVariants as line
 use Rattle.nms_lines.specs.declared.line.Reading.TheVariants as source
 use Rattle.nms_lines.specs.declared.line_fault.LineFault.{LineFault}
-use Rattle.nms_lines.specs.declared.line_fault.LineFault.TheVariants as line_fault
 use Rattle.nms_quote.specs.Terms.{Terms}
 use Rattle.nms_quote.specs.declared.plan.Plan.{Plan}
 use Rattle.nms_quote.specs.declared.certificate.Cut.{Cut}

@@ -1,7 +1,9 @@
 //! What a script is told, as text (specs/Answers).
-ghost use Rattle.std.specs.Prelude.{◌≡◌, ◌<◌, ◌++◌, ◌∷◌, [], All, length, map, OnOk, IfSome, Ok, Err};
+ghost use Rattle.std.specs.Prelude.{◌≡◌, ◌<◌, ◌++◌, ◌∷◌, [], All, length, map, false, OnOk, IfSome, Ok, Err};
 ghost use Rattle.nms_lines.specs.Text.{text_of};
 ghost use Rattle.nms_quote.specs.declared.side_quote.Side.{Side};
+ghost use Rattle.nms_quote.specs.declared.side_quote.Side.TheVariants.{Bid, Offer};
+ghost use Rattle.nms_board.specs.Ranking.{better_price};
 ghost use Rattle.nms_board.specs.View.{Seen, rows_on};
 ghost use Rattle.nms_rules.specs.Through.{traded_through_at};
 ghost use Rattle.nms_flow.specs.declared.reply.Reply.TheVariants as reply;
@@ -152,6 +154,22 @@ fn tell_row(out: &mut Vec<u8>, roster: &Roster, row: &Option<Row>) -> Result<(),
     }
 }
 
+/// Whether a price is worse than a best bid or a best offer: a lower or a higher one.
+pub(crate) fn is_beyond(best: &BestRows, price: Price) -> bool
+    ensures bid { result ≡ false → IfSome best.now.bid (λ row. better_price Bid row.price price ≡ false) }
+    ensures offer { result ≡ false → IfSome best.now.offer (λ row. better_price Offer row.price price ≡ false) }
+{
+    let bid = match &best.bid {
+        Some(row) => row.price > price,
+        None => false,
+    };
+    let offer = match &best.offer {
+        Some(row) => row.price < price,
+        None => false,
+    };
+    bid || offer
+}
+
 /// Appends the protected quotations that a trade at a price trades through, of what a desk saw.
 pub(crate) fn tell_through(
     out: &mut Vec<u8>,
@@ -166,26 +184,29 @@ pub(crate) fn tell_through(
         ++ text_of (through_records roster.now desk view.now price (traded_through_at view.now price))) }
 {
     let quotations = traded_through(view, price);
-    tell_through_head(out, roster, desk, view, price, quotations.len())?;
+    let count = quotations.len();
+    tell_through_head(out, roster, desk, view.sym(), view.version(), price, count)?;
     tell_through_rows(out, roster, quotations.as_slice())
 }
 
-/// Appends how many quotations a trade at a price trades through.
-fn tell_through_head(
+/// Appends how many quotations a trade at a price trades through, at that version.
+pub(crate) fn tell_through_head(
     out: &mut Vec<u8>,
     roster: &Roster,
     desk: u8,
-    view: &View,
+    sym: Sym,
+    version: u64,
     price: Price,
     count: usize,
 ) -> Result<(), AllocError>
-    requires { view.now.sym < length roster.now.syms }
-    ensures { OnOk result (out.new.items ≡ out.old.items ++ text_of (through_head roster.now desk view.now price count ∷ [])) }
+    requires { sym < length roster.now.syms }
+    ensures { (seen : Seen) → seen.sym ≡ sym → seen.version ≡ version
+        → OnOk result (out.new.items ≡ out.old.items ++ text_of (through_head roster.now desk seen price count ∷ [])) }
 {
     out.extend_from_slice(b"THRU")?;
     push_number(out, u64::from(desk))?;
-    push_text(out, roster.sym_name(view.sym()))?;
-    push_number(out, view.version())?;
+    push_text(out, roster.sym_name(sym))?;
+    push_number(out, version)?;
     push_price(out, price)?;
     push_number(out, count as u64)?;
     end(out)

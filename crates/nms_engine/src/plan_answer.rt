@@ -8,11 +8,10 @@ ghost use Rattle.nms_lines.specs.Text.{text_of};
 ghost use Rattle.nms_engine.specs.Answers.{later_fields, order_fields};
 
 use crate::answer::end;
-use crate::fields::{push_number, push_price, push_text};
+use crate::fields::{push_money, push_number, push_price, push_text};
 use nms_quote::{Certificate, Cut, CutKind, Leg, Order, OrderSide, Plan, Roster};
 use nms_units::Money;
 use std::alloc::AllocError;
-use std::io::Write;
 
 /// Appends a plan and its certificate.
 pub(crate) fn tell_plan(
@@ -133,14 +132,6 @@ fn tell_end(out: &mut Vec<u8>) -> Result<(), AllocError>
 {
     out.extend_from_slice(b"END")?;
     end(out)
-}
-
-/// Appends a comma and an amount of money.
-fn push_money(out: &mut Vec<u8>, money: Money) -> Result<(), AllocError>
-    ensures { OnOk result (out.new.items ≡ out.old.items ++ 44 ∷ money_text money) }
-{
-    out.push(b',')?;
-    write!(out, "{money}").map_err(|_| AllocError)
 }
 
 /// The letter of an order's side.

@@ -11,7 +11,10 @@ ghost use Rattle.nms_flow.specs.declared.step.Step.TheVariants as step;
 ghost use Rattle.nms_engine.specs.Progress.{TakesUntil};
 ghost use Rattle.nms_engine.specs.Script.{AnswersLine, AnswersRecord, AsksAll, AsksOne, IsRefused, Sends, Serves, ShowsBest, ShowsPlan, ShowsThrough};
 
-use crate::answer::{tell_best, tell_published, tell_refusal, tell_taken, tell_through, tell_told};
+use crate::answer::{
+    is_beyond, tell_best, tell_published, tell_refusal, tell_taken, tell_through,
+    tell_through_head, tell_told,
+};
 use crate::plan_answer::tell_plan;
 use nms_fees::Setup;
 use nms_flow::{Flow, StepFault};
@@ -188,11 +191,34 @@ fn serve_best(
     Ok(false)
 }
 
-/// Lets a desk look, and appends the protected quotations that a trade at the price trades through.
+/// Lets a desk look, and appends the protected quotations that a trade at the price trades through. Between the best
+/// bid and the best offer there are none, and no view is made.
+fn serve_through(
+    flow: &mut Flow,
+    roster: &Roster,
+    desk: u8,
+    sym: Sym,
+    price: Price,
+    out: &mut Vec<u8>,
+) -> Result<bool, AllocError>
+    requires room { flow.old.board.sizes ≡ sizes_of roster.now }
+    requires sym { sym < length roster.now.syms }
+    ensures served { IfOk result (Serves (ShowsThrough roster.now desk sym price) flow.old flow.new (Some out.old.items) (Some out.new.items)) }
+    ensures room { room_of flow.new ≡ room_of flow.old }
+{
+    let rows = flow.best(sym);
+    if is_beyond(&rows, price) {
+        return list_through(flow, roster, desk, sym, price, out);
+    }
+    tell_through_head(out, roster, desk, sym, flow.published(), price, 0)?;
+    Ok(false)
+}
+
+/// Appends the protected quotations that a trade at the price trades through, of what a desk sees.
 ///
 /// Not inlined: a view is large, and the other records are to pay nothing for one.
 #[inline(never)]
-fn serve_through(
+fn list_through(
     flow: &Flow,
     roster: &Roster,
     desk: u8,

@@ -1,4 +1,4 @@
-use Rattle.std.proofs.Common.{ℕ, List, Some, subst, sym}
+use Rattle.std.proofs.Common.{Some, subst, sym}
 use Rattle.std.specs.Prelude.{IfOk}
 use Rattle.nms_lines.specs.declared.line.Line.{Line}
 use Rattle.nms_engine.specs.Script.{AnswersLine, Serves}

@@ -1,4 +1,4 @@
-use Rattle.std.proofs.Common.{rules, ℕ, ◌≡◌, ◌<◌, ◌++◌, List, Ok, length, subst, sym}
+use Rattle.std.proofs.Common.{rules, ◌≡◌, ◌<◌, ◌++◌, List, Ok, length, subst}
 use Rattle.nms_quote.specs.Terms.{Terms}
 use Rattle.nms_flow.specs.Flow.{WentOn}
 use Rattle.nms_flow.specs.declared.reply.Reply.TheVariants as reply
