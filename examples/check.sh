@@ -38,6 +38,7 @@ example 0 $at/first.out $at/first.script script --setup $at/builtin.toml
 example 0 $at/first.report /dev/null report $at/first.changes ABC
 example 0 $at/pairs.report /dev/null report $at/pairs.changes ABC
 example 0 $at/sweep.out $at/sweep.script
+example 0 $at/sweep.planned /dev/null plan $at/sweep.changes B ABC 600 10.01
 example 0 $at/sweep.check /dev/null check $at/sweep.changes $at/sweep.plan
 example 4 $at/dearer.check /dev/null check $at/sweep.changes $at/dearer.plan
 example 4 $at/through.check /dev/null check $at/sweep.changes $at/through.plan

@@ -7,6 +7,8 @@ use Rattle.nms_engine.specs.declared.changes_fault.ChangesFault.{ChangesFault}
 use Rattle.nms_engine.specs.declared.changes_fault.ChangesFault.TheVariants as changes_fault
 use Rattle.nms_engine.specs.declared.changes_fault.ReportFault.{ReportFault}
 use Rattle.nms_engine.specs.declared.changes_fault.ReportFault.TheVariants as report_fault
+use Rattle.nms_engine.specs.declared.plan_fault.PlanFault.{PlanFault}
+use Rattle.nms_engine.specs.declared.plan_fault.PlanFault.TheVariants as plan_fault
 use Rattle.nms_engine.specs.declared.script_fault.ScriptFault.{ScriptFault}
 use Rattle.nms_engine.specs.declared.script_fault.ScriptFault.TheVariants as script_fault
 
@@ -27,6 +29,12 @@ code_of_report (report_fault.Changes fault) = code_of_changes fault
 code_of_report (report_fault.Board fault) = codes "B1"
 code_of_report report_fault.WriteFault = codes "E2"
 code_of_report report_fault.NoMemory = codes "E4"
+
+abbrev pub code_of_plan : PlanFault → List ℕ
+code_of_plan (plan_fault.Changes fault) = code_of_changes fault
+code_of_plan (plan_fault.Board fault) = codes "B1"
+code_of_plan plan_fault.NoMemory = codes "L12"
+code_of_plan plan_fault.WriteFault = codes "L13"
 
 abbrev pub code_of_audit : AuditFault → List ℕ
 code_of_audit audit_fault.VersionBeyondTape = codes "A1"

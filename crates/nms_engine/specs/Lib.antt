@@ -8,6 +8,7 @@ pub use Rattle.nms_flow.specs.Run as Run
 pub use Rattle.nms_cert.specs.Doubts as Doubts
 pub mod Answers
 pub mod Audit
+pub mod PlanFile
 pub mod Progress
 pub mod Report
 pub mod Script

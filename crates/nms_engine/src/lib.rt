@@ -1,5 +1,5 @@
 //! Scripts over the quote board: records in, answers out; files of changes; the report that a reviewer reads;
-//! and the audit of a plan.
+//! the plan of an order on such a file, and the audit of a plan.
 #![tactic(auto)]
 
 mod answer;
@@ -10,6 +10,8 @@ mod changes_fault;
 mod counts;
 mod fields;
 mod plan_answer;
+mod plan_fault;
+mod plan_file;
 mod report_text;
 mod script;
 mod script_fault;
@@ -24,6 +26,8 @@ pub use auditing::audit;
 pub use change_file::{read_changes, report_changes};
 pub use changes_fault::{ChangesFault, ReportFault};
 pub use counts::Counts;
+pub use plan_fault::PlanFault;
+pub use plan_file::plan_changes;
 pub use report_text::report;
 pub use script::run_script;
 pub use script_fault::ScriptFault;

@@ -2,6 +2,7 @@
 
 use crate::Failed;
 use crate::breaches::give_breach;
+use crate::commands::{give_command, give_words};
 use crate::escapes::bytes_of;
 use crate::faults::tell_faults;
 use crate::numbers::give_numbers;
@@ -16,14 +17,19 @@ use std::io::Write;
 /// What an example gives, which is as its title's first word says; then the code of what ended it early, if
 /// anything did.
 pub(crate) fn give(
-    alloc: Global,
+    rt: &HostRuntime,
     setup: &Setup,
     title: &str,
     body: &str,
 ) -> Result<Vec<u8>, Failed> {
-    let input = bytes_of(alloc, body)?;
+    let alloc = rt.alloc();
     let mut given = Vec::new(alloc);
     let (kind, rest) = title.split_once(' ').ok_or(Failed)?;
+    if kind == "command" {
+        give_command(rt, body, &mut given)?;
+        return Ok(given);
+    }
+    let input = bytes_of(alloc, body)?;
     match kind {
         "script" => give_script(alloc, setup, &input, &mut given)?,
         "report" => give_report(alloc, setup, &input, rest, &mut given)?,
@@ -34,6 +40,7 @@ pub(crate) fn give(
         "lines" => give_lines(alloc, setup, &input, rest, &mut given)?,
         "settings" => give_settings(alloc, &input, &mut given)?,
         "numbers" => give_numbers(&input, &mut given)?,
+        "words" => give_words(alloc, &input, &mut given)?,
         _ => give_text(rest, &mut given)?,
     }
     Ok(given)

@@ -2,6 +2,7 @@
 
 use crate::Failed;
 use nms_board::BoardFault;
+use nms_command::WordsFault;
 use nms_engine::{AuditFault, ChangesFault, ReportFault, ScriptFault};
 use nms_fees::SetupFault;
 use nms_flow::{FlowFault, StepFault};
@@ -17,7 +18,8 @@ pub(crate) fn tell_faults(given: &mut Vec<u8>) -> Result<(), Failed> {
     tell_record_faults(given)?;
     tell_setup_faults(given)?;
     tell_machine_faults(given)?;
-    tell_engine_faults(given)
+    tell_engine_faults(given)?;
+    tell(given, WordsFault::NoMemory)
 }
 
 /// Adds a fault's text.

@@ -4,6 +4,7 @@
 #![tactic(auto)]
 
 mod breaches;
+mod commands;
 mod escapes;
 mod example;
 mod faults;
@@ -15,7 +16,6 @@ mod settings;
 use example::give;
 use nms_engine::SETUP_K;
 use nms_fees::{Setup, read_setup};
-use std::alloc::Global;
 use std::io::{Read, Write};
 use std::process::ExitCode;
 use std::{io, str};
@@ -41,13 +41,13 @@ fn show_all(rt: &HostRuntime) -> Result<(), Failed> {
     let text = str::from_utf8(&input).map_err(|_| Failed)?;
     let answers = &mut io::writer(rt);
     for part in text.split("== setup").skip(1) {
-        show_part(rt.alloc(), part, answers)?;
+        show_part(rt, part, answers)?;
     }
     Ok(())
 }
 
 /// Shows the examples that stand behind a setup. An empty one is the built-in setup.
-fn show_part<W: Write>(alloc: Global, part: &str, answers: &mut W) -> Result<(), Failed> {
+fn show_part<W: Write>(rt: &HostRuntime, part: &str, answers: &mut W) -> Result<(), Failed> {
     let (head, examples) = part.split_once("== ").ok_or(Failed)?;
     let (_, document) = head.split_once('\n').ok_or(Failed)?;
     let document = if document.is_empty() {
@@ -55,7 +55,7 @@ fn show_part<W: Write>(alloc: Global, part: &str, answers: &mut W) -> Result<(),
     } else {
         document
     };
-    let Ok(setup) = read_setup(alloc, document) else {
+    let Ok(setup) = read_setup(rt.alloc(), document) else {
         return Err(Failed);
     };
     for example in examples.split("== ") {
@@ -63,24 +63,24 @@ fn show_part<W: Write>(alloc: Global, part: &str, answers: &mut W) -> Result<(),
         for piece in [b"== ".as_slice(), title.as_bytes(), b"\n"] {
             answers.write_all(piece).map_err(|_| Failed)?;
         }
-        show(alloc, &setup, title, body, answers)?;
+        show(rt, &setup, title, body, answers)?;
     }
     Ok(())
 }
 
 /// Writes what an example gives; or, of one that says what it must give, whether it does.
 fn show<W: Write>(
-    alloc: Global,
+    rt: &HostRuntime,
     setup: &Setup,
     title: &str,
     body: &str,
     answers: &mut W,
 ) -> Result<(), Failed> {
     let Some((input, wanted)) = body.split_once(GIVES) else {
-        let given = give(alloc, setup, title, body)?;
+        let given = give(rt, setup, title, body)?;
         return answers.write_all(&given).map_err(|_| Failed);
     };
-    let given = give(alloc, setup, title, input)?;
+    let given = give(rt, setup, title, input)?;
     if given.as_slice() == wanted.as_bytes() {
         return answers.write_all(b"as it must\n").map_err(|_| Failed);
     }

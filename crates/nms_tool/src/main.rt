@@ -1,26 +1,10 @@
-//! The program: the quote board's command line.
+//! The program: the quote board's command line on the process's own words, files and streams.
 #![tactic(auto)]
 
-mod check;
-mod command_line;
-mod command_words;
-mod ending;
-mod files;
-mod help_text;
-mod program;
-mod request;
-mod subcommand;
-#[cfg(test)]
-mod tests;
-mod tool_fault;
-mod words_fault;
-
-use program::{run_tool, tell_fault};
+use nms_command::{ToolFault, WordsFault, run_tool, tell_fault};
 use std::io::ErrorKind;
 use std::process::ExitCode;
 use std::{env, io};
-use tool_fault::ToolFault;
-use words_fault::WordsFault;
 
 fn main(rt: HostRuntime) -> ExitCode {
     let status = match answer_words(&rt) {
@@ -30,7 +14,7 @@ fn main(rt: HostRuntime) -> ExitCode {
     ExitCode::from(status)
 }
 
-/// Runs the program on the process's own words and streams.
+/// Runs the command line on the process's own words and streams.
 fn answer_words(rt: &HostRuntime) -> Result<u8, ToolFault> {
     let own = own_words(rt)?;
     let mut words = Vec::new(rt.alloc());

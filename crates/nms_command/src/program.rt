@@ -1,0 +1,117 @@
+//! What the program does with its words, its streams and its files.
+
+use crate::check::serve_check;
+use crate::command_words::read_words;
+use crate::ending::Ending;
+use crate::files::{read_file, unread};
+use crate::planning::serve_plan;
+use crate::request::Request;
+use crate::subcommand::Sub;
+use crate::tool_fault::ToolFault;
+use crate::words_fault::WordsFault;
+use nms_engine::{SETUP_K, ScriptFault, report_changes, run_script};
+use nms_fees::{Setup, SetupFault, read_setup};
+use std::io::{Read, Write};
+use std::rt::Files;
+use std::{fs, io, str};
+
+/// Does what the words ask for, with the script on `input`, and gives the exit status.
+///
+/// Answers and help go to `answers`; the text of a parser's fault, or one line `nms_tool: CODE`, to
+/// `errors`.
+pub fn run_tool<T: Files + AllocGlobal, R: Read + Drop, W: Write, E: Write>(
+    rt: &T,
+    words: &[&str],
+    input: R,
+    answers: &mut W,
+    errors: &mut E,
+) -> u8 {
+    match serve_words(rt, words, input, answers) {
+        Ok(ending) => ending.status(),
+        Err(fault) => tell_fault(&fault, errors),
+    }
+}
+
+/// Tells a fault, and gives its exit status. What standard error does not take changes no status.
+pub fn tell_fault<E: Write>(fault: &ToolFault, errors: &mut E) -> u8 {
+    let _ = match fault {
+        ToolFault::Words(WordsFault::Parser { text, .. }) => tell(errors, text.as_str()),
+        _ => tell_code(errors, fault.code()),
+    };
+    fault.status()
+}
+
+fn tell<W: Write>(writer: &mut W, text: &str) -> io::Result<()> {
+    writer.write_all(text.as_bytes())?;
+    writer.flush()
+}
+
+fn tell_code<E: Write>(errors: &mut E, code: &str) -> io::Result<()> {
+    writeln!(errors, "nms_tool: {code}")?;
+    errors.flush()
+}
+
+fn serve_words<T: Files + AllocGlobal, R: Read + Drop, W: Write>(
+    rt: &T,
+    words: &[&str],
+    input: R,
+    answers: &mut W,
+) -> Result<Ending, ToolFault> {
+    let request = match read_words(rt.alloc(), words) {
+        Ok(request) => request,
+        Err(WordsFault::Parser { text, help: true }) => return tell_help(answers, text.as_str()),
+        Err(fault) => return Err(ToolFault::Words(fault)),
+    };
+    let setup = setup_of(rt, &request)?;
+    match request.command {
+        Sub::Script => serve_script(rt, &setup, input, answers),
+        Sub::Report => serve_report(rt, &setup, &request.words, answers),
+        Sub::Plan => serve_plan(rt, &setup, &request, answers),
+        Sub::Check => serve_check(rt, &setup, &request.words, answers),
+    }
+}
+
+fn tell_help<W: Write>(answers: &mut W, help: &str) -> Result<Ending, ToolFault> {
+    tell(answers, help).map_err(|_| ToolFault::Script(ScriptFault::WriteFault))?;
+    Ok(Ending::Done)
+}
+
+/// The setup of the file that the request names, or the built-in one.
+fn setup_of<T: Files + AllocGlobal>(rt: &T, request: &Request) -> Result<Setup, ToolFault> {
+    let Some(file) = &request.setup else {
+        return read_setup(rt.alloc(), SETUP_K).map_err(ToolFault::Setup);
+    };
+    let bytes = read_file(rt, file.as_str())?;
+    let Ok(text) = str::from_utf8(&bytes) else {
+        return Err(ToolFault::Setup(SetupFault::NotToml));
+    };
+    read_setup(rt.alloc(), text).map_err(ToolFault::Setup)
+}
+
+fn serve_script<T: AllocGlobal, R: Read + Drop, W: Write>(
+    rt: &T,
+    setup: &Setup,
+    input: R,
+    answers: &mut W,
+) -> Result<Ending, ToolFault> {
+    run_script(rt.alloc(), setup, input, answers).map_err(ToolFault::Script)?;
+    Ok(Ending::Done)
+}
+
+/// Reports the symbol after all the changes of a file.
+fn serve_report<T: Files + AllocGlobal, W: Write>(
+    rt: &T,
+    setup: &Setup,
+    words: &[String],
+    answers: &mut W,
+) -> Result<Ending, ToolFault> {
+    let [changes, symbol] = words else {
+        return Err(ToolFault::Usage);
+    };
+    let Some(sym) = setup.roster().find_sym(symbol.as_bytes()) else {
+        return Err(ToolFault::Usage);
+    };
+    let file = fs::open(rt, changes.as_str()).map_err(|error| unread(&error))?;
+    report_changes(rt.alloc(), setup, file, sym, answers).map_err(ToolFault::Report)?;
+    Ok(Ending::Done)
+}

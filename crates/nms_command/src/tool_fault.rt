@@ -1,0 +1,107 @@
+//! Why the program ends with another status than 0: the code that it tells, and the status.
+use crate::words_fault::WordsFault;
+use nms_board::BoardFault;
+use nms_engine::{AuditFault, ChangesFault, PlanFault, ReportFault, ScriptFault};
+use nms_fees::SetupFault;
+use nms_lines::PlanTextFault;
+
+/// Why the program ends with another status than 0.
+#[derive(Debug, Drop)]
+pub enum ToolFault {
+    /// The parser refused the words.
+    Words(WordsFault),
+    /// A word is no UTF-8, or names nothing, or is no field of an order.
+    Usage,
+    /// A file could not be read.
+    Unreadable,
+    /// A setup is not UTF-8, or was refused.
+    Setup(SetupFault),
+    /// A script ended early.
+    Script(ScriptFault),
+    /// A report was not written.
+    Report(ReportFault),
+    /// A file of changes is no tape.
+    Changes(ChangesFault),
+    /// An order's plan was not written.
+    Plan(PlanFault),
+    /// A file of a plan could not be read as one.
+    PlanText(PlanTextFault),
+    /// There was no memory for an audit.
+    NoAudit,
+}
+
+impl ToolFault {
+    /// The exit status: 1 for streams and files, 2 for words, 3 for the setup, 5 for memory, 6 for lines,
+    /// plans and lengths.
+    pub fn status(&self) -> u8 {
+        match self {
+            ToolFault::Words(WordsFault::NoMemory) => 5,
+            ToolFault::Words(WordsFault::Parser { .. }) | ToolFault::Usage => 2,
+            ToolFault::Unreadable => 1,
+            ToolFault::Setup(SetupFault::NoMemory) => 5,
+            ToolFault::Setup(_) => 3,
+            ToolFault::Script(fault) => status_of_script(*fault),
+            ToolFault::Report(fault) => status_of_report(*fault),
+            ToolFault::Changes(fault) => status_of_changes(*fault),
+            ToolFault::Plan(fault) => status_of_plan(*fault),
+            ToolFault::PlanText(fault) => status_of_text(*fault),
+            ToolFault::NoAudit => 5,
+        }
+    }
+
+    /// What the line on standard error names.
+    pub fn code(&self) -> &'static str {
+        match self {
+            ToolFault::Words(_) => "G2",
+            ToolFault::Usage => "usage",
+            ToolFault::Unreadable => "E1",
+            ToolFault::Setup(fault) => fault.code(),
+            ToolFault::Script(fault) => fault.code(),
+            ToolFault::Report(fault) => fault.code(),
+            ToolFault::Changes(fault) => fault.code(),
+            ToolFault::Plan(fault) => fault.code(),
+            ToolFault::PlanText(fault) => fault.code(),
+            ToolFault::NoAudit => AuditFault::NoMemory.code(),
+        }
+    }
+}
+
+fn status_of_script(fault: ScriptFault) -> u8 {
+    match fault {
+        ScriptFault::ReadFault | ScriptFault::WriteFault => 1,
+        ScriptFault::TooLong => 6,
+        ScriptFault::NoMemory => 5,
+    }
+}
+
+fn status_of_report(fault: ReportFault) -> u8 {
+    match fault {
+        ReportFault::Changes(fault) => status_of_changes(fault),
+        ReportFault::Board(BoardFault::NoMemory) | ReportFault::NoMemory => 5,
+        ReportFault::WriteFault => 1,
+    }
+}
+
+fn status_of_changes(fault: ChangesFault) -> u8 {
+    match fault {
+        ChangesFault::ReadFault => 1,
+        ChangesFault::Line(_) | ChangesFault::TapeFull => 6,
+        ChangesFault::NoMemory => 5,
+    }
+}
+
+fn status_of_plan(fault: PlanFault) -> u8 {
+    match fault {
+        PlanFault::Changes(fault) => status_of_changes(fault),
+        PlanFault::Board(BoardFault::NoMemory) | PlanFault::NoMemory => 5,
+        PlanFault::WriteFault => 1,
+    }
+}
+
+fn status_of_text(fault: PlanTextFault) -> u8 {
+    match fault {
+        PlanTextFault::BadPlanText => 6,
+        PlanTextFault::NoMemory => 5,
+        PlanTextFault::WriteFault => 1,
+    }
+}
