@@ -10,6 +10,7 @@ LOAD is one of
     wide        the same, of 32 participants in 1,000 symbols
     looks       as quotes, but 15 of 16 records look
     withdraws   as wide, but every other record withdraws a participant from every symbol
+    sweeps      quotations of 16 participants in 50 symbols, an order every 8 records, a publishing every 32
 
 Writes FOLDER/load.csv and FOLDER/setup.toml. The same load, number and seed give the same bytes. Prices
 drift by a cent, so that sides repeat, improve, lock and cross as in a market.
@@ -20,7 +21,7 @@ import sys
 from pathlib import Path
 
 # Participants and symbols of each load.
-SIZES = {"quotes": (16, 200), "wide": (32, 1000), "looks": (16, 200), "withdraws": (32, 1000)}
+SIZES = {"quotes": (16, 200), "wide": (32, 1000), "looks": (16, 200), "withdraws": (32, 1000), "sweeps": (16, 50)}
 
 
 def name(place, letters):
@@ -68,9 +69,19 @@ class Script:
         offer = side(draw, self.middle[symbol] + draw.randint(0, 4))
         return f"Q,{self.participant()},{name(symbol, 3)},{draw.choice('AAAAAAAAAM')},{bid},{offer}\n"
 
+    def order(self):
+        """An order of a few hundred shares whose limit is some cents through the middle; two in five allow manual."""
+        draw, symbol = self.draw, self.draw.randrange(self.symbols)
+        side = draw.choice("BS")
+        cents = self.middle[symbol] + (1 if side == "B" else -1) * draw.randint(0, 4)
+        flag = draw.choice(("", "", "", ",M", ",M"))
+        return f"O,{draw.randrange(4)},{side},{name(symbol, 3)},{100 * draw.randint(1, 40)},{cents // 100}.{cents % 100:02}{flag}\n"
+
     def record(self, number):
-        if number % 64 == 0:
+        if number % (32 if self.load == "sweeps" else 64) == 0:
             return "F\n"
+        if self.load == "sweeps":
+            return self.order() if number % 8 == 4 else self.quotation()
         looks = number % 16 == 0
         if self.load == "looks":
             looks = number % 16 != 8

@@ -3,10 +3,10 @@
 # less those of 10,000, by 90,000, so that the start and the setup count for nothing. The number is the same
 # from run to run on one machine. Needs python3 and valgrind.
 #
-#   bench/instructions.sh [LOAD ..]        quotes, wide, looks, withdraws; all of them by default
+#   bench/instructions.sh [LOAD ..]        quotes, wide, looks, withdraws, sweeps; all of them by default
 set -eu
 . "$(dirname "$0")/loads.sh"
-[ $# -gt 0 ] || set -- quotes wide looks withdraws
+[ $# -gt 0 ] || set -- quotes wide looks withdraws sweeps
 
 # Instructions of a whole run.
 instructions() {

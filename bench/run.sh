@@ -2,10 +2,10 @@
 # Prints how many records a second the built program answers, at 10,000 and 1,000,000 records of each load.
 # The best of RUNS runs counts (7 where it is not set). Needs python3.
 #
-#   bench/run.sh [LOAD ..]        quotes, wide, looks, withdraws; all of them by default
+#   bench/run.sh [LOAD ..]        quotes, wide, looks, withdraws, sweeps; all of them by default
 set -eu
 . "$(dirname "$0")/loads.sh"
-[ $# -gt 0 ] || set -- quotes wide looks withdraws
+[ $# -gt 0 ] || set -- quotes wide looks withdraws sweeps
 printf '%-10s %9s %10s %12s\n' load records seconds records/s
 for load in "$@"; do
     for records in 10000 1000000; do

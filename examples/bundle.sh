@@ -106,7 +106,7 @@ bundle() {
     echo '-- gives'
     cat builtin.toml
     cat cases/texts.cases cases/quotes.cases cases/refused.cases cases/records.cases cases/reports.cases cases/limits.cases
-    cat cases/chance.cases cases/chance_orders.cases cases/chance_plans.cases cases/markets.cases cases/numbers.cases cases/lines.cases cases/settings.cases cases/plans.cases cases/audits.cases cases/breaches.cases cases/commands.cases
+    cat cases/chance.cases cases/chance_orders.cases cases/chance_plans.cases cases/markets.cases cases/numbers.cases cases/lines.cases cases/settings.cases cases/plans.cases cases/audits.cases cases/breaches.cases cases/commands.cases cases/extremes.cases
     filled
     crowds
 }

@@ -1,5 +1,5 @@
 //! The runs of `crates/nms_bench` in ordinary Rust over the upstream queue, with no proofs: two threads send
-//! changes, the first thread takes them. Each line of standard input is `CAPACITY CHANGES`.
+//! changes, the first thread takes them. Each line of standard input is `lane CAPACITY CHANGES`.
 #![allow(dead_code)]
 use crossbeam_queue::ArrayQueue;
 use std::io::Read;
@@ -107,9 +107,10 @@ fn main() {
         offer: side(200),
     };
     for line in input.lines() {
-        let (capacity, changes) = line.split_once(' ').unwrap();
+        let sizes = line.strip_prefix("lane ").unwrap();
+        let (capacity, changes) = sizes.split_once(' ').unwrap();
         let capacity = capacity.parse().unwrap();
         let (a, b, taken) = run(capacity, &change, changes.parse().unwrap());
-        println!("{capacity} {a} {b} {taken}");
+        println!("{line} {a} {b} {taken}");
     }
 }

@@ -6,14 +6,16 @@ use Rattle.std.specs.Option.{option_and_then}
 use Rattle.std.proofs.lemmas.List.Elements.{All-from_recursion}
 use Rattle.nms_units.specs.Lot.{displayed_size}
 use Rattle.nms_quote.specs.Content.{Content}
+use Rattle.nms_quote.specs.Roster.{Sizes}
+use Rattle.nms_quote.specs.Tape.{Tape}
 use Rattle.nms_quote.specs.declared.side_quote.Side.{Side}
 use Rattle.nms_quote.specs.declared.side_quote.Side.TheVariants.{Bid, Offer}
 use Rattle.nms_quote.specs.declared.side_quote.QState.{QState}
-use Rattle.nms_board.specs.Quotation.{quotation, is_halted}
+use Rattle.nms_board.specs.Quotation.{quotation, quotation_of, quotations, is_halted}
 use Rattle.nms_board.specs.Cells.{Board, place_of}
 use Rattle.nms_board.specs.Shown.{row_of_cell, row_held, rows_held, seen_on}
-use Rattle.nms_board.specs.History.{on_side}
-use Rattle.nms_board.specs.View.{Seen, rows_on}
+use Rattle.nms_board.specs.History.{content_at, on_side, receipt_of, state_at}
+use Rattle.nms_board.specs.View.{Seen, rows_on, view_of}
 use Rattle.nms_board.specs.declared.cell.Cell.{Cell}
 use Rattle.nms_board.specs.declared.row.Row.{Row}
 
@@ -69,3 +71,15 @@ seen_parts board sym seen e side = subst (λ (s : Seen). All (λ (row : Row). ro
   where
     sym_of : {a b : Seen} → a ≡ b → b ≡ a
     sym_of p = Rattle.std.proofs.Common.sym p
+
+-- each quotation of a tape is of a participant of the roster
+quoted_parts : (sizes : Sizes) (tape : Tape) (sym : ℕ) (side : Side) → All (λ (row : Row). row.part < sizes.parts) (quotations sizes tape sym side)
+quoted_parts sizes tape symbol side =
+    all_below (quotations sizes tape symbol side) sizes.parts
+    (rows_below (quotation_of sizes tape symbol side)
+    (λ part row e. quotation_part (slice_index sizes.lots symbol) part (state_at part symbol tape) (receipt_of part symbol side tape) (content_at part symbol side tape) row e) 0 sizes.parts)
+
+-- and so is each row of a view of it
+pub view_parts : (sizes : Sizes) (tape : Tape) (sym : ℕ) (side : Side) → All (λ (row : Row). row.part < sizes.parts) (rows_on side (view_of sizes tape sym))
+view_parts sizes tape symbol Bid = quoted_parts sizes tape symbol Bid
+view_parts sizes tape symbol Offer = quoted_parts sizes tape symbol Offer

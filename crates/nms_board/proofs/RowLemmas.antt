@@ -5,10 +5,12 @@ use Rattle.std.proofs.lemmas.Bool.{eqb-false}
 use Rattle.std.proofs.lemmas.Option.{get_or_from_slice_get, slice_get_read, slice_get_within}
 use Rattle.nms_units.specs.Lot.{displayed_size}
 use Rattle.nms_quote.specs.Content.{Content}
+use Rattle.nms_quote.specs.Roster.{Sizes}
+use Rattle.nms_quote.specs.Tape.{Tape}
 use Rattle.nms_quote.specs.declared.side_quote.Side.{Side}
 use Rattle.nms_quote.specs.declared.side_quote.QState.{QState}
-use Rattle.nms_board.specs.History.{on_side}
-use Rattle.nms_board.specs.Quotation.{is_halted, is_automated, quotation}
+use Rattle.nms_board.specs.History.{content_at, on_side, receipt_of, state_at}
+use Rattle.nms_board.specs.Quotation.{is_halted, is_automated, quotation, quotation_of, quotations}
 use Rattle.nms_board.specs.View.{AreRows}
 use Rattle.nms_board.specs.Cells.{Board, IsInShape, place_of}
 use Rattle.nms_board.specs.Shown.{row_held, row_of_cell, rows_held}
@@ -74,6 +76,13 @@ IsFrom-range f each place (suc n) = IsFrom-cons place (f place) (filter_map f (r
 -- a board's rows are in order, each of a size
 pub rows_held_are_rows : (board : Board) (sym : ℕ) (side : Side) → AreRows (rows_held board sym side)
 rows_held_are_rows board symbol side = AreRows-from 0 (rows_held board symbol side) (IsFrom-range (row_held board symbol side) (row_held_is_row board symbol side) 0 board.sizes.parts)
+
+-- and so are those that a tape shows
+pub quotations_are_rows : (sizes : Sizes) (tape : Tape) (sym : ℕ) (side : Side) → AreRows (quotations sizes tape sym side)
+quotations_are_rows sizes tape symbol side = AreRows-from 0 (quotations sizes tape symbol side)
+    (IsFrom-range (quotation_of sizes tape symbol side)
+    (λ part. quotation_is_row (slice_index sizes.lots symbol) part (state_at part symbol tape) (receipt_of part symbol side tape) (content_at part symbol side tape))
+    0 sizes.parts)
 
 length-cons_option : {Y : Type 0} (o : Option Y) (ys : List Y) → length (cons_option o ys) ≤ length ys + 1
 length-cons_option None ys = omega arith

@@ -13,6 +13,7 @@ ghost use Rattle.nms_board.specs.History.{concerns, content_at, on_side, receipt
 ghost use Rattle.nms_board.specs.Laws.{HidesAndKeeps, IsReceipt, KeepsSide};
 ghost use Rattle.nms_board.specs.Quotation.{quotation_of, quotations};
 ghost use Rattle.nms_board.specs.Shown.{rows_held};
+ghost use Rattle.nms_board.specs.View.{AreRows};
 ghost use Rattle.nms_board.specs.declared.row.Row.{Row};
 
 use crate::MOST_ROWS;
@@ -60,6 +61,13 @@ pub fn receipts_differ()
     ensures within { (sizes : Sizes) (tape : Tape) (sym : ℕ) (side : Side)
         → All (λ row. (1 ≤ row.receipt) × (row.receipt ≤ length tape))
         (quotations sizes tape sym side) }
+{}
+
+/// The quotations on a side of a symbol stand by participant place, no more than one of each participant, and each
+/// displays some shares.
+pub fn quotations_stand_by_participant()
+    ensures { (sizes : Sizes) (tape : Tape) (sym : ℕ) (side : Side)
+        → AreRows (quotations sizes tape sym side) }
 {}
 
 /// A change leaves the quotations of every symbol that it does not concern.

@@ -7,3 +7,4 @@ mod PairFacts
 mod ReportFacts
 mod ThroughFacts
 mod PlanFacts
+mod FitFacts

@@ -1,5 +1,5 @@
 mod KeptLemmas
 mod LawLemmas
-mod ListFacts
+pub mod ListFacts
 pub mod RunLemmas
 mod StepLemmas

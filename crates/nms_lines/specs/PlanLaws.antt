@@ -46,7 +46,11 @@ pub record FitsText (roster : Listing) (plan : Plan) (certificate : List Cut) : 
   pub few_cuts : length certificate ≤ 32
 
 -- its text has its records and no others, and these say what it says
-abbrev pub ReadsAsWritten : Listing → Type 0
-ReadsAsWritten roster = (plan : Plan) (certificate : List Cut) → FitsText roster plan certificate
-    → AreAllRecords (Some (plan_text roster plan certificate)) (plan_records roster plan certificate)
+abbrev pub IsReadBack : Listing → Plan → List Cut → Type 0
+IsReadBack roster plan certificate =
+    AreAllRecords (Some (plan_text roster plan certificate)) (plan_records roster plan certificate)
     × (plan_in roster (plan_records roster plan certificate) ≡ Some (said_by plan certificate))
+
+-- so it is with each plan that fits
+abbrev pub ReadsAsWritten : Listing → Type 0
+ReadsAsWritten roster = (plan : Plan) (certificate : List Cut) → FitsText roster plan certificate → IsReadBack roster plan certificate

@@ -3,7 +3,7 @@ pub mod CutoffLemmas
 mod FindLemmas
 pub mod GivenLemmas
 pub mod LawfulLemmas
-mod LegLemmas
+pub mod LegLemmas
 pub mod MemberLemmas
 mod NeverLemmas
 mod NoneLemmas

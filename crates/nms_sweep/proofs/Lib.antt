@@ -1,3 +1,4 @@
+mod BoundLemmas
 mod ChoiceLemmas
 mod CutLemmas
 mod FitLemmas

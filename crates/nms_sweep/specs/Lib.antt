@@ -2,5 +2,6 @@ pub use Rattle.nms_rules.specs.Accepted as Accepted
 pub use Rattle.nms_rules.specs.Assignment as Assignment
 pub use Rattle.nms_rules.specs.Faultless as Faultless
 pub use Rattle.nms_rules.specs.Usable as Usable
+pub mod Bounds
 pub mod Choice
 pub mod Order

@@ -4,8 +4,10 @@
 
 mod choice;
 mod cutting;
+mod laws;
 mod legs;
 mod planning;
 mod row_order;
 
+pub use laws::an_accepted_plan_is_within_bounds;
 pub use planning::plan;

@@ -7,11 +7,11 @@ use std::alloc::Global;
 use std::process::Abort;
 use std::test::Fail;
 
-/// N and P on feed A and Y on feed B, ABC in lots of 100, a queue of 2, a tape of 3.
-fn small() -> &'static str {
+/// N and P on feed A, Y and Z on feed B, ABC in lots of 100, a queue of 2, a tape of 3, two desks.
+pub(crate) fn small() -> &'static str {
     r#"tape_limit = 3
 queue = 2
-desks = 1
+desks = 2
 [[participant]]
 name = "N"
 feed = "A"
@@ -24,6 +24,11 @@ fee = 0
 rate = 0
 [[participant]]
 name = "Y"
+feed = "B"
+fee = 0
+rate = 0
+[[participant]]
+name = "Z"
 feed = "B"
 fee = 0
 rate = 0
@@ -49,7 +54,7 @@ fn reply_text(alloc: Global, answer: Result<Reply, StepFault>) -> Result<String,
 }
 
 /// An offer of 100 shares of ABC at 10.00 by the participant at a place.
-fn offer_of(place: u8) -> Option<Change> {
+pub(crate) fn offer_of(place: u8) -> Option<Change> {
     let offer = SideQuote::new(Price::new(100_000)?, Shares::new(100)?);
     Some(Change::Quote {
         part: Part::new(place)?,

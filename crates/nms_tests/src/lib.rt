@@ -23,4 +23,8 @@ mod quote;
 #[cfg(test)]
 mod readme;
 #[cfg(test)]
+mod sweep;
+#[cfg(test)]
 mod units;
+#[cfg(test)]
+mod versions;

@@ -1,0 +1,33 @@
+#!/usr/bin/env bash
+# Prints how many looks a second 1, 2 and 4 desks make together, beside a publisher that publishes every 64 changes
+# with a pause of 100 microseconds behind each publishing, and the same in ordinary Rust over a mutex round one board
+# (bench/looks_peer). The best of RUNS runs counts (3 where it is not set), of LOOKS looks by each desk (3,000,000).
+# Takes about a minute on four processors that do nothing else. Needs cargo.
+set -eu
+bench=$(cd "$(dirname "$0")" && pwd)
+looks=${LOOKS:-3000000}
+desks=$bench/../crates/nms_bench/out/nms_bench
+peer=$bench/out/looks_peer/release/looks_peer
+[ -x "$desks" ] || (cd "$bench/../crates/nms_bench" && rt run <stdin >/dev/null)
+(cd "$bench/looks_peer" && cargo build --quiet --release --offline --target-dir "$bench/out/looks_peer")
+
+# The microseconds of the best run of a program by so many desks. Each look has to show both its rows.
+best_of() {
+    local best= took from told
+    for ((run = 0; run < ${RUNS:-3}; run++)); do
+        from=${EPOCHREALTIME/./}
+        told=$("$1" <<<"looks $2 $looks")
+        took=$((${EPOCHREALTIME/./} - from))
+        [ "$told" = "looks $2 $looks $((2 * $2 * looks))" ] || { echo "$1: $told" >&2 && exit 1; }
+        [ -n "$best" ] && [ "$best" -le "$took" ] || best=$took
+    done
+    echo "$best"
+}
+
+printf '%-6s %15s %15s %6s\n' desks looks/s mutex/s ratio
+for count in 1 2 4; do
+    ours=$(best_of "$desks" "$count")
+    theirs=$(best_of "$peer" "$count")
+    awk -v c="$count" -v n="$((count * looks))" -v a="$ours" -v b="$theirs" \
+        'BEGIN { printf "%-6d %15.0f %15.0f %6.2f\n", c, n * 1e6 / a, n * 1e6 / b, b / a }'
+done

@@ -1,0 +1,187 @@
+//! Looks: desks look while a publisher publishes every 64 changes.
+use crate::Failed;
+use nms_board::View;
+use nms_fees::{Setup, read_setup};
+use nms_quote::{Change, Part, QState, Side, SideQuote, Sym};
+use nms_units::{Price, Shares};
+use nms_versions::{Desk, Publisher, open_tape};
+use std::alloc::{AllocError, Global};
+use std::fmt::Write;
+use std::rt::Clock;
+use std::sync::Wait;
+use std::sync::atomic::{AtomicU64, Ordering};
+use std::thread;
+use std::thread::Threads;
+use std::time::Duration;
+
+/// The board is that of 16 participants in 200 symbols. Its first 3,200 changes fill it.
+const PARTICIPANTS: u64 = 16;
+
+const SYMBOLS: u64 = 200;
+
+const BATCHES_TO_FILL: u32 = 50;
+
+const BATCH: u32 = 64;
+
+/// A desk, and how many rows its looks showed where they belong.
+#[derive(Drop)]
+struct Seat {
+    desk: Desk,
+    rows: u64,
+}
+
+/// Makes so many looks by each desk, each in a thread of its own, at a row of each side. Tells how many rows stood
+/// where they belong.
+pub(crate) fn measure<R: AllocGlobal + Threads + Wait + Clock + Sync>(
+    rt: &R,
+    desks: u8,
+    looks: u32,
+) -> Result<u64, Failed> {
+    let alloc = rt.alloc();
+    let text = setup_text(alloc, desks).map_err(|_| Failed)?;
+    let setup = read_setup(alloc, text.as_str()).map_err(|_| Failed)?;
+    run(rt, alloc, &setup, looks)
+}
+
+/// A setup of that board and so many desks.
+fn setup_text(alloc: Global, desks: u8) -> Result<String, AllocError> {
+    let mut text = format!(in alloc; "tape_limit = 10000000\nqueue = 2\ndesks = {desks}\n")?;
+    for place in 0..PARTICIPANTS {
+        let entry = format!(in alloc;
+            "[[participant]]\nname = \"P{place}\"\nfeed = \"A\"\nfee = 0\nrate = 0\n"
+        )?;
+        text.push_str(entry.as_str())?;
+    }
+    for place in 0..SYMBOLS {
+        let entry = format!(in alloc; "[[symbol]]\nname = \"S{place}\"\nlot = 100\n")?;
+        text.push_str(entry.as_str())?;
+    }
+    Ok(text)
+}
+
+/// Opens, fills the board, and looks beside the publisher.
+fn run<R: Threads + Wait + Clock + Sync>(
+    rt: &R,
+    alloc: Global,
+    setup: &Setup,
+    looks: u32,
+) -> Result<u64, Failed> {
+    let (mut publisher, desks) = open_tape(alloc, rt, setup).map_err(|_| Failed)?;
+    let mut seats = match seats_of(alloc, desks) {
+        Ok(seats) => seats,
+        Err(_) => {
+            publisher.close(rt);
+            return Err(Failed);
+        }
+    };
+    let mut number = 0;
+    let mut is_going = true;
+    for _ in 0..BATCHES_TO_FILL {
+        is_going = is_going && publish_batch(rt, &mut publisher, &mut number);
+    }
+    if is_going {
+        look_beside(rt, &mut publisher, number, &mut seats, looks);
+    }
+    publisher.close(rt);
+    let mut rows = 0u64;
+    for seat in &seats {
+        rows = rows.wrapping_add(seat.rows);
+    }
+    Ok(rows)
+}
+
+/// The desks at their seats.
+fn seats_of(alloc: Global, desks: Vec<Desk>) -> Result<Vec<Seat>, AllocError> {
+    let mut seats = Vec::new(alloc);
+    for desk in desks {
+        seats.push(Seat { desk, rows: 0 })?;
+    }
+    Ok(seats)
+}
+
+/// Looks from each seat, and publishes until all have ended.
+fn look_beside<R: Threads + Wait + Clock + Sync>(
+    rt: &R,
+    publisher: &mut Publisher,
+    number: u64,
+    seats: &mut [Seat],
+    looks: u32,
+) {
+    let ended = &AtomicU64::new(0);
+    thread::join(
+        rt,
+        || {
+            thread::for_each_mut(rt, seats, 256, &|_, seat| look_often(seat, looks));
+            ended.store(1, Ordering::SeqCst);
+        },
+        || publish_until(rt, publisher, number, ended),
+    );
+}
+
+/// Makes so many looks, at one symbol after another and a row of each side.
+fn look_often(seat: &mut Seat, looks: u32) {
+    for look in 0..looks {
+        let Some(sym) = Sym::new((u64::from(look) % SYMBOLS) as u16) else {
+            return;
+        };
+        let Ok(view) = seat.desk.look(sym) else {
+            return;
+        };
+        let place = u64::from(look) % PARTICIPANTS;
+        for side in [Side::Bid, Side::Offer] {
+            seat.rows = seat.rows.wrapping_add(rows_at(&view, side, place));
+        }
+    }
+}
+
+/// 1 where the row of that number on a side is that of the participant at the place.
+fn rows_at(view: &View, side: Side, place: u64) -> u64 {
+    match view.rows(side).get(place as usize) {
+        Some(row) if u64::from(row.part.get()) == place => 1,
+        _ => 0,
+    }
+}
+
+/// Publishes batch after batch, with a pause of 100 microseconds behind each, until the looks have ended.
+fn publish_until<R: Wait + Clock>(
+    rt: &R,
+    publisher: &mut Publisher,
+    start: u64,
+    ended: &AtomicU64,
+) {
+    let mut number = start;
+    for _ in rt.forever() {
+        if ended.load(Ordering::SeqCst) == 1 || !publish_batch(rt, publisher, &mut number) {
+            break;
+        }
+        thread::sleep(rt, Duration::from_micros(100));
+    }
+}
+
+/// Appends a batch and publishes it, unless the tape is full or memory runs out.
+fn publish_batch<R: Wait>(rt: &R, publisher: &mut Publisher, number: &mut u64) -> bool {
+    for _ in 0..BATCH {
+        let Some(change) = quotation(*number) else {
+            return false;
+        };
+        if !publisher.holds(&change) || publisher.append(change).is_err() {
+            return false;
+        }
+        *number = number.wrapping_add(1);
+    }
+    publisher.publish(rt);
+    true
+}
+
+/// The change of that number: each participant quotes each symbol in turn, with other shares each time round.
+fn quotation(number: u64) -> Option<Change> {
+    let price = Price::new(100_000)?;
+    let shares = Shares::new(100 * (1 + number / (PARTICIPANTS * SYMBOLS) % 9) as u32)?;
+    Some(Change::Quote {
+        part: Part::new((number % PARTICIPANTS) as u8)?,
+        sym: Sym::new((number / PARTICIPANTS % SYMBOLS) as u16)?,
+        state: QState::Automated,
+        bid: SideQuote::new(price, shares),
+        offer: SideQuote::new(price, shares),
+    })
+}

@@ -1,0 +1,74 @@
+//! The laws above the text of a plan: `specs/PlanLaws` of `nms_lines`. No record is served by these functions: their
+//! contracts are what they are for.
+ghost use Rattle.std.specs.Prelude.{◌≡◌, ◌<◌, ◌≤◌, All, length};
+ghost use Rattle.nms_units.specs.declared.TheConstants.{MOST_SHARES};
+ghost use Rattle.nms_quote.specs.Roster.{sizes_of};
+ghost use Rattle.nms_quote.specs.Tape.{Tape};
+ghost use Rattle.nms_quote.specs.declared.TheConstants.{MOST_CHANGES};
+ghost use Rattle.nms_lines.specs.PlanLaws.{IsPriceInRange, IsReadBack};
+ghost use Rattle.nms_board.specs.View.{view_of};
+ghost use Rattle.nms_rules.specs.Accepted.{IsAccepted};
+
+use nms_board::View;
+use nms_fees::FeeBook;
+use nms_lines::a_plan_reads_as_written;
+use nms_quote::{Certificate, Cut, Leg, Order, Plan, Roster};
+use nms_sweep::{an_accepted_plan_is_within_bounds, plan};
+
+/// What `write_plan` writes of a plan that is accepted with its certificate, `read_plan` reads as that plan and
+/// certificate: for an order of the roster, on a view of a version of at most 10,000,000 changes, whoever made it.
+pub fn an_accepted_plan_reads_as_written(
+    roster: &Roster,
+    order: &Order,
+    fees: &FeeBook,
+    plan: &Plan,
+    certificate: &Certificate,
+)
+    ensures { (tape : Tape) → length tape ≤ MOST_CHANGES → order.now.sym < length roster.now.syms
+        → IsAccepted (view_of (sizes_of roster.now) tape order.now.sym) order.now fees.now plan.now certificate.now.items
+        → IsReadBack roster.now plan.now certificate.now.items }
+{
+    a_plan_reads_as_written(roster);
+    an_accepted_plan_is_within_bounds(order, fees, plan);
+    order.shares.get();
+    order.limit.get();
+    legs_are_in_range(plan.legs.as_slice());
+    cuts_are_in_range(certificate.as_slice());
+}
+
+/// Plans an order as `plan` does. What `write_plan` writes of the answer, `read_plan` reads as the same plan and
+/// certificate, where the view is one of a version of at most 10,000,000 changes and the order is of the roster.
+pub fn a_planned_order_reads_as_written(
+    roster: &Roster,
+    view: &View,
+    order: &Order,
+    fees: &FeeBook,
+) -> (Plan, Certificate)
+    requires { order.now.sym ≡ view.now.sym }
+    ensures accepted { IsAccepted view.now order.now fees.now result.0 result.1.items }
+    ensures read { (tape : Tape) → length tape ≤ MOST_CHANGES → order.now.sym < length roster.now.syms
+        → view.now ≡ view_of (sizes_of roster.now) tape order.now.sym → IsReadBack roster.now result.0 result.1.items }
+{
+    let (plan, certificate) = plan(view, order, fees);
+    an_accepted_plan_reads_as_written(roster, order, fees, &plan, &certificate);
+    (plan, certificate)
+}
+
+/// A leg's price and shares are in range, as their types say.
+fn legs_are_in_range(legs: &[Leg])
+    ensures { All (λ leg. IsPriceInRange leg.price × (leg.shares ≤ MOST_SHARES)) legs.now }
+{
+    for leg in legs {
+        leg.price.get();
+        leg.shares.get();
+    }
+}
+
+/// A cut's price is in range, as its type says.
+fn cuts_are_in_range(cuts: &[Cut])
+    ensures { All (λ cut. IsPriceInRange cut.price) cuts.now }
+{
+    for cut in cuts {
+        cut.price.get();
+    }
+}

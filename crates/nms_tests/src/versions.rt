@@ -1,0 +1,311 @@
+//! Published versions: what no clause says, and the worked steps by values worked out by hand.
+ghost use Rattle.std.specs.Prelude.{◌≡◌, IfOk};
+
+use crate::flow::{offer_of, small};
+use nms_engine::SETUP_K;
+use nms_fees::{Setup, read_setup};
+use nms_quote::{Side, Sym};
+use nms_versions::{
+    AppendFault, Desk, NoReading, OpenFault, Publisher, Settled, Unsettled, open_tape,
+};
+use std::alloc::Global;
+use std::process::Abort;
+use std::sync::Wait;
+use std::test::Fail;
+use std::thread::{Threads, join};
+
+/// Opens with two desks. V2 may come without a cause, so it tries up to 100 times.
+fn open<R: Wait>(alloc: Global, rt: &R, setup: &Setup) -> Result<(Publisher, Desk, Desk), Fail>
+    ensures { IfOk result (λ ends. (ends.1.opening ≡ ends.0.opening) × (ends.2.opening ≡ ends.0.opening)) }
+{
+    for _ in 0..100u32 {
+        match open_tape(alloc, rt, setup) {
+            Ok((publisher, mut desks)) => {
+                let (Some(other), Some(one)) = (desks.pop(), desks.pop()) else {
+                    publisher.close(rt);
+                    return Err("two desks")?;
+                };
+                return Ok((publisher, one, other));
+            }
+            Err(OpenFault::NoPlace) => {}
+            Err(fault) => return Err(fault)?,
+        }
+    }
+    Err("a place")?
+}
+
+/// Appends an offer by the participant at a place, and tells the code of its refusal, or "ok".
+fn append(rt: &impl Abort, publisher: &mut Publisher, place: u8) -> &'static str
+    ensures { publisher.new.opening ≡ publisher.old.opening }
+{
+    let Some(change) = offer_of(place) else {
+        return "no change";
+    };
+    assert!(rt; publisher.holds(&change));
+    match publisher.append(change) {
+        Ok(()) => "ok",
+        Err(AppendFault::NoMemory) => "V3",
+        Err(AppendFault::TapeFull) => "V4",
+    }
+}
+
+/// The version of a look at ABC and how many offers it shows.
+fn looked(desk: &mut Desk) -> Result<(u64, usize), NoReading>
+    ensures { desk.new.opening ≡ desk.old.opening }
+{
+    let Some(sym) = Sym::new(0) else {
+        return Err(NoReading);
+    };
+    let view = desk.look(sym)?;
+    Ok((view.version(), view.count(Side::Offer)))
+}
+
+/// Tells a desk of the published version, and gives its number.
+fn tell(publisher: &mut Publisher, desk: &mut Desk) -> u64
+    requires { desk.old.opening ≡ publisher.old.opening }
+    ensures publisher { publisher.new.opening ≡ publisher.old.opening }
+    ensures desk { desk.new.opening ≡ desk.old.opening }
+{
+    let receipt = publisher.receipt();
+    let version = receipt.version();
+    desk.learn(receipt);
+    version
+}
+
+/// The place of the participant that a letter names.
+fn place_of(word: &str) -> u8 {
+    match word {
+        "N" => 0,
+        "P" => 1,
+        "Y" => 2,
+        _ => 3,
+    }
+}
+
+/// What the step that a word names is answered: a participant's letter appends its offer, desk 0 is told of the
+/// published version, a desk looks.
+fn go<R: Wait + Abort>(
+    rt: &R,
+    alloc: Global,
+    publisher: &mut Publisher,
+    one: &mut Desk,
+    other: &mut Desk,
+    word: &str,
+) -> Result<String, Fail>
+    requires { one.old.opening ≡ publisher.old.opening }
+    ensures publisher { publisher.new.opening ≡ publisher.old.opening }
+    ensures one { one.new.opening ≡ one.old.opening }
+{
+    match word {
+        "publish" => {
+            publisher.publish(rt);
+            Ok(String::from_str(alloc, "published")?)
+        }
+        "tell" => number(alloc, tell(publisher, one)),
+        "tape" => number(alloc, publisher.tape().len() as u64),
+        "desk 0" => seen(alloc, looked(one)),
+        "desk 1" => seen(alloc, looked(other)),
+        _ => Ok(String::from_str(alloc, append(rt, publisher, place_of(word)))?),
+    }
+}
+
+/// A number as a text.
+fn number(alloc: Global, number: u64) -> Result<String, Fail> {
+    Ok(format!(in alloc; "{number}")?)
+}
+
+/// A look as a text: its version and how many offers it shows.
+fn seen(alloc: Global, look: Result<(u64, usize), NoReading>) -> Result<String, Fail> {
+    Ok(match look {
+        Ok((version, offers)) => format!(in alloc; "{version} {offers}")?,
+        Err(fault) => format!(in alloc; "{fault}")?,
+    })
+}
+
+/// Opens, makes each step and compares its answer.
+fn run<R: Wait + Abort>(
+    rt: &R,
+    alloc: Global,
+    text: &str,
+    steps: &[(&str, &str)],
+) -> Result<(), Fail> {
+    let (mut publisher, mut one, mut other) = open(alloc, rt, &read_setup(alloc, text)?)?;
+    let told = make_all(rt, alloc, &mut publisher, &mut one, &mut other, steps);
+    publisher.close(rt);
+    told?;
+    let answer = seen(alloc, looked(&mut one))?;
+    assert_eq!(rt; answer.as_str(), "V5: no reading");
+    Ok(())
+}
+
+/// Makes each step and compares its answer.
+fn make_all<R: Wait + Abort>(
+    rt: &R,
+    alloc: Global,
+    publisher: &mut Publisher,
+    one: &mut Desk,
+    other: &mut Desk,
+    steps: &[(&str, &str)],
+) -> Result<(), Fail>
+    requires { one.old.opening ≡ publisher.old.opening }
+{
+    for (word, answer) in steps {
+        let told = go(rt, alloc, publisher, one, other, word)?;
+        assert_eq!(rt; told.as_str(), *answer, "at {word}");
+    }
+    Ok(())
+}
+
+#[test]
+fn desks_see_what_is_published_told_or_not(rt: HostRuntime) -> Result<(), Fail> {
+    let steps = [
+        ("tell", "0"),
+        ("N", "ok"),
+        ("P", "ok"),
+        ("Y", "ok"),
+        ("desk 0", "0 0"),
+        ("publish", "published"),
+        ("tell", "3"),
+        ("desk 0", "3 3"),
+        ("desk 1", "3 3"),
+        ("Z", "ok"),
+        ("N", "ok"),
+        ("desk 0", "3 3"),
+        ("tape", "5"),
+        ("publish", "published"),
+        ("desk 1", "5 4"),
+    ];
+    run(&rt, rt.alloc(), SETUP_K, &steps)
+}
+
+#[test]
+fn a_fourth_change_of_a_tape_of_three_is_refused(rt: HostRuntime) -> Result<(), Fail> {
+    let steps = [
+        ("N", "ok"),
+        ("P", "ok"),
+        ("Y", "ok"),
+        ("Z", "V4"),
+        ("tape", "3"),
+        ("publish", "published"),
+        ("Z", "V4"),
+        ("desk 0", "3 3"),
+        ("tell", "3"),
+    ];
+    run(&rt, rt.alloc(), small(), &steps)
+}
+
+#[test]
+fn a_desk_settles_on_no_receipt_older_than_what_it_knows(rt: HostRuntime) -> Result<(), Fail> {
+    let setup = read_setup(rt.alloc(), SETUP_K)?;
+    let (mut publisher, mut desk, _other) = open(rt.alloc(), &rt, &setup)?;
+    let early = publisher.receipt();
+    publish_often(&rt, &mut publisher, 3);
+    let late = publisher.receipt();
+    assert_eq!(rt; looked(&mut desk), Ok((3, 1)));
+    let refused = desk.settle(early);
+    publisher.close(&rt);
+    let Err(Unsettled::Newer { desk, version }) = refused else {
+        return Err("a desk settled on an older receipt")?;
+    };
+    assert_eq!(rt; version, 3);
+    assert_eq!(rt; desk.settle(late).ok(), Some(Settled { version: 3 }));
+    Ok(())
+}
+
+/// Run with each allocation refused in turn (`rt try --test --fail-alloc N`): the opening ends the test by V1, and
+/// a refused change leaves the tape and what is shown, and is appended once there is memory.
+#[test]
+fn want_of_memory_leaves_the_tape_as_it_was(rt: HostRuntime) -> Result<(), Fail> {
+    let setup = read_setup(rt.alloc(), SETUP_K)?;
+    let (mut publisher, mut desk, _other) = open(rt.alloc(), &rt, &setup)?;
+    for count in 0..70u64 {
+        let mut told = append(&rt, &mut publisher, 0);
+        if told == "V3" {
+            assert_eq!(rt;
+                (publisher.tape().len() as u64, looked(&mut desk)),
+                (count, Ok((0, 0)))
+            );
+            told = append(&rt, &mut publisher, 0);
+        }
+        assert_eq!(rt; told, "ok", "after {count}");
+    }
+    publisher.publish(&rt);
+    assert_eq!(rt; looked(&mut desk), Ok((70, 1)));
+    assert_eq!(rt; publisher.close(&rt).len(), 70);
+    Ok(())
+}
+
+/// Looks at ABC so many times, and tells whether each look showed something and the versions never fell.
+fn never_falls(desk: &mut Desk, looks: u32) -> bool {
+    let mut last = 0;
+    for _ in 0..looks {
+        match looked(desk) {
+            Ok((version, _)) if version >= last => last = version,
+            _ => return false,
+        }
+    }
+    true
+}
+
+/// Publishes so many times a change.
+fn publish_often<R: Wait + Abort>(rt: &R, publisher: &mut Publisher, times: u32)
+    ensures { publisher.new.opening ≡ publisher.old.opening }
+{
+    for _ in 0..times {
+        append(rt, publisher, 0);
+        publisher.publish(rt);
+    }
+}
+
+/// A publisher of 1,000 publications beside a desk of 2,000 looks.
+fn run_two<R: Threads + Wait + Abort + Sync>(
+    rt: &R,
+    publisher: &mut Publisher,
+    desk: &mut Desk,
+) -> bool {
+    let (looked, ()) = join(
+        rt,
+        || never_falls(desk, 2000),
+        || publish_often(rt, publisher, 1000),
+    );
+    looked
+}
+
+/// The same beside two desks, each in a thread of its own.
+fn run_three<R: Threads + Wait + Abort + Sync>(
+    rt: &R,
+    publisher: &mut Publisher,
+    one: &mut Desk,
+    other: &mut Desk,
+) -> (bool, bool) {
+    join(
+        rt,
+        || never_falls(one, 2000),
+        || run_two(rt, publisher, other),
+    )
+}
+
+#[test]
+fn a_thousand_publications_beside_two_desks_never_fall(rt: HostRuntime) -> Result<(), Fail> {
+    let setup = read_setup(rt.alloc(), SETUP_K)?;
+    let (mut publisher, mut one, mut other) = open(rt.alloc(), &rt, &setup)?;
+    let looks = run_three(&rt, &mut publisher, &mut one, &mut other);
+    assert_eq!(rt; looks, (true, true));
+    // The tape is full.
+    assert_eq!(rt; append(&rt, &mut publisher, 0), "V4");
+    assert_eq!(rt; looked(&mut one), Ok((1000, 1)));
+    assert_eq!(rt; publisher.close(&rt).len(), 1000);
+    Ok(())
+}
+
+#[test]
+fn faults_print_their_codes(rt: HostRuntime) -> Result<(), Fail> {
+    let opening = format!(in rt.alloc(); "{}; {}", OpenFault::NoMemory, OpenFault::NoPlace)?;
+    assert_eq!(rt;
+        opening.as_str(),
+        "V1: out of memory; V2: no place for a reader"
+    );
+    let append = format!(in rt.alloc(); "{}; {}", AppendFault::NoMemory, AppendFault::TapeFull)?;
+    assert_eq!(rt; append.as_str(), "V3: out of memory; V4: the tape is full");
+    Ok(())
+}
