@@ -1,0 +1,42 @@
+-- How what a keeper keeps comes from one publishing to the next.
+use Rattle.std.proofs.Common.{ℕ, ◌≡◌, ◌≤◌, ◌⊎◌, ◌++◌, List, [], ◌∷◌, length, Option, ap, sym, subst, inl, inr, arith, length-append}
+use Rattle.std.specs.Prelude.{◌↔◌}
+use Rattle.std.specs.List.{AllByRecursion, Contains}
+use Rattle.std.proofs.lemmas.List.Elements.{Contains-append_left, Contains-push}
+use Rattle.nms_versions.specs.Published.{Batches, changes, publications}
+use Rattle.nms_versions.specs.Taped.{Taped, tape_of}
+use Rattle.nms_live.specs.Faults.{IsNoLineIfAny}
+use Rattle.nms_live.specs.Keeping.{IsKept}
+use Rattle.nms_live.specs.declared.live_fault.LiveFault.{LiveFault}
+use Rattle.nms_live.proofs.NumberFacts.{all_push, below_all, rising_push}
+
+-- while nothing is published all is kept, whatever it stops for
+pub kept_with : (old new : Taped) (listed : List ℕ) (stop other : Option LiveFault) → new.published ≡ old.published → IsNoLineIfAny other → IsKept old listed stop → IsKept new listed other
+kept_with old new listed stop other same fine had = record {
+  published = λ n is. had.published n (subst (λ (b : Batches). Contains (publications b) n) same is);
+  rising = had.rising;
+  within = subst (λ (b : Batches). AllByRecursion (λ n. n ≤ length (changes b)) listed) (sym same) had.within;
+  stopped = fine;
+}
+
+-- the whole tape was published, and its length listed
+pub kept_more : (old new : Taped) (listed more : List ℕ) (stop : Option LiveFault)
+    → ((n : ℕ) → Contains (publications new.published) n ↔ Contains (publications old.published) n ⊎ (n ≡ length (tape_of old)))
+    → changes new.published ≡ tape_of old → more ≡ listed ++ length (tape_of old) ∷ [] → IsKept old listed stop → IsKept new more stop
+kept_more old new listed more stop these whole is had =
+    let n = length (tape_of old) in
+    let le : length (changes old.published) ≤ n = omega (arith, length-append (changes old.published) old.pending) in
+    let below = below_all listed (length (changes old.published)) n le had.within in
+    let top : n ≤ length (changes new.published) = omega (arith, ap length whole) in
+    rw is (record {
+      published = λ m among. elim ((these m).0 among) as (λ (h : Contains (publications old.published) m ⊎ (m ≡ n)). (m ≡ 0) ⊎ Contains (listed ++ n ∷ []) m) [
+        | inl before ↦ elim (had.published m before) as (λ (h : (m ≡ 0) ⊎ Contains listed m). (m ≡ 0) ⊎ Contains (listed ++ n ∷ []) m) [
+          | inl none ↦ inl none
+          | inr among ↦ inr (Contains-append_left listed (n ∷ []) m among)
+        ]
+        | inr here ↦ inr (rw here (Contains-push listed n))
+      ];
+      rising = rising_push listed n had.rising below;
+      within = all_push (λ k. k ≤ length (changes new.published)) listed n (below_all listed n (length (changes new.published)) top below) top;
+      stopped = had.stopped;
+    })

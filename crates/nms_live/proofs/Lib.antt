@@ -1,0 +1,15 @@
+pub mod AnswerFacts
+pub mod CloseFacts
+pub mod CrewFacts
+pub mod DeskFacts
+pub mod FeedFacts
+pub mod KeeperFacts
+pub mod LeftFacts
+pub mod NumberFacts
+pub mod PlaceFacts
+pub mod TapeFacts
+mod FeedLemmas
+mod HeadlineLemmas
+mod LevelLemmas
+mod RunOfLemmas
+mod SequentialLemmas

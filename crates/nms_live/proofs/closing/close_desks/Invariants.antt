@@ -1,0 +1,15 @@
+use Rattle.std.proofs.Common.{◌≡◌, ◌++◌, length}
+use Rattle.std.specs.Vec.Iter.{into_iter_items}
+use Rattle.nms_versions.specs.Taped.{tape_of}
+use Rattle.nms_live.specs.Rows.{AreRows}
+use Rattle.nms_live.proofs.closing.close_desks.Given as goal
+
+-- the desks so far were settled
+abbrev pub invariant-loop-desked : goal.invariant-loop-desked
+invariant-loop-desked l = record {
+  parted : l.yielded ++ into_iter_items l.desked-iterator ≡ l.fn.desks.items;
+  count : l.number ≡ length l.yielded;
+  all : length l.rows.items ≡ l.number;
+  keeper : l.keeper ≡ l.fn.keeper;
+  rows : AreRows l.setup l.orders (tape_of l.fn.keeper.taped) l.fn.keeper.listed l.rows.items;
+}

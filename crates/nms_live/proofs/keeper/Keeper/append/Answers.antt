@@ -1,0 +1,14 @@
+use Rattle.std.proofs.Common.{◌≡◌, ap}
+use Rattle.nms_versions.specs.Taped.{Taped}
+use Rattle.nms_live.proofs.KeeperFacts.{kept_with}
+use Rattle.nms_live.proofs.keeper.Keeper.append.Goals.{in-Ok, in-Err}
+use Rattle.nms_live.proofs.keeper.Keeper.append.Goals as goal
+
+pub invariant_of-self : goal.invariant_of-self
+invariant_of-self c =
+    let had = c.self.invariant.0 in
+    let same : c.append.new.self.published ≡ c.self.inside.publisher.published = elim c.match-append.branch [
+      | in-Ok w ↦ ap (λ (t : Taped). t.published) w.in-Ok.ensures.added
+      | in-Err w ↦ ap (λ (t : Taped). t.published) w.in-Err.ensures.unchanged
+    ] in
+    (kept_with c.self.inside.publisher c.append.new.self c.self.inside.listed.items c.self.inside.stop c.self.inside.stop same had.stopped had, c.self.invariant.1)

@@ -1,0 +1,37 @@
+-- The codes of a live run's faults, and which of several is answered. This product's own rule.
+use Rattle.std.specs.Prelude.{ℕ, ⊤, List, codes, Option, Some, None}
+use Rattle.nms_quote.specs.declared.feed.Feed.TheVariants as feed
+use Rattle.nms_live.specs.declared.live_fault.LiveFault.{LiveFault}
+use Rattle.nms_live.specs.declared.live_fault.LiveFault.TheVariants as fault
+
+abbrev pub code_of : LiveFault → List ℕ
+code_of (fault.Line of number why) = codes "E5"
+code_of fault.Open = codes "E6"
+code_of fault.Append = codes "E7"
+code_of fault.Desk = codes "E8"
+code_of fault.GateLimit = codes "E9"
+code_of fault.NoMemory = codes "E10"
+
+-- of several faults the one of least rank is answered
+abbrev pub rank_of : LiveFault → ℕ
+rank_of fault.Open = 0
+rank_of (fault.Line feed.A number why) = 1
+rank_of (fault.Line feed.B number why) = 2
+rank_of fault.Append = 3
+rank_of fault.Desk = 4
+rank_of fault.GateLimit = 5
+rank_of fault.NoMemory = 6
+
+-- it is not the fault of a record
+abbrev pub IsNoLine : LiveFault → Type 0
+IsNoLine (fault.Line of number why) = ⊥
+IsNoLine fault.Open = ⊤
+IsNoLine fault.Append = ⊤
+IsNoLine fault.Desk = ⊤
+IsNoLine fault.GateLimit = ⊤
+IsNoLine fault.NoMemory = ⊤
+
+-- if there is a fault, it is not that of a record
+abbrev pub IsNoLineIfAny : Option LiveFault → Type 0
+IsNoLineIfAny None = ⊤
+IsNoLineIfAny (Some why) = IsNoLine why

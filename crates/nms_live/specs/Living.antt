@@ -1,0 +1,19 @@
+-- What a live run came to: the tape, what was published, and the answers. This product's own rule.
+use Rattle.std.specs.Prelude.{ℕ, ◌≤◌, List, length}
+use Rattle.nms_fees.specs.Settings.{Settings}
+use Rattle.nms_live.specs.Answering.{IsAnswered}
+use Rattle.nms_live.specs.Lists.{EndsWith, IsRising}
+use Rattle.nms_live.specs.Reading.{IsTapeOf}
+use Rattle.nms_live.specs.declared.desk_order.DeskOrder.{DeskOrder}
+use Rattle.nms_live.specs.declared.live.Live.{Live}
+
+-- what a run over these texts and orders came to
+pub record IsLive (settings : Settings) (a b : List ℕ) (orders : List DeskOrder) (live : Live) : Type 0 where
+  -- every record of both feeds reads as a change of its feed, and the tape is a merge of these, within its limit
+  pub tape : IsTapeOf settings.roster a b live.tape.items
+  pub limit : length live.tape.items ≤ settings.tape_limit
+  -- what was published never falls and ends with the whole tape
+  pub rising : IsRising live.published.items
+  pub ends : EndsWith live.published.items (length live.tape.items)
+  -- each order has an answer, and one on the whole tape, each the best on its version
+  pub answered : IsAnswered settings orders live.tape.items live.published.items live.answers.items live.closing.items

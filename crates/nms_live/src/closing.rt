@@ -1,0 +1,95 @@
+//! The closing answers: each desk answers its orders again on the whole tape, and is settled (specs/Answering).
+ghost use Rattle.std.specs.Prelude.{◌≡◌, ℕ, ◌<◌, ◌≤◌, length, slice_index_or, None, IfErr, IfOk};
+ghost use Rattle.nms_versions.specs.Taped.{tape_of};
+ghost use Rattle.nms_live.specs.Answering.{IsClosed};
+ghost use Rattle.nms_live.specs.Crew.{AreBack, IsBack};
+ghost use Rattle.nms_live.specs.Rows.{AreRows};
+ghost use Rattle.nms_live.specs.declared.desk_work.Desked.{Desked};
+ghost use Rattle.nms_live.specs.Faults.{IsNoLine};
+ghost use Rattle.nms_live.specs.Keeping.{IsWhole};
+
+use crate::answer::Answer;
+use crate::desk_order::DeskOrder;
+use crate::desk_work::{Desked, answer_orders};
+use crate::gate::OpenGate;
+use crate::keeper::Keeper;
+use crate::live_fault::LiveFault;
+use nms_fees::Setup;
+use std::alloc::Global;
+use std::collections::VecDeque;
+
+/// A desk's answers.
+#[derive(Drop)]
+pub struct DeskRow {
+    /// Those that it made while the feeds were running.
+    pub(crate) answers: VecDeque<Answer>,
+    /// Those on the whole tape.
+    pub(crate) closing: VecDeque<Answer>,
+}
+
+/// Lets each desk answer its orders again on the whole tape, and settles it.
+pub(crate) fn close_desks(
+    alloc: Global,
+    setup: &Setup,
+    keeper: &mut Keeper,
+    desks: Vec<Desked>,
+    orders: &[DeskOrder],
+) -> Result<Vec<DeskRow>, LiveFault>
+    requires whole { IsWhole keeper.old }
+    requires back { AreBack setup.now orders.now keeper.old.taped.opening desks.items }
+    requires ended { (k : ℕ) (d : Desked) → k < length desks.items → (slice_index_or desks.items k d).stop ≡ None }
+    requires all { length desks.items ≡ setup.now.desks }
+    ensures unchanged { keeper.new ≡ keeper.old }
+    ensures all { IfOk result (λ rows. length rows.items ≡ length desks.items) }
+    ensures rows { IfOk result (λ rows. AreRows setup.now orders.now (tape_of keeper.old.taped) keeper.old.listed rows.items) }
+    ensures fault { IfErr result IsNoLine }
+{
+    // They are few enough for their numbers.
+    let _most = setup.desks();
+    let mut rows = Vec::new(alloc);
+    let mut number = 0u8;
+    for desked in desks {
+        let row = match close_desk(alloc, setup, keeper, number, desked, orders) {
+            Ok(row) => row,
+            Err(fault) => return Err(fault),
+        };
+        match rows.push(row) {
+            Ok(()) => {}
+            Err(_) => return Err(LiveFault::NoMemory),
+        }
+        number += 1;
+    }
+    Ok(rows)
+}
+
+/// Lets a desk answer its orders again on the whole tape, and settles it.
+fn close_desk(
+    alloc: Global,
+    setup: &Setup,
+    keeper: &mut Keeper,
+    number: u8,
+    desked: Desked,
+    orders: &[DeskOrder],
+) -> Result<DeskRow, LiveFault>
+    requires whole { IsWhole keeper.old }
+    requires back { IsBack setup.now orders.now keeper.old.taped.opening number desked }
+    requires ended { desked.stop ≡ None }
+    ensures unchanged { keeper.new ≡ keeper.old }
+    ensures row { IfOk result (λ row. IsClosed setup.now number orders.now (tape_of keeper.old.taped) keeper.old.listed row.answers.items row.closing.items) }
+    ensures fault { IfErr result IsNoLine }
+{
+    let Desked {
+        mut desk,
+        answers,
+        stop: _,
+    } = desked;
+    desk.learn(keeper.receipt());
+    let closing = match answer_orders(alloc, setup, &OpenGate, number, &mut desk, orders) {
+        Ok(closing) => closing,
+        Err(fault) => return Err(fault),
+    };
+    match desk.settle(keeper.receipt()) {
+        Ok(_) => Ok(DeskRow { answers, closing }),
+        Err(_) => Err(LiveFault::Desk),
+    }
+}

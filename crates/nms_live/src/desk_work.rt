@@ -1,0 +1,141 @@
+//! A desk's worker: it answers the desk's orders, each on what is published by then (specs/Answering).
+ghost use Rattle.std.specs.Prelude.{◌≡◌, ◌≤◌, ◌++◌, ◌∷◌, List, length, IfErr, IfOk, OnErr};
+ghost use Rattle.std.specs.List.{AllByRecursion};
+ghost use Rattle.nms_quote.specs.Roster.{sizes_of};
+ghost use Rattle.nms_quote.specs.Tape.{Tape};
+ghost use Rattle.nms_versions.specs.Taped.{AllBegin, longest_of};
+ghost use Rattle.nms_live.specs.Answering.{IsBestOn, IsDesked, IsFor, IsWorked, versions};
+ghost use Rattle.nms_live.specs.Faults.{IsNoLine};
+
+use crate::answer::Answer;
+use crate::desk_order::DeskOrder;
+use crate::gate::{Gate, GatePoint, passes};
+use crate::live_fault::LiveFault;
+use nms_fees::Setup;
+use nms_sweep::plan;
+use nms_versions::Desk;
+use std::alloc::Global;
+use std::collections::VecDeque;
+use std::snapshot::Snapshot;
+use std::thread::Promise;
+
+/// What a desk's worker gives back: the desk, its answers, and why it stopped early, if so.
+#[derive(Drop)]
+pub struct Desked {
+    pub(crate) desk: Desk,
+    pub(crate) answers: VecDeque<Answer>,
+    pub(crate) stop: Option<LiveFault>,
+}
+
+/// What went into a desk's worker. It exists in proofs alone.
+#[derive(Drop)]
+pub struct DeskJob {
+    pub(crate) setup: Snapshot<Setup>,
+    pub(crate) number: u8,
+    pub(crate) desk: Snapshot<Desk>,
+    pub(crate) orders: Snapshot<Vec<DeskOrder>>,
+}
+
+impl Promise<Desked> for DeskJob {
+    ghost use Rattle.nms_live.specs.Answering.{IsDesked};
+
+    ghost kept_by = { λ job worked. IsDesked job.setup.value job.number job.orders.value.items job.desk.value worked.desk worked.answers.items worked.stop };
+}
+
+/// Answers a desk's orders.
+pub(crate) fn work<G: Gate>(
+    alloc: Global,
+    setup: &Setup,
+    gate: &G,
+    number: u8,
+    mut desk: Desk,
+    orders: &Vec<DeskOrder>,
+) -> Desked
+    requires sizes { desk.sizes ≡ sizes_of setup.now.roster }
+    ensures { IsDesked setup.now number orders.now.items desk result.desk result.answers.items result.stop }
+{
+    match answer_orders(alloc, setup, gate, number, &mut desk, orders) {
+        Ok(answers) => Desked {
+            desk,
+            answers,
+            stop: None,
+        },
+        Err(fault) => Desked {
+            desk,
+            answers: VecDeque::new(alloc),
+            stop: Some(fault),
+        },
+    }
+}
+
+/// Answers a desk's orders in order, each once.
+pub(crate) fn answer_orders<G: Gate>(
+    alloc: Global,
+    setup: &Setup,
+    gate: &G,
+    number: u8,
+    desk: &mut Desk,
+    orders: &[DeskOrder],
+) -> Result<VecDeque<Answer>, LiveFault>
+    requires sizes { desk.old.sizes ≡ sizes_of setup.now.roster }
+    ensures same { (desk.new.opening ≡ desk.old.opening) × (desk.new.sizes ≡ desk.old.sizes) }
+    ensures worked { IfOk result (λ answers. IsWorked setup.now number orders.now desk.new.known answers.items) }
+    ensures knows { (more : List Tape) × (desk.new.known ≡ more ++ desk.old.known) }
+    ensures later { IfOk result (λ answers. AllByRecursion (λ version. longest_of desk.old.known ≤ version) (versions answers.items)) }
+    ensures fault { IfErr result IsNoLine }
+{
+    let mut answers = VecDeque::new(alloc);
+    let mut looks = 0u64;
+    for (place, wanted) in orders.iter().enumerate() {
+        if wanted.desk != number {
+            continue;
+        }
+        let at = GatePoint::Look {
+            desk: number,
+            k: looks,
+        };
+        let answer = match answer_one(setup, gate, at, desk, wanted, place) {
+            Ok(answer) => answer,
+            Err(fault) => return Err(fault),
+        };
+        looks += 1;
+        match answers.push_back(answer) {
+            Ok(()) => {}
+            Err(_) => return Err(LiveFault::NoMemory),
+        }
+    }
+    Ok(answers)
+}
+
+/// Looks, and plans the order on what is seen.
+fn answer_one<G: Gate>(
+    setup: &Setup,
+    gate: &G,
+    at: GatePoint,
+    desk: &mut Desk,
+    wanted: &DeskOrder,
+    number: usize,
+) -> Result<Answer, LiveFault>
+    requires sizes { desk.old.sizes ≡ sizes_of setup.now.roster }
+    ensures same { (desk.new.opening ≡ desk.old.opening) × (desk.new.sizes ≡ desk.old.sizes) }
+    ensures order { IfOk result (IsFor (number, wanted.now)) }
+    ensures best { IfOk result (λ answer. (tape : Tape) × (desk.new.known ≡ tape ∷ desk.old.known) × AllBegin tape desk.old.known
+        × (answer.plan.version ≡ length tape) × IsBestOn setup.now tape answer) }
+    ensures unchanged { OnErr result (desk.new ≡ desk.old) }
+    ensures fault { IfErr result IsNoLine }
+{
+    if !passes(gate, at) {
+        return Err(LiveFault::GateLimit);
+    }
+    let Ok(view) = desk.look(wanted.order.sym) else {
+        return Err(LiveFault::Desk);
+    };
+    let (plan, certificate) = plan(&view, &wanted.order, setup.fees());
+    gate.done(at);
+    Ok(Answer {
+        desk: wanted.desk,
+        number,
+        plan,
+        certificate,
+    })
+}

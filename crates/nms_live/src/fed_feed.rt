@@ -1,0 +1,151 @@
+//! A feed's worker: it reads its text and sends the changes (specs/Reading).
+ghost use Rattle.std.specs.Prelude.{◌≡◌, ◌<◌, ◌+◌, ◌++◌, ◌∷◌, [], length, Ok, Err, IfErr, IfOk, OnOk};
+ghost use Rattle.nms_lines.specs.Rows.{fields_of};
+ghost use Rattle.nms_quote.specs.declared.change.Change.{Change};
+ghost use Rattle.nms_lines.specs.declared.line.Line.TheVariants as line;
+ghost use Rattle.nms_feed.specs.declared.TheConstants.{MOST_SENT};
+ghost use Rattle.nms_live.specs.Reading.{IsFed, IsFeedFault, IsOwn, IsRead, IsRefusal, feed_reading};
+
+use crate::gate::{Gate, GatePoint, passes};
+use crate::live_fault::LiveFault;
+use nms_feed::{MOST_SENT, Sender};
+use nms_fees::Setup;
+use nms_lines::{ByteRecord, Line, LineFault, Reading, open_records, read_line, read_next};
+use nms_quote::{Change, Feed, Roster, SideQuote};
+use std::alloc::Global;
+use std::snapshot::Snapshot;
+use std::sync::Wait;
+use std::sync::atomic::{AtomicBool, Ordering};
+use std::thread::Promise;
+
+/// What a feed's worker gives back: its end of the lane, and why it stopped early, if so.
+#[derive(Drop)]
+pub struct Fed {
+    pub(crate) sender: Sender,
+    pub(crate) stop: Option<LiveFault>,
+}
+
+/// What went into a feed's worker. It exists in proofs alone.
+#[derive(Drop)]
+pub struct FeedJob {
+    pub(crate) setup: Snapshot<Setup>,
+    pub(crate) feed: Feed,
+    pub(crate) text: Snapshot<Vec<u8>>,
+    pub(crate) sender: Snapshot<Sender>,
+}
+
+impl Promise<Fed> for FeedJob {
+    ghost use Rattle.std.specs.Prelude.{◌≡◌};
+    ghost use Rattle.nms_live.specs.Reading.{IsFed};
+
+    ghost kept_by = { λ job fed. (fed.sender.lane ≡ job.sender.value.lane) × (fed.sender.feed ≡ job.sender.value.feed)
+        × IsFed job.setup.value.roster job.feed job.text.value.items fed.sender.sent fed.stop };
+}
+
+/// Reads the text of a feed, sends its changes in order, and says that it has ended.
+pub(crate) fn feed_all<R: Wait, G: Gate>(
+    rt: &R,
+    alloc: Global,
+    setup: &Setup,
+    gate: &G,
+    feed: Feed,
+    text: &Vec<u8>,
+    mut sender: Sender,
+    has_ended: &AtomicBool,
+) -> Fed
+    requires fresh { sender.sent ≡ [] }
+    requires feed { sender.feed ≡ feed }
+    ensures lane { result.sender.lane ≡ sender.lane }
+    ensures feed { result.sender.feed ≡ sender.feed }
+    ensures fed { IsFed setup.now.roster feed text.now.items result.sender.sent result.stop }
+{
+    let stop = match send_all(rt, alloc, setup, gate, feed, text.as_slice(), &mut sender) {
+        Ok(()) => None,
+        Err(fault) => Some(fault),
+    };
+    has_ended.store(true, Ordering::SeqCst);
+    Fed { sender, stop }
+}
+
+/// Sends the changes of a text in order, up to the first record that is refused.
+fn send_all<R: Wait, G: Gate>(
+    rt: &R,
+    alloc: Global,
+    setup: &Setup,
+    gate: &G,
+    feed: Feed,
+    text: &[u8],
+    sender: &mut Sender,
+) -> Result<(), LiveFault>
+    requires fresh { sender.old.sent ≡ [] }
+    requires feed { sender.old.feed ≡ feed }
+    ensures same { (sender.new.lane ≡ sender.old.lane) × (sender.new.feed ≡ sender.old.feed) }
+    ensures read { OnOk result (IsRead setup.now.roster feed text.now sender.new.sent) }
+    ensures refused { IfErr result (IsFeedFault setup.now.roster feed text.now) }
+{
+    let mut reader = open_records(alloc, text);
+    let mut row = ByteRecord::new(alloc);
+    for index in 0..MOST_SENT {
+        match read_next(&mut reader, &mut row) {
+            Ok(true) => match send_record(rt, setup, gate, feed, index, &row, sender) {
+                Ok(()) => {}
+                Err(fault) => return Err(fault),
+            },
+            Ok(false) => return Ok(()),
+            Err(_) => return Err(LiveFault::NoMemory),
+        }
+    }
+    // No text has so many records.
+    Err(LiveFault::NoMemory)
+}
+
+/// Sends the change that a record says, with so many sent before it.
+fn send_record<R: Wait, G: Gate>(
+    rt: &R,
+    setup: &Setup,
+    gate: &G,
+    feed: Feed,
+    index: u64,
+    row: &ByteRecord,
+    sender: &mut Sender,
+) -> Result<(), LiveFault>
+    requires room { length sender.old.sent < MOST_SENT }
+    requires few { index < MOST_SENT }
+    ensures same { (sender.new.lane ≡ sender.old.lane) × (sender.new.feed ≡ sender.old.feed) }
+    ensures sent { OnOk result ((change : Change) × (feed_reading setup.now.roster feed (fields_of row.now) ≡ Ok (line.Change change))
+        × IsOwn setup.now.roster feed change × (sender.new.sent ≡ sender.old.sent ++ change ∷ [])) }
+    ensures refused { IfErr result (IsRefusal feed (index + 1) (feed_reading setup.now.roster feed (fields_of row.now))) }
+{
+    let change = match read_change(row, setup.roster(), feed) {
+        Ok(change) => change,
+        Err(fault) => {
+            return Err(LiveFault::Line {
+                feed,
+                number: index + 1,
+                fault,
+            });
+        }
+    };
+    let at = GatePoint::Send { feed, k: index };
+    if !passes(gate, at) {
+        return Err(LiveFault::GateLimit);
+    }
+    // Moving a change takes a mention of the type in it: the prover has to have seen it.
+    let _seen: Option<SideQuote> = None;
+    sender.send(rt, change);
+    gate.done(at);
+    Ok(())
+}
+
+/// What a record of a feed says: a change, if anything.
+fn read_change(row: &ByteRecord, roster: &Roster, feed: Feed) -> Result<Change, LineFault>
+    ensures said { IfOk result (λ change. feed_reading roster.now feed (fields_of row.now) ≡ Ok (line.Change change)) }
+    ensures own { IfOk result (IsOwn roster.now feed) }
+    ensures refused { IfErr result (λ fault. feed_reading roster.now feed (fields_of row.now) ≡ Err fault) }
+{
+    match read_line(row, roster, Reading::FromFeed(feed)) {
+        Ok(Line::Change(change)) => Ok(change),
+        Ok(_) => unreachable!(),
+        Err(fault) => Err(fault),
+    }
+}

@@ -1,0 +1,22 @@
+//! Which of several faults a run answers (specs/Faults).
+ghost use Rattle.std.specs.Prelude.{◌≡◌, ◌⊎◌, None};
+
+use crate::live_fault::LiveFault;
+
+/// Of two faults the one of the lower rank, else the one that there is.
+pub(crate) fn first_of(one: Option<LiveFault>, other: Option<LiveFault>) -> Option<LiveFault>
+    ensures either { (result ≡ one) ⊎ (result ≡ other) }
+    ensures none { result ≡ None → (one ≡ None) × (other ≡ None) }
+{
+    let Some(first) = one else {
+        return other;
+    };
+    let Some(second) = other else {
+        return one;
+    };
+    if second.rank() < first.rank() {
+        other
+    } else {
+        one
+    }
+}

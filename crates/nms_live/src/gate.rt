@@ -1,0 +1,60 @@
+//! The gate of a live run: a caller may hold up each send, look and publishing.
+use crate::MOST_TURNS;
+use nms_quote::Feed;
+use std::thread;
+
+/// A send, look or publishing of a live run.
+#[derive(Clone, Copy, Debug, PartialEq, Eq)]
+pub enum GatePoint {
+    /// A feed's worker sends a change.
+    Send {
+        /// The feed.
+        feed: Feed,
+        /// How many it sent before.
+        k: u64,
+    },
+    /// A desk's worker looks.
+    Look {
+        /// The desk.
+        desk: u8,
+        /// How often it looked before.
+        k: u64,
+    },
+    /// The taker publishes.
+    Publish {
+        /// How often it published before.
+        k: u64,
+    },
+}
+
+/// Says when each send, look and publishing of a live run may be made. All threads of the run use it at once.
+pub trait Gate: Sync {
+    /// Whether it may be made now. It is asked up to 1,000,000 times, until it says so.
+    fn may(&self, at: GatePoint) -> bool;
+
+    /// It was made.
+    fn done(&self, at: GatePoint);
+}
+
+/// A gate that is always open.
+#[derive(Clone, Copy, Debug)]
+pub struct OpenGate;
+
+impl Gate for OpenGate {
+    fn may(&self, _at: GatePoint) -> bool {
+        true
+    }
+
+    fn done(&self, _at: GatePoint) {}
+}
+
+/// Waits at a gate, and tells whether it opened.
+pub(crate) fn passes<G: Gate>(gate: &G, at: GatePoint) -> bool {
+    for _ in 0..MOST_TURNS {
+        if gate.may(at) {
+            return true;
+        }
+        thread::yield_now();
+    }
+    false
+}

@@ -1,0 +1,49 @@
+//! The laws above a live run. Each function does nothing: its contract is the law.
+ghost use Rattle.nms_live.specs.Headline.{AreBestOfTheirVersions};
+ghost use Rattle.nms_live.specs.Living.{IsLive};
+ghost use Rattle.nms_live.specs.RunOf.{IsSomeRun};
+
+use crate::desk_order::DeskOrder;
+use crate::live::Live;
+use nms_board::quotations_stand_by_participant;
+use nms_fees::Setup;
+use nms_flow::tape_and_queue_are_a_merge;
+use nms_nbbo::{one_best_row, some_row_is_best};
+use nms_rules::a_lawful_plan_never_trades_through;
+
+/// Each plan of a live run names one published version, no older than any that its desk saw before, whose best quotes
+/// are the rule's ranking of the changes published; it keeps the limit, sweeps in full every protected quotation
+/// better than a price it trades at, and no lawful plan on that version fills more, or as much for less with fees
+/// (17 CFR 242.600, 242.611(a), (b)(5) and (6); what is best is this product's own rule).
+pub fn each_answer_is_the_best_of_its_version(
+    setup: &Setup,
+    feed_a: &[u8],
+    feed_b: &[u8],
+    orders: &[DeskOrder],
+    live: &Live,
+)
+    requires { IsLive setup.now feed_a.now feed_b.now orders.now live.now }
+    ensures { AreBestOfTheirVersions setup.now live.now }
+{
+    one_best_row();
+    some_row_is_best();
+    quotations_stand_by_participant();
+    a_lawful_plan_never_trades_through();
+}
+
+/// What a live run came to is what the sequential machine comes to in one thread: by some run that sends what the
+/// feeds say, takes the same tape, publishes the same lengths in order, and shows each desk in order what its
+/// answers were made on, the closing ones last. This product's own rule.
+pub fn a_live_run_is_a_run_of_the_machine(
+    setup: &Setup,
+    feed_a: &[u8],
+    feed_b: &[u8],
+    orders: &[DeskOrder],
+    live: &Live,
+)
+    requires { IsLive setup.now feed_a.now feed_b.now orders.now live.now }
+    ensures { IsSomeRun setup.now feed_a.now feed_b.now live.now }
+{
+    let _room = setup.queue();
+    tape_and_queue_are_a_merge();
+}

@@ -1,0 +1,32 @@
+//! The live run: two feeds send, a taker publishes, desks plan on what is published, each in its own thread; and
+//! of all that they did together it is proved what it was worth.
+#![tactic(auto)]
+
+mod answer;
+mod closing;
+mod desk_order;
+mod desk_work;
+mod fed_feed;
+mod first_fault;
+mod gate;
+mod gathering;
+mod keeper;
+mod laws;
+mod live;
+mod live_fault;
+mod living;
+mod taking;
+mod workers;
+
+/// How many changes are appended at most before the tape is published. This product's own rule.
+pub const MOST_WAITING: u64 = 64;
+/// How many turns a thread waits at a gate. This product's own rule.
+pub const MOST_TURNS: u32 = 1_000_000;
+
+pub use answer::Answer;
+pub use desk_order::DeskOrder;
+pub use gate::{Gate, GatePoint, OpenGate};
+pub use laws::{a_live_run_is_a_run_of_the_machine, each_answer_is_the_best_of_its_version};
+pub use live::Live;
+pub use live_fault::LiveFault;
+pub use living::run_live;

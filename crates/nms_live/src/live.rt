@@ -1,0 +1,16 @@
+//! What a live run came to (specs/Living).
+use crate::answer::Answer;
+use nms_quote::Change;
+
+/// What a live run came to.
+#[derive(Debug, Drop)]
+pub struct Live {
+    /// All changes of both feeds, in the order in which they were taken.
+    pub tape: Vec<Change>,
+    /// The length of the tape at each publishing, in order.
+    pub published: Vec<u64>,
+    /// For each order the answer that its desk made while the feeds were running, in order.
+    pub answers: Vec<Answer>,
+    /// For each order the answer that its desk made on the whole tape, in order.
+    pub closing: Vec<Answer>,
+}

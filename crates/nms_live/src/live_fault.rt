@@ -1,0 +1,68 @@
+//! Why a live run gave nothing (specs/Faults).
+ghost use Rattle.std.specs.Prelude.{◌≡◌};
+ghost use Rattle.nms_live.specs.Faults.{code_of, rank_of};
+
+use nms_lines::LineFault;
+use nms_quote::Feed;
+use thiserror::Error;
+
+/// Why a live run gave nothing. All threads have ended, and nothing is left of it.
+#[derive(Clone, Copy, Debug, PartialEq, Eq, Error)]
+pub enum LiveFault {
+    /// E5: a record of a feed was refused, the first one of that feed.
+    #[error("E5: {fault}")]
+    Line {
+        /// The feed.
+        feed: Feed,
+        /// The record's number in its feed, from 1.
+        number: u64,
+        /// Its fault.
+        fault: LineFault,
+    },
+    /// E6: no tape or lane was opened, or a thread could not be started.
+    #[error("E6: the run could not be opened")]
+    Open,
+    /// E7: a change could not be appended: the tape was full, or memory ran out.
+    #[error("E7: a change was not appended")]
+    Append,
+    /// E8: a look gave no reading, or a desk could not be settled.
+    #[error("E8: a desk had no reading")]
+    Desk,
+    /// E9: a gate did not open in 1,000,000 turns.
+    #[error("E9: a gate did not open")]
+    GateLimit,
+    /// E10: out of memory.
+    #[error("E10: out of memory")]
+    NoMemory,
+}
+
+impl LiveFault {
+    /// The code of the fault, `E5` to `E10`.
+    pub fn code(self) -> &'static str
+        ensures { result.now ≡ code_of self }
+    {
+        match self {
+            LiveFault::Line { .. } => "E5",
+            LiveFault::Open => "E6",
+            LiveFault::Append => "E7",
+            LiveFault::Desk => "E8",
+            LiveFault::GateLimit => "E9",
+            LiveFault::NoMemory => "E10",
+        }
+    }
+
+    /// Of several faults of a run the one of least rank is answered.
+    pub(crate) fn rank(self) -> u8
+        ensures { result ≡ rank_of self }
+    {
+        match self {
+            LiveFault::Open => 0,
+            LiveFault::Line { feed: Feed::A, .. } => 1,
+            LiveFault::Line { feed: Feed::B, .. } => 2,
+            LiveFault::Append => 3,
+            LiveFault::Desk => 4,
+            LiveFault::GateLimit => 5,
+            LiveFault::NoMemory => 6,
+        }
+    }
+}
