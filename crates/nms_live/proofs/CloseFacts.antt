@@ -1,6 +1,7 @@
 -- What follows once a desk has settled: each version that it knew begins the tape, and was published.
-use Rattle.std.proofs.Common.{ℕ, ◌≡◌, ◌≤◌, ◌⊎◌, ◌++◌, List, [], ◌∷◌, length, take, refl, ap, sym, subst, ◌∙◌, inl, inr, arith}
+use Rattle.std.proofs.Common.{ℕ, ◌≡◌, ◌≤◌, ◌⊎◌, ◌++◌, List, [], ◌∷◌, length, take, ap, sym, subst, ◌∙◌, inl, inr, arith}
 use Rattle.std.specs.List.{AllByRecursion, Contains}
+use Rattle.std.proofs.Math.Seq.{take-append_seam}
 use mathlib.Core.List.{IsPrefix, map-append}
 use Rattle.nms_quote.specs.Tape.{Tape, version}
 use Rattle.nms_fees.specs.Settings.{Settings}
@@ -11,14 +12,10 @@ use Rattle.nms_live.specs.Answering.{IsBestOn, IsClosed, IsSound, IsWorked, vers
 use Rattle.nms_live.specs.Lists.{IsRising, SomeOf}
 use Rattle.nms_live.specs.declared.answer.Answer.{Answer}
 use Rattle.nms_live.specs.declared.desk_order.DeskOrder.{DeskOrder}
-use Rattle.nms_live.proofs.NumberFacts.{all_weaker}
-
-take_front : {X : Type 0} (xs ys : List X) → take (length xs) (xs ++ ys) ≡ xs
-take_front [] ys = refl
-take_front (x ∷ xs) ys = ap (λ l. x ∷ l) (take_front xs ys)
+use Rattle.nms_live.proofs.NumberFacts.{all_append, all_weaker}
 
 prefix_take : (front tape : Tape) → IsPrefix front tape → version (length front) tape ≡ front
-prefix_take front tape p = ap (take (length front)) (sym p.1) ∙ take_front front p.0
+prefix_take front tape p = ap (take (length front)) (sym p.1) ∙ take-append_seam front p.0
 
 -- every publication is 0 or was listed
 abbrev pub AreListed : Batches → List ℕ → Type 0
@@ -61,10 +58,6 @@ sound_all settings published listed tape known (answer ∷ answers) listed_all s
 some_later : {X : Type 0} (P : X → Type 0) (xs ys : List X) → SomeOf P ys → SomeOf P (xs ++ ys)
 some_later P [] ys some = some
 some_later P (x ∷ xs) ys some = inr (some_later P xs ys some)
-
-all_append : {X : Type 0} (P : X → Type 0) (xs ys : List X) → AllByRecursion P xs → AllByRecursion P ys → AllByRecursion P (xs ++ ys)
-all_append P [] ys h k = k
-all_append P (x ∷ xs) ys h k = (h.0, all_append P xs ys h.1 k)
 
 rising_append : (xs ys : List ℕ) (m : ℕ) → IsRising xs → IsRising ys → AllByRecursion (λ n. n ≤ m) xs → AllByRecursion (λ n. m ≤ n) ys → IsRising (xs ++ ys)
 rising_append [] ys m one other low high = other

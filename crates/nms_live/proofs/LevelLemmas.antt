@@ -5,6 +5,7 @@ use Rattle.std.specs.List.{AllByRecursion, Contains, last_or}
 use Rattle.std.proofs.lemmas.Bool.{cases_lt, eq-eqb, le-ltb, lt-ltb, ne_eqb}
 use Rattle.std.proofs.lemmas.Bool.Decides.{eqb_tells}
 use Rattle.nms_live.specs.Lists.{EndsWith, IsRising}
+use Rattle.nms_live.proofs.NumberFacts.{all_weaker}
 
 -- those below a level
 abbrev pub below : {X : Type 0} → (X → ℕ) → ℕ → List X → List X
@@ -29,10 +30,6 @@ module _ {X : Type 0} (key : X → ℕ) where
   all_below level [] all = refl
   all_below level (x ∷ xs) all = rw (lt-ltb (key x) level all.0) (ap (λ l. x ∷ l) (all_below level xs all.1))
 
-  least_of : (low high : ℕ) (ns : List ℕ) → low ≤ high → AllByRecursion (λ n. high ≤ n) ns → AllByRecursion (λ n. low ≤ n) ns
-  least_of low high [] le all = tt
-  least_of low high (n ∷ ns) le all = (omega (arith, all.0), least_of low high ns le all.1)
-
   -- those below a level, then those on it
   pub next_level : (level : ℕ) (xs : List X) → IsRising (map key xs) → below key level xs ++ on key level xs ≡ below key (level + 1) xs
   next_level level [] rising = refl
@@ -45,7 +42,7 @@ module _ {X : Type 0} (key : X → ℕ) where
           rw (le-ltb (key x) level (omega arith), le-ltb (key x) (level + 1) (omega arith), ne_eqb (key x) level (λ e. omega (arith, e)))
           (next_level level xs rising.1)
       | inr most ↦
-          let none : below key level xs ≡ [] = none_below level xs (least_of level (key x) (map key xs) least rising.0) in
+          let none : below key level xs ≡ [] = none_below level xs (all_weaker (λ n. key x ≤ n) (λ n. level ≤ n) (map key xs) (λ n h. omega (arith, h, least)) rising.0) in
           let rest : on key level xs ≡ below key (level + 1) xs = ap (λ l. l ++ on key level xs) (sym none) ∙ next_level level xs rising.1 in
           rw (le-ltb (key x) level least, lt-ltb (key x) (level + 1) (omega arith), eq-eqb (key x) level (omega arith))
           (ap (λ l. l ++ x ∷ on key level xs) none ∙ ap (λ l. x ∷ l) rest)

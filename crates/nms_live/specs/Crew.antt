@@ -1,17 +1,18 @@
 -- The desks' workers as they start, as they come back, and what all workers came to. This product's own rule.
-use Rattle.std.specs.Prelude.{ℕ, ◌≡◌, ◌<◌, List, length, slice_index_or, None}
+use Rattle.std.specs.Prelude.{ℕ, ◌≡◌, ◌<◌, List, [], ◌∷◌, length, slice_index_or, Option, None}
 use Rattle.std.specs.declared.thread.PromisedHandle.{PromisedHandle}
 use Rattle.nms_quote.specs.Roster.{sizes_of}
 use Rattle.nms_fees.specs.Settings.{Settings}
 use Rattle.nms_versions.specs.Taped.{Knowing, tape_of}
 use Rattle.nms_versions.specs.Pages.{Book}
 use Rattle.nms_live.specs.Answering.{IsDesked, IsWorked}
-use Rattle.nms_live.specs.Faults.{IsNoLineIfAny}
+use Rattle.nms_live.specs.Faults.{IsNoLineIfAny, first_fault}
 use Rattle.nms_live.specs.Keeping.{IsWhole, Keeping}
 use Rattle.nms_live.specs.Reading.{IsTapeOf}
 use Rattle.nms_live.specs.declared.desk_order.DeskOrder.{DeskOrder}
 use Rattle.nms_live.specs.declared.desk_work.DeskJob.{DeskJob}
 use Rattle.nms_live.specs.declared.desk_work.Desked.{Desked}
+use Rattle.nms_live.specs.declared.live_fault.LiveFault.{LiveFault}
 
 -- each desk is of the opening and the roster
 abbrev pub AreReady : Settings → Book → List Knowing → Type 0
@@ -45,6 +46,11 @@ pub record IsBack (settings : Settings) (orders : List DeskOrder) (opening : Boo
 abbrev pub AreBack : Settings → List DeskOrder → Book → List Desked → Type 0
 AreBack settings orders opening desks =
     (k : ℕ) (d : Desked) → k < length desks → IsBack settings orders opening k (slice_index_or desks k d)
+
+-- the first of a fault and those that the desks' workers stopped with
+abbrev pub first_among : Option LiveFault → List Desked → Option LiveFault
+first_among fault [] = fault
+first_among fault (desk ∷ desks) = first_among (first_fault fault desk.stop) desks
 
 -- all workers came back and none stopped: the tape is a merge of the feeds, all of it is published, and each desk
 -- answered its orders

@@ -1,5 +1,5 @@
 -- The codes of a live run's faults, and which of several is answered. This product's own rule.
-use Rattle.std.specs.Prelude.{ℕ, ⊤, List, codes, Option, Some, None}
+use Rattle.std.specs.Prelude.{ℕ, ⊤, List, codes, nat_lt, Option, Some, None, if◌then◌else◌}
 use Rattle.nms_quote.specs.declared.feed.Feed.TheVariants as feed
 use Rattle.nms_live.specs.declared.live_fault.LiveFault.{LiveFault}
 use Rattle.nms_live.specs.declared.live_fault.LiveFault.TheVariants as fault
@@ -21,6 +21,12 @@ rank_of fault.Append = 3
 rank_of fault.Desk = 4
 rank_of fault.GateLimit = 5
 rank_of fault.NoMemory = 6
+
+-- of two faults the one of the lower rank, of equal ranks the first; else the one that there is
+abbrev pub first_fault : Option LiveFault → Option LiveFault → Option LiveFault
+first_fault None other = other
+first_fault (Some one) None = Some one
+first_fault (Some one) (Some other) = if nat_lt (rank_of other) (rank_of one) then Some other else Some one
 
 -- it is not the fault of a record
 abbrev pub IsNoLine : LiveFault → Type 0

@@ -1,10 +1,12 @@
 //! Which of several faults a run answers (specs/Faults).
 ghost use Rattle.std.specs.Prelude.{◌≡◌, ◌⊎◌, None};
+ghost use Rattle.nms_live.specs.Faults.{first_fault};
 
 use crate::live_fault::LiveFault;
 
-/// Of two faults the one of the lower rank, else the one that there is.
+/// Of two faults the one of the lower rank, of equal ranks the first; else the one that there is.
 pub(crate) fn first_of(one: Option<LiveFault>, other: Option<LiveFault>) -> Option<LiveFault>
+    ensures first { result ≡ first_fault one other }
     ensures either { (result ≡ one) ⊎ (result ≡ other) }
     ensures none { result ≡ None → (one ≡ None) × (other ≡ None) }
 {

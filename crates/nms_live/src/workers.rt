@@ -1,5 +1,6 @@
 //! The threads of a live run, and what they gave back (specs/Crew).
 ghost use Rattle.std.specs.Prelude.{◌≡◌, ℕ, ◌<◌, ◌≤◌, ◌⊎◌, List, [], length, slice_index_or, None, IfErr, IfOk, IfSome};
+ghost use Rattle.std.specs.Vec.{vec_len, vec_capacity};
 ghost use Rattle.std.specs.declared.thread.PromisedHandle.{PromisedHandle};
 ghost use Rattle.nms_quote.specs.declared.feed.Feed.TheVariants as feed;
 ghost use Rattle.nms_quote.specs.Roster.{sizes_of};
@@ -7,7 +8,7 @@ ghost use Rattle.nms_versions.specs.Taped.{Knowing, tape_of};
 ghost use Rattle.nms_flow.specs.Run.{changes_in};
 ghost use Rattle.nms_quote.specs.Merge.{IsMerge};
 ghost use Rattle.nms_quote.specs.declared.marked.Marked.{Marked};
-ghost use Rattle.nms_live.specs.Crew.{AreReady, AreStarted, IsDone, KeepsJob};
+ghost use Rattle.nms_live.specs.Crew.{AreReady, AreStarted, IsDone, KeepsJob, first_among};
 ghost use Rattle.nms_live.specs.Faults.{IsNoLine, IsNoLineIfAny};
 ghost use Rattle.nms_live.specs.Keeping.{HasTaken, IsSameKeeping, IsWhole};
 ghost use Rattle.nms_live.specs.Reading.{IsFed, IsLiveFault, IsTapeOf};
@@ -52,6 +53,10 @@ fn start_desks<'s, E, G: Gate>(
     // They are few enough for their numbers.
     let _most = setup.desks();
     let mut handles = Vec::new(alloc);
+    // A worker that was started must be heard out: so there is room for it before.
+    if handles.reserve(desks.len()).is_err() {
+        return Err(LiveFault::NoMemory);
+    }
     let mut number = 0u8;
     for desk in desks {
         let job = DeskJob {
@@ -78,25 +83,30 @@ fn start_desks<'s, E, G: Gate>(
     Ok(handles)
 }
 
-/// Waits for the desks' workers.
+/// Waits for the desks' workers. There is room for what they give back, so no fault of theirs is lost.
 fn join_desks<R: Threads>(
     rt: &R,
     handles: Vec<PromisedHandle<Desked, DeskJob>>,
-) -> Result<Vec<Desked>, LiveFault>
-    ensures all { IfOk result (λ desks. length desks.items ≡ length handles.items) }
-    ensures kept { IfOk result (λ desks. (k : ℕ) (d : Desked) (h : PromisedHandle Desked DeskJob) → k < length desks.items
-        → KeepsJob (slice_index_or handles.items k h).promise (slice_index_or desks.items k d)) }
-    ensures fault { IfErr result IsNoLine }
+    mut back: Vec<Desked>,
+) -> Vec<Desked>
+    requires empty { back.items ≡ [] }
+    requires room { vec_len handles ≤ vec_capacity back }
+    ensures all { length result.items ≡ length handles.items }
+    ensures kept { (k : ℕ) (d : Desked) (h : PromisedHandle Desked DeskJob) → k < length result.items
+        → KeepsJob (slice_index_or handles.items k h).promise (slice_index_or result.items k d) }
 {
-    match thread::join_promised(rt, handles) {
-        Ok(desks) => Ok(desks),
-        Err(_) => Err(LiveFault::NoMemory),
+    for handle in handles {
+        let Ok(()) = back.push(handle.join(rt)) else {
+            unreachable!()
+        };
     }
+    back
 }
 
 /// The fault that is answered, of those that the desks' workers stopped with and one more.
 fn fault_among(fault: Option<LiveFault>, desks: &[Desked]) -> Option<LiveFault>
     requires no_line { (k : ℕ) (d : Desked) → k < length desks.now → IsNoLineIfAny (slice_index_or desks.now k d).stop }
+    ensures first { result ≡ first_among fault desks.now }
     ensures none { result ≡ None → (fault ≡ None) × ((k : ℕ) (d : Desked) → k < length desks.now → (slice_index_or desks.now k d).stop ≡ None) }
     ensures some { (result ≡ fault) ⊎ IsNoLineIfAny result }
 {
@@ -237,12 +247,16 @@ fn run_workers<'s, E, R: Threads + Wait + Sync, G: Gate>(
     ensures done { IfOk result (λ desks. IsDone setup.now text_a.now.items text_b.now.items orders.now.items keeper.new desks.items) }
     ensures fault { IfErr result (IsLiveFault setup.now.roster text_a.now.items text_b.now.items) }
 {
+    let mut back = Vec::new(alloc);
+    if back.reserve(desks.len()).is_err() {
+        return Err(LiveFault::NoMemory);
+    }
     let handles = start_desks(scope, alloc, setup, gate, desks, orders)?;
     let (a, b, taker) = ends;
     let fed = run_feeds(
         scope, rt, alloc, setup, gate, text_a, text_b, ended_a, ended_b, keeper, a, b, taker,
     );
-    let desks = join_desks(rt, handles)?;
+    let desks = join_desks(rt, handles, back);
     match fault_among(first_of(fed, keeper.stop()), desks.as_slice()) {
         None => Ok(desks),
         Some(fault) => Err(fault),
