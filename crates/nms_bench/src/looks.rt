@@ -28,6 +28,8 @@ const BATCH: u32 = 64;
 struct Seat {
     desk: Desk,
     rows: u64,
+    /// Keeps the next seat, which another thread writes, off this one's cache lines.
+    _apart: [u64; 16],
 }
 
 /// Makes so many looks by each desk, each in a thread of its own, at a row of each side. Tells how many rows stood
@@ -94,7 +96,11 @@ fn run<R: Threads + Wait + Clock + Sync>(
 fn seats_of(alloc: Global, desks: Vec<Desk>) -> Result<Vec<Seat>, AllocError> {
     let mut seats = Vec::new(alloc);
     for desk in desks {
-        seats.push(Seat { desk, rows: 0 })?;
+        seats.push(Seat {
+            desk,
+            rows: 0,
+            _apart: [0; 16],
+        })?;
     }
     Ok(seats)
 }

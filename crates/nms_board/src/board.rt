@@ -1,9 +1,10 @@
 //! Every participant's quotations in every symbol, and the changes that alter them: `specs/Cells`.
-ghost use Rattle.std.specs.Prelude.{◌≡◌, ℕ, ◌+◌, ◌*◌, ◌<◌, ◌≤◌, All, List, [], ◌∷◌, ◌++◌, length, map, vec_len, true, fold, IfOk, nat_lt, slice_get};
+ghost use Rattle.std.specs.Prelude.{◌≡◌, ℕ, ◌+◌, ◌*◌, ◌<◌, ◌≤◌, All, List, [], ◌∷◌, ◌++◌, length, map, vec_len, true, fold, IfOk, Some, nat_lt, slice_get};
 ghost use Rattle.std.specs.List.{cons_option};
 ghost use Rattle.nms_quote.specs.Roster.{holds, sizes_of};
 ghost use Rattle.nms_quote.specs.Tape.{Tape};
 ghost use Rattle.nms_quote.specs.declared.side_quote.Side.{Side};
+ghost use Rattle.nms_quote.specs.declared.side_quote.Side.TheVariants.{Bid, Offer};
 ghost use Rattle.nms_board.specs.Cells.{place_of, withdraw_from};
 
 use crate::MOST_ROWS;
@@ -48,7 +49,7 @@ impl Model for Boards {
 
 impl Boards {
     ghost use Rattle.nms_board.specs.Cells.{Board, StandsFor, after, opening, takes};
-    ghost use Rattle.nms_board.specs.Shown.{row_held, seen_on};
+    ghost use Rattle.nms_board.specs.Shown.{row_held, rows_held, seen_on};
     ghost use Rattle.nms_board.specs.View.{rows_on, view_of};
 
     /// The board of a roster with nothing on it. Every cell of every symbol is made here.
@@ -190,18 +191,39 @@ impl Boards {
             → result ≡ view_of self.now.sizes tape sym }
         ensures parts { (side : Side) → All (λ row. row.part < self.now.sizes.parts) (rows_on side result) }
     {
-        let mut bids = ArrayVec::new_in(());
-        let mut offers = ArrayVec::new_in(());
-        let Some(lot) = self.lot_of(sym) else {
-            return View::new(self.applied, sym, bids, offers);
+        let mut view = View {
+            version: self.applied,
+            sym,
+            bids: ArrayVec::new_in(()),
+            offers: ArrayVec::new_in(()),
         };
+        let Some(lot) = self.lot_of(sym) else {
+            return view;
+        };
+        self.show(sym, lot, &mut view.bids, &mut view.offers);
+        view
+    }
+
+    /// Appends the quotations of a symbol in lots of that size to the rows of the sides.
+    fn show(
+        &self,
+        sym: Sym,
+        lot: Lot,
+        bids: &mut ArrayVec<Row, MOST_ROWS>,
+        offers: &mut ArrayVec<Row, MOST_ROWS>,
+    )
+        requires lot { slice_get self.now.sizes.lots sym ≡ Some lot }
+        requires bids { bids.old.items ≡ [] }
+        requires offers { offers.old.items ≡ [] }
+        ensures bids { bids.new.items ≡ rows_held self.now sym Bid }
+        ensures offers { offers.new.items ≡ rows_held self.now sym Offer }
+    {
         for place in 0..self.parts {
             let part = Part::new(place).unwrap();
             let cell = &self.cells[place_of(part, sym)];
-            push_some(&mut bids, cell.row(Side::Bid, part, lot));
-            push_some(&mut offers, cell.row(Side::Offer, part, lot));
+            push_some(bids, cell.row(Side::Bid, part, lot));
+            push_some(offers, cell.row(Side::Offer, part, lot));
         }
-        View::new(self.applied, sym, bids, offers)
     }
 }
 

@@ -7,13 +7,11 @@ use Rattle.std.specs.declared.snapshot.Snapshot.{Snapshot}
 use Rattle.logbook.specs.Pages.{Book}
 use Rattle.nms_quote.specs.Roster.{Sizes}
 use Rattle.nms_quote.specs.declared.change.Change.{Change}
-use Rattle.nms_board.specs.View.{view_of}
 use Rattle.nms_board.specs.Cells.{Board, StandsFor, after, takes}
 use Rattle.nms_versions.specs.Published.{changes}
 use Rattle.nms_versions.specs.declared.batch.Batch.{Batch}
 use Rattle.nms_versions.specs.declared.sealed.Sealed.{Sealed}
 use Rattle.nms_versions.specs.declared.known.Known.{Known}
-use Rattle.nms_versions.specs.declared.shown.Shown.{Shown}
 
 -- a change that the board does not take leaves it
 abbrev pub after_taken : Board → Change → Board
@@ -55,8 +53,3 @@ sizes_shown (Some shown) = shown.value.boards.sizes
 -- the roster's sizes, once the opening is known
 abbrev pub sizes_known : Known → Sizes
 sizes_known known = sizes_shown known.opening
-
--- what a reader found: the symbol's view of what was published, in the opening that it knows
-pub record IsShown (known : Known) (sym : ℕ) (shown : Shown) : Type 0 where
-  pub book : (named : Snapshot Sealed) → known.opening ≡ Some named → named.value.seen.book ≡ shown.seen.book
-  pub view : (named : Snapshot Sealed) → known.opening ≡ Some named → shown.view ≡ view_of named.value.boards.sizes (changes shown.seen.log) sym

@@ -4,7 +4,6 @@ ghost use Rattle.std.specs.List.{AllByRecursion, Contains};
 ghost use Rattle.nms_quote.specs.Tape.{Tape};
 ghost use Rattle.nms_board.specs.View.{view_of};
 ghost use Rattle.nms_versions.specs.Published.{changes, publications};
-ghost use Rattle.nms_versions.specs.Rule.{IsShown};
 ghost use Rattle.nms_versions.specs.Taped.{AllBegin, longest_of};
 ghost use Rattle.nms_versions.specs.declared.settled.Unsettled.TheVariants as unsettled;
 
@@ -14,8 +13,6 @@ use crate::no_reading::NoReading;
 use crate::receipt::Receipt;
 use crate::rule::{PairReader, Reading};
 use crate::settled::{Settled, Unsettled};
-use crate::shown::Shown;
-use core::mem::replace_with;
 use nms_board::View;
 use nms_quote::Sym;
 use std::marker::Model;
@@ -23,7 +20,8 @@ use std::marker::Model;
 /// Looks at what is published, and never at a version older than one that it saw or was told of.
 #[derive(Drop)]
 pub struct Desk {
-    pub(crate) reader: PairReader,
+    /// A look takes it out and puts it back.
+    pub(crate) reader: Option<PairReader>,
     pub(crate) memory: Memory,
     /// The longest version that it knows, and how many changes that has.
     pub(crate) newest: Token,
@@ -31,17 +29,18 @@ pub struct Desk {
 }
 
 impl Model for Desk {
-    ghost use Rattle.std.specs.Prelude.{map};
+    ghost use Rattle.std.specs.Prelude.{map, IfSome, IsSome};
+    ghost use Rattle.std.specs.Option.{option_and_then};
     ghost use Rattle.nms_versions.specs.Memory.{Remembers};
     ghost use Rattle.nms_versions.specs.Published.{changes};
-    ghost use Rattle.nms_versions.specs.Rule.{IsNamed, sizes_known};
+    ghost use Rattle.nms_versions.specs.Rule.{IsNamed, sizes_shown};
     ghost use Rattle.nms_versions.specs.Taped.{Knowing};
 
     ghost Value = { Knowing };
 
-    ghost view = { λ d. record { opening = d.newest.book; sizes = sizes_known d.reader.place.me.0.client; known = map changes d.memory } };
+    ghost view = { λ d. record { opening = d.newest.book; sizes = sizes_shown (option_and_then (λ r. r.place.me.0.client.opening) d.reader); known = map changes d.memory } };
 
-    ghost invariant = { λ d. IsNamed d.reader.place.me.0.client d.newest.book × Remembers d.newest.log d.longest d.memory };
+    ghost invariant = { λ d. IsSome d.reader × IfSome d.reader (λ r. IsNamed r.place.me.0.client d.newest.book) × Remembers d.newest.log d.longest d.memory };
 }
 
 impl Desk {
@@ -68,18 +67,28 @@ impl Desk {
             × AllBegin version self.old.known × (self.new ≡ record self.old { known = version ∷ self.old.known })) }
         ensures unchanged { OnErr result (self.new ≡ self.old) }
     {
-        let Ok(Shown { view, seen }) = replace_with(&mut self.reader, sym, take_shown) else {
-            return Err(NoReading);
+        let reader = self.reader.take().unwrap();
+        let reading = match reader.enter_as::<Reading>() {
+            Ok(reading) => reading,
+            Err(reader) => {
+                self.reader = Some(reader);
+                return Err(NoReading);
+            }
         };
-        let version = view.version();
+        let sealed = reading.get();
+        let version = sealed.boards.applied();
+        let seen = sealed.seen.again();
         let mut both = self.newest.again();
         both.learn(&seen);
         if version < self.longest {
+            self.reader = Some(reading.leave());
             return Err(NoReading);
         }
         self.memory = self.memory.with(seen.again());
         self.longest = version;
         self.newest = seen;
+        let view = sealed.boards.view(sym);
+        self.reader = Some(reading.leave());
         Ok(view)
     }
 
@@ -103,21 +112,5 @@ impl Desk {
         let mut both = self.newest.again();
         both.learn(&receipt.seen);
         Ok(Settled { version })
-    }
-}
-
-/// Takes what is shown of a symbol, and gives the reader back.
-fn take_shown(reader: PairReader, sym: Sym) -> (PairReader, Result<Shown, NoReading>)
-    ensures same { result.0.place.me.0.client ≡ reader.place.me.0.client }
-    ensures shown { IfOk result.1 (IsShown reader.place.me.0.client sym) }
-{
-    match reader.enter_as::<Reading>() {
-        Ok(reading) => {
-            let sealed = reading.get();
-            let view = sealed.boards.view(sym);
-            let seen = sealed.seen.again();
-            (reading.leave(), Ok(Shown { view, seen }))
-        }
-        Err(reader) => (reader, Err(NoReading)),
     }
 }

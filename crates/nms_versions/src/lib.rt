@@ -17,7 +17,6 @@ mod receipt;
 mod rule;
 mod sealed;
 mod settled;
-mod shown;
 
 pub use append_fault::AppendFault;
 pub use desk::Desk;

@@ -147,7 +147,7 @@ fn make_desk(writer: &mut PairWriter, seen: &Token) -> Result<Desk, OpenFault>
     };
     reader.learn::<Learning>(writer.tell::<Telling>());
     Ok(Desk {
-        reader,
+        reader: Some(reader),
         memory: Memory::of(seen.again()),
         newest: seen.again(),
         longest: 0,

@@ -2,7 +2,7 @@ use Rattle.std.proofs.Common.{◌≡◌}
 use Rattle.std.specs.List.{filter_map, range_with_len}
 use Rattle.nms_quote.specs.declared.side_quote.Side.TheVariants.{Bid, Offer}
 use Rattle.nms_board.specs.Shown.{row_held}
-use Rattle.nms_board.proofs.board.Boards.view.Given as goal
+use Rattle.nms_board.proofs.board.Boards.show.Given as goal
 
 -- the rows of the participants so far
 abbrev pub invariant-loop-place : goal.invariant-loop-place
