@@ -1,7 +1,7 @@
 mod ProgressFacts
 mod ScriptFacts
 mod Texts
-mod ChangeFacts
+mod LineFacts
 mod ColumnFacts
 mod PairFacts
 mod ReportFacts

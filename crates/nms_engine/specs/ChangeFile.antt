@@ -1,10 +1,11 @@
 -- A file of changes: what a line of it says, the tape that its lines make, the first line that is refused,
 -- and the report of one symbol after them. This product's own rule.
-use Rattle.std.specs.Prelude.{ℕ, ⊤, ◌≡◌, ◌≤◌, ◌++◌, ◌∷◌, Bool, true, false, List, length, map, Option, Some, None, Result, Ok, Err}
+use Rattle.std.specs.Prelude.{ℕ, ⊤, ◌≡◌, ◌≤◌, All, Bool, true, false, List, length, Option, Result, Ok, Err}
 use Rattle.std.specs.Io.KnownBytes.{Appends}
-use Rattle.nms_quote.specs.Roster.{Listing, sizes_of}
+use Rattle.nms_quote.specs.Roster.{Listing, holds, sizes_of}
 use Rattle.nms_quote.specs.Tape.{Tape}
 use Rattle.nms_quote.specs.declared.change.Change.{Change}
+use Rattle.nms_quote.specs.declared.TheConstants.{MOST_CHANGES}
 use Rattle.nms_board.specs.View.{view_of}
 use Rattle.nms_fees.specs.Settings.{Settings}
 use Rattle.nms_lines.specs.Faults.{◌>>=◌}
@@ -20,6 +21,7 @@ use Rattle.nms_engine.specs.declared.changes_fault.ChangesFault.{ChangesFault}
 use Rattle.nms_engine.specs.declared.changes_fault.ChangesFault.TheVariants as fault
 use Rattle.nms_engine.specs.declared.changes_fault.ReportFault.{ReportFault}
 use Rattle.nms_engine.specs.declared.changes_fault.ReportFault.TheVariants as report_fault
+use Rattle.nms_engine.specs.LineFile.{AreSaid, IsFirstRefused}
 use Rattle.nms_engine.specs.Report.{IsReport}
 
 -- the change of a line that is one
@@ -33,7 +35,7 @@ change_reading roster fields = reading roster source.Changes fields >>= change_i
 
 -- each line says the change of the tape at its place, and the tape is within its limit
 pub record IsTapeOf (settings : Settings) (records : List Record) (tape : Tape) : Type 0 where
-  pub said : map (change_reading settings.roster) records ≡ map (λ change. Ok change) tape
+  pub said : AreSaid (change_reading settings.roster) records tape
   pub within : length tape ≤ settings.tape_limit
 
 -- why a line is refused behind so many changes: its own fault, else that the tape has no room
@@ -41,15 +43,9 @@ abbrev pub IsRefusedAfter : Settings → ℕ → Result Change LineFault → Cha
 IsRefusedAfter settings taken (Err own) refused = refused ≡ fault.Line own
 IsRefusedAfter settings taken (Ok change) refused = (refused ≡ fault.TapeFull) × (settings.tape_limit ≤ taken)
 
--- the first line that is refused: those before it are a tape
-pub record IsFirstRefused (settings : Settings) (records : List Record) (why : ChangesFault) : Type 0 where
-  pub before : List Record
-  pub line : Record
-  pub behind : List Record
-  pub tape : Tape
-  pub parted : records ≡ before ++ line ∷ behind
-  pub taken : IsTapeOf settings before tape
-  pub refused : IsRefusedAfter settings (length tape) (change_reading settings.roster line) why
+-- why one more line is refused behind a tape
+abbrev pub IsRefusedBehind : Settings → Tape → Record → ChangesFault → Type 0
+IsRefusedBehind settings tape line why = IsRefusedAfter settings (length tape) (change_reading settings.roster line) why
 
 -- whether a fault is that of a line, and not of the source or of memory
 abbrev pub is_of_line : ChangesFault → Bool
@@ -64,12 +60,18 @@ IsFileTape settings bytes tape = (records : List Record) × AreAllRecords bytes 
 
 -- where a file is refused for a line, that is the first one that is refused
 abbrev pub IsFileFault : Settings → Option (List ℕ) → ChangesFault → Type 0
-IsFileFault settings bytes refused = is_of_line refused ≡ true → (records : List Record) × AreAllRecords bytes records × IsFirstRefused settings records refused
+IsFileFault settings bytes why =
+    is_of_line why ≡ true → (records : List Record) × AreAllRecords bytes records × IsFirstRefused (IsTapeOf settings) (λ tape line. IsRefusedBehind settings tape line why) records
 
--- the tape of the lines so far, or the fault of the first that was refused
-abbrev pub HasTaken : Settings → List Record → Tape → Option ChangesFault → Type 0
-HasTaken settings records tape None = IsTapeOf settings records tape
-HasTaken settings records tape (Some refused) = is_of_line refused ≡ true → IsFirstRefused settings records refused
+-- the changes of the lines so far: a tape, of the roster, and within what any tape holds
+pub record AreChangesOf (settings : Settings) (records : List Record) (tape : Tape) : Type 0 where
+  pub tape_of : IsTapeOf settings records tape
+  pub held : All (λ change. holds (sizes_of settings.roster) change ≡ true) tape
+  pub few : length tape ≤ MOST_CHANGES
+
+-- why one more line is refused, as far as the line is the cause
+abbrev pub IsLineFault : Settings → Tape → Record → ChangesFault → Type 0
+IsLineFault settings tape line why = is_of_line why ≡ true → IsRefusedBehind settings tape line why
 
 -- the report of a symbol after all the changes of a file was written, and nothing else
 pub record ReportsFile (settings : Settings) (bytes : Option (List ℕ)) (sym : ℕ) (old new : Option (List ℕ)) : Type 0 where

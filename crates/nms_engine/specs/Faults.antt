@@ -7,6 +7,10 @@ use Rattle.nms_engine.specs.declared.changes_fault.ChangesFault.{ChangesFault}
 use Rattle.nms_engine.specs.declared.changes_fault.ChangesFault.TheVariants as changes_fault
 use Rattle.nms_engine.specs.declared.changes_fault.ReportFault.{ReportFault}
 use Rattle.nms_engine.specs.declared.changes_fault.ReportFault.TheVariants as report_fault
+use Rattle.nms_engine.specs.declared.live_text_fault.LiveTextFault.{LiveTextFault}
+use Rattle.nms_engine.specs.declared.live_text_fault.LiveTextFault.TheVariants as live_text_fault
+use Rattle.nms_engine.specs.declared.orders_fault.OrdersFault.{OrdersFault}
+use Rattle.nms_engine.specs.declared.orders_fault.OrdersFault.TheVariants as orders_fault
 use Rattle.nms_engine.specs.declared.plan_fault.PlanFault.{PlanFault}
 use Rattle.nms_engine.specs.declared.plan_fault.PlanFault.TheVariants as plan_fault
 use Rattle.nms_engine.specs.declared.script_fault.ScriptFault.{ScriptFault}
@@ -40,3 +44,12 @@ abbrev pub code_of_audit : AuditFault → List ℕ
 code_of_audit audit_fault.VersionBeyondTape = codes "A1"
 code_of_audit (audit_fault.Doubt doubt) = codes "A2"
 code_of_audit audit_fault.NoMemory = codes "A3"
+
+abbrev pub code_of_live_text : LiveTextFault → List ℕ
+code_of_live_text live_text_fault.NoMemory = codes "L12"
+code_of_live_text live_text_fault.WriteFault = codes "L13"
+
+abbrev pub code_of_orders : OrdersFault → List ℕ
+code_of_orders orders_fault.ReadFault = codes "E1"
+code_of_orders (orders_fault.Line fault) = line_faults.code_of fault
+code_of_orders orders_fault.NoMemory = codes "E4"

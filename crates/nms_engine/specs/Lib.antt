@@ -6,8 +6,12 @@ pub use Rattle.nms_nbbo.specs.Market as Market
 pub use Rattle.nms_rules.specs.Through as Through
 pub use Rattle.nms_flow.specs.Run as Run
 pub use Rattle.nms_cert.specs.Doubts as Doubts
+pub use Rattle.nms_live.specs.Living as Living
 pub mod Answers
 pub mod Audit
+pub mod LineFile
+pub mod LiveText
+pub mod OrderFile
 pub mod PlanFile
 pub mod Progress
 pub mod Report

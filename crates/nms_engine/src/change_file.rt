@@ -1,31 +1,22 @@
 //! Files of changes: `Q`, `S` and `X` lines, all of them one tape (specs/ChangeFile).
-ghost use Rattle.std.specs.Prelude.{◌≡◌, ◌<◌, ◌≤◌, ◌++◌, ◌∷◌, List, [], All, length, Some, None, true, false, IfErr, IfOk, OnErr, OnOk};
+ghost use Rattle.std.specs.Prelude.{◌≡◌, ◌<◌, ◌≤◌, All, length, true, IfErr, IfOk, OnOk};
 ghost use Rattle.csv.specs.Records.{fields_of};
 ghost use Rattle.nms_quote.specs.Roster.{holds, sizes_of};
 ghost use Rattle.nms_quote.specs.declared.side_quote.Side.{Side};
 ghost use Rattle.nms_quote.specs.declared.TheConstants.{MOST_CHANGES};
 ghost use Rattle.nms_board.specs.View.{rows_on, view_of};
-ghost use Rattle.nms_lines.specs.Layout.{Record};
-ghost use Rattle.nms_engine.specs.ChangeFile.{HasTaken, IsFileFault, IsFileTape, IsRefusedAfter, IsReportFault, IsTapeOf, ReportsFile, WritesNothing, change_reading, is_of_line};
+ghost use Rattle.nms_engine.specs.ChangeFile.{IsFileFault, IsFileTape, IsReportFault, ReportsFile, WritesNothing, change_reading};
 
 use crate::changes_fault::{ChangesFault, ReportFault};
+use crate::line_file::{FileItem, outcome, read_items};
 use crate::report_text::report;
 use crate::script::tell;
 use nms_board::{BoardFault, Boards, View};
 use nms_fees::Setup;
-use nms_lines::{
-    ByteRecord, Line, LineFault, Reading, RecordFault, open_records, read_line, read_next,
-};
+use nms_lines::{ByteRecord, Line, LineFault, Reading, RecordFault, read_line};
 use nms_quote::{Change, Roster, SideQuote, Sym};
 use std::alloc::Global;
 use std::io::{Read, Write};
-
-/// What the lines so far came to: their changes, and the fault of the first line that was refused.
-#[derive(Drop)]
-struct Taken {
-    changes: Vec<Change>,
-    refused: Option<ChangesFault>,
-}
 
 /// Reads the changes of a file, else gives the fault of its first line that is refused. `TapeFull` stands at
 /// the first accepted line beyond the tape's limit.
@@ -41,71 +32,40 @@ pub fn read_changes<R: Read + Drop>(
     ensures few { IfOk result (λ changes. length changes.items ≤ MOST_CHANGES) }
     ensures refused { IfErr result (IsFileFault setup.now (R.remaining source)) }
 {
-    let mut reader = open_records(alloc, source);
-    let mut row = ByteRecord::new(alloc);
-    let mut so_far = Taken {
-        changes: Vec::new(alloc),
-        refused: None,
-    };
-    for _ in 0..u64::MAX {
-        match read_next(&mut reader, &mut row) {
-            Ok(true) => take_next(&mut so_far, setup, &row),
-            Ok(false) => return outcome(so_far),
-            Err(fault) => return Err(unread(fault)),
+    match read_items::<R, Change>(alloc, setup, source) {
+        Ok(taken) => outcome(taken),
+        Err(RecordFault::Failed) => Err(ChangesFault::ReadFault),
+        Err(RecordFault::NoMemory) => Err(ChangesFault::NoMemory),
+    }
+}
+
+impl FileItem for Change {
+    ghost use Rattle.nms_engine.specs.ChangeFile.{AreChangesOf, IsLineFault};
+
+    type Fault = ChangesFault;
+
+    ghost are_taken = { AreChangesOf };
+
+    ghost is_refused = { IsLineFault };
+
+    fn take_line(
+        changes: &mut Vec<Change>,
+        setup: &Setup,
+        row: &ByteRecord,
+    ) -> Result<(), ChangesFault> {
+        let change = match read_change(row, setup.roster()) {
+            Ok(change) => change,
+            Err(fault) => return Err(ChangesFault::Line(fault)),
+        };
+        if changes.len() as u64 >= setup.tape_limit() {
+            return Err(ChangesFault::TapeFull);
         }
-    }
-    // No source has so many records.
-    Err(ChangesFault::ReadFault)
-}
-
-/// The changes, unless a line was refused.
-fn outcome(taken: Taken) -> Result<Vec<Change>, ChangesFault>
-    ensures changes { IfOk result (λ changes. (changes ≡ taken.changes) × (taken.refused ≡ None)) }
-    ensures fault { IfErr result (λ fault. taken.refused ≡ Some fault) }
-{
-    let Taken { changes, refused } = taken;
-    match refused {
-        None => Ok(changes),
-        Some(fault) => Err(fault),
-    }
-}
-
-/// Takes one more line. Behind a refused one none counts.
-fn take_next(so_far: &mut Taken, setup: &Setup, row: &ByteRecord)
-    ensures taken { (records : List Record) → HasTaken setup.now records so_far.old.changes.items so_far.old.refused
-        → HasTaken setup.now (records ++ fields_of row.now ∷ []) so_far.new.changes.items so_far.new.refused }
-    ensures held { All (λ change. holds (sizes_of setup.now.roster) change ≡ true) so_far.old.changes.items
-        → All (λ change. holds (sizes_of setup.now.roster) change ≡ true) so_far.new.changes.items }
-    ensures few { length so_far.old.changes.items ≤ MOST_CHANGES → length so_far.new.changes.items ≤ MOST_CHANGES }
-{
-    if so_far.refused.is_none() {
-        so_far.refused = take_line(&mut so_far.changes, setup, row).err();
-    }
-}
-
-/// Takes what one more line says.
-fn take_line(changes: &mut Vec<Change>, setup: &Setup, row: &ByteRecord) -> Result<(), ChangesFault>
-    ensures taken { (records : List Record) → IsTapeOf setup.now records changes.old.items
-        → OnOk result (IsTapeOf setup.now (records ++ fields_of row.now ∷ []) changes.new.items) }
-    ensures held { All (λ change. holds (sizes_of setup.now.roster) change ≡ true) changes.old.items
-        → All (λ change. holds (sizes_of setup.now.roster) change ≡ true) changes.new.items }
-    ensures few { length changes.old.items ≤ MOST_CHANGES → length changes.new.items ≤ MOST_CHANGES }
-    ensures kept { OnErr result (changes.new.items ≡ changes.old.items) }
-    ensures refused { IfErr result (λ fault. is_of_line fault ≡ true
-        → IsRefusedAfter setup.now (length changes.old.items) (change_reading setup.now.roster (fields_of row.now)) fault) }
-{
-    let change = match read_change(row, setup.roster()) {
-        Ok(change) => change,
-        Err(fault) => return Err(ChangesFault::Line(fault)),
-    };
-    if changes.len() as u64 >= setup.tape_limit() {
-        return Err(ChangesFault::TapeFull);
-    }
-    // Moving a change takes a mention of the types in it: the prover has to have seen them.
-    let _seen: Option<SideQuote> = None;
-    match changes.push(change) {
-        Ok(()) => Ok(()),
-        Err(_) => Err(ChangesFault::NoMemory),
+        // Moving a change takes a mention of the types in it: the prover has to have seen them.
+        let _seen: Option<SideQuote> = None;
+        match changes.push(change) {
+            Ok(()) => Ok(()),
+            Err(_) => Err(ChangesFault::NoMemory),
+        }
     }
 }
 
@@ -118,16 +78,6 @@ fn read_change(row: &ByteRecord, roster: &Roster) -> Result<Change, LineFault>
         Ok(Line::Change(change)) => Ok(change),
         Ok(_) => Err(LineFault::UnknownKind),
         Err(fault) => Err(fault),
-    }
-}
-
-/// Why a record could not be read.
-fn unread(fault: RecordFault) -> ChangesFault
-    ensures { is_of_line result ≡ false }
-{
-    match fault {
-        RecordFault::Failed => ChangesFault::ReadFault,
-        RecordFault::NoMemory => ChangesFault::NoMemory,
     }
 }
 

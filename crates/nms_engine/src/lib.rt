@@ -1,5 +1,5 @@
 //! Scripts over the quote board: records in, answers out; files of changes; the report that a reviewer reads;
-//! the plan of an order on such a file, and the audit of a plan.
+//! the plan of an order on such a file, and the audit of a plan; files of orders, and the text of a live run.
 #![tactic(auto)]
 
 mod answer;
@@ -10,6 +10,11 @@ mod changes_fault;
 mod counts;
 mod fields;
 mod laws;
+mod line_file;
+mod live_text;
+mod live_text_fault;
+mod order_file;
+mod orders_fault;
 mod plan_answer;
 mod plan_fault;
 mod plan_file;
@@ -28,6 +33,11 @@ pub use change_file::{read_changes, report_changes};
 pub use changes_fault::{ChangesFault, ReportFault};
 pub use counts::Counts;
 pub use laws::{a_planned_order_reads_as_written, an_accepted_plan_reads_as_written};
+pub use live_text::write_live;
+pub use live_text_fault::LiveTextFault;
+pub use nms_live::{Answer, DeskOrder, Gate, GatePoint, Live, LiveFault, OpenGate, run_live};
+pub use order_file::read_orders;
+pub use orders_fault::OrdersFault;
 pub use plan_fault::PlanFault;
 pub use plan_file::plan_changes;
 pub use report_text::report;

@@ -1,27 +1,27 @@
 //! What a desk is told of its plan, as text: the records of `specs/PlanText` of `nms_lines`.
-ghost use Rattle.std.specs.Prelude.{◌≡◌, ◌<◌, ◌++◌, ◌∷◌, [], All, codes, length, map, OnOk};
+ghost use Rattle.std.specs.Prelude.{◌≡◌, ◌++◌, ◌∷◌, [], codes, map, OnOk};
 ghost use Rattle.std.specs.Fmt.{decimal};
 ghost use Rattle.std.specs.List.{join_with_byte};
 ghost use Rattle.nms_units.specs.Money.{money_text};
+ghost use Rattle.nms_quote.specs.Roster.{part_text, symbol_text};
 ghost use Rattle.nms_lines.specs.PlanText.{cut_record, end_record, flag_text, kind_fields, leg_record, plan_record, plan_records, side_letter};
 ghost use Rattle.nms_lines.specs.Text.{text_of};
 ghost use Rattle.nms_engine.specs.Answers.{later_fields, order_fields};
 
 use crate::answer::end;
 use crate::fields::{push_money, push_number, push_price, push_text};
-use nms_quote::{Certificate, Cut, CutKind, Leg, Order, OrderSide, Plan, Roster};
+use nms_quote::{Certificate, Cut, CutKind, Leg, Order, OrderSide, Part, Plan, Roster, Sym};
 use nms_units::Money;
 use std::alloc::AllocError;
 
-/// Appends a plan and its certificate.
+/// Appends a plan and its certificate. A symbol or a participant that is not of the roster has no name, and its field
+/// is empty.
 pub(crate) fn tell_plan(
     out: &mut Vec<u8>,
     roster: &Roster,
     plan: &Plan,
     certificate: &Certificate,
 ) -> Result<(), AllocError>
-    requires sym { plan.now.order.sym < length roster.now.syms }
-    requires parts { All (λ leg. leg.part < length roster.now.parts) plan.now.legs.items }
     ensures { OnOk result (out.new.items ≡ out.old.items ++ text_of (plan_records roster.now plan.now certificate.now.items)) }
 {
     tell_head(out, roster, plan)?;
@@ -32,7 +32,6 @@ pub(crate) fn tell_plan(
 
 /// Appends the record of a plan.
 fn tell_head(out: &mut Vec<u8>, roster: &Roster, plan: &Plan) -> Result<(), AllocError>
-    requires { plan.now.order.sym < length roster.now.syms }
     ensures { OnOk result (out.new.items ≡ out.old.items ++ text_of (plan_record roster.now plan.now ∷ [])) }
 {
     begin_plan(out, plan.version)?;
@@ -59,11 +58,10 @@ fn push_sums(out: &mut Vec<u8>, filled: u32, cost: Money) -> Result<(), AllocErr
 
 /// Appends the fields of an order.
 fn push_order(out: &mut Vec<u8>, roster: &Roster, order: &Order) -> Result<(), AllocError>
-    requires { order.now.sym < length roster.now.syms }
     ensures { OnOk result (out.new.items ≡ out.old.items ++ later_fields (order_fields roster.now order.now)) }
 {
     push_text(out, letter_of(order.side))?;
-    push_text(out, roster.sym_name(order.sym))?;
+    push_text(out, name_of_sym(roster, order.sym))?;
     push_number(out, u64::from(order.shares.get()))?;
     push_price(out, order.limit)?;
     push_text(out, flag_of(order.manual))
@@ -71,7 +69,6 @@ fn push_order(out: &mut Vec<u8>, roster: &Roster, order: &Order) -> Result<(), A
 
 /// Appends a record for each leg.
 fn tell_legs(out: &mut Vec<u8>, roster: &Roster, legs: &[Leg]) -> Result<(), AllocError>
-    requires { All (λ leg. leg.part < length roster.now.parts) legs.now }
     ensures { OnOk result (out.new.items ≡ out.old.items ++ text_of (map (leg_record roster.now) legs.now)) }
 {
     for leg in legs {
@@ -82,11 +79,10 @@ fn tell_legs(out: &mut Vec<u8>, roster: &Roster, legs: &[Leg]) -> Result<(), All
 
 /// Appends the record of a leg.
 fn tell_leg(out: &mut Vec<u8>, roster: &Roster, leg: &Leg) -> Result<(), AllocError>
-    requires { leg.now.part < length roster.now.parts }
     ensures { OnOk result (out.new.items ≡ out.old.items ++ text_of (leg_record roster.now leg.now ∷ [])) }
 {
     out.extend_from_slice(b"LEG")?;
-    push_text(out, roster.part_name(leg.part))?;
+    push_text(out, name_of_part(roster, leg.part))?;
     push_price(out, leg.price)?;
     push_number(out, u64::from(leg.shares.get()))?;
     end(out)
@@ -132,6 +128,28 @@ fn tell_end(out: &mut Vec<u8>) -> Result<(), AllocError>
 {
     out.extend_from_slice(b"END")?;
     end(out)
+}
+
+/// The name of a symbol, which is nothing where it is not of the roster.
+fn name_of_sym(roster: &Roster, sym: Sym) -> &str
+    ensures { result.now ≡ symbol_text roster.now sym }
+{
+    if roster.has_sym(sym) {
+        roster.sym_name(sym)
+    } else {
+        ""
+    }
+}
+
+/// The name of a participant, which is nothing where it is not of the roster.
+fn name_of_part(roster: &Roster, part: Part) -> &str
+    ensures { result.now ≡ part_text roster.now part }
+{
+    if usize::from(part.get()) < roster.parts() {
+        roster.part_name(part)
+    } else {
+        ""
+    }
 }
 
 /// The letter of an order's side.

@@ -1,28 +1,15 @@
-use Rattle.std.proofs.Common.{rules, ◌≡◌, ◌<◌, ◌++◌, List, Ok, length, subst}
+use Rattle.std.proofs.Common.{◌≡◌, ◌++◌, List, Ok, subst}
 use Rattle.nms_quote.specs.Terms.{Terms}
 use Rattle.nms_flow.specs.Flow.{WentOn}
 use Rattle.nms_flow.specs.declared.reply.Reply.TheVariants as reply
 use Rattle.nms_flow.specs.declared.step.Step.TheVariants as step
-use Rattle.std.specs.Prelude.{All}
 use Rattle.nms_quote.specs.Roster.{Listing}
-use Rattle.nms_quote.specs.declared.side_quote.Side.{Side}
 use Rattle.nms_lines.specs.PlanText.{plan_records}
 use Rattle.nms_lines.specs.Text.{text_of}
-use Rattle.nms_board.specs.View.{rows_on}
-use Rattle.nms_board.specs.declared.row.Row.{Row}
 use Rattle.nms_fees.specs.declared.fee_schedule.FeeSchedule.{FeeSchedule}
 use Rattle.nms_rules.specs.Accepted.{IsAccepted}
-use Rattle.nms_rules.specs.Usable.{contra}
-use Rattle.nms_engine.proofs.PlanFacts.{legs_parts}
 use Rattle.nms_engine.proofs.ScriptFacts.{shows_plan}
 use Rattle.nms_engine.proofs.script_record.serve_sweep.Goals as goal
-
--- src/script_record.rt: the plan's legs go to rows of the view, which are of the roster's participants
-pub tell_plan-requires-clause-parts : goal.tell_plan-requires-clause-parts
-tell_plan-requires-clause-parts c =
-    let shown : (side : Side) → All (λ (row : Row). row.part < length c.roster.result.now.parts) (rows_on side c.look-view.result) = search rules in
-    legs_parts (length c.roster.result.now.parts) (contra c.args.order.now.side) c.look-view.result c.plan-plan.result.0.legs.items
-    c.plan-plan.ensures.accepted.faultless.prices shown
 
 pub returns : goal.returns
 returns c =
