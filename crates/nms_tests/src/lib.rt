@@ -17,6 +17,8 @@ mod flow;
 #[cfg(test)]
 mod lines;
 #[cfg(test)]
+mod live;
+#[cfg(test)]
 mod plan_text;
 #[cfg(test)]
 mod quote;

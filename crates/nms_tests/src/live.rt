@@ -1,0 +1,128 @@
+//! Live runs, each over words: a setup's text, the texts of two feeds, and a table of orders.
+ghost use Rattle.std.specs.Prelude.{◌≡◌, ◌<◌, All, IfSome};
+
+mod chance;
+mod judge;
+mod overlap;
+mod worked;
+
+use nms_fees::read_setup;
+use nms_live::{DeskOrder, Gate, Live, LiveFault, run_live};
+use nms_quote::{Order, OrderSide, Sym};
+use nms_units::{Price, Shares};
+use std::alloc::Global;
+use std::sync::Wait;
+use std::thread::Threads;
+
+/// An order in numbers: the desk, the symbol's place, shares, and a limit in 1/10,000 dollar.
+#[derive(Clone, Copy)]
+pub(crate) struct Wanted {
+    pub(crate) desk: u8,
+    pub(crate) buys: bool,
+    pub(crate) sym: u16,
+    pub(crate) shares: u32,
+    pub(crate) limit: u64,
+    pub(crate) manual: bool,
+}
+
+/// A setup of N and P on feed A, Y and Z on feed B, ABC and PNY in lots of 100, with such limits.
+pub(crate) fn setup_text(alloc: Global, limit: u32, queue: u32, desks: u32) -> Option<String> {
+    format!(in alloc;
+        "tape_limit = {limit}\nqueue = {queue}\ndesks = {desks}\n{}",
+        participants()
+    )
+    .ok()
+}
+
+fn participants() -> &'static str {
+    r#"
+[[participant]]
+name = "N"
+feed = "A"
+fee = 3000000
+rate = 300
+[[participant]]
+name = "P"
+feed = "A"
+fee = 2800000
+rate = 300
+[[participant]]
+name = "Y"
+feed = "B"
+fee = -200000
+rate = 0
+[[participant]]
+name = "Z"
+feed = "B"
+fee = 3000000
+rate = 300
+[[symbol]]
+name = "ABC"
+lot = 100
+[[symbol]]
+name = "PNY"
+lot = 100
+"#
+}
+
+/// The order that the numbers say.
+pub(crate) fn order_of(wanted: &Wanted) -> Option<Order> {
+    let side = if wanted.buys {
+        OrderSide::Buy
+    } else {
+        OrderSide::Sell
+    };
+    let shares = Shares::new(wanted.shares)?;
+    let limit = Price::new(wanted.limit)?;
+    Order::new(side, Sym::new(wanted.sym)?, shares, limit, wanted.manual)
+}
+
+/// The orders of a table, each of one of so many desks.
+fn orders_of(alloc: Global, desks: u8, table: &[Wanted]) -> Option<Vec<DeskOrder>>
+    ensures { IfSome result (λ orders. All (λ order. order.desk < desks) orders.items) }
+{
+    let mut orders = Vec::new(alloc);
+    for wanted in table {
+        let order = order_of(wanted)?;
+        if wanted.desk < desks {
+            let desk = wanted.desk;
+            orders.push(DeskOrder { desk, order }).ok()?;
+        }
+    }
+    Some(orders)
+}
+
+/// One run; `None` where there is no memory to prepare it.
+pub(crate) fn run_once<R: Threads + Wait + Sync, G: Gate>(
+    rt: &R,
+    alloc: Global,
+    setup: &str,
+    feeds: (&[u8], &[u8]),
+    table: &[Wanted],
+    gate: &G,
+) -> Option<Result<Live, LiveFault>> {
+    let setup = read_setup(alloc, setup).ok()?;
+    let feed_a = Vec::from_slice(alloc, feeds.0).ok()?;
+    let feed_b = Vec::from_slice(alloc, feeds.1).ok()?;
+    let orders = orders_of(alloc, setup.desks(), table)?;
+    Some(run_live(rt, alloc, &setup, feed_a, feed_b, orders, gate))
+}
+
+/// A run that is tried again where it could not be opened, up to 100 times: a reader's place may be wanting without
+/// a cause.
+pub(crate) fn run<R: Threads + Wait + Sync, G: Gate>(
+    rt: &R,
+    alloc: Global,
+    setup: &str,
+    feeds: (&[u8], &[u8]),
+    table: &[Wanted],
+    gate: &G,
+) -> Option<Result<Live, LiveFault>> {
+    for _ in 0..100u32 {
+        let came_to = run_once(rt, alloc, setup, feeds, table, gate)?;
+        if !matches!(&came_to, Err(LiveFault::Open)) {
+            return Some(came_to);
+        }
+    }
+    None
+}

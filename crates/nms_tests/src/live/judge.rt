@@ -1,0 +1,190 @@
+//! A plain slow program that judges what a live run came to. It is told what the feeds sent and what was asked for.
+use super::{Wanted, order_of};
+use nms_board::Boards;
+use nms_cert::confirm;
+use nms_fees::read_setup;
+use nms_live::{Answer, Live, MOST_WAITING};
+use nms_quote::Change;
+use std::alloc::Global;
+
+/// Whether the tape has the changes of both feeds, those of each in order, and no others. The participants of feed A
+/// are the first two.
+fn is_merge(tape: &[Change], from_a: &[Change], from_b: &[Change]) -> bool {
+    let mut rest_a = from_a.iter();
+    let mut rest_b = from_b.iter();
+    for change in tape {
+        let due = if change.part().get() < 2 {
+            rest_a.next()
+        } else {
+            rest_b.next()
+        };
+        if due != Some(change) {
+            return false;
+        }
+    }
+    rest_a.next().is_none() && rest_b.next().is_none()
+}
+
+/// Whether each publishing shows more than the one before it, up to 64 changes, and the last one all so many. The
+/// last one alone may show nothing new.
+fn rises_to(published: &[u64], all: u64) -> bool {
+    let Some((end, before)) = published.split_last() else {
+        return false;
+    };
+    let mut last = 0u64;
+    for number in before {
+        if *number <= last || *number > last.saturating_add(MOST_WAITING) {
+            return false;
+        }
+        last = *number;
+    }
+    *end == all && last <= *end && *end <= last.saturating_add(MOST_WAITING)
+}
+
+/// Whether the answer is to this order of the table.
+fn is_for(answer: &Answer, number: usize, wanted: &Wanted) -> bool {
+    answer.desk == wanted.desk
+        && answer.number == number
+        && order_of(wanted) == Some(answer.plan.order)
+}
+
+/// Whether each order has its answer, in order.
+fn answers_all(answers: &[Answer], table: &[Wanted]) -> bool {
+    let mut number = 0usize;
+    for (answer, wanted) in answers.iter().zip(table) {
+        if !is_for(answer, number, wanted) {
+            return false;
+        }
+        number = number.saturating_add(1);
+    }
+    answers.len() == table.len()
+}
+
+/// Whether the versions of a desk's answers never fall.
+fn never_goes_back(desk: u8, answers: &[Answer]) -> bool {
+    let mut last = 0;
+    for answer in answers {
+        if answer.desk == desk {
+            if answer.plan.version < last {
+                return false;
+            }
+            last = answer.plan.version;
+        }
+    }
+    true
+}
+
+/// Whether no desk goes back to an older version.
+fn nobody_goes_back(answers: &[Answer]) -> bool {
+    for desk in 0..16u8 {
+        if !never_goes_back(desk, answers) {
+            return false;
+        }
+    }
+    true
+}
+
+/// Whether the version of each answer is the empty one or was published.
+fn are_published(answers: &[Answer], published: &[u64]) -> bool {
+    for answer in answers {
+        let version = answer.plan.version;
+        if version != 0 && !published.contains(&version) {
+            return false;
+        }
+    }
+    true
+}
+
+/// Whether each answer is on the version of this length.
+fn are_all_on(answers: &[Answer], all: u64) -> bool {
+    for answer in answers {
+        if answer.plan.version != all {
+            return false;
+        }
+    }
+    true
+}
+
+/// Whether the checker confirms an answer on the board that the first changes of the tape leave, as many as the
+/// answer's version says.
+fn is_confirmed(alloc: Global, setup: &str, tape: &[Change], answer: &Answer) -> Option<bool> {
+    let setup = read_setup(alloc, setup).ok()?;
+    let mut boards = Boards::new(alloc, setup.roster()).ok()?;
+    let plan = &answer.plan;
+    for (change, _) in tape.iter().zip(0..plan.version) {
+        if boards.takes(change) {
+            boards.apply(*change);
+        }
+    }
+    let view = boards.view(plan.order.sym);
+    let doubt = confirm(&view, &plan.order, setup.fees(), plan, &answer.certificate);
+    Some(doubt.is_ok())
+}
+
+/// Whether the checker confirms each answer.
+fn are_confirmed(alloc: Global, setup: &str, tape: &[Change], answers: &[Answer]) -> bool {
+    for answer in answers {
+        if is_confirmed(alloc, setup, tape, answer) != Some(true) {
+            return false;
+        }
+    }
+    true
+}
+
+/// What is wrong with the tape and its publishings, or nothing.
+fn tape_finding(
+    tape: &[Change],
+    published: &[u64],
+    from_a: &[Change],
+    from_b: &[Change],
+) -> &'static str {
+    if !is_merge(tape, from_a, from_b) {
+        "the tape is no merge of what was sent"
+    } else if !rises_to(published, tape.len() as u64) {
+        "what was published"
+    } else {
+        ""
+    }
+}
+
+/// What is wrong with the answers, or nothing.
+fn answer_finding(
+    answers: &[Answer],
+    closing: &[Answer],
+    published: &[u64],
+    all: u64,
+    table: &[Wanted],
+) -> &'static str {
+    if !answers_all(answers, table) || !answers_all(closing, table) {
+        "an order without its answer"
+    } else if !nobody_goes_back(answers) {
+        "a desk went back"
+    } else if !are_published(answers, published) {
+        "a version was not published"
+    } else if !are_all_on(closing, all) {
+        "a closing answer not on the whole tape"
+    } else {
+        ""
+    }
+}
+
+/// What is wrong with a run, or nothing, where the feeds sent these changes.
+pub(crate) fn finding(
+    alloc: Global,
+    setup: &str,
+    from_a: &[Change],
+    from_b: &[Change],
+    table: &[Wanted],
+    live: &Live,
+) -> &'static str {
+    let (tape, published) = (live.tape.as_slice(), live.published.as_slice());
+    let (answers, closing) = (live.answers.as_slice(), live.closing.as_slice());
+    let told = tape_finding(tape, published, from_a, from_b);
+    if !told.is_empty() {
+        return told;
+    }
+    if !are_confirmed(alloc, setup, tape, answers) || !are_confirmed(alloc, setup, tape, closing) {
+        return "an answer that the checker doubts";
+    }
+    answer_finding(answers, closing, published, tape.len() as u64, table)
+}

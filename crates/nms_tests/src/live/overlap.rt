@@ -1,0 +1,141 @@
+//! That the feeds and a desk work at the same time, each on what is published by then.
+use super::run;
+use super::worked::{feed_a, feed_b, has_four, order, says_closing, told};
+use nms_engine::SETUP_K;
+use nms_live::{Answer, Gate, GatePoint};
+use nms_quote::Feed;
+use std::process::Abort;
+use std::sync::atomic::{AtomicBool, Ordering};
+use std::test::Fail;
+use std::thread;
+
+/// A place where a thread waits for the others.
+#[derive(Drop)]
+struct Meeting {
+    there: AtomicBool,
+    gave_up: AtomicBool,
+}
+
+fn make_meeting() -> Meeting {
+    Meeting {
+        there: AtomicBool::new(false),
+        gave_up: AtomicBool::new(false),
+    }
+}
+
+/// Lets both feeds and the desk meet, then lets them take turns.
+#[derive(Drop)]
+struct Overlap {
+    feed_a: Meeting,
+    feed_b: Meeting,
+    desk: Meeting,
+    published_first: AtomicBool,
+    published_second: AtomicBool,
+    looked_first: AtomicBool,
+    looked_second: AtomicBool,
+}
+
+fn is_set(flag: &AtomicBool) -> bool {
+    flag.load(Ordering::SeqCst)
+}
+
+fn set(flag: &AtomicBool) {
+    flag.store(true, Ordering::SeqCst);
+}
+
+impl Overlap {
+    fn all_there(&self) -> bool {
+        is_set(&self.feed_a.there) && is_set(&self.feed_b.there) && is_set(&self.desk.there)
+    }
+
+    /// Waits for the others, and tells whether they came. Once it gave up it tells so at once.
+    fn meets(&self, here: &Meeting) -> bool {
+        if is_set(&here.gave_up) {
+            return false;
+        }
+        set(&here.there);
+        for _ in 0..1_000_000u32 {
+            if self.all_there() {
+                return true;
+            }
+            thread::yield_now();
+        }
+        set(&here.gave_up);
+        false
+    }
+}
+
+impl Gate for Overlap {
+    fn may(&self, at: GatePoint) -> bool {
+        match at {
+            GatePoint::Send {
+                feed: Feed::A,
+                k: 0,
+            } => self.meets(&self.feed_a),
+            GatePoint::Send {
+                feed: Feed::B,
+                k: 0,
+            } => { self.meets(&self.feed_b) && is_set(&self.looked_first) }
+            GatePoint::Look { desk: 0, k: 0 } => {
+                self.meets(&self.desk) && is_set(&self.published_first)
+            }
+            GatePoint::Look { desk: 0, k: 1 } => is_set(&self.published_second),
+            GatePoint::Send { k: 1, .. } => is_set(&self.looked_second),
+            _ => true,
+        }
+    }
+
+    fn done(&self, at: GatePoint) {
+        match at {
+            GatePoint::Publish { k: 0 } => set(&self.published_first),
+            GatePoint::Publish { k: 1 } => set(&self.published_second),
+            GatePoint::Look { desk: 0, k: 0 } => set(&self.looked_first),
+            GatePoint::Look { desk: 0, k: 1 } => set(&self.looked_second),
+            _ => {}
+        }
+    }
+}
+
+/// A gate that nobody was at.
+fn make_gate() -> Overlap {
+    Overlap {
+        feed_a: make_meeting(),
+        feed_b: make_meeting(),
+        desk: make_meeting(),
+        published_first: AtomicBool::new(false),
+        published_second: AtomicBool::new(false),
+        looked_first: AtomicBool::new(false),
+        looked_second: AtomicBool::new(false),
+    }
+}
+
+/// Whether a worker never came to its first point, or gave up there.
+fn missed(meeting: &Meeting) -> bool {
+    !is_set(&meeting.there) || is_set(&meeting.gave_up)
+}
+
+/// Whether the answers say this, and there are no more.
+fn are_told(answers: &[Answer], wanted: [(u8, usize, u64, u32); 2]) -> bool {
+    let [first, second] = wanted;
+    match answers {
+        [one, other] => told(one) == first && told(other) == second,
+        _ => false,
+    }
+}
+
+#[test]
+fn feed_and_desk_overlap(rt: HostRuntime) -> Result<(), Fail> {
+    let gate = make_gate();
+    let feeds = (feed_a(), feed_b());
+    let Some(Ok(live)) = run(&rt, rt.alloc(), SETUP_K, feeds, &[order(), order()], &gate) else {
+        return Err("no run")?;
+    };
+    assert!(rt; !missed(&gate.feed_a) && !missed(&gate.feed_b) && !missed(&gate.desk));
+    assert!(rt; has_four(&live.tape, &live.published));
+    assert!(rt; are_told(&live.answers, [(0, 0, 1, 300), (0, 1, 2, 500)]));
+    assert!(rt; are_told(&live.closing, [(0, 0, 4, 600), (0, 1, 4, 600)]));
+    for closing in &live.closing {
+        assert_eq!(rt; says_closing(rt.alloc(), closing), Some(true));
+    }
+    Ok(())
+}

@@ -1,0 +1,195 @@
+//! Runs of a few changes, by what was worked out by hand.
+use super::{Wanted, run, setup_text};
+use nms_engine::SETUP_K;
+use nms_fees::read_setup;
+use nms_lines::{LineFault, read_plan};
+use nms_live::{Answer, Gate, GatePoint, LiveFault, OpenGate};
+use nms_quote::{Change, Feed, Plan};
+use std::alloc::Global;
+use std::process::Abort;
+use std::sync::Wait;
+use std::test::Fail;
+use std::thread::Threads;
+
+/// What N and P send.
+pub(crate) fn feed_a() -> &'static [u8] {
+    b"Q,N,ABC,A,,,10.00,300\nQ,P,ABC,A,,,10.00,500\n"
+}
+
+/// What Y and Z send.
+pub(crate) fn feed_b() -> &'static [u8] {
+    b"Q,Y,ABC,A,,,10.01,200\nQ,Z,ABC,A,,,10.02,100\n"
+}
+
+/// Desk 0 buys 600 ABC at 10.01 or better.
+pub(crate) fn order() -> Wanted {
+    Wanted {
+        desk: 0,
+        buys: true,
+        sym: 0,
+        shares: 600,
+        limit: 100_100,
+        manual: false,
+    }
+}
+
+/// What an answer says: its desk, its number, its version and the shares filled.
+pub(crate) fn told(answer: &Answer) -> (u8, usize, u64, u32) {
+    let plan = &answer.plan;
+    (answer.desk, answer.number, plan.version, plan.filled)
+}
+
+/// The place in the tape of the first change of a participant.
+fn place_of(tape: &[Change], part: u8) -> Option<usize> {
+    tape.iter().position(|change| change.part().get() == part)
+}
+
+/// Whether none is below the one before it.
+pub(crate) fn never_falls(numbers: &[u64]) -> bool {
+    let mut last = 0;
+    for number in numbers {
+        if *number < last {
+            return false;
+        }
+        last = *number;
+    }
+    true
+}
+
+/// Whether the tape has the four changes, those of a feed in its order, and the whole of it was published at last.
+pub(crate) fn has_four(tape: &[Change], published: &[u64]) -> bool {
+    tape.len() == 4
+        && place_of(tape, 0) < place_of(tape, 1)
+        && place_of(tape, 2) < place_of(tape, 3)
+        && place_of(tape, 0).is_some()
+        && place_of(tape, 2).is_some()
+        && never_falls(published)
+        && published.last() == Some(&4)
+}
+
+/// The plan text of the closing answer, worked out by hand.
+const CLOSING: &[u8] =
+    b"PLAN,4,B,ABC,600,10.0100,,600,6001.700000000\nLEG,N,10.0000,100\nLEG,P,10.0000,500\nCUT,10.0000,MARGINAL,10.003000000\nCUT,10.0100,TOOMUCH,\nEND\n";
+
+/// Whether an answer is that plan with that certificate.
+pub(crate) fn says_closing(alloc: Global, answer: &Answer) -> Option<bool> {
+    let setup = read_setup(alloc, SETUP_K).ok()?;
+    let (plan, certificate) = read_plan(alloc, CLOSING, setup.roster()).ok()?;
+    Some(is_plan(&answer.plan, &plan) && answer.certificate.as_slice() == certificate.as_slice())
+}
+
+/// Whether two plans are one.
+fn is_plan(one: &Plan, other: &Plan) -> bool {
+    one.version == other.version
+        && one.order == other.order
+        && one.legs.as_slice() == other.legs.as_slice()
+        && one.filled == other.filled
+        && one.cost == other.cost
+}
+
+#[test]
+fn the_worked_run_answers_on_the_whole_tape(rt: HostRuntime) -> Result<(), Fail> {
+    let feeds = (feed_a(), feed_b());
+    let Some(Ok(live)) = run(&rt, rt.alloc(), SETUP_K, feeds, &[order()], &OpenGate) else {
+        return Err("no run")?;
+    };
+    assert!(rt; has_four(&live.tape, &live.published));
+    assert_eq!(rt; (live.answers.len(), live.closing.len()), (1, 1));
+    let closing = live.closing.first().ok_or("a closing answer")?;
+    assert_eq!(rt; told(closing), (0, 0, 4, 600));
+    assert_eq!(rt; says_closing(rt.alloc(), closing), Some(true));
+    Ok(())
+}
+
+/// The fault that ends a run over a setup of such limits, with the worked order.
+fn fault<R: Threads + Wait + Sync, G: Gate>(
+    rt: &R,
+    alloc: Global,
+    limit: u32,
+    feeds: (&[u8], &[u8]),
+    gate: &G,
+) -> Option<LiveFault> {
+    let setup = setup_text(alloc, limit, 2, 2)?;
+    run(rt, alloc, setup.as_str(), feeds, &[order()], gate)?.err()
+}
+
+#[test]
+fn the_first_refused_record_is_named_and_feed_a_goes_first(rt: HostRuntime) {
+    let stranger = b"Q,N,ABC,A,,,10.00,300\nQ,Z,ABC,A,,,10.02,100\n".as_slice();
+    let short = b"Q,N,ABC,A,,,10.00,300\nQ,N,ABC,A,10.00,100\n".as_slice();
+    let unknown = b"Z\nQ,Z,ABC,A,,,10.02,100\n".as_slice();
+    for (text_a, text_b, feed, number, fault_told) in [
+        (feed_a(), stranger, Feed::B, 1, LineFault::WrongFeed),
+        (short, unknown, Feed::A, 2, LineFault::FieldCount),
+        (feed_a(), unknown, Feed::B, 1, LineFault::UnknownKind),
+        (short, feed_b(), Feed::A, 2, LineFault::FieldCount),
+    ] {
+        let told = fault(&rt, rt.alloc(), 1000, (text_a, text_b), &OpenGate);
+        let want = LiveFault::Line {
+            feed,
+            number,
+            fault: fault_told,
+        };
+        assert_eq!(rt; told, Some(want));
+    }
+}
+
+/// Five changes of one participant.
+const FIVE: &[u8] =
+    b"Q,N,ABC,A,,,10.00,100\nQ,N,ABC,A,,,10.00,100\nQ,N,ABC,A,,,10.00,100\nQ,N,ABC,A,,,10.00,100\nQ,N,ABC,A,,,10.00,100\n";
+
+/// The lengths of the tape and of the answers of a run through a lane of 2, with no order.
+fn lengths<R: Threads + Wait + Sync>(
+    rt: &R,
+    alloc: Global,
+    feeds: (&[u8], &[u8]),
+) -> Option<(usize, usize, usize, Option<u64>)> {
+    let setup = setup_text(alloc, 1000, 2, 2)?;
+    let live = run(rt, alloc, setup.as_str(), feeds, &[], &OpenGate)?.ok()?;
+    let last = live.published.last().copied();
+    Some((
+        live.tape.len(),
+        live.answers.len(),
+        live.closing.len(),
+        last,
+    ))
+}
+
+#[test]
+fn five_changes_go_through_a_lane_of_2_and_not_on_a_tape_of_4(rt: HostRuntime) {
+    let told = lengths(&rt, rt.alloc(), (FIVE, b""));
+    assert_eq!(rt; told, Some((5, 0, 0, Some(5))));
+    let told = lengths(&rt, rt.alloc(), (b"", b""));
+    assert_eq!(rt; told, Some((0, 0, 0, Some(0))));
+    let told = fault(&rt, rt.alloc(), 4, (FIVE, b""), &OpenGate);
+    assert_eq!(rt; told, Some(LiveFault::Append));
+}
+
+/// A gate that never opens at sends of feed A, at looks or at publishings, and else is open.
+#[derive(Clone, Copy, Debug)]
+enum Shut {
+    Send,
+    Look,
+    Publish,
+}
+
+impl Gate for Shut {
+    fn may(&self, at: GatePoint) -> bool {
+        match (self, at) {
+            (Shut::Send, GatePoint::Send { feed: Feed::A, .. }) => false,
+            (Shut::Look, GatePoint::Look { .. }) => false,
+            (Shut::Publish, GatePoint::Publish { .. }) => false,
+            _ => true,
+        }
+    }
+
+    fn done(&self, _at: GatePoint) {}
+}
+
+#[test]
+fn a_gate_that_never_opens_ends_the_run_and_nobody_hangs(rt: HostRuntime) {
+    for gate in [Shut::Send, Shut::Look, Shut::Publish] {
+        let told = fault(&rt, rt.alloc(), 1000, (FIVE, feed_b()), &gate);
+        assert_eq!(rt; told, Some(LiveFault::GateLimit), "at {gate:?}");
+    }
+}
