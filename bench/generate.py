@@ -1,5 +1,5 @@
 #!/usr/bin/env python3
-"""Makes a load for the program: a script and the setup that it runs under.
+"""Makes a load for the program: a script, or a live run's files, and the setup that it runs under.
 
     generate.py LOAD RECORDS FOLDER [SEED]
 
@@ -11,8 +11,11 @@ LOAD is one of
     looks       as quotes, but 15 of 16 records look
     withdraws   as wide, but every other record withdraws a participant from every symbol
     sweeps      quotations of 16 participants in 50 symbols, an order every 8 records, a publishing every 32
+    live        for a live run: so many quotations of 16 participants in 200 symbols, in two feeds, and 1,000 orders
+                for each of 1, 4 and 16 desks
 
-Writes FOLDER/load.csv and FOLDER/setup.toml. The same load, number and seed give the same bytes. Prices
+Writes FOLDER/load.csv and FOLDER/setup.toml; of a live run FOLDER/feed_a.csv and FOLDER/feed_b.csv, and for so many
+desks FOLDER/setup-DESKS.toml and FOLDER/orders-DESKS.csv. The same load, number and seed give the same bytes. Prices
 drift by a cent, so that sides repeat, improve, lock and cross as in a market.
 """
 
@@ -21,7 +24,9 @@ import sys
 from pathlib import Path
 
 # Participants and symbols of each load.
-SIZES = {"quotes": (16, 200), "wide": (32, 1000), "looks": (16, 200), "withdraws": (32, 1000), "sweeps": (16, 50)}
+SIZES = {"quotes": (16, 200), "wide": (32, 1000), "looks": (16, 200), "withdraws": (32, 1000), "sweeps": (16, 50), "live": (16, 200)}
+# Desks of a live run, and how many orders each has.
+DESKS, ORDERS = (1, 4, 16), 1000
 
 
 def name(place, letters):
@@ -29,10 +34,14 @@ def name(place, letters):
     return "".join(chr(ord("A") + place // 26**k % 26) for k in reversed(range(letters)))
 
 
-def setup(participants, symbols):
-    yield "tape_limit = 10000000\nqueue = 1024\ndesks = 4\n"
+def feed_of(place):
+    return "AB"[place % 2]
+
+
+def setup(participants, symbols, desks=4):
+    yield f"tape_limit = 10000000\nqueue = 1024\ndesks = {desks}\n"
     for place in range(participants):
-        feed = "AB"[place % 2]
+        feed = feed_of(place)
         fee = (3_000_000, 2_500_000, -2_000_000)[place % 3]
         yield f'\n[[participant]]\nname = "{name(place, 2)}"\nfeed = "{feed}"\nfee = {fee}\nrate = 300\n'
     for place in range(symbols):
@@ -57,7 +66,8 @@ class Script:
         self.middle = [self.draw.randint(500, 50_000) for _ in range(self.symbols)]
 
     def participant(self):
-        return name(self.draw.randrange(self.participants), 2)
+        self.place = self.draw.randrange(self.participants)
+        return name(self.place, 2)
 
     def look(self):
         return f"N,{self.draw.randrange(4)},{name(self.draw.randrange(self.symbols), 3)}\n"
@@ -69,13 +79,13 @@ class Script:
         offer = side(draw, self.middle[symbol] + draw.randint(0, 4))
         return f"Q,{self.participant()},{name(symbol, 3)},{draw.choice('AAAAAAAAAM')},{bid},{offer}\n"
 
-    def order(self):
+    def order(self, desk=None):
         """An order of a few hundred shares whose limit is some cents through the middle; two in five allow manual."""
         draw, symbol = self.draw, self.draw.randrange(self.symbols)
         side = draw.choice("BS")
         cents = self.middle[symbol] + (1 if side == "B" else -1) * draw.randint(0, 4)
         flag = draw.choice(("", "", "", ",M", ",M"))
-        return f"O,{draw.randrange(4)},{side},{name(symbol, 3)},{100 * draw.randint(1, 40)},{cents // 100}.{cents % 100:02}{flag}\n"
+        return f"O,{draw.randrange(4) if desk is None else desk},{side},{name(symbol, 3)},{100 * draw.randint(1, 40)},{cents // 100}.{cents % 100:02}{flag}\n"
 
     def record(self, number):
         if number % (32 if self.load == "sweeps" else 64) == 0:
@@ -92,10 +102,26 @@ class Script:
         return self.quotation()
 
 
+def write_live(script, records, folder):
+    feeds = {"A": [], "B": []}
+    for _ in range(records):
+        quotation = script.quotation()
+        feeds[feed_of(script.place)].append(quotation)
+    for feed, lines in feeds.items():
+        (folder / f"feed_{feed.lower()}.csv").write_text("".join(lines))
+    for desks in DESKS:
+        orders = [script.order(place % desks) for place in range(desks * ORDERS)]
+        (folder / f"orders-{desks}.csv").write_text("".join(orders))
+        (folder / f"setup-{desks}.toml").write_text("".join(setup(script.participants, script.symbols, desks)))
+
+
 def main(words):
     load, records, folder = words[0], int(words[1]), Path(words[2])
     script = Script(load, int(words[3]) if len(words) > 3 else 1)
     folder.mkdir(parents=True, exist_ok=True)
+    if load == "live":
+        write_live(script, records, folder)
+        return
     (folder / "setup.toml").write_text("".join(setup(script.participants, script.symbols)))
     with open(folder / "load.csv", "w") as file:
         file.writelines(script.record(number) for number in range(1, records + 1))

@@ -83,6 +83,25 @@ crowds() {
     printf '%s\n' '-- gives' 'L11: not the text of a plan'
 }
 
+# A live run of so many changes under the built-in setup, whose tape holds 1,000. What stands last of each
+# participant is the same.
+live() {
+    printf '%s\n' live feed_a feed_b orders '-- file feed_a'
+    seq "$(($1 / 2 - 2))" | sed 's/.*/Q,N,ABC,A,,,&,100/'
+    printf '%s\n' Q,N,ABC,A,,,10.00,300 Q,P,ABC,A,,,10.00,500 '-- file feed_b'
+    seq "$(($1 - $1 / 2 - 2))" | sed 's/.*/Q,Y,ABC,A,,,&,100/'
+    printf '%s\n' Q,Y,ABC,A,,,10.01,200 Q,Z,ABC,A,,,10.02,100 '-- file orders' O,0,B,ABC,600,10.01 '-- gives'
+}
+runs() {
+    echo '== command a live run that fills the tape'
+    live 1000
+    printf '%s\n' 0 TAPE,1000 ANSWER,0,0 PLAN,1000,B,ABC,600,10.0100,,600,6001.700000000 LEG,N,10.0000,100 \
+        LEG,P,10.0000,500 CUT,10.0000,MARGINAL,10.003000000 CUT,10.0100,TOOMUCH, END '-- errors'
+    echo '== command a live run beyond the tape'
+    live 1001
+    printf '%s\n' 7 '-- errors' 'nms_tool: E7'
+}
+
 bundle() {
     setup
     script first.script
@@ -106,8 +125,9 @@ bundle() {
     echo '-- gives'
     cat builtin.toml
     cat cases/texts.cases cases/quotes.cases cases/refused.cases cases/records.cases cases/reports.cases cases/limits.cases
-    cat cases/chance.cases cases/chance_orders.cases cases/chance_plans.cases cases/markets.cases cases/numbers.cases cases/lines.cases cases/settings.cases cases/plans.cases cases/audits.cases cases/breaches.cases cases/commands.cases cases/extremes.cases
+    cat cases/chance.cases cases/chance_orders.cases cases/chance_plans.cases cases/markets.cases cases/numbers.cases cases/lines.cases cases/settings.cases cases/plans.cases cases/audits.cases cases/breaches.cases cases/commands.cases cases/live.cases cases/chance_live.cases cases/extremes.cases
     filled
+    runs
     crowds
 }
 

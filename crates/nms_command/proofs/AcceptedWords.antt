@@ -15,7 +15,7 @@ use Rattle.nms_command.proofs.OwnRows.{Filled, given_first}
 use Rattle.nms_command.proofs.OwnValues.{is_flag_or_own, rows_filled}
 use Rattle.nms_command.proofs.PlainCalls.{leaf}
 use Rattle.nms_command.specs.declared.subcommand.Sub.{Sub}
-use Rattle.nms_command.specs.declared.subcommand.Sub.TheVariants.{Script, Report, Plan, Check}
+use Rattle.nms_command.specs.declared.subcommand.Sub.TheVariants.{Script, Report, Plan, Check, Live}
 
 else_parts : (a b : Kinds) → or_else a b ≡ [] → (a ≡ []) × (b ≡ [])
 else_parts [] b none = (refl, none)
@@ -79,16 +79,17 @@ sub_asks sub words are flags checked =
 
 entered_asks : (stop : Option (Text × List Text)) → entered_fault (built tool) stop ≡ [] → is_some (asked_of (entered (built tool) stop)) ≡ true
 entered_asks None none = refl
-entered_asks (Some (name, rest)) none = go (answers_to name (label_of (leaf Script))) (answers_to name (label_of (leaf Report))) (answers_to name (label_of (leaf Plan))) (answers_to name (label_of (leaf Check))) none
+entered_asks (Some (name, rest)) none = go (answers_to name (label_of (leaf Script))) (answers_to name (label_of (leaf Report))) (answers_to name (label_of (leaf Plan))) (answers_to name (label_of (leaf Check))) (answers_to name (label_of (leaf Live))) none
   where
-    go : (script report plan check : Bool)
-        → option_map_or (λ s. level_fault s [] nothing_held rest false []) (cond script (Some (leaf Script)) (cond report (Some (leaf Report)) (cond plan (Some (leaf Plan)) (cond check (Some (leaf Check)) None)))) [] ≡ []
-        → is_some (asked_of (option_map (λ s. (s.name, rows_after s.rules [] rest)) (cond script (Some (leaf Script)) (cond report (Some (leaf Report)) (cond plan (Some (leaf Plan)) (cond check (Some (leaf Check)) None)))))) ≡ true
-    go true report plan check e = refl
-    go false true plan check e = sub_asks Report rest refl refl (level_checked (leaf Report) rest e)
-    go false false true check e = sub_asks Plan rest refl refl (level_checked (leaf Plan) rest e)
-    go false false false true e = sub_asks Check rest refl refl (level_checked (leaf Check) rest e)
-    go false false false false e = refl
+    go : (script report plan check live : Bool)
+        → option_map_or (λ s. level_fault s [] nothing_held rest false []) (cond script (Some (leaf Script)) (cond report (Some (leaf Report)) (cond plan (Some (leaf Plan)) (cond check (Some (leaf Check)) (cond live (Some (leaf Live)) None))))) [] ≡ []
+        → is_some (asked_of (option_map (λ s. (s.name, rows_after s.rules [] rest)) (cond script (Some (leaf Script)) (cond report (Some (leaf Report)) (cond plan (Some (leaf Plan)) (cond check (Some (leaf Check)) (cond live (Some (leaf Live)) None))))))) ≡ true
+    go true report plan check live e = refl
+    go false true plan check live e = sub_asks Report rest refl refl (level_checked (leaf Report) rest e)
+    go false false true check live e = sub_asks Plan rest refl refl (level_checked (leaf Plan) rest e)
+    go false false false true live e = sub_asks Check rest refl refl (level_checked (leaf Check) rest e)
+    go false false false false true e = sub_asks Live rest refl refl (level_checked (leaf Live) rest e)
+    go false false false false false e = refl
 
 pub accepted_asks : (words : List Text) → faults_in words ≡ [] → is_some (asked_by words) ≡ true
 accepted_asks words none =

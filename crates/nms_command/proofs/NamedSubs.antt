@@ -7,7 +7,7 @@ use Rattle.clap.specs.Takes.{entered_passes, walk_passes}
 use Rattle.clap.proofs.OnLiterals.{clap_on_literals}
 use Rattle.nms_command.specs.CommandLine.{name_of, tool}
 use Rattle.nms_command.specs.declared.subcommand.Sub.{Sub}
-use Rattle.nms_command.specs.declared.subcommand.Sub.TheVariants.{Script, Report, Plan, Check}
+use Rattle.nms_command.specs.declared.subcommand.Sub.TheVariants.{Script, Report, Plan, Check, Live}
 
 -- where the walk stands that met a subcommand, with the words after its name
 abbrev met : Text → List Text → Walk
@@ -35,6 +35,7 @@ named_stops Script rest = ap (λ (w : Walk). w.stopped) (met_rest above.rules su
 named_stops Report rest = ap (λ (w : Walk). w.stopped) (met_rest above.rules sub_names (codes "report") [] rest)
 named_stops Plan rest = ap (λ (w : Walk). w.stopped) (met_rest above.rules sub_names (codes "plan") [] rest)
 named_stops Check rest = ap (λ (w : Walk). w.stopped) (met_rest above.rules sub_names (codes "check") [] rest)
+named_stops Live rest = ap (λ (w : Walk). w.stopped) (met_rest above.rules sub_names (codes "live") [] rest)
 
 -- the subcommand reads the rest
 pub named_reads : (sub : Sub) (rest : List Text) → subcommand_of tool (name_of sub ∷ rest) ≡ entered (built tool) (Some (name_of sub, rest))
@@ -47,3 +48,4 @@ named_takes Script rest passes = rw (met_rest above.rules sub_names (codes "scri
 named_takes Report rest passes = rw (met_rest above.rules sub_names (codes "report") [] rest, met_passes above sub_names (codes "report") [] rest, passes) refl
 named_takes Plan rest passes = rw (met_rest above.rules sub_names (codes "plan") [] rest, met_passes above sub_names (codes "plan") [] rest, passes) refl
 named_takes Check rest passes = rw (met_rest above.rules sub_names (codes "check") [] rest, met_passes above sub_names (codes "check") [] rest, passes) refl
+named_takes Live rest passes = rw (met_rest above.rules sub_names (codes "live") [] rest, met_passes above sub_names (codes "live") [] rest, passes) refl

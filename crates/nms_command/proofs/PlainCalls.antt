@@ -12,7 +12,7 @@ use Rattle.nms_command.specs.CommandLine.{AreOptions, Asked, IsPlainCall, asked_
 use Rattle.nms_command.proofs.NamedSubs.{above, named_reads, named_takes}
 use Rattle.nms_command.proofs.WalkSteps.{HasManual, HasSetup, HaveUses, PassesCall, Use, call_passes, call_rows, call_taken, is_single, manual_on, setup_to, uses_words}
 use Rattle.nms_command.specs.declared.subcommand.Sub.{Sub}
-use Rattle.nms_command.specs.declared.subcommand.Sub.TheVariants.{Script, Report, Plan, Check}
+use Rattle.nms_command.specs.declared.subcommand.Sub.TheVariants.{Script, Report, Plan, Check, Live}
 
 -- the parser takes the words, and they ask for this
 pub record IsTaken (words : List Text) (asked : Asked) : Type 0 where
@@ -33,36 +33,42 @@ level_of Script rest = refl
 level_of Report rest = refl
 level_of Plan rest = refl
 level_of Check rest = refl
+level_of Live rest = refl
 
 rows_of_level : (sub : Sub) (rest : List Text) → entered (built tool) (Some (name_of sub, rest)) ≡ Some (name_of sub, rows_after (leaf sub).rules [] rest)
 rows_of_level Script rest = refl
 rows_of_level Report rest = refl
 rows_of_level Plan rest = refl
 rows_of_level Check rest = refl
+rows_of_level Live rest = refl
 
 named : (sub : Sub) → sub_named (name_of sub) ≡ Some sub
 named Script = refl
 named Report = refl
 named Plan = refl
 named Check = refl
+named Live = refl
 
 leaf_single : (sub : Sub) → list_all is_single (leaf sub).rules ≡ true
 leaf_single Script = refl
 leaf_single Report = refl
 leaf_single Plan = refl
 leaf_single Check = refl
+leaf_single Live = refl
 
 leaf_setup : (sub : Sub) → HasSetup (leaf sub).rules
 leaf_setup Script = record { rule = filled setup_rule; by_long = refl; by_id = refl; id = refl; takes = refl; one = refl }
 leaf_setup Report = record { rule = filled setup_rule; by_long = refl; by_id = refl; id = refl; takes = refl; one = refl }
 leaf_setup Plan = record { rule = filled setup_rule; by_long = refl; by_id = refl; id = refl; takes = refl; one = refl }
 leaf_setup Check = record { rule = filled setup_rule; by_long = refl; by_id = refl; id = refl; takes = refl; one = refl }
+leaf_setup Live = record { rule = filled setup_rule; by_long = refl; by_id = refl; id = refl; takes = refl; one = refl }
 
 leaf_manual : (sub : Sub) → takes_manual sub ≡ true → HasManual (leaf sub).rules
 leaf_manual Script takes = cc
 leaf_manual Report takes = cc
 leaf_manual Plan takes = record { rule = filled manual_rule; by_long = refl; flag = refl }
 leaf_manual Check takes = cc
+leaf_manual Live takes = cc
 
 -- ---- the option and the flag, in either order
 
@@ -125,6 +131,11 @@ unfolding clap_on_literals
 check_answers changes plan None first = record { passes = record { words = refl; options = refl; last = refl }; asks = refl }
 check_answers changes plan (Some file) first = record { passes = record { words = refl; options = refl; last = refl }; asks = refl }
 
+live_answers : (feed_a feed_b orders : Text) (setup : Option Text) (first : Bool) → Answers Live (feed_a ∷ feed_b ∷ orders ∷ []) setup false first
+unfolding clap_on_literals
+live_answers feed_a feed_b orders None first = record { passes = record { words = refl; options = refl; last = refl }; asks = refl }
+live_answers feed_a feed_b orders (Some file) first = record { passes = record { words = refl; options = refl; last = refl }; asks = refl }
+
 plan_answers : (changes side symbol shares limit : Text) (setup : Option Text) (manual first : Bool) → Answers Plan (changes ∷ side ∷ symbol ∷ shares ∷ limit ∷ []) setup manual first
 unfolding clap_on_literals
 plan_answers changes side symbol shares limit None false first = record { passes = record { words = refl; options = refl; last = refl }; asks = refl }
@@ -149,6 +160,12 @@ answers Check (changes ∷ plan ∷ []) setup true first counted flag = let no :
 answers Check [] setup manual first counted flag = absurd (omega arith)
 answers Check (a ∷ []) setup manual first counted flag = absurd (omega arith)
 answers Check (a ∷ b ∷ c ∷ rest) setup manual first counted flag = absurd (omega arith)
+answers Live (feed_a ∷ feed_b ∷ orders ∷ []) setup false first counted flag = live_answers feed_a feed_b orders setup first
+answers Live (feed_a ∷ feed_b ∷ orders ∷ []) setup true first counted flag = let no : false ≡ true = flag refl in cc
+answers Live [] setup manual first counted flag = absurd (omega arith)
+answers Live (a ∷ []) setup manual first counted flag = absurd (omega arith)
+answers Live (a ∷ b ∷ []) setup manual first counted flag = absurd (omega arith)
+answers Live (a ∷ b ∷ c ∷ d ∷ rest) setup manual first counted flag = absurd (omega arith)
 answers Plan (changes ∷ side ∷ symbol ∷ shares ∷ limit ∷ []) setup manual first counted flag = plan_answers changes side symbol shares limit setup manual first
 answers Plan [] setup manual first counted flag = absurd (omega arith)
 answers Plan (a ∷ []) setup manual first counted flag = absurd (omega arith)

@@ -12,7 +12,7 @@ use Rattle.clap.specs.declared.error.kind.ErrorKind.{ErrorKind}
 use Rattle.clap.specs.declared.error.kind.ErrorKind.TheVariants.{DisplayHelp, DisplayVersion}
 use Rattle.nms_command.specs.declared.request.Request.{Request}
 use Rattle.nms_command.specs.declared.subcommand.Sub.{Sub}
-use Rattle.nms_command.specs.declared.subcommand.Sub.TheVariants.{Script, Report, Plan, Check}
+use Rattle.nms_command.specs.declared.subcommand.Sub.TheVariants.{Script, Report, Plan, Check, Live}
 use Rattle.nms_command.specs.declared.words_fault.WordsFault.{WordsFault}
 use Rattle.nms_command.specs.declared.words_fault.WordsFault.TheVariants.{Parser, NoMemory}
 
@@ -31,6 +31,7 @@ name_of Script = codes "script"
 name_of Report = codes "report"
 name_of Plan = codes "plan"
 name_of Check = codes "check"
+name_of Live = codes "live"
 
 -- the names of a subcommand's own words, in order
 abbrev pub own_names : Sub → List Text
@@ -38,6 +39,7 @@ own_names Script = []
 own_names Report = codes "CHANGES" ∷ codes "SYM" ∷ []
 own_names Plan = codes "CHANGES" ∷ codes "SIDE" ∷ codes "SYM" ∷ codes "SHARES" ∷ codes "LIMIT" ∷ []
 own_names Check = codes "CHANGES" ∷ codes "PLANFILE" ∷ []
+own_names Live = codes "FEED_A" ∷ codes "FEED_B" ∷ codes "ORDERS" ∷ []
 
 -- whether a subcommand takes the flag `--manual`
 abbrev pub takes_manual : Sub → Bool
@@ -46,7 +48,7 @@ takes_manual _ = false
 
 -- each subcommand
 abbrev pub subs : List Sub
-subs = Script ∷ Report ∷ Plan ∷ Check ∷ []
+subs = Script ∷ Report ∷ Plan ∷ Check ∷ Live ∷ []
 
 -- the subcommand of that name
 abbrev pub sub_named : Text → Option Sub

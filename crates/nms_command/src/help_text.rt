@@ -16,6 +16,7 @@ Exit statuses:
   4  a plan is not confirmed
   5  out of memory
   6  an input record, a plan or a length was refused
+  7  a live run was refused
 
 Records that are refused, of a script (answered ERR,number,code) or of a file:
   L1   the first field is no kind of record that is served here
@@ -65,8 +66,14 @@ Plans that are not confirmed (told as DOUBT,CODE; a breach as DOUBT,K1,CODE):
 Runs that end early (told as nms_tool: CODE, as are the codes below):
   E1   a file or the input could not be read
   E2   the output could not be written
-  E3   a script of more than 10,000,000 records
+  E3   a script of more than 10,000,000 records, or a feed of more than 1,000,000,000 bytes
   E4   out of memory
+  E5   a record of a feed was refused
+  E6   a live run could not begin: no memory, or no thread
+  E7   a change of a feed beyond the limit of the tape, or without memory for it
+  E8   a desk could not look, or could not end
+  E9   a gate did not open in 1,000,000 turns
+  E10  out of memory in a live run
   B1   out of memory for a board
 
 Setups that are refused:

@@ -7,6 +7,7 @@ mod command_words;
 mod ending;
 mod files;
 mod help_text;
+mod living;
 mod planning;
 mod program;
 mod request;

@@ -4,6 +4,7 @@ use crate::check::serve_check;
 use crate::command_words::read_words;
 use crate::ending::Ending;
 use crate::files::{read_file, unread};
+use crate::living::serve_live;
 use crate::planning::serve_plan;
 use crate::request::Request;
 use crate::subcommand::Sub;
@@ -13,19 +14,24 @@ use nms_engine::{SETUP_K, ScriptFault, report_changes, run_script};
 use nms_fees::{Setup, SetupFault, read_setup};
 use std::io::{Read, Write};
 use std::rt::Files;
+use std::sync::Wait;
+use std::thread::Threads;
 use std::{fs, io, str};
 
 /// Does what the words ask for, with the script on `input`, and gives the exit status.
 ///
 /// Answers and help go to `answers`; the text of a parser's fault, or one line `nms_tool: CODE`, to
 /// `errors`.
-pub fn run_tool<T: Files + AllocGlobal, R: Read + Drop, W: Write, E: Write>(
+pub fn run_tool<T, R: Read + Drop, W: Write, E: Write>(
     rt: &T,
     words: &[&str],
     input: R,
     answers: &mut W,
     errors: &mut E,
-) -> u8 {
+) -> u8
+where
+    T: Files + AllocGlobal + Threads + Wait + Sync,
+{
     match serve_words(rt, words, input, answers) {
         Ok(ending) => ending.status(),
         Err(fault) => tell_fault(&fault, errors),
@@ -51,12 +57,15 @@ fn tell_code<E: Write>(errors: &mut E, code: &str) -> io::Result<()> {
     errors.flush()
 }
 
-fn serve_words<T: Files + AllocGlobal, R: Read + Drop, W: Write>(
+fn serve_words<T, R: Read + Drop, W: Write>(
     rt: &T,
     words: &[&str],
     input: R,
     answers: &mut W,
-) -> Result<Ending, ToolFault> {
+) -> Result<Ending, ToolFault>
+where
+    T: Files + AllocGlobal + Threads + Wait + Sync,
+{
     let request = match read_words(rt.alloc(), words) {
         Ok(request) => request,
         Err(WordsFault::Parser { text, help: true }) => return tell_help(answers, text.as_str()),
@@ -68,6 +77,7 @@ fn serve_words<T: Files + AllocGlobal, R: Read + Drop, W: Write>(
         Sub::Report => serve_report(rt, &setup, &request.words, answers),
         Sub::Plan => serve_plan(rt, &setup, &request, answers),
         Sub::Check => serve_check(rt, &setup, &request.words, answers),
+        Sub::Live => serve_live(rt, &setup, &request.words, answers),
     }
 }
 

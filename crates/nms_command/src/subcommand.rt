@@ -10,6 +10,8 @@ pub enum Sub {
     Plan,
     /// Says whether a plan is confirmed on a file of changes. Its own words are `CHANGES` and `PLANFILE`.
     Check,
+    /// Runs two feeds, the tape and the desks at once. Its own words are `FEED_A`, `FEED_B` and `ORDERS`.
+    Live,
 }
 
 /// A word of a subcommand's own, with its explanation in the help.
@@ -66,12 +68,33 @@ static CHECK_WORDS: [OwnWord; 2] = [
     },
 ];
 
+static LIVE_WORDS: [OwnWord; 3] = [
+    OwnWord {
+        name: "FEED_A",
+        help: "The file of the changes of feed A",
+    },
+    OwnWord {
+        name: "FEED_B",
+        help: "The file of the changes of feed B",
+    },
+    OwnWord {
+        name: "ORDERS",
+        help: "The file of the orders, each for a desk",
+    },
+];
+
 impl Sub {
     ghost use Rattle.std.specs.Prelude.{◌≡◌, map};
     ghost use Rattle.nms_command.specs.CommandLine.{name_of, own_names, sub_named, takes_manual};
 
     /// Each of them.
-    pub(crate) const ALL: [Self; 4] = [Self::Script, Self::Report, Self::Plan, Self::Check];
+    pub(crate) const ALL: [Self; 5] = [
+        Self::Script,
+        Self::Report,
+        Self::Plan,
+        Self::Check,
+        Self::Live,
+    ];
 
     /// The word that asks for it.
     pub(crate) fn name(self) -> &'static str
@@ -82,6 +105,7 @@ impl Sub {
             Sub::Report => "report",
             Sub::Plan => "plan",
             Sub::Check => "check",
+            Sub::Live => "live",
         }
     }
 
@@ -92,6 +116,8 @@ impl Sub {
             Sub::Report => "Reports what a file of changes leaves of a symbol",
             Sub::Plan => "Plans an order on a file of changes, with the certificate",
             Sub::Check => "Says whether a plan is lawful and none is better",
+            Sub::Live =>
+                "Runs two feeds and the desks at once, and plans each order on all changes",
         }
     }
 
@@ -104,6 +130,7 @@ impl Sub {
             Sub::Report => REPORT_WORDS.as_slice(),
             Sub::Plan => PLAN_WORDS.as_slice(),
             Sub::Check => CHECK_WORDS.as_slice(),
+            Sub::Live => LIVE_WORDS.as_slice(),
         }
     }
 

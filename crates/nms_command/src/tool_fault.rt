@@ -1,7 +1,10 @@
 //! Why the program ends with another status than 0: the code that it tells, and the status.
 use crate::words_fault::WordsFault;
 use nms_board::BoardFault;
-use nms_engine::{AuditFault, ChangesFault, PlanFault, ReportFault, ScriptFault};
+use nms_engine::{
+    AuditFault, ChangesFault, LiveFault, LiveTextFault, OrdersFault, PlanFault, ReportFault,
+    ScriptFault,
+};
 use nms_fees::SetupFault;
 use nms_lines::PlanTextFault;
 
@@ -28,11 +31,19 @@ pub enum ToolFault {
     PlanText(PlanTextFault),
     /// There was no memory for an audit.
     NoAudit,
+    /// A file of a feed has more than 1,000,000,000 bytes.
+    FeedTooLong,
+    /// A file of orders was refused.
+    Orders(OrdersFault),
+    /// A live run gave nothing.
+    Live(LiveFault),
+    /// What a live run came to was not written.
+    LiveText(LiveTextFault),
 }
 
 impl ToolFault {
     /// The exit status: 1 for streams and files, 2 for words, 3 for the setup, 5 for memory, 6 for lines,
-    /// plans and lengths.
+    /// plans and lengths, 7 for a live run.
     pub fn status(&self) -> u8 {
         match self {
             ToolFault::Words(WordsFault::NoMemory) => 5,
@@ -46,6 +57,10 @@ impl ToolFault {
             ToolFault::Plan(fault) => status_of_plan(*fault),
             ToolFault::PlanText(fault) => status_of_text(*fault),
             ToolFault::NoAudit => 5,
+            ToolFault::FeedTooLong => 6,
+            ToolFault::Orders(fault) => status_of_orders(*fault),
+            ToolFault::Live(fault) => status_of_live(*fault),
+            ToolFault::LiveText(fault) => status_of_live_text(*fault),
         }
     }
 
@@ -62,6 +77,10 @@ impl ToolFault {
             ToolFault::Plan(fault) => fault.code(),
             ToolFault::PlanText(fault) => fault.code(),
             ToolFault::NoAudit => AuditFault::NoMemory.code(),
+            ToolFault::FeedTooLong => "E3",
+            ToolFault::Orders(fault) => fault.code(),
+            ToolFault::Live(fault) => fault.code(),
+            ToolFault::LiveText(fault) => fault.code(),
         }
     }
 }
@@ -103,5 +122,28 @@ fn status_of_text(fault: PlanTextFault) -> u8 {
         PlanTextFault::BadPlanText => 6,
         PlanTextFault::NoMemory => 5,
         PlanTextFault::WriteFault => 1,
+    }
+}
+
+fn status_of_orders(fault: OrdersFault) -> u8 {
+    match fault {
+        OrdersFault::ReadFault => 1,
+        OrdersFault::Line(_) => 6,
+        OrdersFault::NoMemory => 5,
+    }
+}
+
+fn status_of_live(fault: LiveFault) -> u8 {
+    match fault {
+        LiveFault::Line { .. } => 6,
+        LiveFault::Open | LiveFault::Append | LiveFault::Desk | LiveFault::GateLimit => 7,
+        LiveFault::NoMemory => 5,
+    }
+}
+
+fn status_of_live_text(fault: LiveTextFault) -> u8 {
+    match fault {
+        LiveTextFault::NoMemory => 5,
+        LiveTextFault::WriteFault => 1,
     }
 }

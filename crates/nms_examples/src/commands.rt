@@ -6,6 +6,9 @@ use crate::escapes::bytes_of;
 use nms_command::{WordsFault, read_words, run_tool};
 use std::alloc::Global;
 use std::io::Write;
+use std::rt::Files;
+use std::sync::Wait;
+use std::thread::Threads;
 use std::{fs, str};
 
 /// What stands before each file, and before the input.
@@ -13,11 +16,10 @@ const PART: &str = "-- ";
 
 /// Adds the status of a call, its answers, and behind a line `-- errors` what it tells of faults. The words stand
 /// first, one a line; then each file behind its name, and the input. The files are gone afterwards.
-pub(crate) fn give_command(
-    rt: &HostRuntime,
-    body: &str,
-    given: &mut Vec<u8>,
-) -> Result<(), Failed> {
+pub(crate) fn give_command<T>(rt: &T, body: &str, given: &mut Vec<u8>) -> Result<(), Failed>
+where
+    T: Files + AllocGlobal + Threads + Wait + Sync,
+{
     let (words, parts) = match body.split_once(PART) {
         Some((words, parts)) => (words, parts),
         None => (body, ""),
@@ -38,12 +40,10 @@ fn lines_of(alloc: Global, text: &str) -> Result<Vec<&str>, Failed> {
 }
 
 /// Adds what the words give on that input.
-fn give_call(
-    rt: &HostRuntime,
-    words: &[&str],
-    input: &[u8],
-    given: &mut Vec<u8>,
-) -> Result<(), Failed> {
+fn give_call<T>(rt: &T, words: &[&str], input: &[u8], given: &mut Vec<u8>) -> Result<(), Failed>
+where
+    T: Files + AllocGlobal + Threads + Wait + Sync,
+{
     let mut answers = Vec::new(rt.alloc());
     let mut errors = Vec::new(rt.alloc());
     let status = run_tool(rt, words, input, &mut answers, &mut errors);
@@ -60,7 +60,7 @@ fn tell_ends(status: u8, answers: &[u8], errors: &[u8], given: &mut Vec<u8>) -> 
 }
 
 /// Writes each file, and gives the input.
-fn put_parts(rt: &HostRuntime, parts: &str) -> Result<Vec<u8>, Failed> {
+fn put_parts<T: Files + AllocGlobal>(rt: &T, parts: &str) -> Result<Vec<u8>, Failed> {
     let mut input = Vec::new(rt.alloc());
     for part in parts.split(PART) {
         let (head, text) = part.split_once('\n').unwrap_or(("", ""));
@@ -74,7 +74,7 @@ fn put_parts(rt: &HostRuntime, parts: &str) -> Result<Vec<u8>, Failed> {
 }
 
 /// Removes each file.
-fn remove_files(rt: &HostRuntime, parts: &str) -> Result<(), Failed> {
+fn remove_files<T: Files>(rt: &T, parts: &str) -> Result<(), Failed> {
     for part in parts.split(PART) {
         let (head, _) = part.split_once('\n').unwrap_or(("", ""));
         if let Some(name) = head.strip_prefix("file ") {

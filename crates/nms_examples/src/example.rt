@@ -13,15 +13,16 @@ use nms_engine::{Counts, SETUP_K, report_changes, run_script};
 use nms_fees::Setup;
 use std::alloc::Global;
 use std::io::Write;
+use std::rt::Files;
+use std::sync::Wait;
+use std::thread::Threads;
 
 /// What an example gives, which is as its title's first word says; then the code of what ended it early, if
 /// anything did.
-pub(crate) fn give(
-    rt: &HostRuntime,
-    setup: &Setup,
-    title: &str,
-    body: &str,
-) -> Result<Vec<u8>, Failed> {
+pub(crate) fn give<T>(rt: &T, setup: &Setup, title: &str, body: &str) -> Result<Vec<u8>, Failed>
+where
+    T: Files + AllocGlobal + Threads + Wait + Sync,
+{
     let alloc = rt.alloc();
     let mut given = Vec::new(alloc);
     let (kind, rest) = title.split_once(' ').ok_or(Failed)?;

@@ -3,11 +3,13 @@
 use crate::Failed;
 use nms_board::BoardFault;
 use nms_command::WordsFault;
-use nms_engine::{AuditFault, ChangesFault, ReportFault, ScriptFault};
+use nms_engine::{
+    AuditFault, ChangesFault, LiveFault, LiveTextFault, OrdersFault, ReportFault, ScriptFault,
+};
 use nms_fees::SetupFault;
 use nms_flow::{FlowFault, StepFault};
 use nms_lines::{LineFault, PlanTextFault, RecordFault};
-use nms_quote::RosterFault;
+use nms_quote::{Feed, RosterFault};
 use nms_units::UnitFault;
 use std::fmt::Display;
 use std::io::Write;
@@ -19,6 +21,7 @@ pub(crate) fn tell_faults(given: &mut Vec<u8>) -> Result<(), Failed> {
     tell_setup_faults(given)?;
     tell_machine_faults(given)?;
     tell_engine_faults(given)?;
+    tell_live_faults(given)?;
     tell(given, WordsFault::NoMemory)
 }
 
@@ -130,6 +133,35 @@ fn tell_engine_faults(given: &mut Vec<u8>) -> Result<(), Failed> {
         ReportFault::WriteFault,
         ReportFault::NoMemory,
     ] {
+        tell(given, fault)?;
+    }
+    Ok(())
+}
+
+fn tell_live_faults(given: &mut Vec<u8>) -> Result<(), Failed> {
+    for fault in [
+        OrdersFault::ReadFault,
+        OrdersFault::Line(LineFault::BadDesk),
+        OrdersFault::NoMemory,
+    ] {
+        tell(given, fault)?;
+    }
+    let refused = LiveFault::Line {
+        feed: Feed::B,
+        number: 7,
+        fault: LineFault::WrongFeed,
+    };
+    for fault in [
+        refused,
+        LiveFault::Open,
+        LiveFault::Append,
+        LiveFault::Desk,
+        LiveFault::GateLimit,
+        LiveFault::NoMemory,
+    ] {
+        tell(given, fault)?;
+    }
+    for fault in [LiveTextFault::NoMemory, LiveTextFault::WriteFault] {
         tell(given, fault)?;
     }
     Ok(())

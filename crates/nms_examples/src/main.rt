@@ -18,6 +18,9 @@ use nms_engine::SETUP_K;
 use nms_fees::{Setup, read_setup};
 use std::io::{Read, Write};
 use std::process::ExitCode;
+use std::rt::Files;
+use std::sync::Wait;
+use std::thread::Threads;
 use std::{io, str};
 
 /// The line behind which an example says what it must give.
@@ -35,7 +38,10 @@ fn main(rt: HostRuntime) -> ExitCode {
 }
 
 /// Shows the examples under each setup.
-fn show_all(rt: &HostRuntime) -> Result<(), Failed> {
+fn show_all<T>(rt: &T) -> Result<(), Failed>
+where
+    T: Files + AllocGlobal + Input + Print + Threads + Wait + Sync,
+{
     let mut input = Vec::new(rt.alloc());
     rt.reader().read_to_end(&mut input).map_err(|_| Failed)?;
     let text = str::from_utf8(&input).map_err(|_| Failed)?;
@@ -47,7 +53,10 @@ fn show_all(rt: &HostRuntime) -> Result<(), Failed> {
 }
 
 /// Shows the examples that stand behind a setup. An empty one is the built-in setup.
-fn show_part<W: Write>(rt: &HostRuntime, part: &str, answers: &mut W) -> Result<(), Failed> {
+fn show_part<T, W: Write>(rt: &T, part: &str, answers: &mut W) -> Result<(), Failed>
+where
+    T: Files + AllocGlobal + Threads + Wait + Sync,
+{
     let (head, examples) = part.split_once("== ").ok_or(Failed)?;
     let (_, document) = head.split_once('\n').ok_or(Failed)?;
     let document = if document.is_empty() {
@@ -69,13 +78,16 @@ fn show_part<W: Write>(rt: &HostRuntime, part: &str, answers: &mut W) -> Result<
 }
 
 /// Writes what an example gives; or, of one that says what it must give, whether it does.
-fn show<W: Write>(
-    rt: &HostRuntime,
+fn show<T, W: Write>(
+    rt: &T,
     setup: &Setup,
     title: &str,
     body: &str,
     answers: &mut W,
-) -> Result<(), Failed> {
+) -> Result<(), Failed>
+where
+    T: Files + AllocGlobal + Threads + Wait + Sync,
+{
     let Some((input, wanted)) = body.split_once(GIVES) else {
         let given = give(rt, setup, title, body)?;
         return answers.write_all(&given).map_err(|_| Failed);

@@ -2,32 +2,38 @@
 #![tactic(auto)]
 
 use nms_command::{ToolFault, WordsFault, run_tool, tell_fault};
-use std::io::ErrorKind;
+use std::io::{ErrorKind, Write};
 use std::process::ExitCode;
+use std::rt::{Env, Files};
+use std::sync::Wait;
+use std::thread::Threads;
 use std::{env, io};
 
 fn main(rt: HostRuntime) -> ExitCode {
-    let status = match answer_words(&rt) {
+    let errors = &mut rt.stderr();
+    let status = match answer_words(&rt, errors) {
         Ok(status) => status,
-        Err(fault) => tell_fault(&fault, &mut rt.stderr()),
+        Err(fault) => tell_fault(&fault, errors),
     };
     ExitCode::from(status)
 }
 
 /// Runs the command line on the process's own words and streams.
-fn answer_words(rt: &HostRuntime) -> Result<u8, ToolFault> {
+fn answer_words<T, E: Write>(rt: &T, errors: &mut E) -> Result<u8, ToolFault>
+where
+    T: AllocGlobal + Env + Files + Input + Print + Threads + Wait + Sync,
+{
     let own = own_words(rt)?;
     let mut words = Vec::new(rt.alloc());
     for word in &own {
         words.push(word.as_str()).map_err(|_| no_memory())?;
     }
     let answers = &mut io::writer(rt);
-    let errors = &mut rt.stderr();
     Ok(run_tool(rt, &words, rt.reader(), answers, errors))
 }
 
 /// The words behind the program's name. Those that are no UTF-8 name nothing.
-fn own_words(rt: &HostRuntime) -> Result<Vec<String>, ToolFault> {
+fn own_words<T: AllocGlobal + Env>(rt: &T) -> Result<Vec<String>, ToolFault> {
     let all = env::args(rt).map_err(|error| match error.kind() {
         ErrorKind::OutOfMemory => no_memory(),
         _ => ToolFault::Usage,
