@@ -129,6 +129,8 @@ bundle() {
     filled
     runs
     crowds
+    setup
+    cat cases/trials.cases
 }
 
 if [ "${1:-}" = check ]; then

@@ -1,6 +1,4 @@
 //! Files, and why one could not be read.
-ghost use Rattle.std.specs.Prelude.{◌≢◌};
-
 use crate::tool_fault::ToolFault;
 use nms_engine::ScriptFault;
 use std::io::ErrorKind;
@@ -13,9 +11,7 @@ pub(crate) fn read_file<T: Files + AllocGlobal>(rt: &T, path: &str) -> Result<Ve
 }
 
 /// Why a file could not be read.
-pub(crate) fn unread(error: &io::Error) -> ToolFault
-    ensures { result ≢ ToolFault.FeedTooLong }
-{
+pub(crate) fn unread(error: &io::Error) -> ToolFault {
     if error.kind() == ErrorKind::OutOfMemory {
         ToolFault::Script(ScriptFault::NoMemory)
     } else {

@@ -1,14 +1,11 @@
 //! The subcommand `live`: two feeds, the tape and the desks at once, each in a thread of its own.
-ghost use Rattle.std.specs.Prelude.{◌≡◌, ◌<◌, ◌≤◌, ◌-◌, ◌^◌, length, IfErr, IfOk, IfSome};
-
 use crate::ending::Ending;
 use crate::files::unread;
 use crate::tool_fault::ToolFault;
-use nms_engine::{OpenGate, read_orders, run_live, write_live};
+use nms_engine::{OpenGate, read_orders, read_within, run_live, write_live};
 use nms_fees::Setup;
-use std::alloc::Global;
 use std::fs;
-use std::io::{Read, Write};
+use std::io::Write;
 use std::rt::Files;
 use std::sync::Wait;
 use std::thread::Threads;
@@ -35,28 +32,15 @@ pub(crate) fn serve_live<T: Files + AllocGlobal + Threads + Wait + Sync, W: Writ
     let live = run_live(rt, rt.alloc(), setup, feed_a, feed_b, orders, &OpenGate).map_err(
         ToolFault::Live,
     )?;
-    write_live(rt.alloc(), setup.roster(), &live, answers).map_err(ToolFault::LiveText)?;
+    let taken = live.tape.len() as u64;
+    write_live(rt.alloc(), setup.roster(), taken, &live.closing, answers).map_err(
+        ToolFault::LiveText,
+    )?;
     Ok(Ending::Done)
 }
 
 /// The bytes of a feed's file, where there are not too many.
 fn read_feed<T: Files + AllocGlobal>(rt: &T, path: &str) -> Result<Vec<u8>, ToolFault> {
     let file = fs::open(rt, path).map_err(|error| unread(&error))?;
-    read_within(rt.alloc(), file, MOST_FEED_BYTES)
-}
-
-/// All that a source has left, where that is at most so many bytes. No more than one byte beyond them is read.
-fn read_within<R: Read + Drop>(alloc: Global, source: R, most: u64) -> Result<Vec<u8>, ToolFault>
-    requires room { most < 2 ^ 64 - 1 }
-    ensures all { IfOk result (λ bytes. IfSome (R.remaining source) (λ left. bytes.items ≡ left)) }
-    ensures within { IfOk result (λ bytes. length bytes.items ≤ most) }
-    ensures refused { IfErr result (λ fault. fault ≡ ToolFault.FeedTooLong → IfSome (R.remaining source) (λ left. most < length left)) }
-{
-    let mut bytes = Vec::new(alloc);
-    let mut begin = source.take(most + 1);
-    match begin.read_to_end(&mut bytes) {
-        Ok(_) if bytes.len() as u64 <= most => Ok(bytes),
-        Ok(_) => Err(ToolFault::FeedTooLong),
-        Err(error) => Err(unread(&error)),
-    }
+    read_within(rt.alloc(), file, MOST_FEED_BYTES).map_err(ToolFault::Feed)
 }

@@ -1,17 +1,14 @@
 //! What the program does with its words, its streams and its files.
 
 use crate::check::serve_check;
-use crate::command_words::read_words;
 use crate::ending::Ending;
 use crate::files::{read_file, unread};
 use crate::living::serve_live;
 use crate::planning::serve_plan;
-use crate::request::Request;
-use crate::subcommand::Sub;
 use crate::tool_fault::ToolFault;
-use crate::words_fault::WordsFault;
 use nms_engine::{SETUP_K, ScriptFault, report_changes, run_script};
 use nms_fees::{Setup, SetupFault, read_setup};
+use nms_words::{Request, Sub, WordsFault, read_words};
 use std::io::{Read, Write};
 use std::rt::Files;
 use std::sync::Wait;

@@ -1,12 +1,12 @@
 //! Why the program ends with another status than 0: the code that it tells, and the status.
-use crate::words_fault::WordsFault;
 use nms_board::BoardFault;
 use nms_engine::{
-    AuditFault, ChangesFault, LiveFault, LiveTextFault, OrdersFault, PlanFault, ReportFault,
-    ScriptFault,
+    AuditFault, ChangesFault, FeedFault, LiveFault, LiveTextFault, OrdersFault, PlanFault,
+    ReportFault, ScriptFault,
 };
 use nms_fees::SetupFault;
 use nms_lines::PlanTextFault;
+use nms_words::WordsFault;
 
 /// Why the program ends with another status than 0.
 #[derive(Debug, Drop)]
@@ -31,8 +31,8 @@ pub enum ToolFault {
     PlanText(PlanTextFault),
     /// There was no memory for an audit.
     NoAudit,
-    /// A file of a feed has more than 1,000,000,000 bytes.
-    FeedTooLong,
+    /// A file of a feed was not read: it has more than 1,000,000,000 bytes, say.
+    Feed(FeedFault),
     /// A file of orders was refused.
     Orders(OrdersFault),
     /// A live run gave nothing.
@@ -57,7 +57,7 @@ impl ToolFault {
             ToolFault::Plan(fault) => status_of_plan(*fault),
             ToolFault::PlanText(fault) => status_of_text(*fault),
             ToolFault::NoAudit => 5,
-            ToolFault::FeedTooLong => 6,
+            ToolFault::Feed(fault) => status_of_feed(*fault),
             ToolFault::Orders(fault) => status_of_orders(*fault),
             ToolFault::Live(fault) => status_of_live(*fault),
             ToolFault::LiveText(fault) => status_of_live_text(*fault),
@@ -77,7 +77,7 @@ impl ToolFault {
             ToolFault::Plan(fault) => fault.code(),
             ToolFault::PlanText(fault) => fault.code(),
             ToolFault::NoAudit => AuditFault::NoMemory.code(),
-            ToolFault::FeedTooLong => "E3",
+            ToolFault::Feed(fault) => fault.code(),
             ToolFault::Orders(fault) => fault.code(),
             ToolFault::Live(fault) => fault.code(),
             ToolFault::LiveText(fault) => fault.code(),
@@ -122,6 +122,14 @@ fn status_of_text(fault: PlanTextFault) -> u8 {
         PlanTextFault::BadPlanText => 6,
         PlanTextFault::NoMemory => 5,
         PlanTextFault::WriteFault => 1,
+    }
+}
+
+fn status_of_feed(fault: FeedFault) -> u8 {
+    match fault {
+        FeedFault::ReadFault => 1,
+        FeedFault::TooLong => 6,
+        FeedFault::NoMemory => 5,
     }
 }
 

@@ -9,6 +9,8 @@ use crate::numbers::give_numbers;
 use crate::plans::{give_audit, give_plan, rewrite_plan};
 use crate::records::give_lines;
 use crate::settings::give_settings;
+use crate::steps::give_steps;
+use crate::trials::give_trials;
 use nms_engine::{Counts, SETUP_K, report_changes, run_script};
 use nms_fees::Setup;
 use std::alloc::Global;
@@ -21,13 +23,17 @@ use std::thread::Threads;
 /// anything did.
 pub(crate) fn give<T>(rt: &T, setup: &Setup, title: &str, body: &str) -> Result<Vec<u8>, Failed>
 where
-    T: Files + AllocGlobal + Threads + Wait + Sync,
+    T: Files + AllocGlobal + Eprint + Threads + Wait + Sync,
 {
     let alloc = rt.alloc();
     let mut given = Vec::new(alloc);
     let (kind, rest) = title.split_once(' ').ok_or(Failed)?;
     if kind == "command" {
         give_command(rt, body, &mut given)?;
+        return Ok(given);
+    }
+    if kind == "trials" {
+        give_trials(rt, setup, rest, &mut given)?;
         return Ok(given);
     }
     let input = bytes_of(alloc, body)?;
@@ -42,6 +48,7 @@ where
         "settings" => give_settings(alloc, &input, &mut given)?,
         "numbers" => give_numbers(&input, &mut given)?,
         "words" => give_words(alloc, &input, &mut given)?,
+        "steps" => give_steps(alloc, setup, &input, &mut given)?,
         _ => give_text(rest, &mut given)?,
     }
     Ok(given)

@@ -4,7 +4,8 @@ use crate::Failed;
 use nms_board::BoardFault;
 use nms_command::WordsFault;
 use nms_engine::{
-    AuditFault, ChangesFault, LiveFault, LiveTextFault, OrdersFault, ReportFault, ScriptFault,
+    AuditFault, ChangesFault, FeedFault, LiveFault, LiveTextFault, OrdersFault, ReportFault,
+    ScriptFault,
 };
 use nms_fees::SetupFault;
 use nms_flow::{FlowFault, StepFault};
@@ -158,6 +159,13 @@ fn tell_live_faults(given: &mut Vec<u8>) -> Result<(), Failed> {
         LiveFault::Desk,
         LiveFault::GateLimit,
         LiveFault::NoMemory,
+    ] {
+        tell(given, fault)?;
+    }
+    for fault in [
+        FeedFault::ReadFault,
+        FeedFault::TooLong,
+        FeedFault::NoMemory,
     ] {
         tell(given, fault)?;
     }

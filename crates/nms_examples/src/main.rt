@@ -12,6 +12,8 @@ mod numbers;
 mod plans;
 mod records;
 mod settings;
+mod steps;
+mod trials;
 
 use example::give;
 use nms_engine::SETUP_K;
@@ -40,7 +42,7 @@ fn main(rt: HostRuntime) -> ExitCode {
 /// Shows the examples under each setup.
 fn show_all<T>(rt: &T) -> Result<(), Failed>
 where
-    T: Files + AllocGlobal + Input + Print + Threads + Wait + Sync,
+    T: Files + AllocGlobal + Input + Print + Eprint + Threads + Wait + Sync,
 {
     let mut input = Vec::new(rt.alloc());
     rt.reader().read_to_end(&mut input).map_err(|_| Failed)?;
@@ -55,7 +57,7 @@ where
 /// Shows the examples that stand behind a setup. An empty one is the built-in setup.
 fn show_part<T, W: Write>(rt: &T, part: &str, answers: &mut W) -> Result<(), Failed>
 where
-    T: Files + AllocGlobal + Threads + Wait + Sync,
+    T: Files + AllocGlobal + Eprint + Threads + Wait + Sync,
 {
     let (head, examples) = part.split_once("== ").ok_or(Failed)?;
     let (_, document) = head.split_once('\n').ok_or(Failed)?;
@@ -86,7 +88,7 @@ fn show<T, W: Write>(
     answers: &mut W,
 ) -> Result<(), Failed>
 where
-    T: Files + AllocGlobal + Threads + Wait + Sync,
+    T: Files + AllocGlobal + Eprint + Threads + Wait + Sync,
 {
     let Some((input, wanted)) = body.split_once(GIVES) else {
         let given = give(rt, setup, title, body)?;

@@ -10,8 +10,8 @@ use Rattle.nms_versions.specs.Taped.{AllBegin, longest_of}
 use Rattle.nms_versions.proofs.Beginnings.{prefix_length}
 use Rattle.nms_live.specs.Answering.{IsBestOn, IsClosed, IsSound, IsWorked, versions}
 use Rattle.nms_live.specs.Lists.{IsRising, SomeOf}
-use Rattle.nms_live.specs.declared.answer.Answer.{Answer}
-use Rattle.nms_live.specs.declared.desk_order.DeskOrder.{DeskOrder}
+use Rattle.nms_quote.specs.declared.answer.Answer.{Answer}
+use Rattle.nms_quote.specs.declared.desk_order.DeskOrder.{DeskOrder}
 use Rattle.nms_live.proofs.NumberFacts.{all_append, all_weaker}
 
 prefix_take : (front tape : Tape) → IsPrefix front tape → version (length front) tape ≡ front

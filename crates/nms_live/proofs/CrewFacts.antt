@@ -10,7 +10,7 @@ use Rattle.nms_live.specs.Answering.{IsWorked}
 use Rattle.nms_live.specs.Crew.{AreBack, AreReady, AreStarted, KeepsJob}
 use Rattle.nms_live.specs.Faults.{IsNoLineIfAny}
 use Rattle.nms_live.specs.Reading.{IsLiveFault}
-use Rattle.nms_live.specs.declared.desk_order.DeskOrder.{DeskOrder}
+use Rattle.nms_quote.specs.declared.desk_order.DeskOrder.{DeskOrder}
 use Rattle.nms_live.specs.declared.desk_work.DeskJob.{DeskJob}
 use Rattle.nms_live.specs.declared.desk_work.Desked.{Desked}
 use Rattle.nms_live.specs.declared.live_fault.LiveFault.{LiveFault}

@@ -19,8 +19,8 @@ use Rattle.nms_live.specs.Headline.{AreBestOfTheirVersions, HasOneBest, IsBestOf
 use Rattle.nms_live.specs.Lists.{IsRising}
 use Rattle.nms_live.specs.Living.{IsLive}
 use Rattle.nms_live.specs.RunOf.{basis_of}
-use Rattle.nms_live.specs.declared.answer.Answer.{Answer}
-use Rattle.nms_live.specs.declared.desk_order.DeskOrder.{DeskOrder}
+use Rattle.nms_quote.specs.declared.answer.Answer.{Answer}
+use Rattle.nms_quote.specs.declared.desk_order.DeskOrder.{DeskOrder}
 use Rattle.nms_live.specs.declared.live.Live.{Live}
 
 -- the laws of the ranking, of quotations and of plans, as they are called

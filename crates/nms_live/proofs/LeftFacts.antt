@@ -11,9 +11,9 @@ use Rattle.nms_fees.specs.Settings.{Settings}
 use Rattle.nms_live.specs.Answering.{IsClosed, IsFor, IsSound, numbered, of_desk, own, versions}
 use Rattle.nms_live.specs.Lists.{IsRising}
 use Rattle.nms_live.specs.Rows.{AreLeft, AreRows, IsLeft}
-use Rattle.nms_live.specs.declared.answer.Answer.{Answer}
+use Rattle.nms_quote.specs.declared.answer.Answer.{Answer}
 use Rattle.nms_live.specs.declared.closing.DeskRow.{DeskRow}
-use Rattle.nms_live.specs.declared.desk_order.DeskOrder.{DeskOrder}
+use Rattle.nms_quote.specs.declared.desk_order.DeskOrder.{DeskOrder}
 
 pub some_of : {X : Type 0} (xs : List X) → 0 < length xs → X
 some_of [] some = absurd (omega (arith, some))

@@ -21,8 +21,8 @@ use Rattle.nms_live.specs.Lists.{IsRising}
 use Rattle.nms_live.specs.Living.{IsLive}
 use Rattle.nms_live.specs.Reading.{IsRead}
 use Rattle.nms_live.specs.RunOf.{IsSomeRun}
-use Rattle.nms_live.specs.declared.answer.Answer.{Answer}
-use Rattle.nms_live.specs.declared.desk_order.DeskOrder.{DeskOrder}
+use Rattle.nms_quote.specs.declared.answer.Answer.{Answer}
+use Rattle.nms_quote.specs.declared.desk_order.DeskOrder.{DeskOrder}
 use Rattle.nms_live.specs.declared.live.Live.{Live}
 use Rattle.nms_live.proofs.FeedLemmas.{changes_in-marked, marked_by, own_feeds}
 use Rattle.nms_live.proofs.LevelLemmas.{all_below, below, below_zero, filter-swap, itself, last_contained, last_same, next_level, none_above, on}

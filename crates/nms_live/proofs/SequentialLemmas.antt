@@ -21,7 +21,7 @@ use Rattle.nms_flow.proofs.ListFacts.{last_or-append}
 use Rattle.nms_flow.proofs.RunLemmas.{filter_map-push, is_run-push, standing_after-push}
 use Rattle.nms_live.specs.Answering.{of_desk, versions}
 use Rattle.nms_live.specs.RunOf.{looks_of, publishings, shown_to}
-use Rattle.nms_live.specs.declared.answer.Answer.{Answer}
+use Rattle.nms_quote.specs.declared.answer.Answer.{Answer}
 use Rattle.nms_live.proofs.FeedLemmas.{marked_by}
 use Rattle.nms_live.proofs.LevelLemmas.{itself, on}
 

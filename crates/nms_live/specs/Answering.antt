@@ -12,9 +12,9 @@ use Rattle.nms_rules.specs.Usable.{usable}
 use Rattle.nms_versions.specs.Taped.{Knowing}
 use Rattle.nms_live.specs.Faults.{IsNoLineIfAny}
 use Rattle.nms_live.specs.Lists.{IsRising, SomeOf}
-use Rattle.nms_live.specs.declared.answer.Answer.{Answer}
+use Rattle.nms_quote.specs.declared.answer.Answer.{Answer}
 use Rattle.nms_live.specs.declared.live_fault.LiveFault.{LiveFault}
-use Rattle.nms_live.specs.declared.desk_order.DeskOrder.{DeskOrder}
+use Rattle.nms_quote.specs.declared.desk_order.DeskOrder.{DeskOrder}
 
 -- the orders with their places, from 0
 abbrev pub numbered : List DeskOrder → List (ℕ × DeskOrder)

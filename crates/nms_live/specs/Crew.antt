@@ -9,7 +9,7 @@ use Rattle.nms_live.specs.Answering.{IsDesked, IsWorked}
 use Rattle.nms_live.specs.Faults.{IsNoLineIfAny, first_fault}
 use Rattle.nms_live.specs.Keeping.{IsWhole, Keeping}
 use Rattle.nms_live.specs.Reading.{IsTapeOf}
-use Rattle.nms_live.specs.declared.desk_order.DeskOrder.{DeskOrder}
+use Rattle.nms_quote.specs.declared.desk_order.DeskOrder.{DeskOrder}
 use Rattle.nms_live.specs.declared.desk_work.DeskJob.{DeskJob}
 use Rattle.nms_live.specs.declared.desk_work.Desked.{Desked}
 use Rattle.nms_live.specs.declared.live_fault.LiveFault.{LiveFault}

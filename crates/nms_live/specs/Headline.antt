@@ -16,7 +16,7 @@ use Rattle.nms_rules.specs.Laws.{NeverTradesThrough}
 use Rattle.nms_rules.specs.Usable.{usable}
 use Rattle.nms_live.specs.Answering.{of_desk, versions}
 use Rattle.nms_live.specs.RunOf.{basis_of}
-use Rattle.nms_live.specs.declared.answer.Answer.{Answer}
+use Rattle.nms_quote.specs.declared.answer.Answer.{Answer}
 use Rattle.nms_live.specs.declared.live.Live.{Live}
 
 -- the rule's ranking finds one best row, or that there is none, and nothing else is

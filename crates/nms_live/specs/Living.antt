@@ -4,7 +4,7 @@ use Rattle.nms_fees.specs.Settings.{Settings}
 use Rattle.nms_live.specs.Answering.{IsAnswered}
 use Rattle.nms_live.specs.Lists.{EndsWith, IsRising}
 use Rattle.nms_live.specs.Reading.{IsTapeOf}
-use Rattle.nms_live.specs.declared.desk_order.DeskOrder.{DeskOrder}
+use Rattle.nms_quote.specs.declared.desk_order.DeskOrder.{DeskOrder}
 use Rattle.nms_live.specs.declared.live.Live.{Live}
 
 -- what a run over these texts and orders came to

@@ -5,9 +5,9 @@ use Rattle.std.specs.List.{AllByRecursion, AllZip}
 use Rattle.nms_quote.specs.Tape.{Tape}
 use Rattle.nms_fees.specs.Settings.{Settings}
 use Rattle.nms_live.specs.Answering.{IsClosed, IsFor, IsSound, of_desk, own}
-use Rattle.nms_live.specs.declared.answer.Answer.{Answer}
+use Rattle.nms_quote.specs.declared.answer.Answer.{Answer}
 use Rattle.nms_live.specs.declared.closing.DeskRow.{DeskRow}
-use Rattle.nms_live.specs.declared.desk_order.DeskOrder.{DeskOrder}
+use Rattle.nms_quote.specs.declared.desk_order.DeskOrder.{DeskOrder}
 
 -- each desk's answers, in order of its number
 abbrev pub AreRows : Settings → List DeskOrder → Tape → List ℕ → List DeskRow → Type 0

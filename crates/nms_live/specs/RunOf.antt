@@ -12,7 +12,7 @@ use Rattle.nms_flow.specs.declared.step.Step.TheVariants as step
 use Rattle.nms_flow.specs.declared.reply.Reply.TheVariants as reply
 use Rattle.nms_live.specs.Answering.{of_desk, seen_in, versions}
 use Rattle.nms_live.specs.Reading.{IsRead}
-use Rattle.nms_live.specs.declared.answer.Answer.{Answer}
+use Rattle.nms_quote.specs.declared.answer.Answer.{Answer}
 use Rattle.nms_live.specs.declared.live.Live.{Live}
 
 -- what the publishings answered, in order

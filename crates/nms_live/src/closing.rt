@@ -8,13 +8,12 @@ ghost use Rattle.nms_live.specs.declared.desk_work.Desked.{Desked};
 ghost use Rattle.nms_live.specs.Faults.{IsNoLine};
 ghost use Rattle.nms_live.specs.Keeping.{IsWhole};
 
-use crate::answer::Answer;
-use crate::desk_order::DeskOrder;
 use crate::desk_work::{Desked, answer_orders};
 use crate::gate::OpenGate;
 use crate::keeper::Keeper;
 use crate::live_fault::LiveFault;
 use nms_fees::Setup;
+use nms_quote::{Answer, DeskOrder};
 use std::alloc::Global;
 use std::collections::VecDeque;
 

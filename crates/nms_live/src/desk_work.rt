@@ -7,11 +7,10 @@ ghost use Rattle.nms_versions.specs.Taped.{AllBegin, longest_of};
 ghost use Rattle.nms_live.specs.Answering.{IsBestOn, IsDesked, IsFor, IsWorked, versions};
 ghost use Rattle.nms_live.specs.Faults.{IsNoLine};
 
-use crate::answer::Answer;
-use crate::desk_order::DeskOrder;
 use crate::gate::{Gate, GatePoint, passes};
 use crate::live_fault::LiveFault;
 use nms_fees::Setup;
+use nms_quote::{Answer, DeskOrder};
 use nms_sweep::plan;
 use nms_versions::Desk;
 use std::alloc::Global;

@@ -5,12 +5,10 @@ ghost use Rattle.nms_live.specs.Faults.{IsNoLine};
 ghost use Rattle.nms_live.specs.Rows.{AreRows};
 ghost use Rattle.nms_live.specs.declared.closing.DeskRow.{DeskRow};
 
-use crate::answer::Answer;
 use crate::closing::DeskRow;
-use crate::desk_order::DeskOrder;
 use crate::live_fault::LiveFault;
 use nms_fees::Setup;
-use nms_quote::Change;
+use nms_quote::{Answer, Change, DeskOrder};
 use std::alloc::Global;
 
 /// All answers and closing answers, in the order of the orders.

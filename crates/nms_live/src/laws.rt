@@ -3,12 +3,12 @@ ghost use Rattle.nms_live.specs.Headline.{AreBestOfTheirVersions};
 ghost use Rattle.nms_live.specs.Living.{IsLive};
 ghost use Rattle.nms_live.specs.RunOf.{IsSomeRun};
 
-use crate::desk_order::DeskOrder;
 use crate::live::Live;
 use nms_board::quotations_stand_by_participant;
 use nms_fees::Setup;
 use nms_flow::tape_and_queue_are_a_merge;
 use nms_nbbo::{one_best_row, some_row_is_best};
+use nms_quote::DeskOrder;
 use nms_rules::a_lawful_plan_never_trades_through;
 
 /// Each plan of a live run names one published version, no older than any that its desk saw before, whose best quotes

@@ -2,9 +2,7 @@
 //! of all that they did together it is proved what it was worth.
 #![tactic(auto)]
 
-mod answer;
 mod closing;
-mod desk_order;
 mod desk_work;
 mod fed_feed;
 mod first_fault;
@@ -23,10 +21,9 @@ pub const MOST_WAITING: u64 = 64;
 /// How many turns a thread waits at a gate. This product's own rule.
 pub const MOST_TURNS: u32 = 1_000_000;
 
-pub use answer::Answer;
-pub use desk_order::DeskOrder;
 pub use gate::{Gate, GatePoint, OpenGate};
 pub use laws::{a_live_run_is_a_run_of_the_machine, each_answer_is_the_best_of_its_version};
 pub use live::Live;
 pub use live_fault::LiveFault;
 pub use living::run_live;
+pub use nms_quote::{Answer, DeskOrder};

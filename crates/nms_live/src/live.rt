@@ -1,6 +1,5 @@
 //! What a live run came to (specs/Living).
-use crate::answer::Answer;
-use nms_quote::Change;
+use nms_quote::{Answer, Change};
 
 /// What a live run came to.
 #[derive(Debug, Drop)]

@@ -6,7 +6,6 @@ ghost use Rattle.nms_live.specs.Living.{IsLive};
 ghost use Rattle.nms_live.specs.Reading.{IsLiveFault};
 
 use crate::closing::close_desks;
-use crate::desk_order::DeskOrder;
 use crate::desk_work::Desked;
 use crate::gate::Gate;
 use crate::gathering::{Gathered, gather};
@@ -16,6 +15,7 @@ use crate::live_fault::LiveFault;
 use crate::workers::run_in_threads;
 use nms_feed::open_lane;
 use nms_fees::Setup;
+use nms_quote::DeskOrder;
 use nms_versions::open_tape;
 use std::alloc::Global;
 use std::sync::Wait;

@@ -16,7 +16,6 @@ ghost use Rattle.nms_live.specs.Answering.{IsDesked};
 ghost use Rattle.nms_live.specs.declared.desk_work.DeskJob.{DeskJob};
 ghost use Rattle.nms_live.specs.declared.desk_work.Desked.{Desked};
 
-use crate::desk_order::DeskOrder;
 use crate::desk_work::{DeskJob, Desked, work};
 use crate::fed_feed::{Fed, FeedJob, feed_all};
 use crate::first_fault::first_of;
@@ -26,7 +25,7 @@ use crate::live_fault::LiveFault;
 use crate::taking::{take_rest, take_until_ended};
 use nms_feed::{Sender, Taker};
 use nms_fees::Setup;
-use nms_quote::Feed;
+use nms_quote::{DeskOrder, Feed};
 use nms_versions::Desk;
 use std::alloc::Global;
 use std::snapshot::Snapshot;

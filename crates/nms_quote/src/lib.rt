@@ -1,8 +1,10 @@
 //! What a quotation change, an order, a plan and its certificate are, and who is on the roster.
 #![tactic(auto)]
 
+mod answer;
 mod certificate;
 mod change;
+mod desk_order;
 mod feed;
 mod hints;
 mod marked;
@@ -23,8 +25,10 @@ pub const MOST_SYMBOLS: u16 = 1000;
 /// The most changes of a tape. This product's own rule.
 pub const MOST_CHANGES: u64 = 10_000_000;
 
+pub use answer::Answer;
 pub use certificate::{Certificate, Cut, CutKind};
 pub use change::Change;
+pub use desk_order::DeskOrder;
 pub use feed::Feed;
 pub use marked::Marked;
 pub use name::{is_part_name, is_symbol_name};

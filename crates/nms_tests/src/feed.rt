@@ -32,6 +32,13 @@ fn told_by(change: &Change) -> Option<(u8, u32)> {
     }
 }
 
+/// Takes once, and compares what comes.
+fn take_one<R: Wait + Abort>(rt: &R, taker: &mut Taker, wanted: Option<Change>)
+    ensures { taker.new.lane ≡ taker.old.lane }
+{
+    assert_eq!(rt; taker.take(rt), wanted);
+}
+
 #[test]
 fn a_full_lane_gives_the_change_back_and_closing_waits_for_the_taker(
     rt: HostRuntime,
@@ -53,11 +60,11 @@ fn a_full_lane_gives_the_change_back_and_closing_waits_for_the_taker(
     else {
         return Err("a lane with changes was closed")?;
     };
-    assert_eq!(rt; taker.take(&rt), Some(*a1));
+    take_one(&rt, &mut taker, Some(*a1));
     a.send(&rt, *a2);
-    assert_eq!(rt; taker.take(&rt), Some(*b1));
-    assert_eq!(rt; taker.take(&rt), Some(*a2));
-    assert_eq!(rt; taker.take(&rt), None);
+    take_one(&rt, &mut taker, Some(*b1));
+    take_one(&rt, &mut taker, Some(*a2));
+    take_one(&rt, &mut taker, None);
     let closed = close(a, b, taker).ok();
     let told = Delivered {
         sent_a: 2,
@@ -82,17 +89,17 @@ fn a_taker_that_stops_and_takes_again_loses_nothing(rt: HostRuntime) -> Result<(
     let a1 = &bid_of(0, 1).ok_or("a bid")?;
     let a2 = &bid_of(0, 2).ok_or("a bid")?;
     let b1 = &bid_of(1, 1).ok_or("a bid")?;
-    assert_eq!(rt; taker.take(&rt), None);
+    take_one(&rt, &mut taker, None);
     a.send(&rt, *a1);
     b.send(&rt, *b1);
     a.send(&rt, *a2);
-    assert_eq!(rt; taker.take(&rt), Some(*a1));
+    take_one(&rt, &mut taker, Some(*a1));
     let Err(NotEmpty { a, b, mut taker }) = close(a, b, taker) else {
         return Err("a lane with changes was closed")?;
     };
-    assert_eq!(rt; taker.take(&rt), Some(*b1));
-    assert_eq!(rt; taker.take(&rt), Some(*a2));
-    assert_eq!(rt; taker.take(&rt), None);
+    take_one(&rt, &mut taker, Some(*b1));
+    take_one(&rt, &mut taker, Some(*a2));
+    take_one(&rt, &mut taker, None);
     let told = Delivered {
         sent_a: 2,
         sent_b: 1,

@@ -77,17 +77,26 @@ pub(crate) fn order_of(wanted: &Wanted) -> Option<Order> {
     Order::new(side, Sym::new(wanted.sym)?, shares, limit, wanted.manual)
 }
 
+/// Adds an order, where its desk is one of so many.
+fn add_order(orders: &mut Vec<DeskOrder>, desks: u8, wanted: &Wanted) -> Option<()>
+    requires { All (λ order. order.desk < desks) orders.old.items }
+    ensures { All (λ order. order.desk < desks) orders.new.items }
+{
+    let order = order_of(wanted)?;
+    let desk = wanted.desk;
+    if desk < desks {
+        orders.push(DeskOrder { desk, order }).ok()?;
+    }
+    Some(())
+}
+
 /// The orders of a table, each of one of so many desks.
 fn orders_of(alloc: Global, desks: u8, table: &[Wanted]) -> Option<Vec<DeskOrder>>
     ensures { IfSome result (λ orders. All (λ order. order.desk < desks) orders.items) }
 {
     let mut orders = Vec::new(alloc);
     for wanted in table {
-        let order = order_of(wanted)?;
-        if wanted.desk < desks {
-            let desk = wanted.desk;
-            orders.push(DeskOrder { desk, order }).ok()?;
-        }
+        add_order(&mut orders, desks, wanted)?;
     }
     Some(orders)
 }

@@ -137,6 +137,54 @@ fn given_to(place: u8, legs: &[Leg]) -> u32 {
     given
 }
 
+/// What the judge sees of the participant at a place.
+fn standing_of(rows: [Stand; 4], place: u8) -> Option<Stand> {
+    let [first, second, third, fourth] = rows;
+    match place {
+        0 => Some(first),
+        1 => Some(second),
+        2 => Some(third),
+        3 => Some(fourth),
+        _ => None,
+    }
+}
+
+/// Whether a leg is of at least one share, at the price that its participant shows.
+fn is_at_its_price(rows: [Stand; 4], leg: &Leg) -> bool {
+    match standing_of(rows, leg.part.get()) {
+        Some(stand) => leg.shares.get() > 0 && leg.price.get() == u64::from(stand.price),
+        None => false,
+    }
+}
+
+/// Whether a leg stands before the one behind it: at a better price, or at the same one by an earlier participant.
+fn is_in_order(asked: &Asked, leg: &Leg, next: &Leg) -> bool {
+    let (price, other) = (leg.price.get(), next.price.get());
+    if price == other {
+        leg.part.get() < next.part.get()
+    } else {
+        asked.buys == (price < other)
+    }
+}
+
+/// Whether each leg is at its participant's price, and the legs are in their one order, the best price first and
+/// then by participant, one a participant.
+fn are_orderly(asked: &Asked, rows: [Stand; 4], legs: &[Leg]) -> bool {
+    let mut last: Option<Leg> = None;
+    for leg in legs {
+        if !is_at_its_price(rows, leg) {
+            return false;
+        }
+        if let Some(before) = last
+            && !is_in_order(asked, &before, leg)
+        {
+            return false;
+        }
+        last = Some(*leg);
+    }
+    true
+}
+
 /// What is wrong with a plan, or nothing.
 fn finding(asked: &Asked, rows: [Stand; 4], lot: u32, plan: &Plan) -> &'static str {
     let legs = plan.legs.as_slice();
@@ -147,7 +195,9 @@ fn finding(asked: &Asked, rows: [Stand; 4], lot: u32, plan: &Plan) -> &'static s
         with(third, given_to(2, legs)),
         with(fourth, given_to(3, legs)),
     ];
-    if !is_lawful(asked, &way) {
+    if !are_orderly(asked, rows, legs) {
+        "not orderly"
+    } else if !is_lawful(asked, &way) {
         "not lawful"
     } else if sums_of(&way).filled != plan.filled
         || i128::from(sums_of(&way).cost) != plan.cost.get()
@@ -177,6 +227,9 @@ fn try_order(
     };
     let order = Order::new(side, view.sym(), shares, limit, asked.manual)?;
     let (plan, certificate) = plan(view, &order, fees);
+    if plan.order != order || plan.version != view.version() {
+        return Some("not of the order and the version");
+    }
     let told = finding(asked, rows, lot, &plan);
     if !told.is_empty() {
         return Some(told);

@@ -1,10 +1,10 @@
 //! Published versions: what no clause says, and the worked steps by values worked out by hand.
-ghost use Rattle.std.specs.Prelude.{◌≡◌, IfOk};
+ghost use Rattle.std.specs.Prelude.{◌≡◌, All, IfOk, IfSome};
 
-use crate::flow::{offer_of, small};
-use nms_engine::SETUP_K;
 use nms_fees::{Setup, read_setup};
-use nms_quote::{Side, Sym};
+use nms_quote::{Change, Part, QState, Side, SideQuote, Sym};
+use nms_scripts::SETUP_K;
+use nms_units::{Price, Shares};
 use nms_versions::{
     AppendFault, Desk, NoReading, OpenFault, Publisher, Settled, Unsettled, open_tape,
 };
@@ -14,24 +14,110 @@ use std::sync::Wait;
 use std::test::Fail;
 use std::thread::{Threads, join};
 
+/// N and P on feed A, Y and Z on feed B, ABC in lots of 100, a queue of 2, a tape of 3, two desks.
+fn small() -> &'static str {
+    r#"tape_limit = 3
+queue = 2
+desks = 2
+[[participant]]
+name = "N"
+feed = "A"
+fee = 0
+rate = 0
+[[participant]]
+name = "P"
+feed = "A"
+fee = 0
+rate = 0
+[[participant]]
+name = "Y"
+feed = "B"
+fee = 0
+rate = 0
+[[participant]]
+name = "Z"
+feed = "B"
+fee = 0
+rate = 0
+[[symbol]]
+name = "ABC"
+lot = 100
+"#
+}
+
+/// An offer of 100 shares of ABC at 10.00 by the participant at a place.
+fn offer_of(place: u8) -> Option<Change> {
+    let offer = SideQuote::new(Price::new(100_000)?, Shares::new(100)?);
+    Some(Change::Quote {
+        part: Part::new(place)?,
+        sym: Sym::new(0)?,
+        state: QState::Automated,
+        bid: None,
+        offer,
+    })
+}
+
+/// The two desks of an opening.
+fn two_of(publisher: &Publisher, mut desks: Vec<Desk>) -> Option<(Desk, Desk)>
+    requires { All (λ desk. desk.opening ≡ publisher.now.opening) desks.items }
+    ensures { IfSome result (λ ends. (ends.0.opening ≡ publisher.now.opening) × (ends.1.opening ≡ publisher.now.opening)) }
+{
+    let other = desks.pop()?;
+    let one = desks.pop()?;
+    Some((one, other))
+}
+
+/// The publisher and its two desks. Without two it is closed.
+fn with_two<R: Wait>(
+    rt: &R,
+    publisher: Publisher,
+    desks: Vec<Desk>,
+) -> Result<(Publisher, Desk, Desk), Fail>
+    requires { All (λ desk. desk.opening ≡ publisher.opening) desks.items }
+    ensures { IfOk result (λ ends. (ends.1.opening ≡ ends.0.opening) × (ends.2.opening ≡ ends.0.opening)) }
+{
+    match two_of(&publisher, desks) {
+        Some((one, other)) => Ok((publisher, one, other)),
+        None => {
+            publisher.close(rt);
+            Err("two desks")?
+        }
+    }
+}
+
+/// Opens with two desks; `None` where there was no place for a reader.
+fn try_open<R: Wait>(
+    alloc: Global,
+    rt: &R,
+    setup: &Setup,
+) -> Result<Option<(Publisher, Desk, Desk)>, Fail>
+    ensures { IfOk result (λ opened. IfSome opened (λ ends. (ends.1.opening ≡ ends.0.opening) × (ends.2.opening ≡ ends.0.opening))) }
+{
+    match open_tape(alloc, rt, setup) {
+        Ok((publisher, desks)) => Ok(Some(with_two(rt, publisher, desks)?)),
+        Err(OpenFault::NoPlace) => Ok(None),
+        Err(fault) => Err(fault)?,
+    }
+}
+
 /// Opens with two desks. V2 may come without a cause, so it tries up to 100 times.
 fn open<R: Wait>(alloc: Global, rt: &R, setup: &Setup) -> Result<(Publisher, Desk, Desk), Fail>
     ensures { IfOk result (λ ends. (ends.1.opening ≡ ends.0.opening) × (ends.2.opening ≡ ends.0.opening)) }
 {
     for _ in 0..100u32 {
-        match open_tape(alloc, rt, setup) {
-            Ok((publisher, mut desks)) => {
-                let (Some(other), Some(one)) = (desks.pop(), desks.pop()) else {
-                    publisher.close(rt);
-                    return Err("two desks")?;
-                };
-                return Ok((publisher, one, other));
-            }
-            Err(OpenFault::NoPlace) => {}
-            Err(fault) => return Err(fault)?,
+        if let Some(ends) = try_open(alloc, rt, setup)? {
+            return Ok(ends);
         }
     }
     Err("a place")?
+}
+
+/// Opens over a setup's text.
+fn open_on<R: Wait>(alloc: Global, rt: &R, text: &str) -> Result<(Publisher, Desk, Desk), Fail>
+    ensures { IfOk result (λ ends. (ends.1.opening ≡ ends.0.opening) × (ends.2.opening ≡ ends.0.opening)) }
+{
+    let setup = read_setup(alloc, text)?;
+    open(alloc, rt, &setup)
 }
 
 /// Appends an offer by the participant at a place, and tells the code of its refusal, or "ok".
@@ -129,7 +215,7 @@ fn run<R: Wait + Abort>(
     text: &str,
     steps: &[(&str, &str)],
 ) -> Result<(), Fail> {
-    let (mut publisher, mut one, mut other) = open(alloc, rt, &read_setup(alloc, text)?)?;
+    let (mut publisher, mut one, mut other) = open_on(alloc, rt, text)?;
     let told = make_all(rt, alloc, &mut publisher, &mut one, &mut other, steps);
     publisher.close(rt);
     told?;
@@ -196,8 +282,7 @@ fn a_fourth_change_of_a_tape_of_three_is_refused(rt: HostRuntime) -> Result<(), 
 
 #[test]
 fn a_desk_settles_on_no_receipt_older_than_what_it_knows(rt: HostRuntime) -> Result<(), Fail> {
-    let setup = read_setup(rt.alloc(), SETUP_K)?;
-    let (mut publisher, mut desk, _other) = open(rt.alloc(), &rt, &setup)?;
+    let (mut publisher, mut desk, _other) = open_on(rt.alloc(), &rt, SETUP_K)?;
     let early = publisher.receipt();
     publish_often(&rt, &mut publisher, 3);
     let late = publisher.receipt();
@@ -212,22 +297,27 @@ fn a_desk_settles_on_no_receipt_older_than_what_it_knows(rt: HostRuntime) -> Res
     Ok(())
 }
 
+/// Appends an offer to a tape of so many changes. A refused one leaves the tape and what is shown, and is appended
+/// once there is memory.
+fn append_again<R: Abort>(rt: &R, publisher: &mut Publisher, desk: &mut Desk, count: u64) {
+    let mut told = append(rt, publisher, 0);
+    if told == "V3" {
+        assert_eq!(rt;
+            (publisher.tape().len() as u64, looked(desk)),
+            (count, Ok((0, 0)))
+        );
+        told = append(rt, publisher, 0);
+    }
+    assert_eq!(rt; told, "ok", "after {count}");
+}
+
 /// Run with each allocation refused in turn (`rt try --test --fail-alloc N`): the opening ends the test by V1, and
 /// a refused change leaves the tape and what is shown, and is appended once there is memory.
 #[test]
 fn want_of_memory_leaves_the_tape_as_it_was(rt: HostRuntime) -> Result<(), Fail> {
-    let setup = read_setup(rt.alloc(), SETUP_K)?;
-    let (mut publisher, mut desk, _other) = open(rt.alloc(), &rt, &setup)?;
+    let (mut publisher, mut desk, _other) = open_on(rt.alloc(), &rt, SETUP_K)?;
     for count in 0..70u64 {
-        let mut told = append(&rt, &mut publisher, 0);
-        if told == "V3" {
-            assert_eq!(rt;
-                (publisher.tape().len() as u64, looked(&mut desk)),
-                (count, Ok((0, 0)))
-            );
-            told = append(&rt, &mut publisher, 0);
-        }
-        assert_eq!(rt; told, "ok", "after {count}");
+        append_again(&rt, &mut publisher, &mut desk, count);
     }
     publisher.publish(&rt);
     assert_eq!(rt; looked(&mut desk), Ok((70, 1)));
@@ -287,8 +377,7 @@ fn run_three<R: Threads + Wait + Abort + Sync>(
 
 #[test]
 fn a_thousand_publications_beside_two_desks_never_fall(rt: HostRuntime) -> Result<(), Fail> {
-    let setup = read_setup(rt.alloc(), SETUP_K)?;
-    let (mut publisher, mut one, mut other) = open(rt.alloc(), &rt, &setup)?;
+    let (mut publisher, mut one, mut other) = open_on(rt.alloc(), &rt, SETUP_K)?;
     let looks = run_three(&rt, &mut publisher, &mut one, &mut other);
     assert_eq!(rt; looks, (true, true));
     // The tape is full.

@@ -1,9 +1,10 @@
 //! That the feeds and a desk work at the same time, each on what is published by then.
 use super::run;
 use super::worked::{feed_a, feed_b, has_four, order, says_closing, told};
-use nms_engine::SETUP_K;
-use nms_live::{Answer, Gate, GatePoint};
+use nms_live::{Answer, Gate, GatePoint, Live};
 use nms_quote::Feed;
+use nms_scripts::SETUP_K;
+use std::alloc::Global;
 use std::process::Abort;
 use std::sync::atomic::{AtomicBool, Ordering};
 use std::test::Fail;
@@ -123,6 +124,16 @@ fn are_told(answers: &[Answer], wanted: [(u8, usize, u64, u32); 2]) -> bool {
     }
 }
 
+/// Compares what the run came to.
+fn check_overlap<R: Abort>(rt: &R, alloc: Global, live: &Live) {
+    assert!(rt; has_four(&live.tape, &live.published));
+    assert!(rt; are_told(&live.answers, [(0, 0, 1, 300), (0, 1, 2, 500)]));
+    assert!(rt; are_told(&live.closing, [(0, 0, 4, 600), (0, 1, 4, 600)]));
+    for closing in &live.closing {
+        assert_eq!(rt; says_closing(alloc, closing), Some(true));
+    }
+}
+
 #[test]
 fn feed_and_desk_overlap(rt: HostRuntime) -> Result<(), Fail> {
     let gate = make_gate();
@@ -131,11 +142,6 @@ fn feed_and_desk_overlap(rt: HostRuntime) -> Result<(), Fail> {
         return Err("no run")?;
     };
     assert!(rt; !missed(&gate.feed_a) && !missed(&gate.feed_b) && !missed(&gate.desk));
-    assert!(rt; has_four(&live.tape, &live.published));
-    assert!(rt; are_told(&live.answers, [(0, 0, 1, 300), (0, 1, 2, 500)]));
-    assert!(rt; are_told(&live.closing, [(0, 0, 4, 600), (0, 1, 4, 600)]));
-    for closing in &live.closing {
-        assert_eq!(rt; says_closing(rt.alloc(), closing), Some(true));
-    }
+    check_overlap(&rt, rt.alloc(), &live);
     Ok(())
 }

@@ -1,10 +1,10 @@
 //! Runs of a few changes, by what was worked out by hand.
 use super::{Wanted, run, setup_text};
-use nms_engine::SETUP_K;
 use nms_fees::read_setup;
 use nms_lines::{LineFault, read_plan};
-use nms_live::{Answer, Gate, GatePoint, LiveFault, OpenGate};
-use nms_quote::{Change, Feed, Plan};
+use nms_live::{Answer, Gate, GatePoint, Live, LiveFault, OpenGate};
+use nms_quote::{Change, Feed, Leg, Plan};
+use nms_scripts::SETUP_K;
 use std::alloc::Global;
 use std::process::Abort;
 use std::sync::Wait;
@@ -78,13 +78,28 @@ pub(crate) fn says_closing(alloc: Global, answer: &Answer) -> Option<bool> {
     Some(is_plan(&answer.plan, &plan) && answer.certificate.as_slice() == certificate.as_slice())
 }
 
+/// Whether legs are the same, in one order.
+fn are_legs(one: &[Leg], other: &[Leg]) -> bool {
+    one == other
+}
+
 /// Whether two plans are one.
 fn is_plan(one: &Plan, other: &Plan) -> bool {
     one.version == other.version
         && one.order == other.order
-        && one.legs.as_slice() == other.legs.as_slice()
+        && are_legs(one.legs.as_slice(), other.legs.as_slice())
         && one.filled == other.filled
         && one.cost == other.cost
+}
+
+/// Compares what the worked run came to.
+fn check_worked<R: Abort>(rt: &R, alloc: Global, live: &Live) -> Result<(), Fail> {
+    assert!(rt; has_four(&live.tape, &live.published));
+    assert_eq!(rt; (live.answers.len(), live.closing.len()), (1, 1));
+    let closing = live.closing.first().ok_or("a closing answer")?;
+    assert_eq!(rt; told(closing), (0, 0, 4, 600));
+    assert_eq!(rt; says_closing(alloc, closing), Some(true));
+    Ok(())
 }
 
 #[test]
@@ -93,12 +108,7 @@ fn the_worked_run_answers_on_the_whole_tape(rt: HostRuntime) -> Result<(), Fail>
     let Some(Ok(live)) = run(&rt, rt.alloc(), SETUP_K, feeds, &[order()], &OpenGate) else {
         return Err("no run")?;
     };
-    assert!(rt; has_four(&live.tape, &live.published));
-    assert_eq!(rt; (live.answers.len(), live.closing.len()), (1, 1));
-    let closing = live.closing.first().ok_or("a closing answer")?;
-    assert_eq!(rt; told(closing), (0, 0, 4, 600));
-    assert_eq!(rt; says_closing(rt.alloc(), closing), Some(true));
-    Ok(())
+    check_worked(&rt, rt.alloc(), &live)
 }
 
 /// The fault that ends a run over a setup of such limits, with the worked order.
@@ -138,6 +148,16 @@ fn the_first_refused_record_is_named_and_feed_a_goes_first(rt: HostRuntime) {
 const FIVE: &[u8] =
     b"Q,N,ABC,A,,,10.00,100\nQ,N,ABC,A,,,10.00,100\nQ,N,ABC,A,,,10.00,100\nQ,N,ABC,A,,,10.00,100\nQ,N,ABC,A,,,10.00,100\n";
 
+/// The lengths of the tape and of the answers, and the last publishing.
+fn lengths_of(live: &Live) -> (usize, usize, usize, Option<u64>) {
+    (
+        live.tape.len(),
+        live.answers.len(),
+        live.closing.len(),
+        live.published.last().copied(),
+    )
+}
+
 /// The lengths of the tape and of the answers of a run through a lane of 2, with no order.
 fn lengths<R: Threads + Wait + Sync>(
     rt: &R,
@@ -146,13 +166,7 @@ fn lengths<R: Threads + Wait + Sync>(
 ) -> Option<(usize, usize, usize, Option<u64>)> {
     let setup = setup_text(alloc, 1000, 2, 2)?;
     let live = run(rt, alloc, setup.as_str(), feeds, &[], &OpenGate)?.ok()?;
-    let last = live.published.last().copied();
-    Some((
-        live.tape.len(),
-        live.answers.len(),
-        live.closing.len(),
-        last,
-    ))
+    Some(lengths_of(&live))
 }
 
 #[test]

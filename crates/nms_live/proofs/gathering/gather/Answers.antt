@@ -3,8 +3,8 @@ use Rattle.std.specs.List.{AllZip, enumerate_from}
 use Rattle.std.proofs.Math.Seq.{drop-length, take-length}
 use Rattle.nms_live.specs.Answering.{IsFor, IsSound, numbered}
 use Rattle.nms_live.specs.Rows.{AreLeft}
-use Rattle.nms_live.specs.declared.answer.Answer.{Answer}
-use Rattle.nms_live.specs.declared.desk_order.DeskOrder.{DeskOrder}
+use Rattle.nms_quote.specs.declared.answer.Answer.{Answer}
+use Rattle.nms_quote.specs.declared.desk_order.DeskOrder.{DeskOrder}
 use Rattle.nms_live.proofs.AnswerFacts.{numbered_more}
 use Rattle.nms_live.proofs.DeskFacts.{zip_push}
 use Rattle.nms_live.proofs.LeftFacts.{left_step, next_step, numbered_rest, rising_all}

@@ -1,0 +1,67 @@
+//! Readers that fail, and want of memory.
+use super::{holds, same};
+use nms_lines::{ByteRecord, RecordFault, open_records, read_next, the_least_fault_is_read};
+use std::io;
+use std::io::Read;
+use std::test::Fail;
+
+/// Gives its text a byte at a time, and fails once at a place.
+#[derive(Drop)]
+struct Flaky<'a> {
+    text: &'a [u8],
+    at: usize,
+    cut: Option<usize>,
+}
+
+impl<'a> Read for Flaky<'a> {
+    fn read(&mut self, buf: &mut [u8]) -> io::Result<usize> {
+        if self.cut == Some(self.at) {
+            self.cut = None;
+            return Err(io::Error::from(io::ErrorKind::BrokenPipe));
+        }
+        match (self.text.get(self.at), buf.first_mut()) {
+            (Some(byte), Some(place)) => {
+                *place = *byte;
+                self.at = self.at.saturating_add(1);
+                Ok(1)
+            }
+            _ => Ok(0),
+        }
+    }
+}
+
+pub(super) fn no_record_after_a_failed_read<T: AllocGlobal>(rt: &T) -> Result<(), Fail> {
+    let source = Flaky {
+        text: b"T\nF\nP\n",
+        at: 0,
+        cut: Some(3),
+    };
+    let mut reader = open_records(rt.alloc(), source);
+    let mut row = ByteRecord::new(rt.alloc());
+    for found in [Ok(true), Err(RecordFault::Failed), Ok(false)] {
+        same(read_next(&mut reader, &mut row), found)?;
+    }
+    Ok(())
+}
+
+// With ample memory the record is read. With none it is want of memory that is told, and no record after it.
+pub(super) fn want_of_memory_is_no_failed_read<T: AllocGlobal>(rt: &T) -> Result<(), Fail> {
+    let mut reader = open_records(rt.alloc(), b"X,N\nT\n".as_slice());
+    let mut row = ByteRecord::new(rt.alloc());
+    match read_next(&mut reader, &mut row) {
+        Ok(found) => {
+            holds(found)?;
+            same(row.get(1), Some(b"N".as_slice()))?;
+        }
+        Err(fault) => {
+            same(fault, RecordFault::NoMemory)?;
+            same(read_next(&mut reader, &mut row), Ok(false))?;
+        }
+    }
+    Ok(())
+}
+
+/// The law of faults is a call that does nothing.
+pub(super) fn the_law_of_faults_is_called() {
+    the_least_fault_is_read();
+}

@@ -1,0 +1,143 @@
+//! Scripts on streams that fail or count.
+use super::same;
+use super::streams::{Pipe, Source};
+use nms_engine::{ScriptFault, run_script};
+use nms_fees::Setup;
+use std::alloc::Global;
+use std::cell::Cell;
+use std::io;
+use std::io::{ErrorKind, Read};
+use std::test::Fail;
+
+/// Records, each with how many bytes its answer has.
+const RECORDS: [(&str, usize); 8] = [
+    ("Q,N,ABC,A,9.99,100,10.00,300\n", 0),
+    ("F\n", "PUB,1\n".len()),
+    ("N,0,PNY\n", "BEST,0,PNY,1,EMPTY,,,,,,,,\n".len()),
+    ("K\n", "ERR,4,L1\n".len()),
+    ("Q,P,ABC,A,,,10.00,400\n", 0),
+    ("Q,P,ABC,A,,,10.00,500\n", 0),
+    ("N,2,ABC\n", "ERR,7,L10\n".len()),
+    ("L,1\n", "TOLD,1,1\n".len()),
+];
+
+fn records() -> &'static [(&'static str, usize)] {
+    &RECORDS
+}
+
+/// Begins a record, or ends, where the answers to all before are out and no more. Else the read fails.
+#[derive(Drop)]
+struct Asker<'a> {
+    rest: &'static [u8],
+    next: usize,
+    due: usize,
+    out: &'a Cell<usize>,
+}
+
+impl<'a> Read for Asker<'a> {
+    fn read(&mut self, buf: &mut [u8]) -> io::Result<usize> {
+        if self.rest.is_empty() {
+            if self.out.get() != self.due {
+                return Err(io::Error::from(ErrorKind::TimedOut));
+            }
+            let Some((record, answer)) = records().get(self.next) else {
+                return Ok(0);
+            };
+            self.next = self.next.saturating_add(1);
+            self.due = self.due.saturating_add(*answer);
+            self.rest = record.as_bytes();
+        }
+        self.rest.read(buf)
+    }
+}
+
+/// How many records are read by a reader that asks for their answers, and of 9 writes and flushes how many are
+/// left, and how many bytes are out.
+fn asked(alloc: Global, setup: &Setup) -> Result<(u64, usize, usize, usize), Fail> {
+    let out = &Cell::new(0);
+    let asker = Asker {
+        rest: b"",
+        next: 0,
+        due: 0,
+        out,
+    };
+    let mut pipe = Pipe::taking(9, 9, out);
+    let counts = run_script(alloc, setup, asker, &mut pipe)?;
+    Ok((counts.records, pipe.writes, pipe.flushes, out.get()))
+}
+
+pub(super) fn each_answer_is_one_write_and_out_before_the_next_read<T: AllocGlobal>(
+    rt: &T,
+    setup: &Setup,
+) -> Result<(), Fail> {
+    // Five of the records are answered.
+    same(asked(rt.alloc(), setup)?, (8, 4, 4, 61))?;
+    Ok(())
+}
+
+/// What ends a script where so many writes and flushes go well, and how many bytes are written by then.
+fn ended(
+    alloc: Global,
+    setup: &Setup,
+    script: Source<'_>,
+    writes: usize,
+    flushes: usize,
+) -> Result<(Option<ScriptFault>, usize), Fail> {
+    let out = &Cell::new(0);
+    let mut pipe = Pipe::taking(writes, flushes, out);
+    let came_to = run_script(alloc, setup, script, &mut pipe);
+    Ok((came_to.err(), pipe.bytes))
+}
+
+pub(super) fn a_failed_read_leaves_the_answers_so_far<T: AllocGlobal>(
+    rt: &T,
+    setup: &Setup,
+) -> Result<(), Fail> {
+    let behind = b"\nF\n";
+    // The last record of the third script does not end.
+    for (text, answers) in [
+        (b"".as_slice(), 0),
+        (b"Q,N,ABC,A,,,10.00,100\nF\nP\n", 12),
+        (b"Q,N,ABC,A,,,10.00,100\nF\nP\nN,0,ABC", 12),
+    ] {
+        let fails = true;
+        let script = Source {
+            text,
+            times: 1,
+            fails,
+            behind,
+            rest: b"",
+        };
+        let ended = ended(rt.alloc(), setup, script, 9, 9)?;
+        same(ended, (Some(ScriptFault::ReadFault), answers))?;
+    }
+    Ok(())
+}
+
+pub(super) fn a_failed_write_or_flush_ends_the_script<T: AllocGlobal>(
+    rt: &T,
+    setup: &Setup,
+) -> Result<(), Fail> {
+    let broken = Some(ScriptFault::WriteFault);
+    // Nothing is told of the first record, so nothing is written. Each other one is answered in 6 bytes.
+    for (writes, flushes, fault, written) in [
+        (0, 9, broken, 0),
+        (1, 9, broken, 6),
+        (2, 9, broken, 12),
+        (9, 0, broken, 6),
+        (9, 1, broken, 12),
+        (9, 2, broken, 18),
+        (3, 3, None, 18),
+    ] {
+        let script = Source {
+            text: b"Q,N,ABC,A,,,10.00,100\nF\nP\nF\n",
+            times: 1,
+            fails: false,
+            behind: b"",
+            rest: b"",
+        };
+        let ended = ended(rt.alloc(), setup, script, writes, flushes)?;
+        same(ended, (fault, written))?;
+    }
+    Ok(())
+}

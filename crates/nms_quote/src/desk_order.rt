@@ -1,0 +1,11 @@
+//! An order and the desk that plans it.
+use crate::order::Order;
+
+/// An order and the desk that plans it.
+#[derive(Clone, Copy, Debug, PartialEq, Eq)]
+pub struct DeskOrder {
+    /// The desk, below the setup's `desks()`.
+    pub desk: u8,
+    /// The order.
+    pub order: Order,
+}

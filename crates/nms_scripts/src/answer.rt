@@ -1,0 +1,246 @@
+//! What a script is told, as text (specs/Answers).
+ghost use Rattle.std.specs.Prelude.{◌≡◌, ◌<◌, ◌++◌, ◌∷◌, [], All, length, map, false, OnOk, IfSome, Ok, Err};
+ghost use Rattle.nms_lines.specs.Text.{text_of};
+ghost use Rattle.nms_quote.specs.declared.side_quote.Side.{Side};
+ghost use Rattle.nms_quote.specs.declared.side_quote.Side.TheVariants.{Bid, Offer};
+ghost use Rattle.nms_board.specs.Ranking.{better_price};
+ghost use Rattle.nms_board.specs.View.{Seen, rows_on};
+ghost use Rattle.nms_rules.specs.Through.{traded_through_at};
+ghost use Rattle.nms_flow.specs.declared.reply.Reply.TheVariants as reply;
+ghost use Rattle.nms_scripts.specs.Answers.{best_fields, best_record, later_fields, look_text, market_word, refusal, rows_text, side_word, through_head, through_records, through_row, told_by};
+
+use crate::fields::{push_number, push_price, push_text};
+use nms_board::{Row, View};
+use nms_flow::BestRows;
+use nms_nbbo::{Market, market_between};
+use nms_quote::{Roster, Side, Sym};
+use nms_rules::traded_through;
+use nms_units::Price;
+use std::alloc::AllocError;
+
+/// Appends the record that refuses the one of that number.
+pub(crate) fn tell_refusal(out: &mut Vec<u8>, number: u64, code: &str) -> Result<(), AllocError>
+    ensures { OnOk result (out.new.items ≡ out.old.items ++ text_of (refusal number code.now ∷ [])) }
+{
+    out.extend_from_slice(b"ERR")?;
+    push_number(out, number)?;
+    push_text(out, code)?;
+    end(out)
+}
+
+/// Appends that a change was taken, which made the tape so long.
+pub(crate) fn tell_taken(out: &mut Vec<u8>, version: u64) -> Result<(), AllocError>
+    ensures { OnOk result (out.new.items ≡ out.old.items ++ text_of (told_by 0 (Ok (reply.Taken version)))) }
+{
+    out.extend_from_slice(b"TAKEN")?;
+    push_number(out, version)?;
+    end(out)
+}
+
+/// Appends that a version was published.
+pub(crate) fn tell_published(out: &mut Vec<u8>, version: u64) -> Result<(), AllocError>
+    ensures { OnOk result (out.new.items ≡ out.old.items ++ text_of (told_by 0 (Ok (reply.Published version)))) }
+{
+    out.extend_from_slice(b"PUB")?;
+    push_number(out, version)?;
+    end(out)
+}
+
+/// Appends that a desk was told of a version.
+pub(crate) fn tell_told(out: &mut Vec<u8>, desk: u8, version: u64) -> Result<(), AllocError>
+    ensures { OnOk result (out.new.items ≡ out.old.items ++ text_of (told_by 0 (Ok (reply.Told desk version)))) }
+{
+    out.extend_from_slice(b"TOLD")?;
+    push_number(out, u64::from(desk))?;
+    push_number(out, version)?;
+    end(out)
+}
+
+/// Ends a record.
+pub(crate) fn end(out: &mut Vec<u8>) -> Result<(), AllocError>
+    ensures { OnOk result (out.new.items ≡ out.old.items ++ 10 ∷ []) }
+{
+    out.push(b'\n')?;
+    Ok(())
+}
+
+/// The word for a market.
+pub(crate) fn word_of_market(market: Market) -> &'static str
+    ensures { result.now ≡ market_word market }
+{
+    match market {
+        Market::Empty => "EMPTY",
+        Market::OneSided => "ONESIDED",
+        Market::Normal => "NORMAL",
+        Market::Locked => "LOCKED",
+        Market::Crossed => "CROSSED",
+    }
+}
+
+/// The word for a side.
+pub(crate) fn word_of_side(side: Side) -> &'static str
+    ensures { result.now ≡ side_word side }
+{
+    match side {
+        Side::Bid => "BID",
+        Side::Offer => "OFFER",
+    }
+}
+
+/// Appends the best bid and offer that a desk saw.
+pub(crate) fn tell_best(
+    out: &mut Vec<u8>,
+    roster: &Roster,
+    desk: u8,
+    sym: Sym,
+    version: u64,
+    best: &BestRows,
+) -> Result<(), AllocError>
+    requires sym { sym < length roster.now.syms }
+    requires bid { IfSome best.now.bid (λ row. row.part < length roster.now.parts) }
+    requires offer { IfSome best.now.offer (λ row. row.part < length roster.now.parts) }
+    ensures { (seen : Seen) → seen.sym ≡ sym → seen.version ≡ version
+        → OnOk result (out.new.items ≡ out.old.items ++ text_of (best_record roster.now desk seen best.now.bid best.now.offer ∷ [])) }
+{
+    let market = word_of_market(market_between(best.bid, best.offer));
+    tell_look(out, desk, roster.sym_name(sym), version, market)?;
+    tell_rows(out, roster, best)
+}
+
+/// Appends the first fields of a best bid and offer: the desk, the symbol, the version, the market.
+fn tell_look(
+    out: &mut Vec<u8>,
+    desk: u8,
+    sym: &str,
+    version: u64,
+    market: &str,
+) -> Result<(), AllocError>
+    ensures { OnOk result (out.new.items ≡ out.old.items ++ look_text desk sym.now version market.now) }
+{
+    out.extend_from_slice(b"BEST")?;
+    push_number(out, u64::from(desk))?;
+    push_text(out, sym)?;
+    push_number(out, version)?;
+    push_text(out, market)
+}
+
+/// Appends a best bid's and a best offer's fields, and ends the record.
+fn tell_rows(out: &mut Vec<u8>, roster: &Roster, best: &BestRows) -> Result<(), AllocError>
+    requires bid { IfSome best.now.bid (λ row. row.part < length roster.now.parts) }
+    requires offer { IfSome best.now.offer (λ row. row.part < length roster.now.parts) }
+    ensures { OnOk result (out.new.items ≡ out.old.items ++ rows_text roster.now best.now.bid best.now.offer) }
+{
+    tell_row(out, roster, &best.bid)?;
+    tell_row(out, roster, &best.offer)?;
+    end(out)
+}
+
+/// Appends a best row's four fields.
+fn tell_row(out: &mut Vec<u8>, roster: &Roster, row: &Option<Row>) -> Result<(), AllocError>
+    requires { IfSome row.now (λ row. row.part < length roster.now.parts) }
+    ensures { OnOk result (out.new.items ≡ out.old.items ++ later_fields (best_fields roster.now row.now)) }
+{
+    match row {
+        None => {
+            out.extend_from_slice(b",,,,")?;
+            Ok(())
+        }
+        Some(row) => {
+            push_text(out, roster.part_name(row.part))?;
+            push_price(out, row.price)?;
+            push_number(out, u64::from(row.size))?;
+            push_number(out, row.receipt)
+        }
+    }
+}
+
+/// Whether a price is worse than a best bid or a best offer: a lower or a higher one.
+pub(crate) fn is_beyond(best: &BestRows, price: Price) -> bool
+    ensures bid { result ≡ false → IfSome best.now.bid (λ row. better_price Bid row.price price ≡ false) }
+    ensures offer { result ≡ false → IfSome best.now.offer (λ row. better_price Offer row.price price ≡ false) }
+{
+    let bid = match &best.bid {
+        Some(row) => row.price > price,
+        None => false,
+    };
+    let offer = match &best.offer {
+        Some(row) => row.price < price,
+        None => false,
+    };
+    bid || offer
+}
+
+/// Appends the protected quotations that a trade at a price trades through, of what a desk saw.
+pub(crate) fn tell_through(
+    out: &mut Vec<u8>,
+    roster: &Roster,
+    desk: u8,
+    view: &View,
+    price: Price,
+) -> Result<(), AllocError>
+    requires sym { view.now.sym < length roster.now.syms }
+    requires parts { (side : Side) → All (λ row. row.part < length roster.now.parts) (rows_on side view.now) }
+    ensures { OnOk result (out.new.items ≡ out.old.items
+        ++ text_of (through_records roster.now desk view.now price (traded_through_at view.now price))) }
+{
+    let quotations = traded_through(view, price);
+    let count = quotations.len();
+    tell_through_head(out, roster, desk, view.sym(), view.version(), price, count)?;
+    tell_through_rows(out, roster, quotations.as_slice())
+}
+
+/// Appends how many quotations a trade at a price trades through, at that version.
+pub(crate) fn tell_through_head(
+    out: &mut Vec<u8>,
+    roster: &Roster,
+    desk: u8,
+    sym: Sym,
+    version: u64,
+    price: Price,
+    count: usize,
+) -> Result<(), AllocError>
+    requires { sym < length roster.now.syms }
+    ensures { (seen : Seen) → seen.sym ≡ sym → seen.version ≡ version
+        → OnOk result (out.new.items ≡ out.old.items ++ text_of (through_head roster.now desk seen price count ∷ [])) }
+{
+    out.extend_from_slice(b"THRU")?;
+    push_number(out, u64::from(desk))?;
+    push_text(out, roster.sym_name(sym))?;
+    push_number(out, version)?;
+    push_price(out, price)?;
+    push_number(out, count as u64)?;
+    end(out)
+}
+
+/// Appends quotations that are traded through, a record each.
+fn tell_through_rows(
+    out: &mut Vec<u8>,
+    roster: &Roster,
+    quotations: &[(Side, Row)],
+) -> Result<(), AllocError>
+    requires { All (λ quotation. quotation.1.part < length roster.now.parts) quotations.now }
+    ensures { OnOk result (out.new.items ≡ out.old.items ++ text_of (map (through_row roster.now) quotations.now)) }
+{
+    for (side, row) in quotations {
+        tell_through_row(out, roster, *side, row)?;
+    }
+    Ok(())
+}
+
+/// Appends a quotation that is traded through.
+fn tell_through_row(
+    out: &mut Vec<u8>,
+    roster: &Roster,
+    side: Side,
+    row: &Row,
+) -> Result<(), AllocError>
+    requires { row.now.part < length roster.now.parts }
+    ensures { OnOk result (out.new.items ≡ out.old.items ++ text_of (through_row roster.now (side, row.now) ∷ [])) }
+{
+    out.extend_from_slice(b"ROW")?;
+    push_text(out, word_of_side(side))?;
+    push_text(out, roster.part_name(row.part))?;
+    push_price(out, row.price)?;
+    push_number(out, u64::from(row.size))?;
+    end(out)
+}

@@ -1,0 +1,95 @@
+//! The command line as `clap` reads it.
+ghost use Rattle.std.specs.Prelude.{◌≡◌, IfOk, false};
+ghost use Rattle.clap.specs.Words.{app_of, rule_of};
+ghost use Rattle.clap.specs.declared.builder.command.Command.TheViews.{out-Command as fields_of};
+ghost use Rattle.nms_words.specs.CommandLine.{app_of_sub, manual_rule, own_rule, setup_rule, tool, with_option, without_subs};
+
+use crate::help_text::{AFTER_HELP, VERSION};
+use crate::subcommand::{OwnWord, Sub};
+use clap::{Arg, ArgAction, Command};
+use std::alloc::{AllocError, Global};
+
+const ABOUT: &str = "A consolidated quote board after Regulation NMS";
+
+/// The whole command line.
+pub(crate) fn tool_command<'a>(alloc: Global) -> Result<Command<'a>, AllocError>
+    ensures { IfOk result (λ command. app_of command ≡ tool) }
+{
+    let mut command = top_command(alloc)?;
+    for sub in Sub::ALL {
+        command = command.subcommand(sub_command(alloc, sub)?)?;
+    }
+    Ok(command)
+}
+
+// The command line without its subcommands.
+fn top_command<'a>(alloc: Global) -> Result<Command<'a>, AllocError>
+    ensures { IfOk result (λ command. app_of command ≡ without_subs) }
+{
+    let command = Command::new(alloc, "nms_tool").bin_name("nms_tool")?;
+    Ok(
+        command
+            .about(ABOUT)
+            .version(VERSION)
+            .after_help(AFTER_HELP)
+            .no_binary_name(true)
+            .disable_help_subcommand(true),
+    )
+}
+
+// A subcommand with its own words, its option and its flag.
+fn sub_command<'a>(alloc: Global, sub: Sub) -> Result<Command<'a>, AllocError>
+    ensures app { IfOk result (λ command. app_of command ≡ app_of_sub sub) }
+    ensures local { IfOk result (λ command. (fields_of command).has_globals ≡ false) }
+{
+    let command = option_command(alloc, sub)?;
+    if sub.takes_manual() {
+        command.arg(manual_arg(alloc))
+    } else {
+        Ok(command)
+    }
+}
+
+// A subcommand with its own words and its option.
+fn option_command<'a>(alloc: Global, sub: Sub) -> Result<Command<'a>, AllocError>
+    ensures app { IfOk result (λ command. app_of command ≡ with_option sub) }
+    ensures local { IfOk result (λ command. (fields_of command).has_globals ≡ false) }
+{
+    let name: &'a str = sub.name();
+    let about: &'a str = sub.about();
+    let mut command = Command::new(alloc, name).about(about);
+    for word in sub.own_words() {
+        command = command.arg(own_arg(alloc, *word))?;
+    }
+    command.arg(setup_arg(alloc))
+}
+
+// A word of a subcommand's own.
+fn own_arg<'a>(alloc: Global, word: OwnWord) -> Arg<'a>
+    ensures rule { rule_of result ≡ own_rule word.name.now }
+    ensures local { result.global ≡ false }
+{
+    Arg::new(alloc, word.name).help(word.help).required(true)
+}
+
+// The option `--setup FILE`.
+fn setup_arg<'a>(alloc: Global) -> Arg<'a>
+    ensures rule { rule_of result ≡ setup_rule }
+    ensures local { result.global ≡ false }
+{
+    Arg::new(alloc, "setup")
+        .long("setup")
+        .value_name("FILE")
+        .help("The file of the setup, in place of the built-in one")
+}
+
+// The flag `--manual`.
+fn manual_arg<'a>(alloc: Global) -> Arg<'a>
+    ensures rule { rule_of result ≡ manual_rule }
+    ensures local { result.global ≡ false }
+{
+    Arg::new(alloc, "manual")
+        .long("manual")
+        .action(ArgAction::SetTrue)
+        .help("Also trades with manual quotations")
+}

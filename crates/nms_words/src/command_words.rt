@@ -1,0 +1,163 @@
+//! The words of the command line, read as a request.
+ghost use Rattle.std.specs.Prelude.{◌≡◌, map, true, is_some, option_map, length, Some, IfOk, IfErr, MatchResult, vec_len, [], ◌∷◌};
+ghost use Rattle.std.specs.String.{string_bytes};
+ghost use Rattle.clap.specs.Words.{first_of, found_of, kind_of, rows_of, subcommand_rows_of, takes};
+ghost use Rattle.nms_words.specs.CommandLine.{Asked, IsPlainCall, IsRefusal, asked_by, asked_of, asks_for_help, faults_in, firsts_of, is_flagged, own_names, script_alone, shown, tool};
+
+use crate::command_line::tool_command;
+use crate::request::Request;
+use crate::subcommand::{OwnWord, Sub};
+use crate::words_fault::WordsFault;
+use clap::error::ErrorKind;
+use clap::{ArgMatches, Error};
+use std::alloc::{AllocError, Global};
+
+const SETUP_TIP: &str = "
+tip: give --setup behind the subcommand: nms_tool script --setup FILE
+";
+
+/// Reads the words that follow the program's name: a subcommand, its own words, its option and its flag.
+///
+/// No words ask for the script with no setup. Words in which the parser finds no fault are a request.
+/// Else the answer is `Parser`, for one of the faults that it finds, or for the help or the version
+/// that was asked for. `NoMemory` may come in place of any answer.
+pub fn read_words<'a>(alloc: Global, words: &'a [&'a str]) -> Result<Request, WordsFault>
+    ensures read { IfOk result (λ request. asked_by (map (λ word. word.now) words.entry.now) ≡ Some (shown request)) }
+    ensures accepted { IfOk result (λ _. faults_in (map (λ word. word.now) words.entry.now) ≡ []) }
+    ensures refused { IfErr result (IsRefusal (faults_in (map (λ word. word.now) words.entry.now))) }
+    ensures counted { IfOk result (λ request. vec_len request.words ≡ length (own_names request.command)) }
+    ensures no_words { words.entry.now ≡ [] → MatchResult result (λ request. shown request ≡ script_alone) (λ fault. fault ≡ WordsFault.NoMemory) }
+    ensures plain { (asked : Asked) → IsPlainCall (map (λ word. word.now) words.entry.now) asked
+        → MatchResult result (λ request. shown request ≡ asked) (λ fault. fault ≡ WordsFault.NoMemory) }
+{
+    parse_words(alloc, words)
+}
+
+// The request that the parser's matches hold.
+fn parse_words<'a>(alloc: Global, words: &'a [&'a str]) -> Result<Request, WordsFault>
+    ensures read { IfOk result (λ request. asked_by (map (λ word. word.now) words.entry.now) ≡ Some (shown request)) }
+    ensures accepted { IfOk result (λ _. faults_in (map (λ word. word.now) words.entry.now) ≡ []) }
+    ensures refused { IfErr result (IsRefusal (faults_in (map (λ word. word.now) words.entry.now))) }
+    ensures taken { takes tool (map (λ word. word.now) words.entry.now) ≡ true → IfErr result (λ fault. fault ≡ WordsFault.NoMemory) }
+{
+    match tool_command(alloc)?.try_get_matches_from(words) {
+        Ok(matches) => Ok(request_in(alloc, &matches)?),
+        Err(error) => Err(fault_of(alloc, words, &error)),
+    }
+}
+
+// The parser's text, or want of memory.
+fn fault_of(alloc: Global, words: &[&str], error: &Error) -> WordsFault
+    ensures memory { kind_of error.now ≡ ErrorKind.OutOfMemory → result ≡ WordsFault.NoMemory }
+    ensures refused { IsRefusal (kind_of error.now ∷ []) result }
+{
+    let kind = error.kind();
+    if kind == ErrorKind::OutOfMemory {
+        return WordsFault::NoMemory;
+    }
+    match text_of(alloc, words, error) {
+        Ok(text) => WordsFault::Parser {
+            text,
+            help: is_help(kind),
+        },
+        Err(_) => WordsFault::NoMemory,
+    }
+}
+
+// The parser's text, with a tip for an option that stands before its subcommand.
+fn text_of(alloc: Global, words: &[&str], error: &Error) -> Result<String, AllocError> {
+    if words.first().is_some_and(|word| is_setup_option(*word)) {
+        return format!(in alloc; "{error}{SETUP_TIP}");
+    }
+    format!(in alloc; "{error}")
+}
+
+// Whether the word is `--setup` or `--setup=FILE`.
+fn is_setup_option(word: &str) -> bool {
+    word == "--setup" || word.starts_with("--setup=")
+}
+
+// Whether the words ask for help, or for the version.
+fn is_help(kind: ErrorKind) -> bool
+    ensures { result ≡ asks_for_help kind }
+{
+    matches!(kind, ErrorKind::DisplayHelp | ErrorKind::DisplayVersion)
+}
+
+// The request that the matches hold.
+fn request_in(alloc: Global, matches: &ArgMatches<'_>) -> Result<Request, AllocError>
+    requires { is_some (asked_of (subcommand_rows_of matches.now)) ≡ true }
+    ensures { IfOk result (λ request. asked_of (subcommand_rows_of matches.now) ≡ Some (shown request)) }
+{
+    let Some((name, inner)) = matches.subcommand() else {
+        return Ok(Request {
+            command: Sub::Script,
+            words: Vec::new(alloc),
+            setup: None,
+            manual: false,
+        });
+    };
+    match request_of(alloc, name, inner)? {
+        Some(request) => Ok(request),
+        None => unreachable!(),
+    }
+}
+
+// The request that a subcommand's matches hold, where they have each of its own words.
+fn request_of(
+    alloc: Global,
+    name: &str,
+    matches: &ArgMatches<'_>,
+) -> Result<Option<Request>, AllocError>
+    ensures { IfOk result (λ request. option_map shown request ≡ asked_of (Some (name.now, rows_of (found_of matches.now)))) }
+{
+    let Some(command) = Sub::named(name) else {
+        return Ok(None);
+    };
+    let Some(words) = own_words(alloc, command.own_words(), matches)? else {
+        return Ok(None);
+    };
+    let setup = match first_value(matches, "setup") {
+        Some(file) => Some(String::from_str(alloc, file)?),
+        None => None,
+    };
+    Ok(Some(Request {
+        command,
+        words,
+        setup,
+        manual: is_flagged(matches),
+    }))
+}
+
+// The values of the words, where each has one.
+fn own_words(
+    alloc: Global,
+    own: &[OwnWord],
+    matches: &ArgMatches<'_>,
+) -> Result<Option<Vec<String>>, AllocError>
+    ensures { IfOk result (λ words. option_map (λ found. map string_bytes found.items) words
+        ≡ firsts_of (rows_of (found_of matches.now)) (map (λ word. word.name.now) own.now)) }
+{
+    let mut words = Vec::new(alloc);
+    for word in own {
+        let Some(value) = first_value(matches, word.name) else {
+            return Ok(None);
+        };
+        words.push(String::from_str(alloc, value)?)?;
+    }
+    Ok(Some(words))
+}
+
+// The first value under the name.
+fn first_value<'a>(matches: &ArgMatches<'a>, name: &str) -> Option<&'a str>
+    ensures { option_map (λ value. value.now) result ≡ first_of name.now (rows_of (found_of matches.now)) }
+{
+    matches.get_str(name)
+}
+
+// Whether the matches hold the flag. The parser gives it the text `true` or `false`.
+fn is_flagged(matches: &ArgMatches<'_>) -> bool
+    ensures { result ≡ is_flagged (rows_of (found_of matches.now)) }
+{
+    first_value(matches, "manual").is_some_and(|value| value == "true")
+}

@@ -1,0 +1,150 @@
+/// What the program can be asked to do, each a subcommand of the command line.
+#[derive(Clone, Copy, Debug, PartialEq, Eq)]
+pub enum Sub {
+    /// Answers a script from standard input. It has no words of its own.
+    Script,
+    /// Reports on a file of changes. Its own words are `CHANGES` and `SYM`.
+    Report,
+    /// Plans an order on a file of changes. Its own words are `CHANGES`, `SIDE`, `SYM`, `SHARES` and `LIMIT`, and it
+    /// may have the flag `--manual`.
+    Plan,
+    /// Says whether a plan is confirmed on a file of changes. Its own words are `CHANGES` and `PLANFILE`.
+    Check,
+    /// Runs two feeds, the tape and the desks at once. Its own words are `FEED_A`, `FEED_B` and `ORDERS`.
+    Live,
+}
+
+/// A word of a subcommand's own, with its explanation in the help.
+#[derive(Clone, Copy, Debug, PartialEq, Eq)]
+pub(crate) struct OwnWord {
+    pub(crate) name: &'static str,
+    pub(crate) help: &'static str,
+}
+
+static NO_WORDS: [OwnWord; 0] = [];
+
+static REPORT_WORDS: [OwnWord; 2] = [
+    OwnWord {
+        name: "CHANGES",
+        help: "The file of the quotation changes",
+    },
+    OwnWord {
+        name: "SYM",
+        help: "The symbol that the report is on",
+    },
+];
+
+static PLAN_WORDS: [OwnWord; 5] = [
+    OwnWord {
+        name: "CHANGES",
+        help: "The file of the quotation changes",
+    },
+    OwnWord {
+        name: "SIDE",
+        help: "B to buy, S to sell",
+    },
+    OwnWord {
+        name: "SYM",
+        help: "The symbol to trade",
+    },
+    OwnWord {
+        name: "SHARES",
+        help: "How many shares, at least 1",
+    },
+    OwnWord {
+        name: "LIMIT",
+        help: "The worst price",
+    },
+];
+
+static CHECK_WORDS: [OwnWord; 2] = [
+    OwnWord {
+        name: "CHANGES",
+        help: "The file of the quotation changes",
+    },
+    OwnWord {
+        name: "PLANFILE",
+        help: "The file of the plan and its certificate",
+    },
+];
+
+static LIVE_WORDS: [OwnWord; 3] = [
+    OwnWord {
+        name: "FEED_A",
+        help: "The file of the changes of feed A",
+    },
+    OwnWord {
+        name: "FEED_B",
+        help: "The file of the changes of feed B",
+    },
+    OwnWord {
+        name: "ORDERS",
+        help: "The file of the orders, each for a desk",
+    },
+];
+
+impl Sub {
+    ghost use Rattle.std.specs.Prelude.{◌≡◌, map};
+    ghost use Rattle.nms_words.specs.CommandLine.{name_of, own_names, sub_named, takes_manual};
+
+    /// Each of them.
+    pub(crate) const ALL: [Self; 5] = [
+        Self::Script,
+        Self::Report,
+        Self::Plan,
+        Self::Check,
+        Self::Live,
+    ];
+
+    /// The word that asks for it.
+    pub(crate) fn name(self) -> &'static str
+        ensures { result.now ≡ name_of self }
+    {
+        match self {
+            Sub::Script => "script",
+            Sub::Report => "report",
+            Sub::Plan => "plan",
+            Sub::Check => "check",
+            Sub::Live => "live",
+        }
+    }
+
+    /// What it does, as the help says.
+    pub(crate) fn about(self) -> &'static str {
+        match self {
+            Sub::Script => "Answers the script on standard input, as with no command",
+            Sub::Report => "Reports what a file of changes leaves of a symbol",
+            Sub::Plan => "Plans an order on a file of changes, with the certificate",
+            Sub::Check => "Says whether a plan is lawful and none is better",
+            Sub::Live =>
+                "Runs two feeds and the desks at once, and plans each order on all changes",
+        }
+    }
+
+    /// The words of its own, in order.
+    pub(crate) fn own_words(self) -> &'static [OwnWord]
+        ensures { map (λ word. word.name.now) result.now ≡ own_names self }
+    {
+        match self {
+            Sub::Script => NO_WORDS.as_slice(),
+            Sub::Report => REPORT_WORDS.as_slice(),
+            Sub::Plan => PLAN_WORDS.as_slice(),
+            Sub::Check => CHECK_WORDS.as_slice(),
+            Sub::Live => LIVE_WORDS.as_slice(),
+        }
+    }
+
+    /// Whether it takes the flag `--manual`.
+    pub(crate) fn takes_manual(self) -> bool
+        ensures { result ≡ takes_manual self }
+    {
+        matches!(self, Sub::Plan)
+    }
+
+    /// The subcommand of that name.
+    pub(crate) fn named(name: &str) -> Option<Self>
+        ensures { result ≡ sub_named name.now }
+    {
+        Self::ALL.iter().copied().find(|sub| sub.name() == name)
+    }
+}

@@ -1,0 +1,25 @@
+use std::alloc::AllocError;
+use thiserror::Error;
+
+/// Why the words of the command line are no request.
+#[derive(Debug, Drop, Error)]
+pub enum WordsFault {
+    /// G1: the parser's text, of a fault or, where `help` holds, of the help or the version that was
+    /// asked for.
+    #[error("{text}")]
+    Parser { text: String, help: bool },
+    /// G2: out of memory.
+    #[error("G2: out of memory")]
+    NoMemory,
+}
+
+impl From<AllocError> for WordsFault {
+    ghost use Rattle.std.specs.Prelude.{◌≡◌};
+    ghost use Rattle.nms_words.specs.declared.words_fault.WordsFault.TheVariants.{NoMemory};
+
+    ghost from_gives = { λ _ fault. fault ≡ NoMemory };
+
+    fn from(_error: AllocError) -> WordsFault {
+        WordsFault::NoMemory
+    }
+}
