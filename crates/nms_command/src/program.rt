@@ -1,4 +1,6 @@
 //! What the program does with its words, its streams and its files.
+ghost use Rattle.std.specs.Prelude.{◌≡◌};
+ghost use Rattle.nms_command.specs.Statuses.{status_of};
 
 use crate::check::serve_check;
 use crate::ending::Ending;
@@ -36,7 +38,9 @@ where
 }
 
 /// Tells a fault, and gives its exit status. What standard error does not take changes no status.
-pub fn tell_fault<E: Write>(fault: &ToolFault, errors: &mut E) -> u8 {
+pub fn tell_fault<E: Write>(fault: &ToolFault, errors: &mut E) -> u8
+    ensures { result ≡ status_of fault.now }
+{
     let _ = match fault {
         ToolFault::Words(WordsFault::Parser { text, .. }) => tell(errors, text.as_str()),
         _ => tell_code(errors, fault.code()),

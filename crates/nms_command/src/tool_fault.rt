@@ -1,4 +1,7 @@
 //! Why the program ends with another status than 0: the code that it tells, and the status.
+ghost use Rattle.std.specs.Prelude.{◌≡◌};
+ghost use Rattle.nms_command.specs.Statuses.{code_of, status_of, status_of_changes, status_of_feed, status_of_live, status_of_live_text, status_of_orders, status_of_plan, status_of_report, status_of_script, status_of_text};
+
 use nms_board::BoardFault;
 use nms_engine::{
     AuditFault, ChangesFault, FeedFault, LiveFault, LiveTextFault, OrdersFault, PlanFault,
@@ -44,7 +47,9 @@ pub enum ToolFault {
 impl ToolFault {
     /// The exit status: 1 for streams and files, 2 for words, 3 for the setup, 5 for memory, 6 for lines,
     /// plans and lengths, 7 for a live run.
-    pub fn status(&self) -> u8 {
+    pub fn status(&self) -> u8
+        ensures { result ≡ status_of self.now }
+    {
         match self {
             ToolFault::Words(WordsFault::NoMemory) => 5,
             ToolFault::Words(WordsFault::Parser { .. }) | ToolFault::Usage => 2,
@@ -65,7 +70,9 @@ impl ToolFault {
     }
 
     /// What the line on standard error names.
-    pub fn code(&self) -> &'static str {
+    pub fn code(&self) -> &'static str
+        ensures { result.now ≡ code_of self.now }
+    {
         match self {
             ToolFault::Words(_) => "G2",
             ToolFault::Usage => "usage",
@@ -85,7 +92,9 @@ impl ToolFault {
     }
 }
 
-fn status_of_script(fault: ScriptFault) -> u8 {
+fn status_of_script(fault: ScriptFault) -> u8
+    ensures { result ≡ status_of_script fault }
+{
     match fault {
         ScriptFault::ReadFault | ScriptFault::WriteFault => 1,
         ScriptFault::TooLong => 6,
@@ -93,7 +102,9 @@ fn status_of_script(fault: ScriptFault) -> u8 {
     }
 }
 
-fn status_of_report(fault: ReportFault) -> u8 {
+fn status_of_report(fault: ReportFault) -> u8
+    ensures { result ≡ status_of_report fault }
+{
     match fault {
         ReportFault::Changes(fault) => status_of_changes(fault),
         ReportFault::Board(BoardFault::NoMemory) | ReportFault::NoMemory => 5,
@@ -101,7 +112,9 @@ fn status_of_report(fault: ReportFault) -> u8 {
     }
 }
 
-fn status_of_changes(fault: ChangesFault) -> u8 {
+fn status_of_changes(fault: ChangesFault) -> u8
+    ensures { result ≡ status_of_changes fault }
+{
     match fault {
         ChangesFault::ReadFault => 1,
         ChangesFault::Line(_) | ChangesFault::TapeFull => 6,
@@ -109,7 +122,9 @@ fn status_of_changes(fault: ChangesFault) -> u8 {
     }
 }
 
-fn status_of_plan(fault: PlanFault) -> u8 {
+fn status_of_plan(fault: PlanFault) -> u8
+    ensures { result ≡ status_of_plan fault }
+{
     match fault {
         PlanFault::Changes(fault) => status_of_changes(fault),
         PlanFault::Board(BoardFault::NoMemory) | PlanFault::NoMemory => 5,
@@ -117,7 +132,9 @@ fn status_of_plan(fault: PlanFault) -> u8 {
     }
 }
 
-fn status_of_text(fault: PlanTextFault) -> u8 {
+fn status_of_text(fault: PlanTextFault) -> u8
+    ensures { result ≡ status_of_text fault }
+{
     match fault {
         PlanTextFault::BadPlanText => 6,
         PlanTextFault::NoMemory => 5,
@@ -125,7 +142,9 @@ fn status_of_text(fault: PlanTextFault) -> u8 {
     }
 }
 
-fn status_of_feed(fault: FeedFault) -> u8 {
+fn status_of_feed(fault: FeedFault) -> u8
+    ensures { result ≡ status_of_feed fault }
+{
     match fault {
         FeedFault::ReadFault => 1,
         FeedFault::TooLong => 6,
@@ -133,7 +152,9 @@ fn status_of_feed(fault: FeedFault) -> u8 {
     }
 }
 
-fn status_of_orders(fault: OrdersFault) -> u8 {
+fn status_of_orders(fault: OrdersFault) -> u8
+    ensures { result ≡ status_of_orders fault }
+{
     match fault {
         OrdersFault::ReadFault => 1,
         OrdersFault::Line(_) => 6,
@@ -141,7 +162,9 @@ fn status_of_orders(fault: OrdersFault) -> u8 {
     }
 }
 
-fn status_of_live(fault: LiveFault) -> u8 {
+fn status_of_live(fault: LiveFault) -> u8
+    ensures { result ≡ status_of_live fault }
+{
     match fault {
         LiveFault::Line { .. } => 6,
         LiveFault::Open | LiveFault::Append | LiveFault::Desk | LiveFault::GateLimit => 7,
@@ -149,7 +172,9 @@ fn status_of_live(fault: LiveFault) -> u8 {
     }
 }
 
-fn status_of_live_text(fault: LiveTextFault) -> u8 {
+fn status_of_live_text(fault: LiveTextFault) -> u8
+    ensures { result ≡ status_of_live_text fault }
+{
     match fault {
         LiveTextFault::NoMemory => 5,
         LiveTextFault::WriteFault => 1,
