@@ -14,20 +14,20 @@ use Rattle.nms_live.specs.Faults as live_faults
 use Rattle.nms_live.specs.declared.live_fault.LiveFault.{LiveFault}
 use Rattle.nms_live.specs.declared.live_fault.LiveFault.TheVariants as live
 use Rattle.nms_scripts.specs.Faults as faults
-use Rattle.nms_scripts.specs.declared.changes_fault.ChangesFault.{ChangesFault}
-use Rattle.nms_scripts.specs.declared.changes_fault.ChangesFault.TheVariants as changes
-use Rattle.nms_scripts.specs.declared.changes_fault.ReportFault.{ReportFault}
-use Rattle.nms_scripts.specs.declared.changes_fault.ReportFault.TheVariants as report
-use Rattle.nms_scripts.specs.declared.feed_fault.FeedFault.{FeedFault}
-use Rattle.nms_scripts.specs.declared.feed_fault.FeedFault.TheVariants as feed
-use Rattle.nms_scripts.specs.declared.live_text_fault.LiveTextFault.{LiveTextFault}
-use Rattle.nms_scripts.specs.declared.live_text_fault.LiveTextFault.TheVariants as live_text
-use Rattle.nms_scripts.specs.declared.orders_fault.OrdersFault.{OrdersFault}
-use Rattle.nms_scripts.specs.declared.orders_fault.OrdersFault.TheVariants as orders
-use Rattle.nms_scripts.specs.declared.plan_fault.PlanFault.{PlanFault}
-use Rattle.nms_scripts.specs.declared.plan_fault.PlanFault.TheVariants as plan
-use Rattle.nms_scripts.specs.declared.script_fault.ScriptFault.{ScriptFault}
-use Rattle.nms_scripts.specs.declared.script_fault.ScriptFault.TheVariants as script
+use Rattle.nms_files.specs.declared.changes_fault.ChangesFault.{ChangesFault}
+use Rattle.nms_files.specs.declared.changes_fault.ChangesFault.TheVariants as changes
+use Rattle.nms_files.specs.declared.changes_fault.ReportFault.{ReportFault}
+use Rattle.nms_files.specs.declared.changes_fault.ReportFault.TheVariants as report
+use Rattle.nms_files.specs.declared.feed_fault.FeedFault.{FeedFault}
+use Rattle.nms_files.specs.declared.feed_fault.FeedFault.TheVariants as feed
+use Rattle.nms_text.specs.declared.live_text_fault.LiveTextFault.{LiveTextFault}
+use Rattle.nms_text.specs.declared.live_text_fault.LiveTextFault.TheVariants as live_text
+use Rattle.nms_files.specs.declared.orders_fault.OrdersFault.{OrdersFault}
+use Rattle.nms_files.specs.declared.orders_fault.OrdersFault.TheVariants as orders
+use Rattle.nms_files.specs.declared.plan_fault.PlanFault.{PlanFault}
+use Rattle.nms_files.specs.declared.plan_fault.PlanFault.TheVariants as plan
+use Rattle.nms_text.specs.declared.script_fault.ScriptFault.{ScriptFault}
+use Rattle.nms_text.specs.declared.script_fault.ScriptFault.TheVariants as script
 use Rattle.nms_words.specs.declared.words_fault.WordsFault.{WordsFault}
 use Rattle.nms_words.specs.declared.words_fault.WordsFault.TheVariants as words
 

@@ -1,10 +1,4 @@
 mod ProgressFacts
 mod ScriptFacts
-mod Texts
-mod LineFacts
-mod ColumnFacts
-mod PairFacts
-mod ReportFacts
 mod ThroughFacts
 mod PlanFacts
-mod FitFacts

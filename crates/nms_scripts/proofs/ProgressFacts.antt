@@ -10,21 +10,17 @@ use Rattle.csv.specs.Reading.{Reached}
 use Rattle.csv.specs.declared.reader.Reader.{Reader}
 use Rattle.nms_lines.specs.Layout.{Record}
 use Rattle.nms_lines.specs.Records.{AreAllRecords, BeginRecords, ReadsFrom}
-use Rattle.nms_scripts.specs.declared.script_fault.ScriptFault.{ScriptFault}
-use Rattle.nms_scripts.specs.declared.script_fault.ScriptFault.TheVariants as script_fault
+use Rattle.nms_text.specs.declared.script_fault.ScriptFault.{ScriptFault}
+use Rattle.nms_text.specs.declared.script_fault.ScriptFault.TheVariants as script_fault
 use Rattle.nms_scripts.specs.declared.counts.Counts.{Counts}
 use Rattle.nms_lines.specs.Text.{record_text, text_of}
+use Rattle.nms_text.proofs.PairFacts.{appends-none}
 use Rattle.nms_flow.specs.Flow.{State, IsAfter, room_of, room_under}
 use Rattle.nms_flow.specs.Run.{Event, IsRun, published_by, taken_by}
 use Rattle.nms_fees.specs.Settings.{Settings}
 use Rattle.nms_scripts.specs.declared.TheConstants.{MOST_RECORDS}
 use Rattle.nms_scripts.specs.Progress.{HasAnswered, HasCome, StopsAfter}
 use Rattle.nms_scripts.specs.Script.{Answers, AnswersBeginning, AnswersFrom, AnswersRecord, Serves, is_refusal, tally_of}
-
--- nothing was written
-pub appends-none : (known : Option (List ℕ)) → Appends known known []
-appends-none None = tt
-appends-none (Some bytes) = sym (append-nil bytes)
 
 -- the beginning with no record
 pub begin_none : (bytes : Option (List ℕ)) → BeginRecords bytes []

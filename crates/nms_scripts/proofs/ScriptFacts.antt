@@ -29,7 +29,8 @@ use Rattle.nms_flow.specs.declared.step_fault.StepFault.TheVariants as fault
 use Rattle.nms_flow.specs.declared.reply.Reply.{Reply}
 use Rattle.nms_flow.specs.declared.reply.Reply.TheVariants as reply
 use Rattle.nms_flow.proofs.RunLemmas.{goes_on}
-use Rattle.nms_scripts.specs.Answers.{best_record, through_head, through_records, told_by}
+use Rattle.nms_text.specs.Answers.{best_record, through_head, through_records}
+use Rattle.nms_scripts.specs.Told.{told_by}
 use Rattle.nms_scripts.specs.Progress.{TakesSome, TakesUntil}
 use Rattle.nms_scripts.specs.Script.{AsksAll, AsksOne, Sends, Serves, ShowsBest, ShowsPlan, ShowsThrough, is_refusal}
 use Rattle.nms_scripts.proofs.PlanFacts.{plan_refuses_none}

@@ -12,7 +12,7 @@ use Rattle.nms_board.specs.View.{Seen, rows_on}
 use Rattle.nms_board.specs.declared.row.Row.{Row}
 use Rattle.nms_nbbo.specs.Best.{IsBestOf}
 use Rattle.nms_rules.specs.Through.{is_through, through_on, traded_through_at}
-use Rattle.nms_scripts.specs.Answers.{through_records, through_row}
+use Rattle.nms_text.specs.Answers.{through_records, through_row}
 use Rattle.nms_scripts.specs.Script.{is_refusal}
 
 -- the quotation is of one of the first participants

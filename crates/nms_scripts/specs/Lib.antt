@@ -5,16 +5,7 @@ pub use Rattle.nms_nbbo.specs.Best as Best
 pub use Rattle.nms_nbbo.specs.Market as Market
 pub use Rattle.nms_rules.specs.Through as Through
 pub use Rattle.nms_flow.specs.Run as Run
-pub use Rattle.nms_cert.specs.Doubts as Doubts
-pub mod Answers
-pub mod Audit
-pub mod LineFile
-pub mod LiveText
-pub mod OrderFile
-pub mod OrderWords
-pub mod PlanFile
+pub use Rattle.nms_text.specs.Answers as Answers
 pub mod Progress
-pub mod Report
 pub mod Script
-pub mod ChangeFile
-pub mod Faults
+pub mod Told

@@ -4,8 +4,8 @@ use Rattle.std.specs.Io.KnownBytes.{Appends}
 use Rattle.csv.specs.declared.reader.Reader.{Reader}
 use Rattle.nms_lines.specs.Layout.{Record}
 use Rattle.nms_lines.specs.Records.{AreAllRecords, BeginRecords, ReadsFrom}
-use Rattle.nms_scripts.specs.declared.script_fault.ScriptFault.{ScriptFault}
-use Rattle.nms_scripts.specs.declared.script_fault.ScriptFault.TheVariants as script_fault
+use Rattle.nms_text.specs.declared.script_fault.ScriptFault.{ScriptFault}
+use Rattle.nms_text.specs.declared.script_fault.ScriptFault.TheVariants as script_fault
 use Rattle.nms_scripts.specs.declared.script.Progress.{Progress}
 use Rattle.nms_scripts.specs.declared.script.Progress.TheVariants as progress
 use Rattle.nms_lines.specs.Text.{text_of}

@@ -33,11 +33,12 @@ use Rattle.nms_flow.specs.declared.step.Step.{Step}
 use Rattle.nms_flow.specs.declared.step.Step.TheVariants as step
 use Rattle.nms_flow.specs.declared.reply.Reply.TheVariants as reply
 use Rattle.nms_flow.specs.declared.step_fault.StepFault.TheVariants as fault
-use Rattle.nms_scripts.specs.Answers.{refusal, told_by, best_record, through_records}
+use Rattle.nms_text.specs.Answers.{refusal, best_record, through_records}
+use Rattle.nms_scripts.specs.Told.{told_by}
 use Rattle.nms_scripts.specs.declared.TheConstants.{MOST_RECORDS}
 use Rattle.nms_scripts.specs.declared.counts.Counts.{Counts}
-use Rattle.nms_scripts.specs.declared.script_fault.ScriptFault.{ScriptFault}
-use Rattle.nms_scripts.specs.declared.script_fault.ScriptFault.TheVariants as script_fault
+use Rattle.nms_text.specs.declared.script_fault.ScriptFault.{ScriptFault}
+use Rattle.nms_text.specs.declared.script_fault.ScriptFault.TheVariants as script_fault
 
 -- what a record of a script says
 abbrev pub script_reading : Settings → Record → Result Line LineFault

@@ -11,11 +11,11 @@ ghost use Rattle.nms_scripts.specs.Progress.{AdvancesTo, HasCome};
 
 use crate::MOST_RECORDS;
 use crate::counts::Counts;
-use crate::script_fault::ScriptFault;
 use crate::script_record::serve;
 use nms_fees::Setup;
 use nms_flow::Flow;
 use nms_lines::{ByteRecord, Reader, RecordFault, open_records, read_next};
+use nms_text::{ScriptFault, tell};
 use std::alloc::Global;
 use std::io::{Read, Write};
 
@@ -149,20 +149,6 @@ fn read<R: Read>(reader: &mut Reader<R>, row: &mut ByteRecord) -> Result<bool, S
         Err(RecordFault::Failed) => Err(ScriptFault::ReadFault),
         Err(RecordFault::NoMemory) => Err(ScriptFault::NoMemory),
     }
-}
-
-/// Writes an answer at once, and flushes it. An empty one asks for nothing.
-pub(crate) fn tell<W: Write>(writer: &mut W, answer: &[u8]) -> Result<(), ScriptFault>
-    ensures written { OnOk result (Appends (W.contents writer.old) (W.contents writer.new) answer.now) }
-    ensures refused { IfErr result (λ fault. fault ≡ ScriptFault.WriteFault) }
-{
-    if answer.is_empty() {
-        return Ok(());
-    }
-    if writer.write_all(answer).is_err() || writer.flush().is_err() {
-        return Err(ScriptFault::WriteFault);
-    }
-    Ok(())
 }
 
 /// What the script came to.

@@ -5,22 +5,21 @@ ghost use Rattle.csv.specs.Records.{fields_of};
 ghost use Rattle.nms_quote.specs.Roster.{holds, sizes_of};
 ghost use Rattle.nms_lines.specs.LineOf.{IsThere};
 ghost use Rattle.nms_lines.specs.Text.{text_of};
-ghost use Rattle.nms_scripts.specs.Answers.{told_by};
+ghost use Rattle.nms_scripts.specs.Told.{told_by};
 ghost use Rattle.nms_flow.specs.Flow.{room_of, room_under};
 ghost use Rattle.nms_flow.specs.declared.step.Step.TheVariants as step;
 ghost use Rattle.nms_scripts.specs.Progress.{TakesUntil};
 ghost use Rattle.nms_scripts.specs.Script.{AnswersLine, AnswersRecord, AsksAll, AsksOne, IsRefused, Sends, Serves, ShowsBest, ShowsPlan, ShowsThrough};
 
-use crate::answer::{
-    is_beyond, tell_best, tell_published, tell_refusal, tell_taken, tell_through,
-    tell_through_head, tell_told,
-};
-use crate::plan_answer::tell_plan;
+use crate::through::{is_beyond, tell_through};
 use nms_fees::Setup;
 use nms_flow::{Flow, StepFault};
 use nms_lines::{ByteRecord, Line, LineFault, Reading, read_line};
 use nms_quote::{Change, Order, Roster, Sym};
 use nms_sweep::plan;
+use nms_text::{
+    tell_best, tell_plan, tell_published, tell_refusal, tell_taken, tell_through_head, tell_told,
+};
 use nms_units::Price;
 use std::alloc::AllocError;
 
@@ -187,7 +186,15 @@ fn serve_best(
     ensures room { room_of flow.new ≡ room_of flow.old }
 {
     let best = flow.best(sym);
-    tell_best(out, roster, desk, sym, flow.published(), &best)?;
+    tell_best(
+        out,
+        roster,
+        desk,
+        sym,
+        flow.published(),
+        &best.bid,
+        &best.offer,
+    )?;
     Ok(false)
 }
 

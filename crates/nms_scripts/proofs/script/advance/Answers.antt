@@ -1,6 +1,6 @@
 use Rattle.std.proofs.Common.{rules, ◌≡◌, Bool, Ok, Err, ap, ◌∙◌, ◌≢◌}
 use Rattle.csv.specs.Records.{fields_of}
-use Rattle.nms_scripts.specs.declared.script_fault.ScriptFault.TheVariants as fault
+use Rattle.nms_text.specs.declared.script_fault.ScriptFault.TheVariants as fault
 use Rattle.nms_scripts.proofs.ProgressFacts.{comes_on, stops_after}
 use Rattle.nms_scripts.proofs.script.advance.Goals as goal
 

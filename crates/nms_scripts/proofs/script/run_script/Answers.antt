@@ -1,5 +1,5 @@
 use Rattle.std.proofs.Common.{◌≢◌, sym, ◌∙◌}
-use Rattle.nms_scripts.specs.declared.script_fault.ScriptFault.TheVariants as fault
+use Rattle.nms_text.specs.declared.script_fault.ScriptFault.TheVariants as fault
 use Rattle.nms_scripts.proofs.ProgressFacts.{answers_nothing}
 use Rattle.nms_scripts.proofs.script.run_script.Goals as goal
 

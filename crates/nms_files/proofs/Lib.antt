@@ -1,0 +1,3 @@
+mod LineFacts
+mod LegFacts
+mod FitFacts

@@ -1,0 +1,11 @@
+use Rattle.std.proofs.Common.{List}
+use Rattle.nms_lines.specs.Layout.{Record}
+use Rattle.nms_lines.specs.Records.{ReadsFrom}
+use Rattle.nms_files.specs.LineFile.{HaveCome}
+use Rattle.nms_files.proofs.line_file.read_items.Given as goal
+
+-- the lines read so far came to this
+abbrev pub invariant-loop : goal.invariant-loop
+invariant-loop g l =
+    (records : List Record) × ReadsFrom g.R.Read.remaining l.reader (g.R.Read.remaining l.fn.source) records
+    × HaveCome (g.T.FileItem.are_taken l.setup) (g.T.FileItem.is_refused l.setup) records l.so_far.items.items l.so_far.refused

@@ -1,0 +1,48 @@
+-- The codes by which faults are told. This product's own rule.
+use Rattle.std.specs.Prelude.{ℕ, List, codes}
+use Rattle.nms_lines.specs.Faults as line_faults
+use Rattle.nms_files.specs.declared.audit_fault.AuditFault.{AuditFault}
+use Rattle.nms_files.specs.declared.audit_fault.AuditFault.TheVariants as audit_fault
+use Rattle.nms_files.specs.declared.changes_fault.ChangesFault.{ChangesFault}
+use Rattle.nms_files.specs.declared.changes_fault.ChangesFault.TheVariants as changes_fault
+use Rattle.nms_files.specs.declared.changes_fault.ReportFault.{ReportFault}
+use Rattle.nms_files.specs.declared.changes_fault.ReportFault.TheVariants as report_fault
+use Rattle.nms_files.specs.declared.feed_fault.FeedFault.{FeedFault}
+use Rattle.nms_files.specs.declared.feed_fault.FeedFault.TheVariants as feed_fault
+use Rattle.nms_files.specs.declared.orders_fault.OrdersFault.{OrdersFault}
+use Rattle.nms_files.specs.declared.orders_fault.OrdersFault.TheVariants as orders_fault
+use Rattle.nms_files.specs.declared.plan_fault.PlanFault.{PlanFault}
+use Rattle.nms_files.specs.declared.plan_fault.PlanFault.TheVariants as plan_fault
+
+abbrev pub code_of_changes : ChangesFault → List ℕ
+code_of_changes changes_fault.ReadFault = codes "E1"
+code_of_changes (changes_fault.Line fault) = line_faults.code_of fault
+code_of_changes changes_fault.TapeFull = codes "F4"
+code_of_changes changes_fault.NoMemory = codes "E4"
+
+abbrev pub code_of_report : ReportFault → List ℕ
+code_of_report (report_fault.Changes fault) = code_of_changes fault
+code_of_report (report_fault.Board fault) = codes "B1"
+code_of_report report_fault.WriteFault = codes "E2"
+code_of_report report_fault.NoMemory = codes "E4"
+
+abbrev pub code_of_plan : PlanFault → List ℕ
+code_of_plan (plan_fault.Changes fault) = code_of_changes fault
+code_of_plan (plan_fault.Board fault) = codes "B1"
+code_of_plan plan_fault.NoMemory = codes "L12"
+code_of_plan plan_fault.WriteFault = codes "L13"
+
+abbrev pub code_of_audit : AuditFault → List ℕ
+code_of_audit audit_fault.VersionBeyondTape = codes "A1"
+code_of_audit (audit_fault.Doubt doubt) = codes "A2"
+code_of_audit audit_fault.NoMemory = codes "A3"
+
+abbrev pub code_of_orders : OrdersFault → List ℕ
+code_of_orders orders_fault.ReadFault = codes "E1"
+code_of_orders (orders_fault.Line fault) = line_faults.code_of fault
+code_of_orders orders_fault.NoMemory = codes "E4"
+
+abbrev pub code_of_feed : FeedFault → List ℕ
+code_of_feed feed_fault.ReadFault = codes "E1"
+code_of_feed feed_fault.TooLong = codes "E3"
+code_of_feed feed_fault.NoMemory = codes "E4"

@@ -1,0 +1,132 @@
+//! Files of changes: `Q`, `S` and `X` lines, all of them one tape (specs/ChangeFile).
+ghost use Rattle.std.specs.Prelude.{◌≡◌, ◌<◌, ◌≤◌, All, length, true, IfErr, IfOk, OnOk};
+ghost use Rattle.csv.specs.Records.{fields_of};
+ghost use Rattle.nms_quote.specs.Roster.{holds, sizes_of};
+ghost use Rattle.nms_quote.specs.declared.side_quote.Side.{Side};
+ghost use Rattle.nms_quote.specs.declared.TheConstants.{MOST_CHANGES};
+ghost use Rattle.nms_board.specs.View.{rows_on, view_of};
+ghost use Rattle.nms_files.specs.ChangeFile.{IsFileFault, IsFileTape, IsReportFault, ReportsFile, WritesNothing, change_reading};
+
+use crate::changes_fault::{ChangesFault, ReportFault};
+use crate::line_file::{FileItem, outcome, read_items};
+use nms_board::{BoardFault, Boards, View};
+use nms_fees::Setup;
+use nms_lines::{ByteRecord, Line, LineFault, Reading, RecordFault, read_line};
+use nms_quote::{Change, Roster, SideQuote, Sym};
+use nms_text::{report, tell};
+use std::alloc::Global;
+use std::io::{Read, Write};
+
+/// Reads the changes of a file, else gives the fault of its first line that is refused. `TapeFull` stands at
+/// the first accepted line beyond the tape's limit.
+///
+/// The file is read to its end even so: one that can't be read has that fault, whatever its lines are.
+pub fn read_changes<R: Read + Drop>(
+    alloc: Global,
+    setup: &Setup,
+    source: R,
+) -> Result<Vec<Change>, ChangesFault>
+    ensures tape { IfOk result (λ changes. IsFileTape setup.now (R.remaining source) changes.items) }
+    ensures held { IfOk result (λ changes. All (λ change. holds (sizes_of setup.now.roster) change ≡ true) changes.items) }
+    ensures few { IfOk result (λ changes. length changes.items ≤ MOST_CHANGES) }
+    ensures refused { IfErr result (IsFileFault setup.now (R.remaining source)) }
+{
+    match read_items::<R, Change>(alloc, setup, source) {
+        Ok(taken) => outcome(taken),
+        Err(RecordFault::Failed) => Err(ChangesFault::ReadFault),
+        Err(RecordFault::NoMemory) => Err(ChangesFault::NoMemory),
+    }
+}
+
+impl FileItem for Change {
+    ghost use Rattle.nms_files.specs.ChangeFile.{AreChangesOf, IsLineFault};
+
+    type Fault = ChangesFault;
+
+    ghost are_taken = { AreChangesOf };
+
+    ghost is_refused = { IsLineFault };
+
+    fn take_line(
+        changes: &mut Vec<Change>,
+        setup: &Setup,
+        row: &ByteRecord,
+    ) -> Result<(), ChangesFault> {
+        let change = match read_change(row, setup.roster()) {
+            Ok(change) => change,
+            Err(fault) => return Err(ChangesFault::Line(fault)),
+        };
+        if changes.len() as u64 >= setup.tape_limit() {
+            return Err(ChangesFault::TapeFull);
+        }
+        // Moving a change takes a mention of the types in it: the prover has to have seen them.
+        let _seen: Option<SideQuote> = None;
+        match changes.push(change) {
+            Ok(()) => Ok(()),
+            Err(_) => Err(ChangesFault::NoMemory),
+        }
+    }
+}
+
+/// What a line of such a file says.
+fn read_change(row: &ByteRecord, roster: &Roster) -> Result<Change, LineFault>
+    ensures line { result ≡ change_reading roster.now (fields_of row.now) }
+    ensures there { IfOk result (λ change. holds (sizes_of roster.now) change ≡ true) }
+{
+    match read_line(row, roster, Reading::Changes) {
+        Ok(Line::Change(change)) => Ok(change),
+        Ok(_) => Err(LineFault::UnknownKind),
+        Err(fault) => Err(fault),
+    }
+}
+
+/// Writes the report of a symbol of the roster after all the changes of a file: one write, flushed.
+///
+/// The file is read first. Only `WriteFault` leaves something written.
+pub fn report_changes<R: Read + Drop, W: Write>(
+    alloc: Global,
+    setup: &Setup,
+    source: R,
+    sym: Sym,
+    writer: &mut W,
+) -> Result<(), ReportFault>
+    requires { sym < length setup.now.roster.syms }
+    ensures written { OnOk result (ReportsFile setup.now (R.remaining source) sym (W.contents writer.old) (W.contents writer.new)) }
+    ensures refused { IfErr result (IsReportFault setup.now (R.remaining source)) }
+    ensures unwritten { IfErr result (WritesNothing (W.contents writer.old) (W.contents writer.new)) }
+{
+    let changes = match read_changes(alloc, setup, source) {
+        Ok(changes) => changes,
+        Err(fault) => return Err(ReportFault::Changes(fault)),
+    };
+    let view = match view_after(alloc, setup.roster(), &changes, sym) {
+        Ok(view) => view,
+        Err(fault) => return Err(ReportFault::Board(fault)),
+    };
+    let mut text = Vec::new(alloc);
+    if report(&view, setup.roster(), &mut text).is_err() {
+        return Err(ReportFault::NoMemory);
+    }
+    match tell(writer, &text) {
+        Ok(()) => Ok(()),
+        Err(_) => Err(ReportFault::WriteFault),
+    }
+}
+
+/// What is seen of a symbol after these changes.
+pub(crate) fn view_after(
+    alloc: Global,
+    roster: &Roster,
+    changes: &[Change],
+    sym: Sym,
+) -> Result<View, BoardFault>
+    requires sym { sym < length roster.now.syms }
+    requires held { All (λ change. holds (sizes_of roster.now) change ≡ true) changes.now }
+    requires few { length changes.now ≤ MOST_CHANGES }
+    ensures shown { IfOk result (λ view. view ≡ view_of (sizes_of roster.now) changes.now sym) }
+    ensures parts { IfOk result (λ view. (side : Side) → All (λ row. row.part < length roster.now.parts) (rows_on side view)) }
+{
+    let mut board = Boards::new(alloc, roster)?;
+    board.apply_all(changes);
+    Ok(board.view(sym))
+}

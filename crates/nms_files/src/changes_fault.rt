@@ -1,0 +1,69 @@
+//! Why a file of changes is no tape, and why its report was not written.
+ghost use Rattle.std.specs.Prelude.{◌≡◌};
+ghost use Rattle.nms_files.specs.Faults.{code_of_changes, code_of_report};
+
+use nms_board::BoardFault;
+use nms_lines::LineFault;
+use thiserror::Error;
+
+/// Why a file of changes is no tape. Nothing is left of it.
+#[derive(Clone, Copy, Debug, PartialEq, Eq, Error)]
+pub enum ChangesFault {
+    /// E1: the file could not be read.
+    #[error("E1: the input could not be read")]
+    ReadFault,
+    /// L1 to L10: the first line that is refused, where every line before it was taken.
+    #[error("{0}")]
+    Line(LineFault),
+    /// F4: a line says one change more than the setup's tape holds.
+    #[error("F4: the tape is full")]
+    TapeFull,
+    /// E4: out of memory.
+    #[error("E4: out of memory")]
+    NoMemory,
+}
+
+impl ChangesFault {
+    /// The code of the fault: `E1`, `L1` to `L10`, `F4` or `E4`.
+    pub fn code(self) -> &'static str
+        ensures { result.now ≡ code_of_changes self }
+    {
+        match self {
+            ChangesFault::ReadFault => "E1",
+            ChangesFault::Line(fault) => fault.code(),
+            ChangesFault::TapeFull => "F4",
+            ChangesFault::NoMemory => "E4",
+        }
+    }
+}
+
+/// Why a report was not written.
+#[derive(Clone, Copy, Debug, PartialEq, Eq, Error)]
+pub enum ReportFault {
+    /// The file of changes is no tape. Nothing was written.
+    #[error("{0}")]
+    Changes(ChangesFault),
+    /// B1: no board was made. Nothing was written.
+    #[error("{0}")]
+    Board(BoardFault),
+    /// E2: the writer failed. Nothing is said of what was written.
+    #[error("E2: the output could not be written")]
+    WriteFault,
+    /// E4: out of memory. Nothing was written.
+    #[error("E4: out of memory")]
+    NoMemory,
+}
+
+impl ReportFault {
+    /// The code of the fault: that of the file's fault, `B1`, `E2` or `E4`.
+    pub fn code(self) -> &'static str
+        ensures { result.now ≡ code_of_report self }
+    {
+        match self {
+            ReportFault::Changes(fault) => fault.code(),
+            ReportFault::Board(fault) => fault.code(),
+            ReportFault::WriteFault => "E2",
+            ReportFault::NoMemory => "E4",
+        }
+    }
+}

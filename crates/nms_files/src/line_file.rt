@@ -1,0 +1,87 @@
+//! Files of lines of one kind, taken up to the first line that is refused (specs/LineFile).
+ghost use Rattle.std.specs.Prelude.{◌≡◌, ◌++◌, ◌∷◌, [], List, None, Some, IfErr, IfOk, OnErr, OnOk};
+ghost use Rattle.csv.specs.Records.{fields_of};
+ghost use Rattle.nms_fees.specs.Settings.{Settings};
+ghost use Rattle.nms_lines.specs.Layout.{Record};
+ghost use Rattle.nms_lines.specs.Records.{AreAllRecords};
+ghost use Rattle.nms_files.specs.LineFile.{HaveCome};
+
+use nms_fees::Setup;
+use nms_lines::{ByteRecord, RecordFault, open_records, read_next};
+use std::alloc::Global;
+use std::io::Read;
+
+/// What a line of a file says, where all its lines say one kind of thing.
+pub trait FileItem: Sized + Drop {
+    /// Why a line is refused.
+    type Fault: Drop;
+
+    // That lines say these items, each at its place, and what else holds of them.
+    ghost are_taken: { Settings → List Record → List Self → Type 0 };
+
+    // Why one more line is refused behind these items.
+    ghost is_refused: { Settings → List Self → Record → Self.Fault → Type 0 };
+
+    /// Takes what one more line says, or refuses it.
+    fn take_line(items: &mut Vec<Self>, setup: &Setup, row: &ByteRecord) -> Result<(), Self::Fault>
+        ensures taken { (records : List Record) → are_taken setup.now records items.old.items
+            → OnOk result (are_taken setup.now (records ++ fields_of row.now ∷ []) items.new.items) }
+        ensures kept { OnErr result (items.new.items ≡ items.old.items) }
+        ensures refused { IfErr result (is_refused setup.now items.old.items (fields_of row.now)) };
+}
+
+/// What the lines so far came to: what they say, and the fault of the first line that was refused.
+#[derive(Drop)]
+pub struct Taken<T, F> {
+    items: Vec<T>,
+    refused: Option<F>,
+}
+
+/// What the lines of a file say, up to the first that is refused. The file is read to its end even so.
+pub(crate) fn read_items<R: Read + Drop, T: FileItem>(
+    alloc: Global,
+    setup: &Setup,
+    source: R,
+) -> Result<Taken<T, T::Fault>, RecordFault>
+    requires { T.are_taken setup.now [] [] }
+    ensures { IfOk result (λ taken. (records : List Record) × AreAllRecords (R.remaining source) records
+        × HaveCome (T.are_taken setup.now) (T.is_refused setup.now) records taken.items.items taken.refused) }
+{
+    let mut reader = open_records(alloc, source);
+    let mut row = ByteRecord::new(alloc);
+    let mut so_far = Taken {
+        items: Vec::new(alloc),
+        refused: None,
+    };
+    for _ in 0..u64::MAX {
+        match read_next(&mut reader, &mut row) {
+            Ok(true) => take_next(&mut so_far, setup, &row),
+            Ok(false) => return Ok(so_far),
+            Err(fault) => return Err(fault),
+        }
+    }
+    // No source has so many records.
+    Err(RecordFault::Failed)
+}
+
+/// Takes one more line. Behind a refused one none counts.
+fn take_next<T: FileItem>(so_far: &mut Taken<T, T::Fault>, setup: &Setup, row: &ByteRecord)
+    ensures { (records : List Record) → HaveCome (T.are_taken setup.now) (T.is_refused setup.now) records so_far.old.items.items so_far.old.refused
+        → HaveCome (T.are_taken setup.now) (T.is_refused setup.now) (records ++ fields_of row.now ∷ []) so_far.new.items.items so_far.new.refused }
+{
+    if so_far.refused.is_none() {
+        so_far.refused = T::take_line(&mut so_far.items, setup, row).err();
+    }
+}
+
+/// What the lines say, unless one was refused.
+pub(crate) fn outcome<T: Drop, F>(taken: Taken<T, F>) -> Result<Vec<T>, F>
+    ensures items { IfOk result (λ items. (items ≡ taken.items) × (taken.refused ≡ None)) }
+    ensures fault { IfErr result (λ fault. taken.refused ≡ Some fault) }
+{
+    let Taken { items, refused } = taken;
+    match refused {
+        None => Ok(items),
+        Some(fault) => Err(fault),
+    }
+}

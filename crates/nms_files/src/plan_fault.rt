@@ -1,0 +1,38 @@
+//! Why an order was not planned on a file of changes.
+ghost use Rattle.std.specs.Prelude.{◌≡◌};
+ghost use Rattle.nms_files.specs.Faults.{code_of_plan};
+
+use crate::changes_fault::ChangesFault;
+use nms_board::BoardFault;
+use thiserror::Error;
+
+/// Why a plan on a file of changes was not written.
+#[derive(Clone, Copy, Debug, PartialEq, Eq, Error)]
+pub enum PlanFault {
+    /// The file of changes is no tape. Nothing was written.
+    #[error("{0}")]
+    Changes(ChangesFault),
+    /// B1: no board was made. Nothing was written.
+    #[error("{0}")]
+    Board(BoardFault),
+    /// L12: there was no memory for the text. Nothing was written.
+    #[error("L12: out of memory")]
+    NoMemory,
+    /// L13: the writer failed. Nothing is said of what was written.
+    #[error("L13: a write failed")]
+    WriteFault,
+}
+
+impl PlanFault {
+    /// The code of the fault: that of the file's fault, `B1`, `L12` or `L13`.
+    pub fn code(self) -> &'static str
+        ensures { result.now ≡ code_of_plan self }
+    {
+        match self {
+            PlanFault::Changes(fault) => fault.code(),
+            PlanFault::Board(fault) => fault.code(),
+            PlanFault::NoMemory => "L12",
+            PlanFault::WriteFault => "L13",
+        }
+    }
+}

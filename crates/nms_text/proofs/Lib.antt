@@ -1,0 +1,4 @@
+mod Texts
+mod ColumnFacts
+pub mod PairFacts
+mod ReportFacts

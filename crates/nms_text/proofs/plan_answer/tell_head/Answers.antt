@@ -1,0 +1,9 @@
+use Rattle.std.proofs.lemmas.Result.{on_ok_weaker}
+use Rattle.nms_text.proofs.Texts.{plan_head_written}
+use Rattle.nms_text.proofs.plan_answer.tell_head.Goals as goal
+
+pub returns : goal.returns
+returns c = on_ok_weaker c.push_sums.result
+    (λ written. plan_head_written c.args.roster.now c.args.plan.now c.args.out.now.items c.begin_plan.new.out.items c.push_order.new.out.items c.push_sums.new.out.items
+    c.in_ok-begin_plan.ensures c.in_ok-push_order.ensures written)
+    c.push_sums.ensures

@@ -1,0 +1,16 @@
+-- The codes by which faults are told. This product's own rule.
+use Rattle.std.specs.Prelude.{ℕ, List, codes}
+use Rattle.nms_text.specs.declared.live_text_fault.LiveTextFault.{LiveTextFault}
+use Rattle.nms_text.specs.declared.live_text_fault.LiveTextFault.TheVariants as live_text_fault
+use Rattle.nms_text.specs.declared.script_fault.ScriptFault.{ScriptFault}
+use Rattle.nms_text.specs.declared.script_fault.ScriptFault.TheVariants as script_fault
+
+abbrev pub code_of_script : ScriptFault → List ℕ
+code_of_script script_fault.ReadFault = codes "E1"
+code_of_script script_fault.WriteFault = codes "E2"
+code_of_script script_fault.TooLong = codes "E3"
+code_of_script script_fault.NoMemory = codes "E4"
+
+abbrev pub code_of_live_text : LiveTextFault → List ℕ
+code_of_live_text live_text_fault.NoMemory = codes "L12"
+code_of_live_text live_text_fault.WriteFault = codes "L13"

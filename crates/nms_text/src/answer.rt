@@ -1,0 +1,210 @@
+//! What a desk is told, a record at a time (specs/Answers).
+ghost use Rattle.std.specs.Prelude.{◌≡◌, ◌<◌, ◌++◌, ◌∷◌, [], All, length, map, false, OnOk, IfSome, Ok, Err};
+ghost use Rattle.nms_lines.specs.Text.{text_of};
+ghost use Rattle.nms_board.specs.View.{Seen};
+ghost use Rattle.nms_text.specs.Answers.{best_fields, best_record, later_fields, look_text, market_word, published_record, refusal, rows_text, side_word, taken_record, through_head, through_row, told_record};
+
+use crate::fields::{push_number, push_price, push_text};
+use nms_board::Row;
+use nms_nbbo::{Market, market_between};
+use nms_quote::{Roster, Side, Sym};
+use nms_units::Price;
+use std::alloc::AllocError;
+
+/// Appends the record that refuses the one of that number.
+pub fn tell_refusal(out: &mut Vec<u8>, number: u64, code: &str) -> Result<(), AllocError>
+    ensures { OnOk result (out.new.items ≡ out.old.items ++ text_of (refusal number code.now ∷ [])) }
+{
+    out.extend_from_slice(b"ERR")?;
+    push_number(out, number)?;
+    push_text(out, code)?;
+    end(out)
+}
+
+/// Appends that a change was taken, which made the tape so long.
+pub fn tell_taken(out: &mut Vec<u8>, version: u64) -> Result<(), AllocError>
+    ensures { OnOk result (out.new.items ≡ out.old.items ++ text_of (taken_record version ∷ [])) }
+{
+    out.extend_from_slice(b"TAKEN")?;
+    push_number(out, version)?;
+    end(out)
+}
+
+/// Appends that a version was published.
+pub fn tell_published(out: &mut Vec<u8>, version: u64) -> Result<(), AllocError>
+    ensures { OnOk result (out.new.items ≡ out.old.items ++ text_of (published_record version ∷ [])) }
+{
+    out.extend_from_slice(b"PUB")?;
+    push_number(out, version)?;
+    end(out)
+}
+
+/// Appends that a desk was told of a version.
+pub fn tell_told(out: &mut Vec<u8>, desk: u8, version: u64) -> Result<(), AllocError>
+    ensures { OnOk result (out.new.items ≡ out.old.items ++ text_of (told_record desk version ∷ [])) }
+{
+    out.extend_from_slice(b"TOLD")?;
+    push_number(out, u64::from(desk))?;
+    push_number(out, version)?;
+    end(out)
+}
+
+/// Ends a record.
+pub(crate) fn end(out: &mut Vec<u8>) -> Result<(), AllocError>
+    ensures { OnOk result (out.new.items ≡ out.old.items ++ 10 ∷ []) }
+{
+    out.push(b'\n')?;
+    Ok(())
+}
+
+/// The word for a market.
+pub(crate) fn word_of_market(market: Market) -> &'static str
+    ensures { result.now ≡ market_word market }
+{
+    match market {
+        Market::Empty => "EMPTY",
+        Market::OneSided => "ONESIDED",
+        Market::Normal => "NORMAL",
+        Market::Locked => "LOCKED",
+        Market::Crossed => "CROSSED",
+    }
+}
+
+/// The word for a side.
+pub(crate) fn word_of_side(side: Side) -> &'static str
+    ensures { result.now ≡ side_word side }
+{
+    match side {
+        Side::Bid => "BID",
+        Side::Offer => "OFFER",
+    }
+}
+
+/// Appends the best bid and offer that a desk saw.
+pub fn tell_best(
+    out: &mut Vec<u8>,
+    roster: &Roster,
+    desk: u8,
+    sym: Sym,
+    version: u64,
+    bid: &Option<Row>,
+    offer: &Option<Row>,
+) -> Result<(), AllocError>
+    requires sym { sym < length roster.now.syms }
+    requires bid { IfSome bid.now (λ row. row.part < length roster.now.parts) }
+    requires offer { IfSome offer.now (λ row. row.part < length roster.now.parts) }
+    ensures { (seen : Seen) → seen.sym ≡ sym → seen.version ≡ version
+        → OnOk result (out.new.items ≡ out.old.items ++ text_of (best_record roster.now desk seen bid.now offer.now ∷ [])) }
+{
+    let market = word_of_market(market_between(*bid, *offer));
+    tell_look(out, desk, roster.sym_name(sym), version, market)?;
+    tell_rows(out, roster, bid, offer)
+}
+
+/// Appends the first fields of a best bid and offer: the desk, the symbol, the version, the market.
+fn tell_look(
+    out: &mut Vec<u8>,
+    desk: u8,
+    sym: &str,
+    version: u64,
+    market: &str,
+) -> Result<(), AllocError>
+    ensures { OnOk result (out.new.items ≡ out.old.items ++ look_text desk sym.now version market.now) }
+{
+    out.extend_from_slice(b"BEST")?;
+    push_number(out, u64::from(desk))?;
+    push_text(out, sym)?;
+    push_number(out, version)?;
+    push_text(out, market)
+}
+
+/// Appends a best bid's and a best offer's fields, and ends the record.
+fn tell_rows(
+    out: &mut Vec<u8>,
+    roster: &Roster,
+    bid: &Option<Row>,
+    offer: &Option<Row>,
+) -> Result<(), AllocError>
+    requires bid { IfSome bid.now (λ row. row.part < length roster.now.parts) }
+    requires offer { IfSome offer.now (λ row. row.part < length roster.now.parts) }
+    ensures { OnOk result (out.new.items ≡ out.old.items ++ rows_text roster.now bid.now offer.now) }
+{
+    tell_row(out, roster, bid)?;
+    tell_row(out, roster, offer)?;
+    end(out)
+}
+
+/// Appends a best row's four fields.
+fn tell_row(out: &mut Vec<u8>, roster: &Roster, row: &Option<Row>) -> Result<(), AllocError>
+    requires { IfSome row.now (λ row. row.part < length roster.now.parts) }
+    ensures { OnOk result (out.new.items ≡ out.old.items ++ later_fields (best_fields roster.now row.now)) }
+{
+    match row {
+        None => {
+            out.extend_from_slice(b",,,,")?;
+            Ok(())
+        }
+        Some(row) => {
+            push_text(out, roster.part_name(row.part))?;
+            push_price(out, row.price)?;
+            push_number(out, u64::from(row.size))?;
+            push_number(out, row.receipt)
+        }
+    }
+}
+
+/// Appends how many quotations a trade at a price trades through, at that version.
+pub fn tell_through_head(
+    out: &mut Vec<u8>,
+    roster: &Roster,
+    desk: u8,
+    sym: Sym,
+    version: u64,
+    price: Price,
+    count: usize,
+) -> Result<(), AllocError>
+    requires { sym < length roster.now.syms }
+    ensures { (seen : Seen) → seen.sym ≡ sym → seen.version ≡ version
+        → OnOk result (out.new.items ≡ out.old.items ++ text_of (through_head roster.now desk seen price count ∷ [])) }
+{
+    out.extend_from_slice(b"THRU")?;
+    push_number(out, u64::from(desk))?;
+    push_text(out, roster.sym_name(sym))?;
+    push_number(out, version)?;
+    push_price(out, price)?;
+    push_number(out, count as u64)?;
+    end(out)
+}
+
+/// Appends quotations that are traded through, a record each.
+pub fn tell_through_rows(
+    out: &mut Vec<u8>,
+    roster: &Roster,
+    quotations: &[(Side, Row)],
+) -> Result<(), AllocError>
+    requires { All (λ quotation. quotation.1.part < length roster.now.parts) quotations.now }
+    ensures { OnOk result (out.new.items ≡ out.old.items ++ text_of (map (through_row roster.now) quotations.now)) }
+{
+    for (side, row) in quotations {
+        tell_through_row(out, roster, *side, row)?;
+    }
+    Ok(())
+}
+
+/// Appends a quotation that is traded through.
+fn tell_through_row(
+    out: &mut Vec<u8>,
+    roster: &Roster,
+    side: Side,
+    row: &Row,
+) -> Result<(), AllocError>
+    requires { row.now.part < length roster.now.parts }
+    ensures { OnOk result (out.new.items ≡ out.old.items ++ text_of (through_row roster.now (side, row.now) ∷ [])) }
+{
+    out.extend_from_slice(b"ROW")?;
+    push_text(out, word_of_side(side))?;
+    push_text(out, roster.part_name(row.part))?;
+    push_price(out, row.price)?;
+    push_number(out, u64::from(row.size))?;
+    end(out)
+}

@@ -1,0 +1,23 @@
+//! All that is written of the quote board: records of answers and of plans, what a live run came to, the report that
+//! a reviewer reads. A record is appended to a buffer, and an answer goes out in one write.
+#![tactic(auto)]
+
+mod answer;
+mod fields;
+mod live_text;
+mod live_text_fault;
+mod plan_answer;
+mod report_text;
+mod script_fault;
+mod writing;
+
+pub use answer::{
+    tell_best, tell_published, tell_refusal, tell_taken, tell_through_head, tell_through_rows,
+    tell_told,
+};
+pub use live_text::write_live;
+pub use live_text_fault::LiveTextFault;
+pub use plan_answer::tell_plan;
+pub use report_text::report;
+pub use script_fault::ScriptFault;
+pub use writing::tell;

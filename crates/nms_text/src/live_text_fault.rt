@@ -1,0 +1,28 @@
+//! Why the text of a live run was not written.
+ghost use Rattle.std.specs.Prelude.{◌≡◌};
+ghost use Rattle.nms_text.specs.Faults.{code_of_live_text};
+
+use thiserror::Error;
+
+/// Why the text of a live run was not written.
+#[derive(Clone, Copy, Debug, PartialEq, Eq, Error)]
+pub enum LiveTextFault {
+    /// L12: there was no memory for the text. Nothing was written.
+    #[error("L12: out of memory")]
+    NoMemory,
+    /// L13: the writer failed. Nothing is said of what was written.
+    #[error("L13: a write failed")]
+    WriteFault,
+}
+
+impl LiveTextFault {
+    /// The code of the fault, `L12` or `L13`.
+    pub fn code(self) -> &'static str
+        ensures { result.now ≡ code_of_live_text self }
+    {
+        match self {
+            LiveTextFault::NoMemory => "L12",
+            LiveTextFault::WriteFault => "L13",
+        }
+    }
+}

@@ -1,0 +1,36 @@
+//! Why a script ended early.
+ghost use Rattle.std.specs.Prelude.{◌≡◌};
+ghost use Rattle.nms_text.specs.Faults.{code_of_script};
+
+use thiserror::Error;
+
+/// Why a script ended early. What was written before stands.
+#[derive(Clone, Copy, Debug, PartialEq, Eq, Error)]
+pub enum ScriptFault {
+    /// E1: the reader failed. The answers to the records read so far were written.
+    #[error("E1: the input could not be read")]
+    ReadFault,
+    /// E2: the writer failed. Nothing is said of what was written.
+    #[error("E2: the output could not be written")]
+    WriteFault,
+    /// E3: there are more than 10,000,000 records. The answers to the first 10,000,000 were written.
+    #[error("E3: the input is too long")]
+    TooLong,
+    /// E4: out of memory. At most the answers to the records read so far were written.
+    #[error("E4: out of memory")]
+    NoMemory,
+}
+
+impl ScriptFault {
+    /// The code of the fault, `E1` to `E4`.
+    pub fn code(self) -> &'static str
+        ensures { result.now ≡ code_of_script self }
+    {
+        match self {
+            ScriptFault::ReadFault => "E1",
+            ScriptFault::WriteFault => "E2",
+            ScriptFault::TooLong => "E3",
+            ScriptFault::NoMemory => "E4",
+        }
+    }
+}
