@@ -1,14 +1,20 @@
 //! The subcommand `check`: whether a plan is confirmed on the changes of a file.
+ghost use Rattle.std.specs.Prelude.{◌≡◌, ◌≤◌, All, length, true};
+ghost use Rattle.nms_quote.specs.Roster.{holds, sizes_of};
+ghost use Rattle.nms_quote.specs.declared.TheConstants.{MOST_CHANGES};
+
 use crate::ending::Ending;
-use crate::files::{read_file, unread};
+use crate::files::{open_file, read_file};
 use crate::tool_fault::ToolFault;
 use nms_cert::Doubt;
-use nms_engine::{AuditFault, ScriptFault, audit, read_changes};
 use nms_fees::Setup;
 use nms_lines::read_plan;
-use std::io::Write;
+use nms_quote::Change;
+use nms_scripts::{AuditFault, ScriptFault, audit, read_changes};
+use std::alloc::Global;
+use std::io;
+use std::io::{Read, Write};
 use std::rt::Files;
-use std::{fs, io};
 
 /// Writes whether the plan of one file is confirmed on its version of the changes of another.
 pub(crate) fn serve_check<T: Files + AllocGlobal, W: Write>(
@@ -22,12 +28,43 @@ pub(crate) fn serve_check<T: Files + AllocGlobal, W: Write>(
     };
     // Both files are read before a line of either is judged.
     let text = read_file(rt, plan.as_str())?;
-    let source = fs::open(rt, changes.as_str()).map_err(|error| unread(&error))?;
-    let changes = read_changes(rt.alloc(), setup, source).map_err(ToolFault::Changes)?;
-    let (plan, certificate) = read_plan(rt.alloc(), &text, setup.roster()).map_err(
-        ToolFault::PlanText,
-    )?;
-    let ending = match audit(rt.alloc(), setup, &changes, &plan, &certificate) {
+    let source = open_file(rt, changes.as_str())?;
+    check_text(rt.alloc(), setup, source, &text, answers)
+}
+
+/// Writes whether the plan of a text is confirmed on its version of the changes of a file.
+fn check_text<R: Read + Drop, W: Write>(
+    alloc: Global,
+    setup: &Setup,
+    source: R,
+    text: &[u8],
+    answers: &mut W,
+) -> Result<Ending, ToolFault> {
+    let changes = read_changes(alloc, setup, source).map_err(ToolFault::Changes)?;
+    judge(alloc, setup, &changes, text, answers)
+}
+
+/// Writes whether the plan of a text is confirmed on its version of these changes.
+fn judge<W: Write>(
+    alloc: Global,
+    setup: &Setup,
+    changes: &[Change],
+    text: &[u8],
+    answers: &mut W,
+) -> Result<Ending, ToolFault>
+    requires held { All (λ change. holds (sizes_of setup.now.roster) change ≡ true) changes.now }
+    requires few { length changes.now ≤ MOST_CHANGES }
+{
+    let (plan, certificate) = read_plan(alloc, text, setup.roster()).map_err(ToolFault::PlanText)?;
+    tell_finding(answers, audit(alloc, setup, changes, &plan, &certificate))
+}
+
+/// Tells what an audit found.
+fn tell_finding<W: Write>(
+    answers: &mut W,
+    finding: Result<(), AuditFault>,
+) -> Result<Ending, ToolFault> {
+    let ending = match finding {
         Ok(()) => tell_confirmed(answers),
         Err(AuditFault::VersionBeyondTape) => tell_code(
             answers,
@@ -39,6 +76,7 @@ pub(crate) fn serve_check<T: Files + AllocGlobal, W: Write>(
     ending.map_err(|_| ToolFault::Script(ScriptFault::WriteFault))
 }
 
+/// Tells that a plan is confirmed.
 fn tell_confirmed<W: Write>(answers: &mut W) -> io::Result<Ending> {
     writeln!(answers, "CONFIRMED")?;
     answers.flush()?;
@@ -53,12 +91,14 @@ fn tell_doubt<W: Write>(answers: &mut W, doubt: Doubt) -> io::Result<Ending> {
     }
 }
 
+/// Tells a doubt that is a breach of this code.
 fn tell_breach<W: Write>(answers: &mut W, code: &str) -> io::Result<Ending> {
     writeln!(answers, "DOUBT,K1,{code}")?;
     answers.flush()?;
     Ok(Ending::NotConfirmed)
 }
 
+/// Tells a doubt of this code.
 fn tell_code<W: Write>(answers: &mut W, code: &str) -> io::Result<Ending> {
     writeln!(answers, "DOUBT,{code}")?;
     answers.flush()?;

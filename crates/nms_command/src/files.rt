@@ -1,9 +1,14 @@
 //! Files, and why one could not be read.
 use crate::tool_fault::ToolFault;
-use nms_engine::ScriptFault;
+use nms_scripts::ScriptFault;
 use std::io::ErrorKind;
 use std::rt::Files;
 use std::{fs, io};
+
+/// Opens a file to read it.
+pub(crate) fn open_file<T: Files>(rt: &T, path: &str) -> Result<T::File, ToolFault> {
+    fs::open(rt, path).map_err(|error| unread(&error))
+}
 
 /// The bytes of a file.
 pub(crate) fn read_file<T: Files + AllocGlobal>(rt: &T, path: &str) -> Result<Vec<u8>, ToolFault> {
@@ -11,7 +16,7 @@ pub(crate) fn read_file<T: Files + AllocGlobal>(rt: &T, path: &str) -> Result<Ve
 }
 
 /// Why a file could not be read.
-pub(crate) fn unread(error: &io::Error) -> ToolFault {
+fn unread(error: &io::Error) -> ToolFault {
     if error.kind() == ErrorKind::OutOfMemory {
         ToolFault::Script(ScriptFault::NoMemory)
     } else {

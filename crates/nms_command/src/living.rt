@@ -1,11 +1,12 @@
 //! The subcommand `live`: two feeds, the tape and the desks at once, each in a thread of its own.
 use crate::ending::Ending;
-use crate::files::unread;
+use crate::files::open_file;
 use crate::tool_fault::ToolFault;
-use nms_engine::{OpenGate, read_orders, read_within, run_live, write_live};
 use nms_fees::Setup;
-use std::fs;
-use std::io::Write;
+use nms_live::{Live, OpenGate, run_live};
+use nms_scripts::{read_orders, read_within, write_live};
+use std::alloc::Global;
+use std::io::{Read, Write};
 use std::rt::Files;
 use std::sync::Wait;
 use std::thread::Threads;
@@ -27,20 +28,40 @@ pub(crate) fn serve_live<T: Files + AllocGlobal + Threads + Wait + Sync, W: Writ
     // All three files are read before a line of one is judged.
     let feed_a = read_feed(rt, feed_a.as_str())?;
     let feed_b = read_feed(rt, feed_b.as_str())?;
-    let source = fs::open(rt, orders.as_str()).map_err(|error| unread(&error))?;
-    let orders = read_orders(rt.alloc(), setup, source).map_err(ToolFault::Orders)?;
-    let live = run_live(rt, rt.alloc(), setup, feed_a, feed_b, orders, &OpenGate).map_err(
-        ToolFault::Live,
-    )?;
-    let taken = live.tape.len() as u64;
-    write_live(rt.alloc(), setup.roster(), taken, &live.closing, answers).map_err(
-        ToolFault::LiveText,
-    )?;
-    Ok(Ending::Done)
+    let orders = open_file(rt, orders.as_str())?;
+    serve_feeds(rt, setup, feed_a, feed_b, orders, answers)
 }
 
 /// The bytes of a feed's file, where there are not too many.
 fn read_feed<T: Files + AllocGlobal>(rt: &T, path: &str) -> Result<Vec<u8>, ToolFault> {
-    let file = fs::open(rt, path).map_err(|error| unread(&error))?;
+    let file = open_file(rt, path)?;
     read_within(rt.alloc(), file, MOST_FEED_BYTES).map_err(ToolFault::Feed)
+}
+
+/// Runs two feeds with the orders of a file, and writes what the run came to.
+fn serve_feeds<T: AllocGlobal + Threads + Wait + Sync, R: Read + Drop, W: Write>(
+    rt: &T,
+    setup: &Setup,
+    feed_a: Vec<u8>,
+    feed_b: Vec<u8>,
+    orders: R,
+    answers: &mut W,
+) -> Result<Ending, ToolFault> {
+    let orders = read_orders(rt.alloc(), setup, orders).map_err(ToolFault::Orders)?;
+    let live = run_live(rt, rt.alloc(), setup, feed_a, feed_b, orders, &OpenGate).map_err(
+        ToolFault::Live,
+    )?;
+    tell_run(rt.alloc(), setup, &live, answers)
+}
+
+/// Writes what a live run came to.
+fn tell_run<W: Write>(
+    alloc: Global,
+    setup: &Setup,
+    live: &Live,
+    answers: &mut W,
+) -> Result<Ending, ToolFault> {
+    let taken = live.tape.len() as u64;
+    write_live(alloc, setup.roster(), taken, &live.closing, answers).map_err(ToolFault::LiveText)?;
+    Ok(Ending::Done)
 }

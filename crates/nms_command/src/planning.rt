@@ -1,11 +1,10 @@
 //! The subcommand `plan`: an order planned on the changes of a file.
 use crate::ending::Ending;
-use crate::files::unread;
+use crate::files::open_file;
 use crate::tool_fault::ToolFault;
-use nms_engine::{order_of, plan_changes};
 use nms_fees::Setup;
+use nms_scripts::{order_of, plan_changes};
 use nms_words::Request;
-use std::fs;
 use std::io::Write;
 use std::rt::Files;
 
@@ -23,7 +22,7 @@ pub(crate) fn serve_plan<T: Files + AllocGlobal, W: Write>(
     let Some(order) = order_of(setup.roster(), side, sym, shares, limit, request.manual) else {
         return Err(ToolFault::Usage);
     };
-    let file = fs::open(rt, changes.as_str()).map_err(|error| unread(&error))?;
+    let file = open_file(rt, changes.as_str())?;
     plan_changes(rt.alloc(), setup, file, &order, answers).map_err(ToolFault::Plan)?;
     Ok(Ending::Done)
 }

@@ -4,18 +4,19 @@ ghost use Rattle.nms_command.specs.Statuses.{status_of};
 
 use crate::check::serve_check;
 use crate::ending::Ending;
-use crate::files::{read_file, unread};
+use crate::files::{open_file, read_file};
 use crate::living::serve_live;
 use crate::planning::serve_plan;
 use crate::tool_fault::ToolFault;
-use nms_engine::{SETUP_K, ScriptFault, report_changes, run_script};
 use nms_fees::{Setup, SetupFault, read_setup};
+use nms_scripts::{SETUP_K, ScriptFault, report_changes, run_script};
 use nms_words::{Request, Sub, WordsFault, read_words};
+use std::alloc::Global;
 use std::io::{Read, Write};
 use std::rt::Files;
 use std::sync::Wait;
 use std::thread::Threads;
-use std::{fs, io, str};
+use std::{io, str};
 
 /// Does what the words ask for, with the script on `input`, and gives the exit status.
 ///
@@ -48,16 +49,19 @@ pub fn tell_fault<E: Write>(fault: &ToolFault, errors: &mut E) -> u8
     fault.status()
 }
 
+/// Writes a text, and flushes it.
 fn tell<W: Write>(writer: &mut W, text: &str) -> io::Result<()> {
     writer.write_all(text.as_bytes())?;
     writer.flush()
 }
 
+/// Tells a code of this program.
 fn tell_code<E: Write>(errors: &mut E, code: &str) -> io::Result<()> {
     writeln!(errors, "nms_tool: {code}")?;
     errors.flush()
 }
 
+/// Serves the request that the words are, or tells the help that they ask for.
 fn serve_words<T, R: Read + Drop, W: Write>(
     rt: &T,
     words: &[&str],
@@ -67,21 +71,48 @@ fn serve_words<T, R: Read + Drop, W: Write>(
 where
     T: Files + AllocGlobal + Threads + Wait + Sync,
 {
-    let request = match read_words(rt.alloc(), words) {
-        Ok(request) => request,
-        Err(WordsFault::Parser { text, help: true }) => return tell_help(answers, text.as_str()),
-        Err(fault) => return Err(ToolFault::Words(fault)),
-    };
-    let setup = setup_of(rt, &request)?;
-    match request.command {
-        Sub::Script => serve_script(rt, &setup, input, answers),
-        Sub::Report => serve_report(rt, &setup, &request.words, answers),
-        Sub::Plan => serve_plan(rt, &setup, &request, answers),
-        Sub::Check => serve_check(rt, &setup, &request.words, answers),
-        Sub::Live => serve_live(rt, &setup, &request.words, answers),
+    match read_words(rt.alloc(), words) {
+        Ok(request) => serve_request(rt, &request, input, answers),
+        Err(WordsFault::Parser { text, help: true }) => tell_help(answers, text.as_str()),
+        Err(fault) => Err(ToolFault::Words(fault)),
     }
 }
 
+/// Serves a request under the setup that it names.
+fn serve_request<T, R: Read + Drop, W: Write>(
+    rt: &T,
+    request: &Request,
+    input: R,
+    answers: &mut W,
+) -> Result<Ending, ToolFault>
+where
+    T: Files + AllocGlobal + Threads + Wait + Sync,
+{
+    let setup = setup_of(rt, request)?;
+    serve_under(rt, &setup, request, input, answers)
+}
+
+/// Serves a request under a setup.
+fn serve_under<T, R: Read + Drop, W: Write>(
+    rt: &T,
+    setup: &Setup,
+    request: &Request,
+    input: R,
+    answers: &mut W,
+) -> Result<Ending, ToolFault>
+where
+    T: Files + AllocGlobal + Threads + Wait + Sync,
+{
+    match request.command {
+        Sub::Script => serve_script(rt, setup, input, answers),
+        Sub::Report => serve_report(rt, setup, &request.words, answers),
+        Sub::Plan => serve_plan(rt, setup, request, answers),
+        Sub::Check => serve_check(rt, setup, &request.words, answers),
+        Sub::Live => serve_live(rt, setup, &request.words, answers),
+    }
+}
+
+/// Answers with the help, or with the version.
 fn tell_help<W: Write>(answers: &mut W, help: &str) -> Result<Ending, ToolFault> {
     tell(answers, help).map_err(|_| ToolFault::Script(ScriptFault::WriteFault))?;
     Ok(Ending::Done)
@@ -93,12 +124,18 @@ fn setup_of<T: Files + AllocGlobal>(rt: &T, request: &Request) -> Result<Setup, 
         return read_setup(rt.alloc(), SETUP_K).map_err(ToolFault::Setup);
     };
     let bytes = read_file(rt, file.as_str())?;
-    let Ok(text) = str::from_utf8(&bytes) else {
-        return Err(ToolFault::Setup(SetupFault::NotToml));
-    };
-    read_setup(rt.alloc(), text).map_err(ToolFault::Setup)
+    read_document(rt.alloc(), &bytes)
 }
 
+/// The setup that the bytes of a file say.
+fn read_document(alloc: Global, bytes: &[u8]) -> Result<Setup, ToolFault> {
+    match str::from_utf8(bytes) {
+        Ok(text) => read_setup(alloc, text).map_err(ToolFault::Setup),
+        Err(_) => Err(ToolFault::Setup(SetupFault::NotToml)),
+    }
+}
+
+/// Answers the script of an input.
 fn serve_script<T: AllocGlobal, R: Read + Drop, W: Write>(
     rt: &T,
     setup: &Setup,
@@ -122,7 +159,7 @@ fn serve_report<T: Files + AllocGlobal, W: Write>(
     let Some(sym) = setup.roster().find_sym(symbol.as_bytes()) else {
         return Err(ToolFault::Usage);
     };
-    let file = fs::open(rt, changes.as_str()).map_err(|error| unread(&error))?;
+    let file = open_file(rt, changes.as_str())?;
     report_changes(rt.alloc(), setup, file, sym, answers).map_err(ToolFault::Report)?;
     Ok(Ending::Done)
 }

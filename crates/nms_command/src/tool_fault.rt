@@ -3,12 +3,13 @@ ghost use Rattle.std.specs.Prelude.{◌≡◌};
 ghost use Rattle.nms_command.specs.Statuses.{code_of, status_of, status_of_changes, status_of_feed, status_of_live, status_of_live_text, status_of_orders, status_of_plan, status_of_report, status_of_script, status_of_text};
 
 use nms_board::BoardFault;
-use nms_engine::{
-    AuditFault, ChangesFault, FeedFault, LiveFault, LiveTextFault, OrdersFault, PlanFault,
-    ReportFault, ScriptFault,
-};
 use nms_fees::SetupFault;
 use nms_lines::PlanTextFault;
+use nms_live::LiveFault;
+use nms_scripts::{
+    AuditFault, ChangesFault, FeedFault, LiveTextFault, OrdersFault, PlanFault, ReportFault,
+    ScriptFault,
+};
 use nms_words::WordsFault;
 
 /// Why the program ends with another status than 0.
