@@ -107,6 +107,9 @@ class Build:
         say(text)
         self.spoke = time.monotonic()
 
+    def jobs(self):
+        return sum(jobs for _, _, jobs, _ in self.running.values())
+
     def share(self):
         return f"{100 * sum(self.seconds(it) for it in self.done) / self.whole:.0f} of 100"
 
@@ -114,17 +117,18 @@ class Build:
         """Starts the proof of a crate. The program itself is also run once, on an empty script."""
         is_program = name == PROGRAM
         folder = f"{TOP}/crates/{name}" if is_program else lay(self.crates, name)
-        idle = self.lanes - sum(jobs for _, _, jobs in self.running.values())
+        idle = self.lanes - self.jobs()
         jobs = max(1, min(idle, self.times.get(name, (0, 1))[1]))
         report = open(f"{OUT}/{name}.report", "w+", encoding="utf-8", errors="replace")
         words = ["rt", "run" if is_program else "lib", "--jobs", str(jobs)]
         how = {"stdin": subprocess.DEVNULL, "stdout": report, "stderr": subprocess.STDOUT}
         process = subprocess.Popen(words, cwd=folder, **how)
-        self.running[process.pid] = name, report, jobs
+        self.running[process.pid] = name, report, jobs, process
 
     def end(self, pid, status, used):
         """Takes what a crate's proof came to."""
-        name, report, jobs = self.running.pop(pid)
+        name, report, jobs, process = self.running.pop(pid)
+        process.returncode = status
         if status:
             self.failed = True
             report.seek(0)
@@ -143,10 +147,10 @@ class Build:
         """Waits for a proof to end, and tells that it goes on where that takes long."""
         while True:
             pid, status, used = os.wait4(-1, os.WNOHANG)
-            if pid in self.running:
+            if pid:
                 return self.end(pid, os.waitstatus_to_exitcode(status), used.ru_utime + used.ru_stime)
             if time.monotonic() - self.spoke > SILENCE:
-                names = ", ".join(name for name, _, _ in self.running.values())
+                names = ", ".join(it[0] for it in self.running.values())
                 self.tell(f"{self.share()} done after {(time.monotonic() - self.began) / 60:.1f} minutes; proving {names}")
             time.sleep(0.1)
 
@@ -157,7 +161,7 @@ class Build:
             ready = [it for it in self.left if all(low in self.done for low in self.crates[it][1])]
             ready.sort(key=self.behind, reverse=True)
             for name in ready * (not self.failed):
-                if sum(jobs for _, _, jobs in self.running.values()) < self.lanes:
+                if self.jobs() < self.lanes:
                     self.left.remove(name)
                     self.start(name)
             self.wait()
@@ -167,8 +171,8 @@ class Build:
 
     def stop(self):
         """Ends what is under way."""
-        for pid in self.running:
-            os.kill(pid, signal.SIGTERM)
+        for _, _, _, process in self.running.values():
+            process.terminate()
         shutil.rmtree(LANES, ignore_errors=True)
 
 

@@ -13,7 +13,8 @@ use Rattle.nms_lines.specs.declared.plan_text_fault.PlanTextFault.TheVariants as
 use Rattle.nms_live.specs.Faults as live_faults
 use Rattle.nms_live.specs.declared.live_fault.LiveFault.{LiveFault}
 use Rattle.nms_live.specs.declared.live_fault.LiveFault.TheVariants as live
-use Rattle.nms_scripts.specs.Faults as faults
+use Rattle.nms_files.specs.Faults as file_faults
+use Rattle.nms_text.specs.Faults as text_faults
 use Rattle.nms_files.specs.declared.changes_fault.ChangesFault.{ChangesFault}
 use Rattle.nms_files.specs.declared.changes_fault.ChangesFault.TheVariants as changes
 use Rattle.nms_files.specs.declared.changes_fault.ReportFault.{ReportFault}
@@ -112,13 +113,13 @@ code_of (tool.Words fault) = codes "G2"
 code_of tool.Usage = codes "usage"
 code_of tool.Unreadable = codes "E1"
 code_of (tool.Setup fault) = setup_faults.code_of fault
-code_of (tool.Script fault) = faults.code_of_script fault
-code_of (tool.Report fault) = faults.code_of_report fault
-code_of (tool.Changes fault) = faults.code_of_changes fault
-code_of (tool.Plan fault) = faults.code_of_plan fault
+code_of (tool.Script fault) = text_faults.code_of_script fault
+code_of (tool.Report fault) = file_faults.code_of_report fault
+code_of (tool.Changes fault) = file_faults.code_of_changes fault
+code_of (tool.Plan fault) = file_faults.code_of_plan fault
 code_of (tool.PlanText fault) = plan_faults.code_of fault
 code_of tool.NoAudit = codes "A3"
-code_of (tool.Feed fault) = faults.code_of_feed fault
-code_of (tool.Orders fault) = faults.code_of_orders fault
+code_of (tool.Feed fault) = file_faults.code_of_feed fault
+code_of (tool.Orders fault) = file_faults.code_of_orders fault
 code_of (tool.Live fault) = live_faults.code_of fault
-code_of (tool.LiveText fault) = faults.code_of_live_text fault
+code_of (tool.LiveText fault) = text_faults.code_of_live_text fault

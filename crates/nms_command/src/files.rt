@@ -1,6 +1,6 @@
 //! Files, and why one could not be read.
 use crate::tool_fault::ToolFault;
-use nms_scripts::ScriptFault;
+use nms_text::ScriptFault;
 use std::io::ErrorKind;
 use std::rt::Files;
 use std::{fs, io};

@@ -3,7 +3,7 @@ use crate::ending::Ending;
 use crate::files::open_file;
 use crate::tool_fault::ToolFault;
 use nms_fees::Setup;
-use nms_scripts::{order_of, plan_changes};
+use nms_files::{order_of, plan_changes};
 use nms_words::Request;
 use std::io::Write;
 use std::rt::Files;

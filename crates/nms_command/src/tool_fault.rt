@@ -4,12 +4,10 @@ ghost use Rattle.nms_command.specs.Statuses.{code_of, status_of, status_of_chang
 
 use nms_board::BoardFault;
 use nms_fees::SetupFault;
+use nms_files::{AuditFault, ChangesFault, FeedFault, OrdersFault, PlanFault, ReportFault};
 use nms_lines::PlanTextFault;
 use nms_live::LiveFault;
-use nms_scripts::{
-    AuditFault, ChangesFault, FeedFault, LiveTextFault, OrdersFault, PlanFault, ReportFault,
-    ScriptFault,
-};
+use nms_text::{LiveTextFault, ScriptFault};
 use nms_words::WordsFault;
 
 /// Why the program ends with another status than 0.
