@@ -1,8 +1,7 @@
 //! Why the program ends with another status than 0: the code that it tells, and the status.
 ghost use Rattle.std.specs.Prelude.{◌≡◌};
-ghost use Rattle.nms_command.specs.Statuses.{code_of, status_of, status_of_changes, status_of_feed, status_of_live, status_of_live_text, status_of_orders, status_of_plan, status_of_report, status_of_script, status_of_text};
+ghost use Rattle.nms_command.specs.Statuses.{code_of, status_of};
 
-use nms_board::BoardFault;
 use nms_fees::SetupFault;
 use nms_files::{AuditFault, ChangesFault, FeedFault, OrdersFault, PlanFault, ReportFault};
 use nms_lines::PlanTextFault;
@@ -50,21 +49,20 @@ impl ToolFault {
         ensures { result ≡ status_of self.now }
     {
         match self {
-            ToolFault::Words(WordsFault::NoMemory) => 5,
-            ToolFault::Words(WordsFault::Parser { .. }) | ToolFault::Usage => 2,
+            ToolFault::Words(fault) => fault.status(),
+            ToolFault::Usage => 2,
             ToolFault::Unreadable => 1,
-            ToolFault::Setup(SetupFault::NoMemory) => 5,
-            ToolFault::Setup(_) => 3,
-            ToolFault::Script(fault) => status_of_script(*fault),
-            ToolFault::Report(fault) => status_of_report(*fault),
-            ToolFault::Changes(fault) => status_of_changes(*fault),
-            ToolFault::Plan(fault) => status_of_plan(*fault),
-            ToolFault::PlanText(fault) => status_of_text(*fault),
+            ToolFault::Setup(fault) => fault.status(),
+            ToolFault::Script(fault) => fault.status(),
+            ToolFault::Report(fault) => fault.status(),
+            ToolFault::Changes(fault) => fault.status(),
+            ToolFault::Plan(fault) => fault.status(),
+            ToolFault::PlanText(fault) => fault.status(),
             ToolFault::NoAudit => 5,
-            ToolFault::Feed(fault) => status_of_feed(*fault),
-            ToolFault::Orders(fault) => status_of_orders(*fault),
-            ToolFault::Live(fault) => status_of_live(*fault),
-            ToolFault::LiveText(fault) => status_of_live_text(*fault),
+            ToolFault::Feed(fault) => fault.status(),
+            ToolFault::Orders(fault) => fault.status(),
+            ToolFault::Live(fault) => fault.status(),
+            ToolFault::LiveText(fault) => fault.status(),
         }
     }
 
@@ -88,94 +86,5 @@ impl ToolFault {
             ToolFault::Live(fault) => fault.code(),
             ToolFault::LiveText(fault) => fault.code(),
         }
-    }
-}
-
-fn status_of_script(fault: ScriptFault) -> u8
-    ensures { result ≡ status_of_script fault }
-{
-    match fault {
-        ScriptFault::ReadFault | ScriptFault::WriteFault => 1,
-        ScriptFault::TooLong => 6,
-        ScriptFault::NoMemory => 5,
-    }
-}
-
-fn status_of_report(fault: ReportFault) -> u8
-    ensures { result ≡ status_of_report fault }
-{
-    match fault {
-        ReportFault::Changes(fault) => status_of_changes(fault),
-        ReportFault::Board(BoardFault::NoMemory) | ReportFault::NoMemory => 5,
-        ReportFault::WriteFault => 1,
-    }
-}
-
-fn status_of_changes(fault: ChangesFault) -> u8
-    ensures { result ≡ status_of_changes fault }
-{
-    match fault {
-        ChangesFault::ReadFault => 1,
-        ChangesFault::Line(_) | ChangesFault::TapeFull => 6,
-        ChangesFault::NoMemory => 5,
-    }
-}
-
-fn status_of_plan(fault: PlanFault) -> u8
-    ensures { result ≡ status_of_plan fault }
-{
-    match fault {
-        PlanFault::Changes(fault) => status_of_changes(fault),
-        PlanFault::Board(BoardFault::NoMemory) | PlanFault::NoMemory => 5,
-        PlanFault::WriteFault => 1,
-    }
-}
-
-fn status_of_text(fault: PlanTextFault) -> u8
-    ensures { result ≡ status_of_text fault }
-{
-    match fault {
-        PlanTextFault::BadPlanText => 6,
-        PlanTextFault::NoMemory => 5,
-        PlanTextFault::WriteFault => 1,
-    }
-}
-
-fn status_of_feed(fault: FeedFault) -> u8
-    ensures { result ≡ status_of_feed fault }
-{
-    match fault {
-        FeedFault::ReadFault => 1,
-        FeedFault::TooLong => 6,
-        FeedFault::NoMemory => 5,
-    }
-}
-
-fn status_of_orders(fault: OrdersFault) -> u8
-    ensures { result ≡ status_of_orders fault }
-{
-    match fault {
-        OrdersFault::ReadFault => 1,
-        OrdersFault::Line(_) => 6,
-        OrdersFault::NoMemory => 5,
-    }
-}
-
-fn status_of_live(fault: LiveFault) -> u8
-    ensures { result ≡ status_of_live fault }
-{
-    match fault {
-        LiveFault::Line { .. } => 6,
-        LiveFault::Open | LiveFault::Append | LiveFault::Desk | LiveFault::GateLimit => 7,
-        LiveFault::NoMemory => 5,
-    }
-}
-
-fn status_of_live_text(fault: LiveTextFault) -> u8
-    ensures { result ≡ status_of_live_text fault }
-{
-    match fault {
-        LiveTextFault::NoMemory => 5,
-        LiveTextFault::WriteFault => 1,
     }
 }

@@ -1,4 +1,5 @@
--- Faults: their numbers and codes, and the least of several. This product's own rule.
+-- Faults: their numbers and codes, the exit status of a program that one ends, and the least of several. This product's own
+-- rule.
 use Rattle.std.specs.Prelude.{codes, ℕ, nat_le, List, fold, Option, Some, None, if◌then◌else◌}
 use Rattle.nms_fees.specs.declared.setup_fault.SetupFault.{SetupFault}
 use Rattle.nms_fees.specs.declared.setup_fault.SetupFault.TheVariants as fault
@@ -26,6 +27,11 @@ code_of fault.OutOfRange = codes "C6"
 code_of fault.OverCap = codes "C7"
 code_of fault.TooMany = codes "C8"
 code_of fault.NoMemory = codes "C9"
+
+-- the exit status of a program that it ends: 3 for the setup, 5 for memory
+abbrev pub status_of : SetupFault → ℕ
+status_of fault.NoMemory = 5
+status_of _ = 3
 
 -- of two findings the fault with the smaller number
 abbrev pub lesser : Option SetupFault → Option SetupFault → Option SetupFault

@@ -1,6 +1,6 @@
 //! Why a text is no setup: `specs/Faults`, and `specs/Places` for when each fault is found.
 ghost use Rattle.std.specs.Prelude.{◌≡◌};
-ghost use Rattle.nms_fees.specs.Faults.{code_of, number_of};
+ghost use Rattle.nms_fees.specs.Faults.{code_of, number_of, status_of};
 
 use thiserror::Error;
 
@@ -51,6 +51,16 @@ impl SetupFault {
             SetupFault::OverCap => "C7",
             SetupFault::TooMany => "C8",
             SetupFault::NoMemory => "C9",
+        }
+    }
+
+    /// The exit status of a program that it ends: 3 for the setup, 5 for memory.
+    pub fn status(self) -> u8
+        ensures { result ≡ status_of self }
+    {
+        match self {
+            SetupFault::NoMemory => 5,
+            _ => 3,
         }
     }
 

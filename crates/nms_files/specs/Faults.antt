@@ -1,4 +1,5 @@
--- The codes by which faults are told. This product's own rule.
+-- The codes by which faults are told, and the exit status of a program that one of them ends: 1 for streams and files,
+-- 5 for memory, 6 for lines, plans and lengths. This product's own rule.
 use Rattle.std.specs.Prelude.{ℕ, List, codes}
 use Rattle.nms_lines.specs.Faults as line_faults
 use Rattle.nms_files.specs.declared.audit_fault.AuditFault.{AuditFault}
@@ -20,17 +21,35 @@ code_of_changes (changes_fault.Line fault) = line_faults.code_of fault
 code_of_changes changes_fault.TapeFull = codes "F4"
 code_of_changes changes_fault.NoMemory = codes "E4"
 
+abbrev pub status_of_changes : ChangesFault → ℕ
+status_of_changes changes_fault.ReadFault = 1
+status_of_changes (changes_fault.Line fault) = 6
+status_of_changes changes_fault.TapeFull = 6
+status_of_changes changes_fault.NoMemory = 5
+
 abbrev pub code_of_report : ReportFault → List ℕ
 code_of_report (report_fault.Changes fault) = code_of_changes fault
 code_of_report (report_fault.Board fault) = codes "B1"
 code_of_report report_fault.WriteFault = codes "E2"
 code_of_report report_fault.NoMemory = codes "E4"
 
+abbrev pub status_of_report : ReportFault → ℕ
+status_of_report (report_fault.Changes fault) = status_of_changes fault
+status_of_report (report_fault.Board fault) = 5
+status_of_report report_fault.WriteFault = 1
+status_of_report report_fault.NoMemory = 5
+
 abbrev pub code_of_plan : PlanFault → List ℕ
 code_of_plan (plan_fault.Changes fault) = code_of_changes fault
 code_of_plan (plan_fault.Board fault) = codes "B1"
 code_of_plan plan_fault.NoMemory = codes "L12"
 code_of_plan plan_fault.WriteFault = codes "L13"
+
+abbrev pub status_of_plan : PlanFault → ℕ
+status_of_plan (plan_fault.Changes fault) = status_of_changes fault
+status_of_plan (plan_fault.Board fault) = 5
+status_of_plan plan_fault.NoMemory = 5
+status_of_plan plan_fault.WriteFault = 1
 
 abbrev pub code_of_audit : AuditFault → List ℕ
 code_of_audit audit_fault.VersionBeyondTape = codes "A1"
@@ -42,7 +61,17 @@ code_of_orders orders_fault.ReadFault = codes "E1"
 code_of_orders (orders_fault.Line fault) = line_faults.code_of fault
 code_of_orders orders_fault.NoMemory = codes "E4"
 
+abbrev pub status_of_orders : OrdersFault → ℕ
+status_of_orders orders_fault.ReadFault = 1
+status_of_orders (orders_fault.Line fault) = 6
+status_of_orders orders_fault.NoMemory = 5
+
 abbrev pub code_of_feed : FeedFault → List ℕ
 code_of_feed feed_fault.ReadFault = codes "E1"
 code_of_feed feed_fault.TooLong = codes "E3"
 code_of_feed feed_fault.NoMemory = codes "E4"
+
+abbrev pub status_of_feed : FeedFault → ℕ
+status_of_feed feed_fault.ReadFault = 1
+status_of_feed feed_fault.TooLong = 6
+status_of_feed feed_fault.NoMemory = 5

@@ -1,6 +1,6 @@
 //! Why a file of changes is no tape, and why its report was not written.
 ghost use Rattle.std.specs.Prelude.{◌≡◌};
-ghost use Rattle.nms_files.specs.Faults.{code_of_changes, code_of_report};
+ghost use Rattle.nms_files.specs.Faults.{code_of_changes, code_of_report, status_of_changes, status_of_report};
 
 use nms_board::BoardFault;
 use nms_lines::LineFault;
@@ -35,6 +35,18 @@ impl ChangesFault {
             ChangesFault::NoMemory => "E4",
         }
     }
+
+    /// The exit status of a program that it ends: 1 for the file, 6 for a line or the tape's length, 5 for
+    /// memory.
+    pub fn status(self) -> u8
+        ensures { result ≡ status_of_changes self }
+    {
+        match self {
+            ChangesFault::ReadFault => 1,
+            ChangesFault::Line(_) | ChangesFault::TapeFull => 6,
+            ChangesFault::NoMemory => 5,
+        }
+    }
 }
 
 /// Why a report was not written.
@@ -64,6 +76,17 @@ impl ReportFault {
             ReportFault::Board(fault) => fault.code(),
             ReportFault::WriteFault => "E2",
             ReportFault::NoMemory => "E4",
+        }
+    }
+
+    /// The exit status of a program that it ends: that of the file's fault, 1 for the writer, 5 for memory.
+    pub fn status(self) -> u8
+        ensures { result ≡ status_of_report self }
+    {
+        match self {
+            ReportFault::Changes(fault) => fault.status(),
+            ReportFault::Board(BoardFault::NoMemory) | ReportFault::NoMemory => 5,
+            ReportFault::WriteFault => 1,
         }
     }
 }

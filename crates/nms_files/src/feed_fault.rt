@@ -1,6 +1,6 @@
 //! Why the file of a feed was not read.
 ghost use Rattle.std.specs.Prelude.{◌≡◌};
-ghost use Rattle.nms_files.specs.Faults.{code_of_feed};
+ghost use Rattle.nms_files.specs.Faults.{code_of_feed, status_of_feed};
 
 use thiserror::Error;
 
@@ -27,6 +27,17 @@ impl FeedFault {
             FeedFault::ReadFault => "E1",
             FeedFault::TooLong => "E3",
             FeedFault::NoMemory => "E4",
+        }
+    }
+
+    /// The exit status of a program that it ends: 1 for the file, 6 for its length, 5 for memory.
+    pub fn status(self) -> u8
+        ensures { result ≡ status_of_feed self }
+    {
+        match self {
+            FeedFault::ReadFault => 1,
+            FeedFault::TooLong => 6,
+            FeedFault::NoMemory => 5,
         }
     }
 }

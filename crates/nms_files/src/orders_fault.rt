@@ -1,6 +1,6 @@
 //! Why a file of orders is refused.
 ghost use Rattle.std.specs.Prelude.{◌≡◌};
-ghost use Rattle.nms_files.specs.Faults.{code_of_orders};
+ghost use Rattle.nms_files.specs.Faults.{code_of_orders, status_of_orders};
 
 use nms_lines::LineFault;
 use thiserror::Error;
@@ -28,6 +28,17 @@ impl OrdersFault {
             OrdersFault::ReadFault => "E1",
             OrdersFault::Line(fault) => fault.code(),
             OrdersFault::NoMemory => "E4",
+        }
+    }
+
+    /// The exit status of a program that it ends: 1 for the file, 6 for a line, 5 for memory.
+    pub fn status(self) -> u8
+        ensures { result ≡ status_of_orders self }
+    {
+        match self {
+            OrdersFault::ReadFault => 1,
+            OrdersFault::Line(_) => 6,
+            OrdersFault::NoMemory => 5,
         }
     }
 }

@@ -1,6 +1,6 @@
 //! Why an order was not planned on a file of changes.
 ghost use Rattle.std.specs.Prelude.{◌≡◌};
-ghost use Rattle.nms_files.specs.Faults.{code_of_plan};
+ghost use Rattle.nms_files.specs.Faults.{code_of_plan, status_of_plan};
 
 use crate::changes_fault::ChangesFault;
 use nms_board::BoardFault;
@@ -33,6 +33,17 @@ impl PlanFault {
             PlanFault::Board(fault) => fault.code(),
             PlanFault::NoMemory => "L12",
             PlanFault::WriteFault => "L13",
+        }
+    }
+
+    /// The exit status of a program that it ends: that of the file's fault, 1 for the writer, 5 for memory.
+    pub fn status(self) -> u8
+        ensures { result ≡ status_of_plan self }
+    {
+        match self {
+            PlanFault::Changes(fault) => fault.status(),
+            PlanFault::Board(BoardFault::NoMemory) | PlanFault::NoMemory => 5,
+            PlanFault::WriteFault => 1,
         }
     }
 }

@@ -17,7 +17,7 @@ pub enum PlanTextFault {
 
 impl PlanTextFault {
     ghost use Rattle.std.specs.Prelude.{◌≡◌};
-    ghost use Rattle.nms_lines.specs.PlanFaults.{code_of};
+    ghost use Rattle.nms_lines.specs.PlanFaults.{code_of, status_of};
 
     /// The code that messages name it by, `L11` to `L13`.
     pub fn code(self) -> &'static str
@@ -27,6 +27,17 @@ impl PlanTextFault {
             PlanTextFault::BadPlanText => "L11",
             PlanTextFault::NoMemory => "L12",
             PlanTextFault::WriteFault => "L13",
+        }
+    }
+
+    /// The exit status of a program that it ends: 6 for the text of a plan, 5 for memory, 1 for the writer.
+    pub fn status(self) -> u8
+        ensures { result ≡ status_of self }
+    {
+        match self {
+            PlanTextFault::BadPlanText => 6,
+            PlanTextFault::NoMemory => 5,
+            PlanTextFault::WriteFault => 1,
         }
     }
 }

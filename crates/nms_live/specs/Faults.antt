@@ -1,4 +1,5 @@
--- The codes of a live run's faults, and which of several is answered. This product's own rule.
+-- The codes of a live run's faults, the exit status of a program that one of them ends, and which of several is answered.
+-- This product's own rule.
 use Rattle.std.specs.Prelude.{ℕ, ⊤, List, codes, nat_lt, Option, Some, None, if◌then◌else◌}
 use Rattle.nms_quote.specs.declared.feed.Feed.TheVariants as feed
 use Rattle.nms_live.specs.declared.live_fault.LiveFault.{LiveFault}
@@ -11,6 +12,15 @@ code_of fault.Append = codes "E7"
 code_of fault.Desk = codes "E8"
 code_of fault.GateLimit = codes "E9"
 code_of fault.NoMemory = codes "E10"
+
+-- the exit status of a program that it ends: 6 for a line of a feed, 7 for the run, 5 for memory
+abbrev pub status_of : LiveFault → ℕ
+status_of (fault.Line of number why) = 6
+status_of fault.Open = 7
+status_of fault.Append = 7
+status_of fault.Desk = 7
+status_of fault.GateLimit = 7
+status_of fault.NoMemory = 5
 
 -- of several faults the one of least rank is answered
 abbrev pub rank_of : LiveFault → ℕ

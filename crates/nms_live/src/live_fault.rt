@@ -1,6 +1,6 @@
 //! Why a live run gave nothing (specs/Faults).
 ghost use Rattle.std.specs.Prelude.{◌≡◌};
-ghost use Rattle.nms_live.specs.Faults.{code_of, rank_of};
+ghost use Rattle.nms_live.specs.Faults.{code_of, rank_of, status_of};
 
 use nms_lines::LineFault;
 use nms_quote::Feed;
@@ -48,6 +48,17 @@ impl LiveFault {
             LiveFault::Desk => "E8",
             LiveFault::GateLimit => "E9",
             LiveFault::NoMemory => "E10",
+        }
+    }
+
+    /// The exit status of a program that it ends: 6 for a line of a feed, 7 for the run, 5 for memory.
+    pub fn status(self) -> u8
+        ensures { result ≡ status_of self }
+    {
+        match self {
+            LiveFault::Line { .. } => 6,
+            LiveFault::Open | LiveFault::Append | LiveFault::Desk | LiveFault::GateLimit => 7,
+            LiveFault::NoMemory => 5,
         }
     }
 

@@ -1,4 +1,5 @@
--- The codes by which faults are told. This product's own rule.
+-- The codes by which faults are told, and the exit status of a program that one of them ends: 1 for streams and files,
+-- 5 for memory, 6 for lines, plans and lengths. This product's own rule.
 use Rattle.std.specs.Prelude.{ℕ, List, codes}
 use Rattle.nms_text.specs.declared.live_text_fault.LiveTextFault.{LiveTextFault}
 use Rattle.nms_text.specs.declared.live_text_fault.LiveTextFault.TheVariants as live_text_fault
@@ -11,6 +12,16 @@ code_of_script script_fault.WriteFault = codes "E2"
 code_of_script script_fault.TooLong = codes "E3"
 code_of_script script_fault.NoMemory = codes "E4"
 
+abbrev pub status_of_script : ScriptFault → ℕ
+status_of_script script_fault.ReadFault = 1
+status_of_script script_fault.WriteFault = 1
+status_of_script script_fault.TooLong = 6
+status_of_script script_fault.NoMemory = 5
+
 abbrev pub code_of_live_text : LiveTextFault → List ℕ
 code_of_live_text live_text_fault.NoMemory = codes "L12"
 code_of_live_text live_text_fault.WriteFault = codes "L13"
+
+abbrev pub status_of_live_text : LiveTextFault → ℕ
+status_of_live_text live_text_fault.NoMemory = 5
+status_of_live_text live_text_fault.WriteFault = 1

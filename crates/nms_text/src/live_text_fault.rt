@@ -1,6 +1,6 @@
 //! Why the text of a live run was not written.
 ghost use Rattle.std.specs.Prelude.{◌≡◌};
-ghost use Rattle.nms_text.specs.Faults.{code_of_live_text};
+ghost use Rattle.nms_text.specs.Faults.{code_of_live_text, status_of_live_text};
 
 use thiserror::Error;
 
@@ -23,6 +23,16 @@ impl LiveTextFault {
         match self {
             LiveTextFault::NoMemory => "L12",
             LiveTextFault::WriteFault => "L13",
+        }
+    }
+
+    /// The exit status of a program that it ends: 1 for the writer, 5 for memory.
+    pub fn status(self) -> u8
+        ensures { result ≡ status_of_live_text self }
+    {
+        match self {
+            LiveTextFault::NoMemory => 5,
+            LiveTextFault::WriteFault => 1,
         }
     }
 }

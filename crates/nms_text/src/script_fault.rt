@@ -1,6 +1,6 @@
 //! Why a script ended early.
 ghost use Rattle.std.specs.Prelude.{◌≡◌};
-ghost use Rattle.nms_text.specs.Faults.{code_of_script};
+ghost use Rattle.nms_text.specs.Faults.{code_of_script, status_of_script};
 
 use thiserror::Error;
 
@@ -31,6 +31,17 @@ impl ScriptFault {
             ScriptFault::WriteFault => "E2",
             ScriptFault::TooLong => "E3",
             ScriptFault::NoMemory => "E4",
+        }
+    }
+
+    /// The exit status of a program that it ends: 1 for a stream, 6 for the script's length, 5 for memory.
+    pub fn status(self) -> u8
+        ensures { result ≡ status_of_script self }
+    {
+        match self {
+            ScriptFault::ReadFault | ScriptFault::WriteFault => 1,
+            ScriptFault::TooLong => 6,
+            ScriptFault::NoMemory => 5,
         }
     }
 }

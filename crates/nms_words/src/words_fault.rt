@@ -13,6 +13,21 @@ pub enum WordsFault {
     NoMemory,
 }
 
+impl WordsFault {
+    ghost use Rattle.std.specs.Prelude.{◌≡◌};
+    ghost use Rattle.nms_words.specs.Faults.{status_of};
+
+    /// The exit status of a program that it ends: 2 for words, 5 for memory.
+    pub fn status(&self) -> u8
+        ensures { result ≡ status_of self.now }
+    {
+        match self {
+            WordsFault::Parser { .. } => 2,
+            WordsFault::NoMemory => 5,
+        }
+    }
+}
+
 impl From<AllocError> for WordsFault {
     ghost use Rattle.std.specs.Prelude.{◌≡◌};
     ghost use Rattle.nms_words.specs.declared.words_fault.WordsFault.TheVariants.{NoMemory};
