@@ -41,8 +41,10 @@ fn check_text<R: Read + Drop, W: Write>(
     text: &[u8],
     answers: &mut W,
 ) -> Result<Ending, ToolFault> {
-    let changes = read_changes(alloc, setup, source).map_err(ToolFault::Changes)?;
-    judge(alloc, setup, &changes, text, answers)
+    match read_changes(alloc, setup, source) {
+        Ok(changes) => judge(alloc, setup, &changes, text, answers),
+        Err(fault) => Err(ToolFault::Changes(fault)),
+    }
 }
 
 /// Writes whether the plan of a text is confirmed on its version of these changes.
@@ -56,8 +58,13 @@ fn judge<W: Write>(
     requires held { All (λ change. holds (sizes_of setup.now.roster) change ≡ true) changes.now }
     requires few { length changes.now ≤ MOST_CHANGES }
 {
-    let (plan, certificate) = read_plan(alloc, text, setup.roster()).map_err(ToolFault::PlanText)?;
-    tell_finding(answers, audit(alloc, setup, changes, &plan, &certificate))
+    match read_plan(alloc, text, setup.roster()) {
+        Ok((plan, certificate)) => {
+            let finding = audit(alloc, setup, changes, &plan, &certificate);
+            tell_finding(answers, finding)
+        }
+        Err(fault) => Err(ToolFault::PlanText(fault)),
+    }
 }
 
 /// Tells what an audit found.
@@ -65,7 +72,7 @@ fn tell_finding<W: Write>(
     answers: &mut W,
     finding: Result<(), AuditFault>,
 ) -> Result<Ending, ToolFault> {
-    let ending = match finding {
+    let told = match finding {
         Ok(()) => tell_confirmed(answers),
         Err(AuditFault::VersionBeyondTape) => tell_code(
             answers,
@@ -74,7 +81,10 @@ fn tell_finding<W: Write>(
         Err(AuditFault::Doubt(doubt)) => tell_doubt(answers, doubt),
         Err(AuditFault::NoMemory) => return Err(ToolFault::NoAudit),
     };
-    ending.map_err(|_| ToolFault::Script(ScriptFault::WriteFault))
+    match told {
+        Ok(ending) => Ok(ending),
+        Err(_) => Err(ToolFault::Script(ScriptFault::WriteFault)),
+    }
 }
 
 /// Tells that a plan is confirmed.

@@ -1,5 +1,5 @@
 /// How a request ends that was served.
-#[derive(Clone, Copy, Debug, PartialEq, Eq)]
+#[derive(Clone, Copy)]
 pub(crate) enum Ending {
     /// All that was asked for was done; of a plan, that it is confirmed.
     Done,

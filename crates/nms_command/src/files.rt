@@ -7,12 +7,18 @@ use std::{fs, io};
 
 /// Opens a file to read it.
 pub(crate) fn open_file<T: Files>(rt: &T, path: &str) -> Result<T::File, ToolFault> {
-    fs::open(rt, path).map_err(|error| unread(&error))
+    match fs::open(rt, path) {
+        Ok(file) => Ok(file),
+        Err(error) => Err(unread(&error)),
+    }
 }
 
 /// The bytes of a file.
 pub(crate) fn read_file<T: Files + AllocGlobal>(rt: &T, path: &str) -> Result<Vec<u8>, ToolFault> {
-    fs::read(rt, path).map_err(|error| unread(&error))
+    match fs::read(rt, path) {
+        Ok(bytes) => Ok(bytes),
+        Err(error) => Err(unread(&error)),
+    }
 }
 
 /// Why a file could not be read.

@@ -36,7 +36,10 @@ pub(crate) fn serve_live<T: Files + AllocGlobal + Threads + Wait + Sync, W: Writ
 /// The bytes of a feed's file, where there are not too many.
 fn read_feed<T: Files + AllocGlobal>(rt: &T, path: &str) -> Result<Vec<u8>, ToolFault> {
     let file = open_file(rt, path)?;
-    read_within(rt.alloc(), file, MOST_FEED_BYTES).map_err(ToolFault::Feed)
+    match read_within(rt.alloc(), file, MOST_FEED_BYTES) {
+        Ok(bytes) => Ok(bytes),
+        Err(fault) => Err(ToolFault::Feed(fault)),
+    }
 }
 
 /// Runs two feeds with the orders of a file, and writes what the run came to.
@@ -48,11 +51,14 @@ fn serve_feeds<T: AllocGlobal + Threads + Wait + Sync, R: Read + Drop, W: Write>
     orders: R,
     answers: &mut W,
 ) -> Result<Ending, ToolFault> {
-    let orders = read_orders(rt.alloc(), setup, orders).map_err(ToolFault::Orders)?;
-    let live = run_live(rt, rt.alloc(), setup, feed_a, feed_b, orders, &OpenGate).map_err(
-        ToolFault::Live,
-    )?;
-    tell_run(rt.alloc(), setup, &live, answers)
+    let orders = match read_orders(rt.alloc(), setup, orders) {
+        Ok(orders) => orders,
+        Err(fault) => return Err(ToolFault::Orders(fault)),
+    };
+    match run_live(rt, rt.alloc(), setup, feed_a, feed_b, orders, &OpenGate) {
+        Ok(live) => tell_run(rt.alloc(), setup, &live, answers),
+        Err(fault) => Err(ToolFault::Live(fault)),
+    }
 }
 
 /// Writes what a live run came to.
@@ -63,6 +69,8 @@ fn tell_run<W: Write>(
     answers: &mut W,
 ) -> Result<Ending, ToolFault> {
     let taken = live.tape.len() as u64;
-    write_live(alloc, setup.roster(), taken, &live.closing, answers).map_err(ToolFault::LiveText)?;
-    Ok(Ending::Done)
+    match write_live(alloc, setup.roster(), taken, &live.closing, answers) {
+        Ok(()) => Ok(Ending::Done),
+        Err(fault) => Err(ToolFault::LiveText(fault)),
+    }
 }

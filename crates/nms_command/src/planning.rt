@@ -23,6 +23,8 @@ pub(crate) fn serve_plan<T: Files + AllocGlobal, W: Write>(
         return Err(ToolFault::Usage);
     };
     let file = open_file(rt, changes.as_str())?;
-    plan_changes(rt.alloc(), setup, file, &order, answers).map_err(ToolFault::Plan)?;
-    Ok(Ending::Done)
+    match plan_changes(rt.alloc(), setup, file, &order, answers) {
+        Ok(()) => Ok(Ending::Done),
+        Err(fault) => Err(ToolFault::Plan(fault)),
+    }
 }

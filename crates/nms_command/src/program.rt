@@ -27,14 +27,14 @@ use std::{io, str};
 pub fn run_tool<T, R: Read + Drop, W: Write, E: Write>(
     rt: &T,
     words: &[&str],
-    input: R,
+    mut input: R,
     answers: &mut W,
     errors: &mut E,
 ) -> u8
 where
     T: Files + AllocGlobal + Threads + Wait + Sync,
 {
-    match serve_words(rt, words, input, answers) {
+    match serve_words(rt, words, &mut input, answers) {
         Ok(ending) => ending.status(),
         Err(fault) => tell_fault(&fault, errors),
     }
@@ -64,10 +64,10 @@ fn tell_code<E: Write>(errors: &mut E, code: &str) -> io::Result<()> {
 }
 
 /// Serves the request that the words are, or tells the help that they ask for.
-fn serve_words<T, R: Read + Drop, W: Write>(
+fn serve_words<T, R: Read, W: Write>(
     rt: &T,
     words: &[&str],
-    input: R,
+    input: &mut R,
     answers: &mut W,
 ) -> Result<Ending, ToolFault>
 where
@@ -81,10 +81,10 @@ where
 }
 
 /// Serves a request under the setup that it names.
-fn serve_request<T, R: Read + Drop, W: Write>(
+fn serve_request<T, R: Read, W: Write>(
     rt: &T,
     request: &Request,
-    input: R,
+    input: &mut R,
     answers: &mut W,
 ) -> Result<Ending, ToolFault>
 where
@@ -95,11 +95,11 @@ where
 }
 
 /// Serves a request under a setup.
-fn serve_under<T, R: Read + Drop, W: Write>(
+fn serve_under<T, R: Read, W: Write>(
     rt: &T,
     setup: &Setup,
     request: &Request,
-    input: R,
+    input: &mut R,
     answers: &mut W,
 ) -> Result<Ending, ToolFault>
 where
@@ -116,36 +116,43 @@ where
 
 /// Answers with the help, or with the version.
 fn tell_help<W: Write>(answers: &mut W, help: &str) -> Result<Ending, ToolFault> {
-    tell(answers, help).map_err(|_| ToolFault::Script(ScriptFault::WriteFault))?;
-    Ok(Ending::Done)
+    match tell(answers, help) {
+        Ok(()) => Ok(Ending::Done),
+        Err(_) => Err(ToolFault::Script(ScriptFault::WriteFault)),
+    }
 }
 
 /// The setup of the file that the request names, or the built-in one.
 fn setup_of<T: Files + AllocGlobal>(rt: &T, request: &Request) -> Result<Setup, ToolFault> {
     let Some(file) = &request.setup else {
-        return read_setup(rt.alloc(), SETUP_K).map_err(ToolFault::Setup);
+        return read_text(rt.alloc(), SETUP_K);
     };
     let bytes = read_file(rt, file.as_str())?;
-    read_document(rt.alloc(), &bytes)
-}
-
-/// The setup that the bytes of a file say.
-fn read_document(alloc: Global, bytes: &[u8]) -> Result<Setup, ToolFault> {
-    match str::from_utf8(bytes) {
-        Ok(text) => read_setup(alloc, text).map_err(ToolFault::Setup),
+    match str::from_utf8(&bytes) {
+        Ok(text) => read_text(rt.alloc(), text),
         Err(_) => Err(ToolFault::Setup(SetupFault::NotToml)),
     }
 }
 
+/// The setup that a text says.
+fn read_text(alloc: Global, text: &str) -> Result<Setup, ToolFault> {
+    match read_setup(alloc, text) {
+        Ok(setup) => Ok(setup),
+        Err(fault) => Err(ToolFault::Setup(fault)),
+    }
+}
+
 /// Answers the script of an input.
-fn serve_script<T: AllocGlobal, R: Read + Drop, W: Write>(
+fn serve_script<T: AllocGlobal, R: Read, W: Write>(
     rt: &T,
     setup: &Setup,
-    input: R,
+    input: &mut R,
     answers: &mut W,
 ) -> Result<Ending, ToolFault> {
-    run_script(rt.alloc(), setup, input, answers).map_err(ToolFault::Script)?;
-    Ok(Ending::Done)
+    match run_script(rt.alloc(), setup, input, answers) {
+        Ok(_) => Ok(Ending::Done),
+        Err(fault) => Err(ToolFault::Script(fault)),
+    }
 }
 
 /// Reports the symbol after all the changes of a file.
@@ -162,6 +169,8 @@ fn serve_report<T: Files + AllocGlobal, W: Write>(
         return Err(ToolFault::Usage);
     };
     let file = open_file(rt, changes.as_str())?;
-    report_changes(rt.alloc(), setup, file, sym, answers).map_err(ToolFault::Report)?;
-    Ok(Ending::Done)
+    match report_changes(rt.alloc(), setup, file, sym, answers) {
+        Ok(()) => Ok(Ending::Done),
+        Err(fault) => Err(ToolFault::Report(fault)),
+    }
 }
