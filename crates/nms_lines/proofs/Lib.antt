@@ -1,6 +1,7 @@
 pub mod FaultsRead
 pub mod FieldFacts
 pub mod FirstFault
+pub mod HeadFacts
 pub mod LeftFacts
 pub mod PlanFacts
 pub mod PlanRoundTrip

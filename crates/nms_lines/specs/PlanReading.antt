@@ -55,6 +55,26 @@ head_in roster fields = do
   cost ← money_number (field fields 8)
   Some (record { version = version; order = record { side = side; sym = sym; shares = shares; limit = limit; manual = manual }; filled = filled; cost = cost })
 
+-- what the order of the plan asks for, in the fields side,sym,shares,limit,flag
+abbrev pub order_in : Listing → Record → Option Terms
+order_in roster fields = do
+  side ← side_named (field fields 2)
+  sym ← place_in roster.syms (field fields 3)
+  shares ← above_zero (shares_number (field fields 4))
+  limit ← above_zero (price_number (field fields 5))
+  manual ← flag_named (field fields 6)
+  Some (record { side = side; sym = sym; shares = shares; limit = limit; manual = manual })
+
+-- the record of a plan, read with its order as one
+abbrev pub head_by_order : Listing → Record → Option Head
+head_by_order roster fields = do
+  plan ← check (is_record (codes "PLAN") 9 fields)
+  version ← number_in 8 (field fields 1)
+  order ← order_in roster fields
+  filled ← shares_number (field fields 7)
+  cost ← money_number (field fields 8)
+  Some (record { version = version; order = order; filled = filled; cost = cost })
+
 -- LEG,part,price,shares
 abbrev pub leg_in : Listing → Record → Option Leg
 leg_in roster fields = do

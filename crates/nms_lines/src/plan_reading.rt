@@ -38,9 +38,26 @@ pub fn read_plan(
 {
     let mut reader = open_records(alloc, text);
     let mut row = ByteRecord::new(alloc);
-    let head = read_head(&mut reader, &mut row, roster)?;
-    let legs = read_legs(&mut reader, &mut row, roster)?;
-    let certificate = read_cuts(&mut reader, &mut row)?;
+    read_records(&mut reader, &mut row, roster)
+}
+
+/// Reads a plan and its certificate from the records that are left.
+fn read_records<R: Read>(
+    reader: &mut Reader<R>,
+    row: &mut ByteRecord,
+    roster: &Roster,
+) -> Result<(Plan, Certificate), PlanTextFault>
+    ensures read { (left : List Record) → AreLeft R.remaining reader.old left
+        → IfOk result (λ made. plan_in roster.now left ≡ Some (said_by made.0 made.1.items)) }
+    ensures parts { IfOk result (λ made. All (λ leg. leg.part < length roster.now.parts) made.0.legs.items) }
+    ensures sym { IfOk result (λ made. made.0.order.sym < length roster.now.syms) }
+    ensures refused { (left : List Record) → AreLeft R.remaining reader.old left
+        → result ≡ Err PlanTextFault.BadPlanText → plan_in roster.now left ≡ None }
+    ensures faults { result ≢ Err PlanTextFault.WriteFault }
+{
+    let head = read_head(reader, row, roster)?;
+    let legs = read_legs(reader, row, roster)?;
+    let certificate = read_cuts(reader, row)?;
     let plan = Plan {
         version: head.version,
         order: head.order,

@@ -3,7 +3,7 @@ ghost use Rattle.std.specs.Prelude.{◌≡◌, ◌<◌, ◌≤◌, IfSome, codes
 ghost use Rattle.csv.specs.Records.{fields_of};
 ghost use Rattle.nms_lines.specs.Layout.{is_text};
 ghost use Rattle.nms_lines.specs.Numbers.{above_zero, shares_number};
-ghost use Rattle.nms_lines.specs.PlanReading.{cut_in, flag_named, head_in, is_record, kind_in, leg_in, without_value};
+ghost use Rattle.nms_lines.specs.PlanReading.{cut_in, flag_named, head_by_order, is_record, kind_in, leg_in, order_in, without_value};
 ghost use Rattle.nms_units.specs.Price.{price_number};
 ghost use Rattle.nms_units.specs.Money.{money_number};
 
@@ -33,27 +33,35 @@ impl Model for PlanHead {
 
 /// What the record of a plan says, where the row is one.
 pub(crate) fn head_in(row: &ByteRecord, roster: &Roster) -> Option<PlanHead>
-    ensures head { result ≡ head_in roster.now (fields_of row.now) }
+    ensures head { result ≡ head_by_order roster.now (fields_of row.now) }
     ensures there { IfSome result (λ head. head.order.sym < length roster.now.syms) }
 {
     if !is_record(row, b"PLAN", 9) {
         return None;
     }
     let version = parse_digits(field(row, 1), 8)?;
-    let side = side_named(field(row, 2))?;
-    let sym = roster.find_sym(field(row, 3))?;
-    let shares = some_shares_in(field(row, 4))?;
-    let limit = price_in(field(row, 5))?;
-    let manual = flag_named(field(row, 6))?;
+    let order = order_in(row, roster)?;
     let filled = shares_in(field(row, 7))?.get();
     let cost = money_in(field(row, 8))?;
-    let order = Order::new(side, sym, shares, limit, manual)?;
     Some(PlanHead {
         version,
         order,
         filled,
         cost,
     })
+}
+
+/// What the order of a plan asks for, where its fields say that.
+fn order_in(row: &ByteRecord, roster: &Roster) -> Option<Order>
+    ensures order { result ≡ order_in roster.now (fields_of row.now) }
+    ensures there { IfSome result (λ order. order.sym < length roster.now.syms) }
+{
+    let side = side_named(field(row, 2))?;
+    let sym = roster.find_sym(field(row, 3))?;
+    let shares = some_shares_in(field(row, 4))?;
+    let limit = price_in(field(row, 5))?;
+    let manual = flag_named(field(row, 6))?;
+    Order::new(side, sym, shares, limit, manual)
 }
 
 /// The leg that the row is, where it is one.

@@ -1,15 +1,16 @@
 //! A plan and its certificate as text: `specs/PlanText`.
-ghost use Rattle.std.specs.Prelude.{◌≡◌, ◌≢◌, ◌<◌, ◌++◌, ◌∷◌, [], ℕ, List, All, IfOk, OnOk, Err, codes, length, map};
+ghost use Rattle.std.specs.Prelude.{◌≡◌, ◌≢◌, ◌<◌, ◌++◌, ◌∷◌, [], ℕ, List, All, IfOk, IfSome, OnOk, Err, codes, length, map};
 ghost use Rattle.std.specs.Io.KnownBytes.{Appends};
 ghost use Rattle.csv.specs.Records.{fields_of, partial_of};
 ghost use Rattle.csv.specs.Writing.{row_text, default_writer};
 ghost use Rattle.nms_lines.specs.PlanText.{csv_text, cut_record, end_record, flag_text, kind_fields, leg_record, plan_record, plan_text, side_letter};
-ghost use Rattle.nms_lines.specs.PlanWriter.{HasWritten};
+ghost use Rattle.nms_lines.specs.PlanWriter.{HasWritten, order_fields};
 
 use crate::plan_text_fault::PlanTextFault;
 use csv::{ByteRecord, Writer, WriterBuilder};
-use nms_quote::{Certificate, Cut, CutKind, Leg, OrderSide, Plan, Roster};
+use nms_quote::{Certificate, Cut, CutKind, Leg, Order, OrderSide, Plan, Roster};
 use std::alloc::{AllocError, Global};
+use std::fmt::Display;
 use std::io::Write;
 
 /// Writes a plan and its certificate as text: a record of the plan, one for each leg, one for each cut, and an
@@ -54,16 +55,46 @@ fn text_of_plan(
         .flexible(true)
         .from_writer(Vec::new(alloc));
     let mut row = ByteRecord::new(alloc);
-    fill_plan(alloc, &mut row, plan, roster)?;
-    write_row(&mut writer, &row)?;
-    write_legs(alloc, &mut writer, &mut row, plan.legs.as_slice(), roster)?;
-    write_cuts(alloc, &mut writer, &mut row, certificate.as_slice())?;
-    fill_end(&mut row)?;
-    write_row(&mut writer, &row)?;
+    write_records(alloc, &mut writer, &mut row, plan, certificate, roster)?;
     match writer.into_inner() {
         Ok(text) => Ok(text),
         Err(_) => Err(AllocError),
     }
+}
+
+/// Writes the records of a plan and its certificate.
+fn write_records<W: Write + Drop>(
+    alloc: Global,
+    writer: &mut Writer<W>,
+    row: &mut ByteRecord,
+    plan: &Plan,
+    certificate: &Certificate,
+    roster: &Roster,
+) -> Result<(), AllocError>
+    requires parts { All (λ leg. leg.part < length roster.now.parts) plan.now.legs.items }
+    requires sym { plan.now.order.sym < length roster.now.syms }
+    ensures { HasWritten W.contents writer.old [] → OnOk result (HasWritten W.contents writer.new (plan_text roster.now plan.now certificate.now.items)) }
+{
+    write_head(alloc, writer, row, plan, roster)?;
+    write_legs(alloc, writer, row, plan.legs.as_slice(), roster)?;
+    write_cuts(alloc, writer, row, certificate.as_slice())?;
+    write_end(writer, row)
+}
+
+/// Writes the record of a plan.
+fn write_head<W: Write + Drop>(
+    alloc: Global,
+    writer: &mut Writer<W>,
+    row: &mut ByteRecord,
+    plan: &Plan,
+    roster: &Roster,
+) -> Result<(), AllocError>
+    requires { plan.now.order.sym < length roster.now.syms }
+    ensures { (text : List ℕ) → HasWritten W.contents writer.old text
+        → OnOk result (HasWritten W.contents writer.new (text ++ row_text default_writer (plan_record roster.now plan.now))) }
+{
+    fill_plan(alloc, row, plan, roster)?;
+    write_row(writer, row)
 }
 
 /// Writes the records of legs.
@@ -102,6 +133,18 @@ fn write_cuts<W: Write + Drop>(
     Ok(())
 }
 
+/// Writes the end.
+fn write_end<W: Write + Drop>(
+    writer: &mut Writer<W>,
+    row: &mut ByteRecord,
+) -> Result<(), AllocError>
+    ensures { (text : List ℕ) → HasWritten W.contents writer.old text
+        → OnOk result (HasWritten W.contents writer.new (text ++ row_text default_writer end_record)) }
+{
+    fill_end(row)?;
+    write_row(writer, row)
+}
+
 /// Makes the row the record of a plan.
 fn fill_plan(
     alloc: Global,
@@ -114,14 +157,10 @@ fn fill_plan(
 {
     row.clear();
     push_text(row, "PLAN")?;
-    push_text(row, &plan.version.to_string(alloc)?)?;
-    push_text(row, letter_of(plan.order.side))?;
-    push_text(row, roster.sym_name(plan.order.sym))?;
-    push_text(row, &plan.order.shares.get().to_string(alloc)?)?;
-    push_text(row, &plan.order.limit.to_string(alloc)?)?;
-    push_text(row, flag_of(plan.order.manual))?;
-    push_text(row, &plan.filled.to_string(alloc)?)?;
-    push_text(row, &plan.cost.to_string(alloc)?)
+    push_shown(alloc, row, &plan.version)?;
+    push_order(alloc, row, &plan.order, roster)?;
+    push_shown(alloc, row, &plan.filled)?;
+    push_shown(alloc, row, &plan.cost)
 }
 
 /// Makes the row the record of a leg.
@@ -137,8 +176,8 @@ fn fill_leg(
     row.clear();
     push_text(row, "LEG")?;
     push_text(row, roster.part_name(leg.part))?;
-    push_text(row, &leg.price.to_string(alloc)?)?;
-    push_text(row, &leg.shares.get().to_string(alloc)?)
+    push_shown(alloc, row, &leg.price)?;
+    push_shown(alloc, row, &leg.shares.get())
 }
 
 /// Makes the row the record of a cut.
@@ -147,7 +186,7 @@ fn fill_cut(alloc: Global, row: &mut ByteRecord, cut: &Cut) -> Result<(), AllocE
 {
     row.clear();
     push_text(row, "CUT")?;
-    push_text(row, &cut.price.to_string(alloc)?)?;
+    push_shown(alloc, row, &cut.price)?;
     push_kind(alloc, row, cut.kind)
 }
 
@@ -157,6 +196,25 @@ fn fill_end(row: &mut ByteRecord) -> Result<(), AllocError>
 {
     row.clear();
     push_text(row, "END")
+}
+
+/// Adds what an order asks for, in five fields.
+fn push_order(
+    alloc: Global,
+    row: &mut ByteRecord,
+    order: &Order,
+    roster: &Roster,
+) -> Result<(), AllocError>
+    requires whole { partial_of row.old ≡ [] }
+    requires sym { order.now.sym < length roster.now.syms }
+    ensures fields { OnOk result (fields_of row.new ≡ fields_of row.old ++ order_fields roster.now order.now) }
+    ensures whole { OnOk result (partial_of row.new ≡ []) }
+{
+    push_text(row, letter_of(order.side))?;
+    push_text(row, roster.sym_name(order.sym))?;
+    push_shown(alloc, row, &order.shares.get())?;
+    push_shown(alloc, row, &order.limit)?;
+    push_text(row, flag_of(order.manual))
 }
 
 /// Adds what a cut says, in two fields.
@@ -176,7 +234,7 @@ fn push_kind(alloc: Global, row: &mut ByteRecord, kind: CutKind) -> Result<(), A
         }
         CutKind::Marginal(money) => {
             push_text(row, "MARGINAL")?;
-            push_text(row, &money.to_string(alloc)?)
+            push_shown(alloc, row, &money)
         }
     }
 }
@@ -191,6 +249,15 @@ fn write_row<W: Write + Drop>(writer: &mut Writer<W>, row: &ByteRecord) -> Resul
         Ok(()) => Ok(()),
         Err(_) => Err(AllocError),
     }
+}
+
+/// Adds a value as it is shown, in a field.
+fn push_shown<T: Display>(alloc: Global, row: &mut ByteRecord, value: &T) -> Result<(), AllocError>
+    requires { partial_of row.old ≡ [] }
+    ensures fields { OnOk result (IfSome (T.output value.now) (λ bytes. fields_of row.new ≡ fields_of row.old ++ bytes ∷ [])) }
+    ensures whole { OnOk result (partial_of row.new ≡ []) }
+{
+    push_text(row, &value.to_string(alloc)?)
 }
 
 /// Adds a field to a record.
