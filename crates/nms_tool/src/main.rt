@@ -2,6 +2,7 @@
 #![tactic(auto)]
 
 use nms_command::{ToolFault, WordsFault, run_tool, tell_fault};
+use std::alloc::Global;
 use std::io::{ErrorKind, Write};
 use std::process::ExitCode;
 use std::rt::{Env, Files};
@@ -24,12 +25,25 @@ where
     T: AllocGlobal + Env + Files + Input + Print + Threads + Wait + Sync,
 {
     let own = own_words(rt)?;
-    let mut words = Vec::new(rt.alloc());
-    for word in &own {
+    let words = words_of(rt.alloc(), &own)?;
+    Ok(answer(rt, &words, errors))
+}
+
+/// Runs the command line on these words and the process's own streams.
+fn answer<T, E: Write>(rt: &T, words: &[&str], errors: &mut E) -> u8
+where
+    T: AllocGlobal + Files + Input + Print + Threads + Wait + Sync,
+{
+    run_tool(rt, words, rt.reader(), &mut io::writer(rt), errors)
+}
+
+/// Words as they are lent.
+fn words_of<'a>(alloc: Global, own: &'a [String]) -> Result<Vec<&'a str>, ToolFault> {
+    let mut words = Vec::new(alloc);
+    for word in own {
         words.push(word.as_str()).map_err(|_| no_memory())?;
     }
-    let answers = &mut io::writer(rt);
-    Ok(run_tool(rt, &words, rt.reader(), answers, errors))
+    Ok(words)
 }
 
 /// The words behind the program's name. Those that are no UTF-8 name nothing.
