@@ -7,3 +7,4 @@ pub mod PlanFacts
 pub mod PlanRoundTrip
 pub mod PlanTextFacts
 pub mod ReadFacts
+pub mod SideFacts

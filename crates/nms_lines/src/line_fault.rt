@@ -2,40 +2,31 @@
 ghost use Rattle.std.specs.Prelude.{◌≡◌};
 ghost use Rattle.nms_lines.specs.Faults.{code_of, refuse_if};
 
+use std::fmt;
 use thiserror::Error;
 
 /// Why a record is refused. Of several faults the one of least number is told.
 #[derive(Clone, Copy, Debug, PartialEq, Eq, Error)]
 pub enum LineFault {
     /// L1: the first field is none of the kinds that the record's source brings.
-    #[error("L1: unknown kind")]
     UnknownKind,
     /// L2: the number of fields is not the kind's.
-    #[error("L2: wrong number of fields")]
     FieldCount,
     /// L3: the participant is not on the roster.
-    #[error("L3: unknown participant")]
     UnknownParticipant,
     /// L4: the symbol is not on the roster.
-    #[error("L4: unknown symbol")]
     UnknownSymbol,
     /// L5: the state, the order's side or its flag is none of its letters.
-    #[error("L5: not a state, a side or a flag")]
     BadState,
     /// L6: a price is not of the form, or is zero where a quotation or an order needs one.
-    #[error("L6: not a price")]
     BadPrice,
     /// L7: a share count is not 1 to 9 digits, or is zero where an order needs one.
-    #[error("L7: not a share count")]
     BadShares,
     /// L8: a side has a price without shares, or shares without a price.
-    #[error("L8: half a side")]
     HalfSide,
     /// L9: the participant is of another feed than the one that is read.
-    #[error("L9: wrong feed")]
     WrongFeed,
     /// L10: the desk is not 1 or 2 digits, or not below the number of desks.
-    #[error("L10: no such desk")]
     BadDesk,
 }
 
@@ -56,6 +47,28 @@ impl LineFault {
             LineFault::WrongFeed => "L9",
             LineFault::BadDesk => "L10",
         }
+    }
+
+    /// The message: the code, and what is wrong.
+    fn message(self) -> &'static str {
+        match self {
+            LineFault::UnknownKind => "L1: unknown kind",
+            LineFault::FieldCount => "L2: wrong number of fields",
+            LineFault::UnknownParticipant => "L3: unknown participant",
+            LineFault::UnknownSymbol => "L4: unknown symbol",
+            LineFault::BadState => "L5: not a state, a side or a flag",
+            LineFault::BadPrice => "L6: not a price",
+            LineFault::BadShares => "L7: not a share count",
+            LineFault::HalfSide => "L8: half a side",
+            LineFault::WrongFeed => "L9: wrong feed",
+            LineFault::BadDesk => "L10: no such desk",
+        }
+    }
+}
+
+impl fmt::Display for LineFault {
+    fn fmt<W: fmt::Write>(&self, f: &mut fmt::Formatter<W>) -> fmt::Result {
+        f.write_str(self.message())
     }
 }
 

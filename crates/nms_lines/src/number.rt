@@ -9,7 +9,7 @@ use nms_units::{Price, Shares, parse_digits};
 pub(crate) fn price_in(text: &[u8]) -> Result<Price, LineFault>
     ensures { result ≡ price_in text.now }
 {
-    Price::parse(text).map_err(|_| LineFault::BadPrice)
+    Price::parse(text).or(Err(LineFault::BadPrice))
 }
 
 /// The shares of an order, at least one, or `BadShares`.

@@ -149,7 +149,8 @@ fn need_row<R: Read>(reader: &mut Reader<R>, row: &mut ByteRecord) -> Result<(),
     match read_next(reader, row) {
         Ok(true) => Ok(()),
         Ok(false) => Err(PlanTextFault::BadPlanText),
-        Err(fault) => Err(want_of_memory(fault)),
+        // a text in memory is always read: nothing but memory can fail
+        Err(RecordFault::Failed | RecordFault::NoMemory) => Err(PlanTextFault::NoMemory),
     }
 }
 
@@ -163,13 +164,7 @@ fn need_end<R: Read>(reader: &mut Reader<R>, row: &mut ByteRecord) -> Result<(),
     match read_next(reader, row) {
         Ok(true) => Err(PlanTextFault::BadPlanText),
         Ok(false) => Ok(()),
-        Err(fault) => Err(want_of_memory(fault)),
+        // a text in memory is always read: nothing but memory can fail
+        Err(RecordFault::Failed | RecordFault::NoMemory) => Err(PlanTextFault::NoMemory),
     }
-}
-
-/// Why a record of a text in memory was not read: nothing but memory can fail.
-fn want_of_memory(_: RecordFault) -> PlanTextFault
-    ensures { result ≡ PlanTextFault.NoMemory }
-{
-    PlanTextFault::NoMemory
 }

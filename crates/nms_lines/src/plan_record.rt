@@ -118,10 +118,10 @@ fn kind_in(word: &[u8], value: &[u8]) -> Option<CutKind>
     if is_word(word, b"TOOLITTLE") {
         return without_value(value, CutKind::TooLittle);
     }
-    if is_word(word, b"MARGINAL") {
-        return money_in(value).map(CutKind::Marginal);
+    if !is_word(word, b"MARGINAL") {
+        return None;
     }
-    None
+    Some(CutKind::Marginal(money_in(value)?))
 }
 
 /// Whether a field is a word.
