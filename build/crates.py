@@ -171,8 +171,9 @@ class Build:
 
     def stop(self):
         """Ends what is under way."""
-        for _, _, _, process in self.running.values():
+        for _, report, _, process in self.running.values():
             process.terminate()
+            os.remove(report.name)
         shutil.rmtree(LANES, ignore_errors=True)
 
 

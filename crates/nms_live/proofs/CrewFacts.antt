@@ -3,16 +3,20 @@ use Rattle.std.proofs.Common.{ℕ, ◌≡◌, ◌<◌, ◌⊎◌, List, length, 
 use Rattle.std.specs.Prelude.{slice_index_or}
 use Rattle.std.specs.declared.thread.PromisedHandle.{PromisedHandle}
 use Rattle.nms_quote.specs.Roster.{Listing}
+use Rattle.nms_quote.specs.declared.feed.Feed.{Feed}
+use Rattle.nms_feed.specs.Lane.{Sending}
 use Rattle.nms_fees.specs.Settings.{Settings}
 use Rattle.nms_versions.specs.Pages.{Book}
 use Rattle.nms_versions.specs.Taped.{Knowing}
 use Rattle.nms_live.specs.Answering.{IsWorked}
-use Rattle.nms_live.specs.Crew.{AreBack, AreReady, AreStarted, KeepsJob}
+use Rattle.nms_live.specs.Crew.{AreBack, AreReady, AreStarted, IsFeedJob, KeepsJob}
 use Rattle.nms_live.specs.Faults.{IsNoLineIfAny}
-use Rattle.nms_live.specs.Reading.{IsLiveFault}
+use Rattle.nms_live.specs.Reading.{IsFed, IsLiveFault}
 use Rattle.nms_quote.specs.declared.desk_order.DeskOrder.{DeskOrder}
 use Rattle.nms_live.specs.declared.desk_work.DeskJob.{DeskJob}
 use Rattle.nms_live.specs.declared.desk_work.Desked.{Desked}
+use Rattle.nms_live.specs.declared.fed_feed.Fed.{Fed}
+use Rattle.nms_live.specs.declared.fed_feed.FeedJob.{FeedJob}
 use Rattle.nms_live.specs.declared.live_fault.LiveFault.{LiveFault}
 use Rattle.nms_live.proofs.LeftFacts.{some_of}
 use Rattle.nms_live.proofs.TapeFacts.{no_line_if_any}
@@ -42,6 +46,15 @@ back_all settings orders opening desks handles backs ready one two started keeps
           (subst (λ (o : List DeskOrder). W promise.setup.value promise.number o) job.orders_are (kept.worked none)));
       stopped = kept.stopped;
     }
+
+-- a feed's worker kept its promise
+pub fed_by_job : (settings : Settings) (feed : Feed) (text : List ℕ) (sender : Sending) (job : FeedJob) (fed : Fed) → IsFeedJob settings feed text sender job
+    → IsFed job.setup.value.roster job.feed job.text.value.items fed.sender.sent fed.stop → IsFed settings.roster feed text fed.sender.sent fed.stop
+fed_by_job settings feed text sender job fed is kept =
+    let I : Settings → Feed → List ℕ → Type 0 = λ s f t. IsFed s.roster f t fed.sender.sent fed.stop in
+    subst (λ (s : Settings). I s feed text) is.settings_are
+    (subst (λ (f : Feed). I job.setup.value f text) is.feed_is
+    (subst (λ (t : List ℕ). I job.setup.value job.feed t) is.text_is kept))
 
 -- a feed's fault, or that of the taker or of a desk
 pub fault_of_all : (roster : Listing) (a b : List ℕ) (fed stop first result : Option LiveFault)

@@ -2,6 +2,8 @@
 use Rattle.std.specs.Prelude.{ℕ, ◌≡◌, ◌<◌, List, [], ◌∷◌, length, slice_index_or, Option, None}
 use Rattle.std.specs.declared.thread.PromisedHandle.{PromisedHandle}
 use Rattle.nms_quote.specs.Roster.{sizes_of}
+use Rattle.nms_quote.specs.declared.feed.Feed.{Feed}
+use Rattle.nms_feed.specs.Lane.{Sending}
 use Rattle.nms_fees.specs.Settings.{Settings}
 use Rattle.nms_versions.specs.Taped.{Knowing, tape_of}
 use Rattle.nms_versions.specs.Pages.{Book}
@@ -12,6 +14,7 @@ use Rattle.nms_live.specs.Reading.{IsTapeOf}
 use Rattle.nms_quote.specs.declared.desk_order.DeskOrder.{DeskOrder}
 use Rattle.nms_live.specs.declared.desk_work.DeskJob.{DeskJob}
 use Rattle.nms_live.specs.declared.desk_work.Desked.{Desked}
+use Rattle.nms_live.specs.declared.fed_feed.FeedJob.{FeedJob}
 use Rattle.nms_live.specs.declared.live_fault.LiveFault.{LiveFault}
 
 -- each desk is of the opening and the roster
@@ -25,6 +28,13 @@ pub record IsJob (settings : Settings) (orders : List DeskOrder) (desk : Knowing
   pub orders_are : job.orders.value.items ≡ orders
   pub place_is : job.number ≡ place
   pub desk_is : job.desk.value ≡ desk
+
+-- the promise of the worker of a feed
+pub record IsFeedJob (settings : Settings) (feed : Feed) (text : List ℕ) (sender : Sending) (job : FeedJob) : Type 0 where
+  pub settings_are : job.setup.value ≡ settings
+  pub feed_is : job.feed ≡ feed
+  pub text_is : job.text.value.items ≡ text
+  pub sender_is : job.sender.value ≡ sender
 
 -- each desk's worker was started
 abbrev pub AreStarted : Settings → List DeskOrder → List Knowing → List (PromisedHandle Desked DeskJob) → Type 0

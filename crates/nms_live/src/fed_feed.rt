@@ -1,5 +1,6 @@
 //! A feed's worker: it reads its text and sends the changes (specs/Reading).
-ghost use Rattle.std.specs.Prelude.{◌≡◌, ◌<◌, ◌+◌, ◌++◌, ◌∷◌, [], length, Ok, Err, IfErr, IfOk, OnOk};
+ghost use Rattle.std.specs.Prelude.{◌≡◌, ◌<◌, ◌+◌, ◌++◌, ◌∷◌, ℕ, List, [], length, Ok, Err, Some, IfErr, IfOk, OnOk};
+ghost use Rattle.nms_lines.specs.Records.{ReadsFrom};
 ghost use Rattle.nms_lines.specs.Rows.{fields_of};
 ghost use Rattle.nms_quote.specs.declared.change.Change.{Change};
 ghost use Rattle.nms_lines.specs.declared.line.Line.TheVariants as line;
@@ -10,7 +11,7 @@ use crate::gate::{Gate, GatePoint, passes};
 use crate::live_fault::LiveFault;
 use nms_feed::{MOST_SENT, Sender};
 use nms_fees::Setup;
-use nms_lines::{ByteRecord, Line, LineFault, Reading, open_records, read_line, read_next};
+use nms_lines::{ByteRecord, Line, LineFault, Reader, Reading, open_records, read_line, read_next};
 use nms_quote::{Change, Feed, Roster, SideQuote};
 use std::alloc::Global;
 use std::snapshot::Snapshot;
@@ -85,9 +86,28 @@ fn send_all<R: Wait, G: Gate>(
 {
     let mut reader = open_records(alloc, text);
     let mut row = ByteRecord::new(alloc);
+    send_rows(rt, setup, gate, feed, &mut reader, &mut row, sender)
+}
+
+/// Sends the changes that a reader's records say, each read into the row, up to the first record that is refused.
+fn send_rows<R: Wait, G: Gate>(
+    rt: &R,
+    setup: &Setup,
+    gate: &G,
+    feed: Feed,
+    reader: &mut Reader<&[u8]>,
+    row: &mut ByteRecord,
+    sender: &mut Sender,
+) -> Result<(), LiveFault>
+    requires fresh { sender.old.sent ≡ [] }
+    requires feed { sender.old.feed ≡ feed }
+    ensures same { (sender.new.lane ≡ sender.old.lane) × (sender.new.feed ≡ sender.old.feed) }
+    ensures read { (text : List ℕ) → ReadsFrom (λ source. Some source.now) reader.old (Some text) [] → OnOk result (IsRead setup.now.roster feed text sender.new.sent) }
+    ensures refused { (text : List ℕ) → ReadsFrom (λ source. Some source.now) reader.old (Some text) [] → IfErr result (IsFeedFault setup.now.roster feed text) }
+{
     for index in 0..MOST_SENT {
-        match read_next(&mut reader, &mut row) {
-            Ok(true) => match send_record(rt, setup, gate, feed, index, &row, sender) {
+        match read_next(reader, row) {
+            Ok(true) => match send_record(rt, setup, gate, feed, index, row, sender) {
                 Ok(()) => {}
                 Err(fault) => return Err(fault),
             },

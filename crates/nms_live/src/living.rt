@@ -40,6 +40,23 @@ pub fn run_live<R: Threads + Wait + Sync, G: Gate>(
     ensures live { IfOk result (IsLive setup.now feed_a.items feed_b.items orders.items) }
     ensures refused { IfErr result (IsLiveFault setup.now.roster feed_a.items feed_b.items) }
 {
+    run_over(rt, alloc, setup, gate, &feed_a, &feed_b, &orders)
+}
+
+/// The live run over texts and orders that are kept until its end.
+fn run_over<R: Threads + Wait + Sync, G: Gate>(
+    rt: &R,
+    alloc: Global,
+    setup: &Setup,
+    gate: &G,
+    feed_a: &Vec<u8>,
+    feed_b: &Vec<u8>,
+    orders: &Vec<DeskOrder>,
+) -> Result<Live, LiveFault>
+    requires desks { All (λ order. order.desk < setup.now.desks) orders.now.items }
+    ensures live { IfOk result (IsLive setup.now feed_a.now.items feed_b.now.items orders.now.items) }
+    ensures refused { IfErr result (IsLiveFault setup.now.roster feed_a.now.items feed_b.now.items) }
+{
     let Ok(ends) = open_lane(alloc, setup.queue()) else {
         return Err(LiveFault::Open);
     };
@@ -52,14 +69,14 @@ pub fn run_live<R: Threads + Wait + Sync, G: Gate>(
         alloc,
         setup,
         gate,
-        &feed_a,
-        &feed_b,
-        &orders,
+        feed_a,
+        feed_b,
+        orders,
         &mut keeper,
         ends,
         desks,
     ) {
-        Ok(desks) => { close_all(rt, alloc, setup, &feed_a, &feed_b, keeper, desks, &orders) }
+        Ok(desks) => close_all(rt, alloc, setup, feed_a, feed_b, keeper, desks, orders),
         Err(fault) => {
             let _ended = keeper.end(rt);
             Err(fault)

@@ -1,5 +1,5 @@
 //! The threads of a live run, and what they gave back (specs/Crew).
-ghost use Rattle.std.specs.Prelude.{◌≡◌, ℕ, ◌<◌, ◌≤◌, ◌⊎◌, List, [], length, slice_index_or, None, IfErr, IfOk, IfSome};
+ghost use Rattle.std.specs.Prelude.{◌≡◌, ℕ, ◌<◌, ◌≤◌, ◌⊎◌, ◌++◌, ◌∷◌, List, [], length, slice_index_or, None, IfErr, IfOk, IfSome, OnOk};
 ghost use Rattle.std.specs.Vec.{vec_len, vec_capacity};
 ghost use Rattle.std.specs.declared.thread.PromisedHandle.{PromisedHandle};
 ghost use Rattle.nms_quote.specs.declared.feed.Feed.TheVariants as feed;
@@ -8,7 +8,7 @@ ghost use Rattle.nms_versions.specs.Taped.{Knowing, tape_of};
 ghost use Rattle.nms_flow.specs.Run.{changes_in};
 ghost use Rattle.nms_quote.specs.Merge.{IsMerge};
 ghost use Rattle.nms_quote.specs.declared.marked.Marked.{Marked};
-ghost use Rattle.nms_live.specs.Crew.{AreReady, AreStarted, IsDone, KeepsJob, first_among};
+ghost use Rattle.nms_live.specs.Crew.{AreReady, AreStarted, IsDone, IsFeedJob, IsJob, KeepsJob, first_among};
 ghost use Rattle.nms_live.specs.Faults.{IsNoLine, IsNoLineIfAny};
 ghost use Rattle.nms_live.specs.Keeping.{HasTaken, IsSameKeeping, IsWhole};
 ghost use Rattle.nms_live.specs.Reading.{IsFed, IsLiveFault, IsTapeOf};
@@ -58,28 +58,59 @@ fn start_desks<'s, E, G: Gate>(
     }
     let mut number = 0u8;
     for desk in desks {
-        let job = DeskJob {
-            setup: Snapshot::of(setup),
+        match start_desk(
+            scope,
+            alloc,
+            setup,
+            gate,
             number,
-            desk: Snapshot::of(&desk),
-            orders: Snapshot::of(orders),
-        };
-        let Ok(handle) = scope.spawn_with(
-            job,
-            move || -> Desked
-                requires { desk.sizes ≡ sizes_of setup.now.roster }
-                ensures { IsDesked setup.entry.now number orders.entry.now.items desk result.desk result.answers.items result.stop }
-            { work(alloc, setup, gate, number, desk, orders) },
-        ) else {
-            return Err(LiveFault::Open);
-        };
-        match handles.push(handle) {
+            desk,
+            orders,
+            &mut handles,
+        ) {
             Ok(()) => {}
-            Err(_) => return Err(LiveFault::NoMemory),
+            Err(fault) => return Err(fault),
         }
         number += 1;
     }
     Ok(handles)
+}
+
+/// Starts the worker of a desk, and puts it behind those that were started before.
+fn start_desk<'s, E, G: Gate>(
+    scope: &'s Scope<'s, E>,
+    alloc: Global,
+    setup: &'s Setup,
+    gate: &'s G,
+    number: u8,
+    desk: Desk,
+    orders: &'s Vec<DeskOrder>,
+    handles: &mut Vec<PromisedHandle<Desked, DeskJob>>,
+) -> Result<(), LiveFault>
+    requires sizes { desk.sizes ≡ sizes_of setup.now.roster }
+    ensures started { OnOk result ((handle : PromisedHandle Desked DeskJob) × (handles.new.items ≡ handles.old.items ++ handle ∷ [])
+        × IsJob setup.now orders.now.items desk number handle.promise) }
+    ensures fault { IfErr result IsNoLine }
+{
+    let job = DeskJob {
+        setup: Snapshot::of(setup),
+        number,
+        desk: Snapshot::of(&desk),
+        orders: Snapshot::of(orders),
+    };
+    let Ok(handle) = scope.spawn_with(
+        job,
+        move || -> Desked
+            requires { desk.sizes ≡ sizes_of setup.now.roster }
+            ensures { IsDesked setup.entry.now number orders.entry.now.items desk result.desk result.answers.items result.stop }
+        { work(alloc, setup, gate, number, desk, orders) },
+    ) else {
+        return Err(LiveFault::Open);
+    };
+    match handles.push(handle) {
+        Ok(()) => Ok(()),
+        Err(_) => Err(LiveFault::NoMemory),
+    }
 }
 
 /// Waits for the desks' workers. There is room for what they give back, so no fault of theirs is lost.
@@ -142,39 +173,11 @@ fn run_feeds<'s, E, R: Threads + Wait + Sync, G: Gate>(
     ensures whole { result ≡ None → keeper.new.stop ≡ None → IsWhole keeper.new }
     ensures tape { result ≡ None → keeper.new.stop ≡ None → IsTapeOf setup.now.roster text_a.now.items text_b.now.items (tape_of keeper.new.taped) }
 {
-    let mut taker = taker;
-    let job_a = FeedJob {
-        setup: Snapshot::of(setup),
-        feed: Feed::A,
-        text: Snapshot::of(text_a),
-        sender: Snapshot::of(&a),
-    };
-    let job_b = FeedJob {
-        setup: Snapshot::of(setup),
-        feed: Feed::B,
-        text: Snapshot::of(text_b),
-        sender: Snapshot::of(&b),
-    };
-    let Ok(child_a) = scope.spawn_with(
-        job_a,
-        move || -> Fed
-            requires { (a.sent ≡ []) × (a.feed ≡ feed.A) }
-            ensures lane { result.sender.lane ≡ a.lane }
-            ensures feed { result.sender.feed ≡ a.feed }
-            ensures fed { IsFed setup.entry.now.roster feed.A text_a.entry.now.items result.sender.sent result.stop }
-        { feed_all(rt, alloc, setup, gate, Feed::A, text_a, a, ended_a) },
-    ) else {
+    let Ok(child_a) = start_feed(scope, rt, alloc, setup, gate, Feed::A, text_a, a, ended_a) else {
         return Some(LiveFault::Open);
     };
-    let Ok(child_b) = scope.spawn_with(
-        job_b,
-        move || -> Fed
-            requires { (b.sent ≡ []) × (b.feed ≡ feed.B) }
-            ensures lane { result.sender.lane ≡ b.lane }
-            ensures feed { result.sender.feed ≡ b.feed }
-            ensures fed { IsFed setup.entry.now.roster feed.B text_b.entry.now.items result.sender.sent result.stop }
-        { feed_all(rt, alloc, setup, gate, Feed::B, text_b, b, ended_b) },
-    ) else {
+    let mut taker = taker;
+    let Ok(child_b) = start_feed(scope, rt, alloc, setup, gate, Feed::B, text_b, b, ended_b) else {
         // Feed A runs already: it ends once its changes are taken.
         ended_b.store(true, Ordering::SeqCst);
         take_until_ended(rt, gate, keeper, &mut taker, ended_a, ended_b);
@@ -184,6 +187,42 @@ fn run_feeds<'s, E, R: Threads + Wait + Sync, G: Gate>(
     let fed_a = child_a.join(rt);
     let fed_b = child_b.join(rt);
     end_feeds(rt, gate, keeper, fed_a, fed_b, taker)
+}
+
+/// Starts the worker of a feed.
+fn start_feed<'s, E, R: Wait + Sync, G: Gate>(
+    scope: &'s Scope<'s, E>,
+    rt: &'s R,
+    alloc: Global,
+    setup: &'s Setup,
+    gate: &'s G,
+    feed: Feed,
+    text: &'s Vec<u8>,
+    sender: Sender,
+    has_ended: &'s AtomicBool,
+) -> Result<PromisedHandle<Fed, FeedJob>, LiveFault>
+    requires fresh { sender.sent ≡ [] }
+    requires feed { sender.feed ≡ feed }
+    ensures job { IfOk result (λ handle. IsFeedJob setup.now feed text.now.items sender handle.promise) }
+{
+    let job = FeedJob {
+        setup: Snapshot::of(setup),
+        feed,
+        text: Snapshot::of(text),
+        sender: Snapshot::of(&sender),
+    };
+    let Ok(handle) = scope.spawn_with(
+        job,
+        move || -> Fed
+            requires { (sender.sent ≡ []) × (sender.feed ≡ feed) }
+            ensures lane { result.sender.lane ≡ sender.lane }
+            ensures feed { result.sender.feed ≡ sender.feed }
+            ensures fed { IsFed setup.entry.now.roster feed text.entry.now.items result.sender.sent result.stop }
+        { feed_all(rt, alloc, setup, gate, feed, text, sender, has_ended) },
+    ) else {
+        return Err(LiveFault::Open);
+    };
+    Ok(handle)
 }
 
 /// Takes the rest of what both feeds sent, unless one of them stopped early.
@@ -246,11 +285,10 @@ fn run_workers<'s, E, R: Threads + Wait + Sync, G: Gate>(
     ensures done { IfOk result (λ desks. IsDone setup.now text_a.now.items text_b.now.items orders.now.items keeper.new desks.items) }
     ensures fault { IfErr result (IsLiveFault setup.now.roster text_a.now.items text_b.now.items) }
 {
-    let mut back = Vec::new(alloc);
-    if back.reserve(desks.len()).is_err() {
-        return Err(LiveFault::NoMemory);
-    }
-    let handles = start_desks(scope, alloc, setup, gate, desks, orders)?;
+    let (handles, back) = match start_crew(scope, alloc, setup, gate, desks, orders) {
+        Ok(crew) => crew,
+        Err(fault) => return Err(fault),
+    };
     let (a, b, taker) = ends;
     let fed = run_feeds(
         scope, rt, alloc, setup, gate, text_a, text_b, ended_a, ended_b, keeper, a, b, taker,
@@ -259,6 +297,33 @@ fn run_workers<'s, E, R: Threads + Wait + Sync, G: Gate>(
     match fault_among(first_of(fed, keeper.stop()), desks.as_slice()) {
         None => Ok(desks),
         Some(fault) => Err(fault),
+    }
+}
+
+/// Makes room for what the desks' workers give back, and starts them.
+fn start_crew<'s, E, G: Gate>(
+    scope: &'s Scope<'s, E>,
+    alloc: Global,
+    setup: &'s Setup,
+    gate: &'s G,
+    desks: Vec<Desk>,
+    orders: &'s Vec<DeskOrder>,
+) -> Result<(Vec<PromisedHandle<Desked, DeskJob>>, Vec<Desked>), LiveFault>
+    requires all { length desks.items ≡ setup.now.desks }
+    requires sizes { (k : ℕ) (d : Knowing) → k < length desks.items → (slice_index_or desks.items k d).sizes ≡ sizes_of setup.now.roster }
+    ensures all { IfOk result (λ crew. length crew.0.items ≡ length desks.items) }
+    ensures started { IfOk result (λ crew. AreStarted setup.now orders.now.items desks.items crew.0.items) }
+    ensures empty { IfOk result (λ crew. crew.1.items ≡ []) }
+    ensures room { IfOk result (λ crew. vec_len crew.0 ≤ vec_capacity crew.1) }
+    ensures fault { IfErr result IsNoLine }
+{
+    let mut back = Vec::new(alloc);
+    if back.reserve(desks.len()).is_err() {
+        return Err(LiveFault::NoMemory);
+    }
+    match start_desks(scope, alloc, setup, gate, desks, orders) {
+        Ok(handles) => Ok((handles, back)),
+        Err(fault) => Err(fault),
     }
 }
 

@@ -1,41 +1,4 @@
-use Rattle.std.proofs.Common.{ap, Ok, Bool, ◌∙◌, ◌+◌, ◌++◌, ◌∷◌, [], Some, length, arith, length-append}
-use Rattle.nms_lines.specs.Rows.{fields_of}
-use Rattle.nms_live.specs.Reading.{IsOwn}
-use Rattle.nms_live.proofs.NumberFacts.{all_push}
-use Rattle.nms_live.proofs.FeedFacts.{says_more, first_refused}
 use Rattle.nms_live.proofs.fed_feed.send_all.Goals as goal
 
-pub loop-index-preserved : goal.loop-index-preserved
-loop-index-preserved g c =
-    let had = c.loop-index.invariant.read in
-    let found = c.in-Ok-true.ensures.found (Some c.args.text.now) had.0 had.1 (ap (λ (b : Bool). Ok b) c.in-Ok-true.field-0-test) in
-    let sent = c.in-Ok.ensures.sent in
-    record {
-      lane = c.send_record.ensures.same.0 ∙ c.loop-index.invariant.lane;
-      feed = c.send_record.ensures.same.1 ∙ c.loop-index.invariant.feed;
-      count = omega (arith, ap length sent.3, length-append c.loop-index.sender.sent (sent.0 ∷ []), c.loop-index.invariant.count);
-      read = (
-        had.0 ++ fields_of c.read_next.new.row ∷ [],
-        found,
-        says_more c.args.setup.now.roster c.args.feed had.0 (fields_of c.read_next.new.row) c.loop-index.sender.sent c.send_record.new.sender.sent sent.0 sent.1 sent.3 had.2,
-        omega (arith, length-append had.0 (fields_of c.read_next.new.row ∷ []), had.3),
-      );
-      own = rw sent.3 (all_push (IsOwn c.args.setup.now.roster c.args.feed) c.loop-index.sender.sent sent.0 c.loop-index.invariant.own sent.2);
-    }
-
-pub returns-in-Ok-false-clause-read : goal.returns-in-Ok-false-clause-read
-returns-in-Ok-false-clause-read g c =
-    let had = c.loop-index.invariant.read in
-    record {
-      records = had.0;
-      all = c.in-Ok-false.ensures.end (Some c.args.text.now) had.0 had.1 (ap (λ (b : Bool). Ok b) c.in-Ok-false.field-0-test);
-      said = had.2;
-      own = c.loop-index.invariant.own;
-    }
-
-pub returns-in-Err-send_record-clause-refused : goal.returns-in-Err-send_record-clause-refused
-returns-in-Err-send_record-clause-refused g c =
-    let had = c.loop-index.invariant.read in
-    let found = c.in-Ok-true.ensures.found (Some c.args.text.now) had.0 had.1 (ap (λ (b : Bool). Ok b) c.in-Ok-true.field-0-test) in
-    first_refused c.args.setup.now.roster c.args.feed c.args.text.now had.0 (fields_of c.read_next.new.row) c.loop-index.sender.sent (c.loop-index.index + 1) c.in-Err-send_record.fault
-    found.begins had.2 (omega (arith, had.3)) c.in-Err-send_record.ensures.refused
+pub returns-clause-refused : goal.returns-clause-refused
+returns-clause-refused g c = c.send_rows.ensures.refused c.args.text.now c.open_records-reader.ensures.reads

@@ -1,7 +1,8 @@
-use Rattle.std.proofs.Common.{ℕ, ◌≡◌, ◌++◌, ◌∷◌, [], length, ap, sym, ◌∙◌, append_assoc, length-append, arith, rules}
+use Rattle.std.proofs.Common.{ℕ, ◌≡◌, ◌++◌, ◌∷◌, [], length, ap, sym, subst, ◌∙◌, append_assoc, length-append, arith}
 use Rattle.std.specs.Prelude.{slice_index_or}
 use Rattle.std.specs.Vec.Iter.{into_iter_items}
 use Rattle.std.specs.declared.thread.PromisedHandle.{PromisedHandle}
+use Rattle.nms_versions.specs.Taped.{Knowing}
 use Rattle.nms_live.specs.Crew.{IsJob}
 use Rattle.nms_live.specs.declared.desk_work.DeskJob.{DeskJob}
 use Rattle.nms_live.specs.declared.desk_work.Desked.{Desked}
@@ -12,12 +13,12 @@ pub loop-desk-preserved : goal.loop-desk-preserved
 loop-desk-preserved g c =
     let at = c.loop-desk in
     let desk = c.in-Some.desk in
-    let handle = c.in-Ok.handle in
+    let started = c.in-Ok.ensures.started in
+    let handle = started.0 in
+    let pushed = started.1 in
     let rest = into_iter_items c.next.new.self in
     let steps : into_iter_items at.desk-iterator ≡ desk ∷ rest = c.in-Some.ensures.steps.0 in
     let parted : (at.yielded ++ desk ∷ []) ++ rest ≡ c.args.desks.items = append_assoc at.yielded (desk ∷ []) rest ∙ rw (sym steps) at.invariant.parted in
-    let pushed : c.push.new.self.items ≡ at.handles.items ++ handle ∷ [] = search rules in
-    let kept = c.in-Ok.ensures.ok in
     let place : length at.handles.items ≡ at.number = at.invariant.all in
     record {
       parted = parted;
@@ -26,12 +27,7 @@ loop-desk-preserved g c =
       started = λ k d h below.
           let P : ℕ → PromisedHandle Desked DeskJob → Type 0 = λ j r. IsJob c.args.setup.now c.args.orders.now.items (slice_index_or c.args.desks.items j d) j r.promise in
           let there : slice_index_or c.args.desks.items at.number d ≡ desk = stands_at c.args.desks.items at.yielded desk rest at.number d parted at.invariant.count in
-          let here : P at.number handle = record {
-            settings_are = ap (λ (j : DeskJob). j.setup.value) kept ∙ c.of.ensures;
-            orders_are = search (rules, ap (λ (j : DeskJob). j.orders.value.items) kept, c.of-in-loop-desk-2.ensures);
-            place_is = ap (λ (j : DeskJob). j.number) kept;
-            desk_is = ap (λ (j : DeskJob). j.desk.value) kept ∙ (c.of-in-loop-desk.ensures ∙ sym there);
-          } in
+          let here : P at.number handle = subst (λ (e : Knowing). IsJob c.args.setup.now c.args.orders.now.items e at.number handle.promise) (sym there) started.2 in
           let last : P (length at.handles.items) handle = rw place here in
           rw pushed (row_more P at.handles.items handle (λ j e lt. at.invariant.started j d e lt) last k h (rw (sym pushed) below));
     }
