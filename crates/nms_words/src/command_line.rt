@@ -26,15 +26,13 @@ pub(crate) fn tool_command<'a>(alloc: Global) -> Result<Command<'a>, AllocError>
 fn top_command<'a>(alloc: Global) -> Result<Command<'a>, AllocError>
     ensures { IfOk result (λ command. app_of command ≡ without_subs) }
 {
-    let command = Command::new(alloc, "nms_tool").bin_name("nms_tool")?;
-    Ok(
-        command
-            .about(ABOUT)
-            .version(VERSION)
-            .after_help(AFTER_HELP)
-            .no_binary_name(true)
-            .disable_help_subcommand(true),
-    )
+    Command::new(alloc, "nms_tool")
+        .about(ABOUT)
+        .version(VERSION)
+        .after_help(AFTER_HELP)
+        .no_binary_name(true)
+        .disable_help_subcommand(true)
+        .bin_name("nms_tool")
 }
 
 // A subcommand with its own words, its option and its flag.
@@ -42,11 +40,10 @@ fn sub_command<'a>(alloc: Global, sub: Sub) -> Result<Command<'a>, AllocError>
     ensures app { IfOk result (λ command. app_of command ≡ app_of_sub sub) }
     ensures local { IfOk result (λ command. (fields_of command).has_globals ≡ false) }
 {
-    let command = option_command(alloc, sub)?;
     if sub.takes_manual() {
-        command.arg(manual_arg(alloc))
+        option_command(alloc, sub)?.arg(manual_arg(alloc))
     } else {
-        Ok(command)
+        option_command(alloc, sub)
     }
 }
 
