@@ -4,6 +4,7 @@ use crate::Failed;
 use crate::breaches::give_breach;
 use crate::commands::{give_command, give_words};
 use crate::escapes::bytes_of;
+use crate::exits::tell_exits;
 use crate::faults::tell_faults;
 use crate::numbers::give_numbers;
 use crate::plans::{give_audit, give_plan, rewrite_plan};
@@ -56,12 +57,13 @@ where
 
 /// Adds one of the program's own texts.
 fn give_text(title: &str, given: &mut Vec<u8>) -> Result<(), Failed> {
-    if title != "built-in setup" {
-        return tell_faults(given);
+    match title {
+        "built-in setup" => given
+            .extend_from_slice(SETUP_K.as_bytes())
+            .map_err(|_| Failed),
+        "exits" => tell_exits(given),
+        _ => tell_faults(given),
     }
-    given
-        .extend_from_slice(SETUP_K.as_bytes())
-        .map_err(|_| Failed)
 }
 /// Adds the answers of a script and what they come to.
 fn give_script(

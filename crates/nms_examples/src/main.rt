@@ -7,6 +7,7 @@ mod breaches;
 mod commands;
 mod escapes;
 mod example;
+mod exits;
 mod faults;
 mod numbers;
 mod plans;

@@ -1,0 +1,154 @@
+//! What the program tells of each fault, and the exit status that it ends with.
+
+use crate::Failed;
+use nms_board::BoardFault;
+use nms_command::{ToolFault, WordsFault};
+use nms_engine::{
+    ChangesFault, FeedFault, LiveFault, LiveTextFault, OrdersFault, PlanFault, ReportFault,
+    ScriptFault,
+};
+use nms_fees::SetupFault;
+use nms_lines::{LineFault, PlanTextFault};
+use nms_quote::Feed;
+use std::io::Write;
+
+/// Adds of each fault its code and its exit status, a line each.
+pub(crate) fn tell_exits(given: &mut Vec<u8>) -> Result<(), Failed> {
+    tell(given, &ToolFault::Words(WordsFault::NoMemory))?;
+    tell(given, &ToolFault::Usage)?;
+    tell(given, &ToolFault::Unreadable)?;
+    tell(given, &ToolFault::NoAudit)?;
+    tell_setup_exits(given)?;
+    tell_change_exits(given)?;
+    tell_file_exits(given)?;
+    tell_plan_exits(given)?;
+    tell_live_exits(given)
+}
+
+/// Adds a fault's code and its exit status.
+fn tell(given: &mut Vec<u8>, fault: &ToolFault) -> Result<(), Failed> {
+    let (code, status) = (fault.code(), fault.status());
+    writeln!(given, "{code} {status}").map_err(|_| Failed)
+}
+
+/// Adds those of a setup.
+fn tell_setup_exits(given: &mut Vec<u8>) -> Result<(), Failed> {
+    for fault in [
+        SetupFault::NotToml,
+        SetupFault::Missing,
+        SetupFault::UnknownKey,
+        SetupFault::BadName,
+        SetupFault::WrongType,
+        SetupFault::OutOfRange,
+        SetupFault::OverCap,
+        SetupFault::TooMany,
+        SetupFault::NoMemory,
+    ] {
+        tell(given, &ToolFault::Setup(fault))?;
+    }
+    Ok(())
+}
+
+/// Adds those of a file of changes.
+fn tell_change_exits(given: &mut Vec<u8>) -> Result<(), Failed> {
+    for fault in [
+        LineFault::UnknownKind,
+        LineFault::FieldCount,
+        LineFault::UnknownParticipant,
+        LineFault::UnknownSymbol,
+        LineFault::BadState,
+        LineFault::BadPrice,
+        LineFault::BadShares,
+        LineFault::HalfSide,
+        LineFault::WrongFeed,
+        LineFault::BadDesk,
+    ] {
+        tell(given, &ToolFault::Changes(ChangesFault::Line(fault)))?;
+    }
+    for fault in [
+        ChangesFault::ReadFault,
+        ChangesFault::TapeFull,
+        ChangesFault::NoMemory,
+    ] {
+        tell(given, &ToolFault::Changes(fault))?;
+        tell(given, &ToolFault::Report(ReportFault::Changes(fault)))?;
+        tell(given, &ToolFault::Plan(PlanFault::Changes(fault)))?;
+    }
+    Ok(())
+}
+
+/// Adds those of scripts, reports, feeds and files of orders.
+fn tell_file_exits(given: &mut Vec<u8>) -> Result<(), Failed> {
+    for fault in [
+        ScriptFault::ReadFault,
+        ScriptFault::WriteFault,
+        ScriptFault::TooLong,
+        ScriptFault::NoMemory,
+    ] {
+        tell(given, &ToolFault::Script(fault))?;
+    }
+    for fault in [
+        ReportFault::Board(BoardFault::NoMemory),
+        ReportFault::WriteFault,
+        ReportFault::NoMemory,
+    ] {
+        tell(given, &ToolFault::Report(fault))?;
+    }
+    for fault in [
+        FeedFault::ReadFault,
+        FeedFault::TooLong,
+        FeedFault::NoMemory,
+    ] {
+        tell(given, &ToolFault::Feed(fault))?;
+    }
+    for fault in [
+        OrdersFault::ReadFault,
+        OrdersFault::Line(LineFault::BadDesk),
+        OrdersFault::NoMemory,
+    ] {
+        tell(given, &ToolFault::Orders(fault))?;
+    }
+    Ok(())
+}
+
+/// Adds those of plans and their texts.
+fn tell_plan_exits(given: &mut Vec<u8>) -> Result<(), Failed> {
+    for fault in [
+        PlanFault::Board(BoardFault::NoMemory),
+        PlanFault::NoMemory,
+        PlanFault::WriteFault,
+    ] {
+        tell(given, &ToolFault::Plan(fault))?;
+    }
+    for fault in [
+        PlanTextFault::BadPlanText,
+        PlanTextFault::NoMemory,
+        PlanTextFault::WriteFault,
+    ] {
+        tell(given, &ToolFault::PlanText(fault))?;
+    }
+    Ok(())
+}
+
+/// Adds those of a live run and of its text.
+fn tell_live_exits(given: &mut Vec<u8>) -> Result<(), Failed> {
+    let refused = LiveFault::Line {
+        feed: Feed::B,
+        number: 7,
+        fault: LineFault::WrongFeed,
+    };
+    for fault in [
+        refused,
+        LiveFault::Open,
+        LiveFault::Append,
+        LiveFault::Desk,
+        LiveFault::GateLimit,
+        LiveFault::NoMemory,
+    ] {
+        tell(given, &ToolFault::Live(fault))?;
+    }
+    for fault in [LiveTextFault::NoMemory, LiveTextFault::WriteFault] {
+        tell(given, &ToolFault::LiveText(fault))?;
+    }
+    Ok(())
+}
