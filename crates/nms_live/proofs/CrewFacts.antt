@@ -1,13 +1,14 @@
 -- What the desks' workers came back with, and which fault a run answers.
-use Rattle.std.proofs.Common.{ℕ, ◌≡◌, ◌<◌, ◌⊎◌, List, length, Option, IfSome, ap, ◌∙◌, subst, inl, inr, arith}
+use Rattle.std.proofs.Common.{ℕ, ◌≡◌, ◌<◌, ◌⊎◌, List, length, replicate, Option, IfSome, ap, ◌∙◌, subst, inl, inr, arith}
 use Rattle.std.specs.Prelude.{slice_index_or}
+use Rattle.std.proofs.lemmas.List.{get_or-replicate, length-replicate}
 use Rattle.std.specs.declared.thread.PromisedHandle.{PromisedHandle}
 use Rattle.nms_quote.specs.Roster.{Listing}
 use Rattle.nms_quote.specs.declared.feed.Feed.{Feed}
 use Rattle.nms_feed.specs.Lane.{Sending}
 use Rattle.nms_fees.specs.Settings.{Settings}
 use Rattle.nms_versions.specs.Pages.{Book}
-use Rattle.nms_versions.specs.Taped.{Knowing}
+use Rattle.nms_versions.specs.Taped.{Knowing, unseeing}
 use Rattle.nms_live.specs.Answering.{IsWorked}
 use Rattle.nms_live.specs.Crew.{AreBack, AreReady, AreStarted, IsFeedJob, KeepsJob}
 use Rattle.nms_live.specs.Faults.{IsNoLineIfAny}
@@ -46,6 +47,14 @@ back_all settings orders opening desks handles backs ready one two started keeps
           (subst (λ (o : List DeskOrder). W promise.setup.value promise.number o) job.orders_are (kept.worked none)));
       stopped = kept.stopped;
     }
+
+-- desks that were just opened are ready
+pub ready_all : (settings : Settings) (opening : Book) (desks : List Knowing) → desks ≡ replicate settings.desks (unseeing opening settings) → AreReady settings opening desks
+ready_all settings opening desks is = λ k d below.
+    let new = unseeing opening settings in
+    let few : k < settings.desks = omega (arith, below, ap length is, length-replicate settings.desks new) in
+    let here : slice_index_or desks k d ≡ new = ap (λ (l : List Knowing). slice_index_or l k d) is ∙ get_or-replicate settings.desks k new d few in
+    (ap (λ (w : Knowing). w.opening) here, ap (λ (w : Knowing). w.sizes) here)
 
 -- a feed's worker kept its promise
 pub fed_by_job : (settings : Settings) (feed : Feed) (text : List ℕ) (sender : Sending) (job : FeedJob) (fed : Fed) → IsFeedJob settings feed text sender job

@@ -1,4 +1,4 @@
-use Rattle.std.proofs.Common.{ℕ, ◌≡◌, ◌<◌, ◌+◌, ◌++◌, ◌∷◌, [], List, length, take, drop, ap, sym, subst, ◌∙◌, arith, rules}
+use Rattle.std.proofs.Common.{ℕ, ◌≡◌, ◌<◌, ◌+◌, ◌++◌, ◌∷◌, [], List, length, take, drop, refl, ap, sym, subst, ◌∙◌, arith, rules}
 use Rattle.std.specs.List.{AllZip, enumerate_from}
 use Rattle.std.proofs.Math.Seq.{drop-length, take-length}
 use Rattle.nms_live.specs.Answering.{IsFor, IsSound, numbered}
@@ -7,7 +7,7 @@ use Rattle.nms_quote.specs.declared.answer.Answer.{Answer}
 use Rattle.nms_quote.specs.declared.desk_order.DeskOrder.{DeskOrder}
 use Rattle.nms_live.proofs.AnswerFacts.{numbered_more}
 use Rattle.nms_live.proofs.DeskFacts.{zip_push}
-use Rattle.nms_live.proofs.LeftFacts.{left_step, next_step, numbered_rest, rising_all}
+use Rattle.nms_live.proofs.LeftFacts.{left_start, left_step, next_step, numbered_rest, rising_all}
 use Rattle.nms_live.proofs.NumberFacts.{all_push}
 use Rattle.nms_live.proofs.gathering.gather.Goals as goal
 
@@ -71,3 +71,14 @@ returns-clause-answered c =
       last = inv.last;
       rising = rising_all settings orders tape published at.answers.items at.closing.items c.args.rows.items at.rows.items c.requires.rows inv.count c.requires.desks left matched again;
     }
+
+pub loop-wanted-init : goal.loop-wanted-init
+loop-wanted-init c = rw (c.new-answers.ensures.items, c.new-closing.ensures.items) record {
+  count = refl;
+  left = left_start c.args.setup.now c.args.orders.now c.args.tape.now c.args.published.now c.args.rows.items c.requires.rows;
+  matched = tt;
+  closing_matched = tt;
+  sound = tt;
+  closing_sound = tt;
+  last = tt;
+}
