@@ -1,5 +1,5 @@
 -- What the desks' workers came back with, and which fault a run answers.
-use Rattle.std.proofs.Common.{ℕ, ◌≡◌, ◌<◌, ◌⊎◌, List, length, replicate, Option, IfSome, ap, ◌∙◌, subst, inl, inr, arith}
+use Rattle.std.proofs.Common.{ℕ, ◌≡◌, ◌<◌, ◌⊎◌, None, List, [], length, replicate, Option, IfSome, ap, ◌∙◌, subst, inl, inr, arith}
 use Rattle.std.specs.Prelude.{slice_index_or}
 use Rattle.std.proofs.lemmas.List.{get_or-replicate, length-replicate}
 use Rattle.std.specs.declared.thread.PromisedHandle.{PromisedHandle}
@@ -8,10 +8,11 @@ use Rattle.nms_quote.specs.declared.feed.Feed.{Feed}
 use Rattle.nms_feed.specs.Lane.{Sending}
 use Rattle.nms_fees.specs.Settings.{Settings}
 use Rattle.nms_versions.specs.Pages.{Book}
-use Rattle.nms_versions.specs.Taped.{Knowing, unseeing}
+use Rattle.nms_versions.specs.Taped.{Knowing, Taped, unseeing}
 use Rattle.nms_live.specs.Answering.{IsWorked}
 use Rattle.nms_live.specs.Crew.{AreBack, AreReady, AreStarted, IsFeedJob, KeepsJob}
 use Rattle.nms_live.specs.Faults.{IsNoLineIfAny}
+use Rattle.nms_live.specs.Keeping.{Keeping}
 use Rattle.nms_live.specs.Reading.{IsFed, IsLiveFault}
 use Rattle.nms_quote.specs.declared.desk_order.DeskOrder.{DeskOrder}
 use Rattle.nms_live.specs.declared.desk_work.DeskJob.{DeskJob}
@@ -55,6 +56,15 @@ ready_all settings opening desks is = λ k d below.
     let few : k < settings.desks = omega (arith, below, ap length is, length-replicate settings.desks new) in
     let here : slice_index_or desks k d ≡ new = ap (λ (l : List Knowing). slice_index_or l k d) is ∙ get_or-replicate settings.desks k new d few in
     (ap (λ (w : Knowing). w.opening) here, ap (λ (w : Knowing). w.sizes) here)
+
+-- they are ready for the keeper of their tape
+pub ready_for : (settings : Settings) (taped : Taped) (keeping : Keeping) (desks : List Knowing) → keeping ≡ record { taped = taped; listed = []; stop = None }
+    → desks ≡ replicate settings.desks (unseeing taped.opening settings) → AreReady settings keeping.taped.opening desks
+ready_for settings taped keeping desks kept is = rw kept (ready_all settings taped.opening desks is)
+
+-- they are as many as the setup says
+pub count_of_all : (settings : Settings) (opening : Book) (desks : List Knowing) → desks ≡ replicate settings.desks (unseeing opening settings) → length desks ≡ settings.desks
+count_of_all settings opening desks is = rw is (length-replicate settings.desks (unseeing opening settings))
 
 -- a feed's worker kept its promise
 pub fed_by_job : (settings : Settings) (feed : Feed) (text : List ℕ) (sender : Sending) (job : FeedJob) (fed : Fed) → IsFeedJob settings feed text sender job
