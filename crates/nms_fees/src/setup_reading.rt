@@ -71,9 +71,27 @@ fn roster_of(alloc: Global, participants: &[Value], symbols: &[Value]) -> Result
     let Ok(mut roster) = Roster::new(alloc) else {
         return Err(SetupFault::NoMemory);
     };
-    add_participants(&mut roster, participants)?;
-    add_symbols(&mut roster, symbols)?;
-    Ok(roster)
+    match fill_roster(&mut roster, participants, symbols) {
+        Ok(()) => Ok(roster),
+        Err(fault) => Err(fault),
+    }
+}
+
+/// Adds the elements of the two arrays to an empty roster.
+fn fill_roster(
+    roster: &mut Roster,
+    participants: &[Value],
+    symbols: &[Value],
+) -> Result<(), SetupFault>
+    requires empty { (roster.old.parts ≡ []) × (roster.old.syms ≡ []) }
+    requires participants { rows_fault section.Participant (map view participants.now) ≡ None }
+    requires symbols { rows_fault section.Symbol (map view symbols.now) ≡ None }
+    ensures parts { OnOk result (roster.new.parts ≡ map participant_of (map view participants.now)) }
+    ensures syms { OnOk result (roster.new.syms ≡ map symbol_of (map view symbols.now)) }
+    ensures memory { IfErr result (λ fault. fault ≡ SetupFault.NoMemory) }
+{
+    add_participants(roster, participants)?;
+    add_symbols(roster, symbols)
 }
 
 fn add_participants(roster: &mut Roster, rows: &[Value]) -> Result<(), SetupFault>
