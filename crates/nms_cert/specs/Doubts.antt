@@ -10,7 +10,7 @@ use Rattle.nms_quote.specs.declared.certificate.CutKind.TheVariants.{TooMuch, To
 use Rattle.nms_quote.specs.declared.order.OrderSide.{OrderSide}
 use Rattle.nms_quote.specs.declared.plan.Plan.{Plan}
 use Rattle.nms_board.specs.View.{Seen}
-use Rattle.nms_fees.specs.declared.fee_schedule.FeeSchedule.{FeeSchedule}
+use Rattle.nms_fee_book.specs.declared.fee_schedule.FeeSchedule.{FeeSchedule}
 use Rattle.nms_rules.specs.Assignment.{fillable}
 use Rattle.nms_rules.specs.Breach.{breach_of}
 use Rattle.nms_rules.specs.Cutoff.{least_cost, pool, swept}

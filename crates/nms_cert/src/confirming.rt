@@ -17,7 +17,7 @@ use crate::cuts::{
 };
 use crate::doubt::Doubt;
 use nms_board::View;
-use nms_fees::FeeBook;
+use nms_fee_book::FeeBook;
 use nms_quote::{Certificate, Cut, Order, OrderSide, Plan};
 use nms_rules::{Breach, UsableRow, breach, fillable, usable_rows};
 use nms_units::Money;

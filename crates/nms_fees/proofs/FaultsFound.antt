@@ -9,7 +9,8 @@ use Rattle.toml.specs.Data.{Data, Members, table, array, get_member, as_str, as_
 use Rattle.nms_units.specs.declared.TheConstants.{MOST_LOT}
 use Rattle.nms_quote.specs.Roster.{Name}
 use Rattle.nms_quote.specs.declared.TheConstants.{MOST_CHANGES}
-use Rattle.nms_fees.specs.declared.TheConstants.{FEE_CAP, LEAST_QUEUE, MOST_DESKS, MOST_FEE, MOST_QUEUE, MOST_RATE, RATE_CAP}
+use Rattle.nms_fee_book.specs.declared.TheConstants.{FEE_CAP, MOST_FEE, MOST_RATE, RATE_CAP}
+use Rattle.nms_fees.specs.declared.TheConstants.{LEAST_QUEUE, MOST_DESKS, MOST_QUEUE}
 use Rattle.nms_fees.specs.FaultTable.{are_no_tables, document_has, has_more, has_other_key, has_twice, is_empty, is_no_number, is_no_table, is_no_text, is_outside, is_over, table_has, tables_at}
 use Rattle.nms_fees.specs.Faults.{least, lesser}
 use Rattle.nms_fees.specs.Places.{array_fault, cap_fault, count_fault, document_fault, feed_fault, has_repeat, is_feed, is_name_in, listed, most_of, name_fault, name_in, range_fault, row_fault, rows_in, table_findings}

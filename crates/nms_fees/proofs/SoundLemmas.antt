@@ -15,8 +15,9 @@ use Rattle.toml.specs.View.{view}
 use Rattle.toml.specs.declared.value.Value.{Value}
 use Rattle.nms_quote.specs.Roster.{Name, place_in, refusal_in}
 use Rattle.nms_quote.specs.declared.TheConstants.{MOST_CHANGES}
-use Rattle.nms_fees.specs.declared.TheConstants.{FEE_CAP, LEAST_QUEUE, MOST_DESKS, MOST_FEE, MOST_QUEUE, MOST_RATE, RATE_CAP}
-use Rattle.nms_fees.specs.Fees.{IsCapped, AreCapped}
+use Rattle.nms_fee_book.specs.declared.TheConstants.{FEE_CAP, MOST_FEE, MOST_RATE, RATE_CAP}
+use Rattle.nms_fees.specs.declared.TheConstants.{LEAST_QUEUE, MOST_DESKS, MOST_QUEUE}
+use Rattle.nms_fee_book.specs.Fees.{IsCapped, AreCapped}
 use Rattle.nms_fees.specs.Faults.{lesser, least}
 use Rattle.nms_fees.specs.Places.{range_fault, cap_fault, name_fault, is_name_in, participant_findings, symbol_findings, row_fault, name_in, has_repeat, most_of, count_fault, rows_in, rows_findings, rows_fault, array_fault, document_findings, document_fault}
 use Rattle.nms_fees.specs.Setup.{text_at, count_at, rows_at, table_of, schedule_of}

@@ -8,7 +8,8 @@ use Rattle.toml.specs.Data.{Data, Items, no_items, item, Members, no_members, me
 use Rattle.nms_units.specs.declared.TheConstants.{MOST_LOT}
 use Rattle.nms_quote.specs.Roster.{Name, is_part_name, is_symbol_name}
 use Rattle.nms_quote.specs.declared.TheConstants.{MOST_CHANGES, MOST_PARTICIPANTS, MOST_SYMBOLS}
-use Rattle.nms_fees.specs.declared.TheConstants.{FEE_CAP, LEAST_QUEUE, MOST_DESKS, MOST_FEE, MOST_QUEUE, MOST_RATE, RATE_CAP}
+use Rattle.nms_fee_book.specs.declared.TheConstants.{FEE_CAP, MOST_FEE, MOST_RATE, RATE_CAP}
+use Rattle.nms_fees.specs.declared.TheConstants.{LEAST_QUEUE, MOST_DESKS, MOST_QUEUE}
 use Rattle.nms_fees.specs.Faults.{least}
 use Rattle.nms_fees.specs.declared.setup_fault.SetupFault.{SetupFault}
 use Rattle.nms_fees.specs.declared.setup_fault.SetupFault.TheVariants as fault

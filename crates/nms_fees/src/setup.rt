@@ -1,9 +1,9 @@
 //! What a setup's document says: `specs/Settings`.
 ghost use Rattle.std.specs.Prelude.{◌≡◌, ◌≤◌, length};
-ghost use Rattle.nms_fees.specs.Fees.{AreCapped};
+ghost use Rattle.nms_fee_book.specs.Fees.{AreCapped};
 
-use crate::fee_book::FeeBook;
 use crate::{LEAST_QUEUE, MOST_DESKS, MOST_QUEUE};
+use nms_fee_book::FeeBook;
 use nms_quote::{MOST_CHANGES, Roster};
 use std::marker::Model;
 

@@ -3,16 +3,15 @@ ghost use Rattle.std.specs.Prelude.{◌≡◌, ◌≢◌, [], ◌∷◌, ◌++�
 ghost use Rattle.toml.specs.View.{view, table_view};
 ghost use Rattle.nms_quote.specs.Roster.{part_refusal, sym_refusal};
 ghost use Rattle.nms_fees.specs.declared.section.Section.TheVariants as section;
-ghost use Rattle.nms_fees.specs.Fees.{IsCapped, AreCapped};
+ghost use Rattle.nms_fee_book.specs.Fees.{IsCapped, AreCapped};
 ghost use Rattle.nms_fees.specs.Places.{row_fault, rows_fault, document_fault};
 ghost use Rattle.nms_fees.specs.Setup.{text_at, number_at, table_of, feed_named, participant_of, schedule_of, symbol_of, settings_of, reading};
 
 use crate::check::document_fault;
-use crate::fee_book::FeeBook;
-use crate::fee_schedule::FeeSchedule;
 use crate::setup::Setup;
 use crate::setup_fault::SetupFault;
 use crate::toml_table::{count_at, number_at, rows_at, text_at};
+use nms_fee_book::{FeeBook, FeeSchedule};
 use nms_quote::{Feed, Roster};
 use nms_units::Lot;
 use std::alloc::Global;

@@ -12,7 +12,7 @@ use Rattle.nms_quote.specs.declared.plan.Leg.{Leg}
 use Rattle.nms_quote.specs.declared.plan.Plan.{Plan}
 use Rattle.nms_board.specs.View.{Seen, AreRows}
 use Rattle.nms_board.specs.declared.row.Row.{Row}
-use Rattle.nms_fees.specs.declared.fee_schedule.FeeSchedule.{FeeSchedule}
+use Rattle.nms_fee_book.specs.declared.fee_schedule.FeeSchedule.{FeeSchedule}
 use Rattle.nms_rules.specs.Assignment.{IsLawful, IsOnUsable, SweepsBetter}
 use Rattle.nms_rules.specs.Breach.{breach_of, is_same_order, has_other_price, has_leg_beyond, is_over_size, is_traded_through, lacks_quotation, row_for, some_has_no_shares, some_has_other_price, some_is_beyond_limit, some_is_over_size, some_lacks_quotation, has_no_shares, is_beyond_limit}
 use Rattle.nms_rules.specs.Faultless.{IsFaultless, cost_of, given_by, sum_of}

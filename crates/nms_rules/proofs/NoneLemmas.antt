@@ -9,7 +9,7 @@ use Rattle.nms_quote.specs.declared.plan.Leg.{Leg}
 use Rattle.nms_quote.specs.declared.plan.Plan.{Plan}
 use Rattle.nms_board.specs.View.{Seen}
 use Rattle.nms_board.specs.declared.row.Row.{Row}
-use Rattle.nms_fees.specs.declared.fee_schedule.FeeSchedule.{FeeSchedule}
+use Rattle.nms_fee_book.specs.declared.fee_schedule.FeeSchedule.{FeeSchedule}
 use Rattle.nms_rules.specs.Breach.{breach_of, first_traded_through, has_repeat, is_other_order, is_other_version, is_over_asked, leg_breach, some_has_no_shares, some_has_other_price, some_is_beyond_limit, some_is_over_size, some_lacks_quotation, sum_breach}
 use Rattle.nms_rules.specs.Faultless.{cost_of, sum_of}
 use Rattle.nms_rules.specs.First.{when, ◌or_else◌}

@@ -13,8 +13,8 @@ use Rattle.nms_quote.specs.declared.plan.Leg.{Leg}
 use Rattle.nms_quote.specs.declared.plan.Plan.{Plan}
 use Rattle.nms_board.specs.View.{Seen}
 use Rattle.nms_board.specs.declared.row.Row.{Row}
-use Rattle.nms_fees.specs.Fees.{unit_cost_of}
-use Rattle.nms_fees.specs.declared.fee_schedule.FeeSchedule.{FeeSchedule}
+use Rattle.nms_fee_book.specs.Fees.{unit_cost_of}
+use Rattle.nms_fee_book.specs.declared.fee_schedule.FeeSchedule.{FeeSchedule}
 use Rattle.nms_rules.specs.Assignment.{Assignment, amount, filled, total, total_cost}
 use Rattle.nms_rules.specs.Faultless.{IsFaultless, cost_of, given_by, leg_cost, sum_of}
 use Rattle.nms_rules.specs.Usable.{Usable, contra_rows, is_usable, usable, usable_row}

@@ -6,7 +6,7 @@ use Rattle.nms_quote.specs.Terms.{Terms}
 use Rattle.nms_quote.specs.declared.certificate.Cut.{Cut}
 use Rattle.nms_quote.specs.declared.plan.Plan.{Plan}
 use Rattle.nms_board.specs.View.{Seen}
-use Rattle.nms_fees.specs.declared.fee_schedule.FeeSchedule.{FeeSchedule}
+use Rattle.nms_fee_book.specs.declared.fee_schedule.FeeSchedule.{FeeSchedule}
 use Rattle.nms_rules.specs.Assignment.{fillable}
 use Rattle.nms_rules.specs.Cutoff.{KindHolds}
 use Rattle.nms_rules.specs.Faultless.{IsFaultless}

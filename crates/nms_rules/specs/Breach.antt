@@ -10,7 +10,7 @@ use Rattle.nms_quote.specs.declared.plan.Leg.{Leg}
 use Rattle.nms_quote.specs.declared.plan.Plan.{Plan}
 use Rattle.nms_board.specs.View.{Seen}
 use Rattle.nms_board.specs.declared.row.Row.{Row}
-use Rattle.nms_fees.specs.declared.fee_schedule.FeeSchedule.{FeeSchedule}
+use Rattle.nms_fee_book.specs.declared.fee_schedule.FeeSchedule.{FeeSchedule}
 use Rattle.nms_rules.specs.Faultless.{cost_of, given_by, sum_of}
 use Rattle.nms_rules.specs.First.{when, ◌or_else◌}
 use Rattle.nms_rules.specs.Usable.{contra_rows, is_allowed, is_better}

@@ -8,8 +8,8 @@ use Rattle.nms_quote.specs.declared.order.OrderSide.{OrderSide}
 use Rattle.nms_quote.specs.declared.plan.Leg.{Leg}
 use Rattle.nms_quote.specs.declared.plan.Plan.{Plan}
 use Rattle.nms_board.specs.View.{Seen}
-use Rattle.nms_fees.specs.Fees.{unit_cost_of}
-use Rattle.nms_fees.specs.declared.fee_schedule.FeeSchedule.{FeeSchedule}
+use Rattle.nms_fee_book.specs.Fees.{unit_cost_of}
+use Rattle.nms_fee_book.specs.declared.fee_schedule.FeeSchedule.{FeeSchedule}
 use Rattle.nms_rules.specs.Assignment.{Assignment, IsLawful, IsOnUsable}
 use Rattle.nms_rules.specs.Usable.{contra_rows, usable}
 

@@ -1,7 +1,7 @@
 pub use Rattle.nms_quote.specs.Terms as Terms
 pub use Rattle.nms_board.specs.Ranking as Ranking
 pub use Rattle.nms_board.specs.View as View
-pub use Rattle.nms_fees.specs.Fees as Fees
+pub use Rattle.nms_fee_book.specs.Fees as Fees
 pub mod Accepted
 pub mod Assignment
 pub mod Breach

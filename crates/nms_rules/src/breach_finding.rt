@@ -13,7 +13,7 @@ use crate::leg_test::{
 };
 use arrayvec::ArrayVec;
 use nms_board::View;
-use nms_fees::FeeBook;
+use nms_fee_book::FeeBook;
 use nms_quote::{Leg, Order, Plan};
 
 /// What breaks a plan for an order on a view: the breach of least number that holds, and `None` exactly where

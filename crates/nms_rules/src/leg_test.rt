@@ -6,7 +6,7 @@ ghost use Rattle.nms_rules.specs.Usable.{contra, is_better};
 
 use arrayvec::ArrayVec;
 use nms_board::{Row, View};
-use nms_fees::FeeBook;
+use nms_fee_book::FeeBook;
 use nms_quote::{Leg, Order, OrderSide, Part, Side};
 use nms_units::{Money, Price};
 

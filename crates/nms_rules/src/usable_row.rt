@@ -7,7 +7,7 @@ use crate::leg_test::{contra, is_better};
 use crate::rank::Rank;
 use arrayvec::ArrayVec;
 use nms_board::{Row, View};
-use nms_fees::FeeBook;
+use nms_fee_book::FeeBook;
 use nms_quote::{Order, OrderSide, Part};
 use nms_units::{Money, Price};
 use std::marker::Model;

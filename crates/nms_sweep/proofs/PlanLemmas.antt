@@ -18,8 +18,8 @@ use Rattle.nms_quote.specs.declared.plan.Leg.{Leg}
 use Rattle.nms_quote.specs.declared.plan.Plan.{Plan}
 use Rattle.nms_board.specs.View.{Seen}
 use Rattle.nms_board.specs.declared.row.Row.{Row}
-use Rattle.nms_fees.specs.Fees.{unit_cost_of}
-use Rattle.nms_fees.specs.declared.fee_schedule.FeeSchedule.{FeeSchedule}
+use Rattle.nms_fee_book.specs.Fees.{unit_cost_of}
+use Rattle.nms_fee_book.specs.declared.fee_schedule.FeeSchedule.{FeeSchedule}
 use Rattle.nms_rules.specs.Accepted.{IsAccepted}
 use Rattle.nms_rules.specs.Assignment.{IsLawful, SweepsBetter, fillable, total}
 use Rattle.nms_rules.specs.Cutoff.{IsBounded, KindHolds, least_cost, pool, pool_part, savings_part, swept, swept_cost_part, swept_part}

@@ -7,7 +7,7 @@ ghost use Rattle.nms_rules.specs.Accepted.{IsAccepted};
 ghost use Rattle.nms_rules.specs.Faultless.{cost_of, sum_of};
 ghost use Rattle.nms_sweep.specs.Bounds.{IsWithinBounds, most_unit};
 
-use nms_fees::FeeBook;
+use nms_fee_book::FeeBook;
 use nms_quote::{Leg, Order, OrderSide, Plan};
 
 /// A plan that is accepted for an order with its certificate fills at most 999,999,999 shares, each of which costs at

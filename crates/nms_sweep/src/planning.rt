@@ -11,7 +11,7 @@ use crate::cutting::cuts_of;
 use crate::legs::legs_chosen;
 use crate::row_order::{Key, in_order};
 use nms_board::View;
-use nms_fees::FeeBook;
+use nms_fee_book::FeeBook;
 use nms_quote::{Certificate, Order, Plan};
 use nms_rules::{fillable, usable_rows};
 

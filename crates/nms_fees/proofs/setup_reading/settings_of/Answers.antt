@@ -3,7 +3,7 @@ use Rattle.std.proofs.lemmas.List.{length-map}
 use Rattle.toml.specs.View.{view, table_view}
 use Rattle.nms_quote.specs.declared.TheConstants.{MOST_CHANGES}
 use Rattle.nms_fees.specs.declared.TheConstants.{LEAST_QUEUE, MOST_DESKS, MOST_QUEUE}
-use Rattle.nms_fees.specs.Fees.{AreCapped}
+use Rattle.nms_fee_book.specs.Fees.{AreCapped}
 use Rattle.nms_fees.specs.Setup.{participant_of, schedule_of}
 use Rattle.nms_fees.proofs.SoundLemmas.{tape_limit_of, queue_of, desks_of, participants_of, symbols_of, charges_of_rows}
 use Rattle.nms_fees.proofs.setup_reading.settings_of.Goals as goal

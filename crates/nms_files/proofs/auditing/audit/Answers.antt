@@ -3,7 +3,7 @@ use Rattle.nms_quote.specs.Roster.{Listing, sizes_of}
 use Rattle.nms_quote.specs.Tape.{version}
 use Rattle.nms_quote.specs.declared.plan.Plan.{Plan}
 use Rattle.nms_board.specs.View.{Seen, view_of}
-use Rattle.nms_fees.specs.declared.fee_schedule.FeeSchedule.{FeeSchedule}
+use Rattle.nms_fee_book.specs.declared.fee_schedule.FeeSchedule.{FeeSchedule}
 use Rattle.nms_cert.specs.Doubts.{doubt_of}
 use Rattle.nms_files.specs.Audit.{seen_by}
 use Rattle.nms_files.proofs.auditing.audit.Goals as goal

@@ -6,7 +6,7 @@ use Rattle.nms_flow.specs.declared.step.Step.TheVariants as step
 use Rattle.nms_quote.specs.Roster.{Listing}
 use Rattle.nms_lines.specs.PlanText.{plan_records}
 use Rattle.nms_lines.specs.Text.{text_of}
-use Rattle.nms_fees.specs.declared.fee_schedule.FeeSchedule.{FeeSchedule}
+use Rattle.nms_fee_book.specs.declared.fee_schedule.FeeSchedule.{FeeSchedule}
 use Rattle.nms_rules.specs.Accepted.{IsAccepted}
 use Rattle.nms_scripts.proofs.ScriptFacts.{shows_plan}
 use Rattle.nms_scripts.proofs.script_record.serve_sweep.Goals as goal

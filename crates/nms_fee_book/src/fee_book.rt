@@ -1,6 +1,6 @@
 //! What a share costs with the access fees of all participants: `specs/Fees`.
 ghost use Rattle.std.specs.Prelude.{◌≡◌, [], ◌∷◌, ◌++◌, OnOk, OnErr, pos, negsuc, ◌≤ℤ◌};
-ghost use Rattle.nms_fees.specs.Fees.{fee_at, schedule_at, price_on, unit_cost_of, IsCapped, AreCapped};
+ghost use Rattle.nms_fee_book.specs.Fees.{fee_at, schedule_at, price_on, unit_cost_of, IsCapped, AreCapped};
 
 use crate::fee_schedule::FeeSchedule;
 use nms_quote::{OrderSide, Part};
@@ -21,8 +21,8 @@ pub struct FeeBook {
 
 impl Model for FeeBook {
     ghost use Rattle.std.specs.Prelude.{List};
-    ghost use Rattle.nms_fees.specs.declared.fee_schedule.FeeSchedule.{FeeSchedule};
-    ghost use Rattle.nms_fees.specs.Fees.{AreCapped};
+    ghost use Rattle.nms_fee_book.specs.declared.fee_schedule.FeeSchedule.{FeeSchedule};
+    ghost use Rattle.nms_fee_book.specs.Fees.{AreCapped};
 
     ghost Value = { List FeeSchedule };
 
@@ -46,7 +46,7 @@ impl FeeBook {
     }
 
     /// A book without fees.
-    pub(crate) fn new(alloc: Global) -> Self
+    pub fn new(alloc: Global) -> Self
         ensures { result ≡ [] }
     {
         FeeBook {
@@ -55,7 +55,7 @@ impl FeeBook {
     }
 
     /// Adds the fees of the participant at the next place. Where memory is short, nothing changes.
-    pub(crate) fn push(&mut self, schedule: FeeSchedule) -> Result<(), AllocError>
+    pub fn push(&mut self, schedule: FeeSchedule) -> Result<(), AllocError>
         requires { IsCapped schedule }
         ensures added { OnOk result (self.new ≡ self.old ++ schedule ∷ []) }
         ensures unchanged { OnErr result (self.new ≡ self.old) }

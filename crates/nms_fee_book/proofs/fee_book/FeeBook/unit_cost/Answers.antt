@@ -1,8 +1,8 @@
 use Rattle.std.proofs.Common.{ℤ, pos, negsuc, ◌≡◌, ◌+ℤ◌, ◌≤ℤ◌, arith, ap, ◌∙◌, to_z, of_z}
 use Rattle.std.proofs.lemmas.Int.{ints}
 use Rattle.std.specs.Int.{w128}
-use Rattle.nms_fees.specs.Fees.{fee_at}
-use Rattle.nms_fees.proofs.fee_book.FeeBook.unit_cost.Goals as goal
+use Rattle.nms_fee_book.specs.Fees.{fee_at}
+use Rattle.nms_fee_book.proofs.fee_book.FeeBook.unit_cost.Goals as goal
 
 -- the sum fits
 sum_kept : (cost price fee price_read fee_read : ℤ) → price_read ≡ price → fee_read ≡ fee → negsuc 9999999999999999 ≤ℤ price → price ≤ℤ pos 10000000000000000 → negsuc 9999999 ≤ℤ fee → fee ≤ℤ pos 10000000

@@ -2,8 +2,8 @@
 use Rattle.std.specs.Prelude.{ℕ, ℤ, pos, neg_ℤ, ◌+ℤ◌, ◌*ℤ◌, ◌≤ℤ◌, ◌*◌, nat_le, List, All, unwrap_or, slice_get, if◌then◌else◌}
 use Rattle.nms_quote.specs.declared.order.OrderSide.{OrderSide}
 use Rattle.nms_quote.specs.declared.order.OrderSide.TheVariants as side
-use Rattle.nms_fees.specs.declared.TheConstants.{FEE_CAP, MOST_FEE, MOST_RATE, RATE_CAP}
-use Rattle.nms_fees.specs.declared.fee_schedule.FeeSchedule.{FeeSchedule}
+use Rattle.nms_fee_book.specs.declared.TheConstants.{FEE_CAP, MOST_FEE, MOST_RATE, RATE_CAP}
+use Rattle.nms_fee_book.specs.declared.fee_schedule.FeeSchedule.{FeeSchedule}
 
 -- no fees at all
 abbrev pub no_fees : FeeSchedule

@@ -1,0 +1,19 @@
+//! What a share costs with the access fees of the participants (17 CFR 242.610(c) as adopted in 2005).
+#![tactic(auto)]
+
+mod fee_book;
+mod fee_schedule;
+
+pub use fee_book::FeeBook;
+pub use fee_schedule::FeeSchedule;
+
+/// The most that a fee or a rebate may be at a price of one dollar or more, in nanodollars for a share.
+pub const MOST_FEE: u32 = 10_000_000;
+/// The cap of a fee at a price of one dollar or more, in nanodollars for a share: $0.003 (17 CFR 242.610(c),
+/// as adopted in 2005).
+pub const FEE_CAP: u32 = 3_000_000;
+/// The most that a fee or a rebate may be at a lower price, in hundred-thousandths of the price.
+pub const MOST_RATE: u32 = 1000;
+/// The cap of a fee at a lower price, in hundred-thousandths of the price: 0.3 percent (17 CFR 242.610(c), as
+/// adopted in 2005).
+pub const RATE_CAP: u32 = 300;
