@@ -45,7 +45,7 @@ def below(crates, name):
 
 
 def times():
-    """Seconds and jobs of each crate, and what a build took with so many lanes."""
+    """Processor seconds and jobs of each crate."""
     with open(f"{TOP}/build/times", encoding="utf-8") as file:
         rows = [line.split() for line in file if re.match(r"\w", line)]
     return {row[0]: (float(row[1]), int(row[2])) for row in rows}
@@ -155,8 +155,7 @@ class Build:
             time.sleep(0.1)
 
     def run(self):
-        elsewhere = f"elsewhere that took {self.times['minutes_with_4_lanes'][0]:.0f} minutes on four processors"
-        self.tell(f"proving and building {self.all} crates, {self.lanes} at a time; {elsewhere}, {self.times['minutes_with_2_lanes'][0]:.0f} on two")
+        self.tell(f"proving and building {self.all} crates, {self.lanes} at a time; elsewhere that took {self.whole / 60:.0f} minutes of processor")
         while self.running or (self.left and not self.failed):
             ready = [it for it in self.left if all(low in self.done for low in self.crates[it][1])]
             ready.sort(key=self.behind, reverse=True)
