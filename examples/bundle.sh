@@ -1,7 +1,8 @@
 #!/bin/sh
 # Writes the examples and cases of this folder as one input of crates/nms_examples, which the gate runs. With the
-# word `check` it compares instead: status 1 where the stored input is not what the files here make.
+# word `check` it compares instead, and ends with a line `N passed, M failed`; with `print` it writes the input out.
 set -eu
+export LC_ALL=C
 cd "$(dirname "$0")"
 stored=../crates/nms_examples/stdin
 
@@ -102,6 +103,7 @@ runs() {
     printf '%s\n' 7 '-- errors' 'nms_tool: E7'
 }
 
+# The examples that have files of their own, then what is made above, then each file of cases.
 bundle() {
     setup
     script first.script
@@ -124,17 +126,22 @@ bundle() {
     echo '== text built-in setup'
     echo '-- gives'
     cat builtin.toml
-    cat cases/texts.cases cases/quotes.cases cases/refused.cases cases/records.cases cases/reports.cases cases/limits.cases
-    cat cases/chance.cases cases/chance_orders.cases cases/chance_plans.cases cases/markets.cases cases/numbers.cases cases/lines.cases cases/settings.cases cases/plans.cases cases/audits.cases cases/breaches.cases cases/commands.cases cases/live.cases cases/chance_live.cases cases/extremes.cases
     filled
     runs
     crowds
-    setup
-    cat cases/trials.cases
+    cat cases/*.cases
 }
 
-if [ "${1:-}" = check ]; then
-    bundle | cmp -s - "$stored" || { echo 'DIFFERS: crates/nms_examples/stdin: run examples/bundle.sh' >&2; exit 1; }
+if [ "${1:-}" = print ]; then
+    bundle
+elif [ "${1:-}" = check ]; then
+    if bundle | cmp -s - "$stored"; then
+        echo '1 passed, 0 failed'
+    else
+        echo 'DIFFERS: crates/nms_examples/stdin: run examples/bundle.sh'
+        echo '0 passed, 1 failed'
+        exit 1
+    fi
 else
     bundle >"$stored"
 fi

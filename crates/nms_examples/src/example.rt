@@ -50,7 +50,8 @@ where
         "numbers" => give_numbers(&input, &mut given)?,
         "words" => give_words(alloc, &input, &mut given)?,
         "steps" => give_steps(alloc, setup, &input, &mut given)?,
-        _ => give_text(rest, &mut given)?,
+        "text" => give_text(rest, &mut given)?,
+        _ => return Err(Failed),
     }
     Ok(given)
 }
@@ -62,7 +63,8 @@ fn give_text(title: &str, given: &mut Vec<u8>) -> Result<(), Failed> {
             .extend_from_slice(SETUP_K.as_bytes())
             .map_err(|_| Failed),
         "exits" => tell_exits(given),
-        _ => tell_faults(given),
+        "faults" => tell_faults(given),
+        _ => Err(Failed),
     }
 }
 /// Adds the answers of a script and what they come to.

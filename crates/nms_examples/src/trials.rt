@@ -1,8 +1,6 @@
-//! What the text of an example can't hold: streams that fail or count, limits, and what want of memory leaves. A call
-//! that does not answer as it must fails its trial, which says what was answered on standard error.
-mod command_streams;
+//! What the text of an example can't hold: streams that fail in mid-run or count, and limits. A call that does not
+//! answer as it must fails its trial, which says what was answered on standard error.
 mod limits;
-mod memory;
 mod plan_streams;
 mod readme;
 mod record_streams;
@@ -15,10 +13,7 @@ use crate::Failed;
 use nms_fees::Setup;
 use std::fmt::Debug;
 use std::process::Termination;
-use std::rt::Files;
-use std::sync::Wait;
 use std::test::Fail;
-use std::thread::Threads;
 
 /// Fails where two values are not one.
 fn same<V: PartialEq + Debug + Drop>(one: V, other: V) -> Result<(), Fail> {
@@ -29,27 +24,14 @@ fn same<V: PartialEq + Debug + Drop>(one: V, other: V) -> Result<(), Fail> {
     }
 }
 
-/// Fails where something does not hold.
-fn holds(is_so: bool) -> Result<(), Fail> {
-    if is_so {
-        Ok(())
-    } else {
-        Err(Fail::new("what must hold does not"))
-    }
-}
-
 /// Makes the trials of a part, and adds a line for each that passed.
-pub(crate) fn give_trials<T>(
+pub(crate) fn give_trials<T: AllocGlobal + Eprint>(
     rt: &T,
     setup: &Setup,
     part: &str,
     given: &mut Vec<u8>,
-) -> Result<(), Failed>
-where
-    T: Files + AllocGlobal + Eprint + Threads + Wait + Sync,
-{
+) -> Result<(), Failed> {
     let came_to = match part {
-        "commands" => try_commands(rt),
         "scripts" => try_scripts(rt, setup),
         "reports" => try_reports(rt, setup),
         "readers" => try_readers(rt, setup),
@@ -66,23 +48,11 @@ where
     given.extend_from_slice(b"passed\n").map_err(|_| Failed)
 }
 
-/// The command line, and the block of the README.
-fn try_commands<T>(rt: &T) -> Result<(), Fail>
-where
-    T: Files + AllocGlobal + Threads + Wait + Sync,
-{
-    command_streams::a_failing_input_is_named(rt)?;
-    command_streams::a_failing_output_is_named(rt)?;
-    command_streams::want_of_memory_alone_may_come_of_words(rt)
-}
-
 /// Scripts.
 fn try_scripts<T: AllocGlobal>(rt: &T, setup: &Setup) -> Result<(), Fail> {
     script_streams::each_answer_is_one_write_and_out_before_the_next_read(rt, setup)?;
     script_streams::a_failed_read_leaves_the_answers_so_far(rt, setup)?;
-    script_streams::a_failed_write_or_flush_ends_the_script(rt, setup)?;
-    memory::want_of_memory_alone_may_come_of_a_setup(rt)?;
-    memory::want_of_memory_alone_may_come_instead(rt, setup)
+    script_streams::a_failed_write_or_flush_ends_the_script(rt, setup)
 }
 
 /// Reports, and the block of the README.
@@ -95,7 +65,6 @@ fn try_reports<T: AllocGlobal>(rt: &T, setup: &Setup) -> Result<(), Fail> {
 /// Readers of records, and writers of plans.
 fn try_readers<T: AllocGlobal>(rt: &T, setup: &Setup) -> Result<(), Fail> {
     record_streams::no_record_after_a_failed_read(rt)?;
-    record_streams::want_of_memory_is_no_failed_read(rt)?;
     record_streams::the_law_of_faults_is_called();
     plan_streams::a_failed_write_of_a_plan_is_told(rt, setup)
 }
@@ -103,9 +72,7 @@ fn try_readers<T: AllocGlobal>(rt: &T, setup: &Setup) -> Result<(), Fail> {
 /// How much a roster takes.
 fn try_rosters<T: AllocGlobal>(rt: &T) -> Result<(), Fail> {
     rosters::a_roster_takes_32_participants_and_tells_each_refusal(rt)?;
-    rosters::a_roster_takes_1000_symbols_and_tells_each_refusal(rt)?;
-    rosters::want_of_memory_leaves_the_participants_as_they_were(rt)?;
-    rosters::want_of_memory_leaves_the_symbols_as_they_were(rt)
+    rosters::a_roster_takes_1000_symbols_and_tells_each_refusal(rt)
 }
 
 /// The limits of numbers, and the laws of their texts.

@@ -23,9 +23,9 @@ Records that are refused, of a script (answered ERR,number,code) or of a file:
   L2   the number of fields is not that of the kind
   L3   the participant is not on the roster
   L4   the symbol is not on the roster
-  L5   the state is not A, M or H, or the side of an order is not B or S
-  L6   a price is not 1 to 7 digits with at most 4 decimals, or is zero
-  L7   shares are not 1 to 9 digits
+  L5   the state is not A, M or H, the side of an order is not B or S, or its flag is not M
+  L6   a price, or the limit of an order, is not 1 to 7 digits with at most 4 decimals, or is zero
+  L7   shares are not 1 to 9 digits, or those of an order are 0
   L8   exactly one of the two fields of a side is empty
   L9   a change came on a feed that is not its participant's
   L10  the desk is not below the number of desks
@@ -104,4 +104,9 @@ Calls of the library that are refused:
   U1   a price that is not of its form
   U2   a price of zero
   U3   shares that are not of their form
-  U4   money that is not of its form";
+  U4   money that is not of its form
+  V1   out of memory for published versions
+  V2   no place for a desk among those that read them
+  V3   out of memory for a change
+  V4   a change beyond the limit of the tape
+  V5   a look after the publisher was closed";

@@ -1,5 +1,5 @@
-//! Readers that fail, and want of memory.
-use super::{holds, same};
+//! Readers that fail.
+use super::same;
 use nms_lines::{ByteRecord, RecordFault, open_records, read_next, the_least_fault_is_read};
 use std::io;
 use std::io::Read;
@@ -40,23 +40,6 @@ pub(super) fn no_record_after_a_failed_read<T: AllocGlobal>(rt: &T) -> Result<()
     let mut row = ByteRecord::new(rt.alloc());
     for found in [Ok(true), Err(RecordFault::Failed), Ok(false)] {
         same(read_next(&mut reader, &mut row), found)?;
-    }
-    Ok(())
-}
-
-// With ample memory the record is read. With none it is want of memory that is told, and no record after it.
-pub(super) fn want_of_memory_is_no_failed_read<T: AllocGlobal>(rt: &T) -> Result<(), Fail> {
-    let mut reader = open_records(rt.alloc(), b"X,N\nT\n".as_slice());
-    let mut row = ByteRecord::new(rt.alloc());
-    match read_next(&mut reader, &mut row) {
-        Ok(found) => {
-            holds(found)?;
-            same(row.get(1), Some(b"N".as_slice()))?;
-        }
-        Err(fault) => {
-            same(fault, RecordFault::NoMemory)?;
-            same(read_next(&mut reader, &mut row), Ok(false))?;
-        }
     }
     Ok(())
 }

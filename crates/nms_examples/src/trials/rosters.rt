@@ -1,4 +1,4 @@
-//! How much a roster takes, and what want of memory leaves.
+//! How much a roster takes.
 use super::same;
 use nms_quote::{Feed, Roster, RosterFault};
 use nms_units::Lot;
@@ -55,37 +55,5 @@ pub(super) fn a_roster_takes_1000_symbols_and_tells_each_refusal<T: AllocGlobal>
     ] {
         same(roster.add_symbol(name.as_bytes(), lot), Err(fault))?;
     }
-    Ok(())
-}
-
-// With each allocation refused in turn, these two show what want of memory leaves.
-pub(super) fn want_of_memory_leaves_the_participants_as_they_were<T: AllocGlobal>(
-    rt: &T,
-) -> Result<(), Fail> {
-    let mut roster = Roster::new(rt.alloc())?;
-    if let Err(fault) = roster.add_participant(b"N", Feed::A) {
-        same(
-            (fault, roster.parts(), roster.find_part(b"N")),
-            (RosterFault::NoMemory, 0, None),
-        )?;
-        roster.add_participant(b"N", Feed::A)?;
-    }
-    same(roster.parts(), 1)?;
-    Ok(())
-}
-
-pub(super) fn want_of_memory_leaves_the_symbols_as_they_were<T: AllocGlobal>(
-    rt: &T,
-) -> Result<(), Fail> {
-    let lot = Lot::new(100).ok_or("a lot")?;
-    let mut roster = Roster::new(rt.alloc())?;
-    if let Err(fault) = roster.add_symbol(b"AAPL", lot) {
-        same(
-            (fault, roster.syms(), roster.find_sym(b"AAPL")),
-            (RosterFault::NoMemory, 0, None),
-        )?;
-        roster.add_symbol(b"AAPL", lot)?;
-    }
-    same(roster.syms(), 1)?;
     Ok(())
 }

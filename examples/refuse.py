@@ -1,0 +1,145 @@
+#!/usr/bin/env python3
+"""Runs calls of ./nms_tool, or of the program that is named, with less and less memory, and looks at what each ends with.
+
+    examples/refuse.py [PROGRAM]
+
+With ample memory a call must give its answer, and with less the same answer, or status 5 (7 where a thread can't be
+started) with one line that names want of memory, and of the answer at most a beginning. Each code that a call can
+want memory by has to be seen. What refuses memory is a limit on the address space, and the C library is told to ask
+the system for no more than it is asked for. It writes a line for each difference, and last `N passed, M failed`;
+status 1 where one failed.
+"""
+import os
+import resource
+import subprocess
+import sys
+import tempfile
+from concurrent.futures import ThreadPoolExecutor
+
+TOP = os.path.dirname(os.path.dirname(os.path.realpath(__file__)))
+PAGE = 4096
+STACK = 256 * 1024
+# Limits tried of each call, and seconds that one may take.
+STEPS = 160
+MOST = 60
+# The C library asks the system for each piece of memory by itself; or for pieces alone that are not small.
+EACH = "glibc.malloc.mmap_threshold=1:glibc.malloc.mmap_max=1000000000:glibc.malloc.tcache_count=0"
+LARGE = "glibc.malloc.mmap_threshold=65536:glibc.malloc.top_pad=0:glibc.malloc.trim_threshold=4096"
+# By what code a call may want memory, whatever else it does; a live run that can't begin, or can't append, ends with 7.
+ALWAYS = {"G2", "C9", "E4"}
+STATUS = {"E6": 7, "E7": 7}
+
+HEAD = "tape_limit = 10000000\nqueue = 1024\ndesks = 2\nparticipant = [{name = \"N\", feed = \"A\", fee = 3000000, rate = 300}, " \
+    "{name = \"P\", feed = \"A\", fee = 0, rate = 0}, {name = \"Y\", feed = \"B\", fee = 0, rate = 0}]\nsymbol = [%s]\n"
+
+
+def setup(symbols):
+    """A setup of so many symbols. The more there are, the more a board takes."""
+    return HEAD % ", ".join('{name = "%s", lot = 100}' % name for name in ["ABC", *(f"S.{it}" for it in range(symbols - 1))])
+
+
+OFFERS = "Q,N,ABC,A,,,10.00,300\nQ,P,ABC,A,,,10.00,500\nQ,Y,ABC,A,,,10.01,200\n"
+PLAN = "PLAN,3,B,ABC,600,10.0100,,600,6000.300000000\nLEG,N,10.0000,100\nLEG,P,10.0000,500\n" \
+    "CUT,10.0000,MARGINAL,10.003000000\nCUT,10.0100,TOOMUCH,\nEND\n"
+
+
+def prices(count, participant):
+    """So many offers of a participant, each at a price of its own."""
+    return [f"Q,{participant},ABC,A,,,{1 + it // 10000}.{it % 10000:04},100\n" for it in range(count)]
+
+
+class Call:
+    """A call, the codes of want of memory that have to be seen of it, and further ones that may be."""
+
+    def __init__(self, name, words, must, may="", files=None, given="", pieces=LARGE):
+        self.name, self.words, self.files, self.given, self.pieces = name, words, files or {}, given, pieces
+        self.must, self.may = set(must.split()), {*must.split(), *may.split(), *ALWAYS}
+
+    def run(self, program, room, most):
+        def limit():
+            resource.setrlimit(resource.RLIMIT_CORE, (0, 0))
+            resource.setrlimit(resource.RLIMIT_STACK, (STACK, STACK))
+            resource.setrlimit(resource.RLIMIT_AS, (most, most))
+        how = {"env": {**os.environ, "GLIBC_TUNABLES": self.pieces}, "preexec_fn": limit, "timeout": MOST}
+        ran = subprocess.run([program, *self.words], cwd=room, input=self.given.encode(), capture_output=True, **how)
+        return ran.returncode, ran.stdout, ran.stderr.decode(errors="replace")
+
+    def least(self, program, room, low, good):
+        """The least limit, to a page, from which on what a run ends with is good."""
+        high = 1 << 36
+        while high - low > PAGE:
+            middle = (low + high) // 2 // PAGE * PAGE
+            low, high = (low, middle) if good(self.run(program, room, middle)) else (middle, high)
+        return high
+
+    def faults(self, program, start):
+        """What was not as it must be."""
+        with tempfile.TemporaryDirectory(prefix="nms-") as room:
+            for name, text in self.files.items():
+                with open(os.path.join(room, name), "w", encoding="utf-8") as file:
+                    file.write(text)
+            ample = self.run(program, room, 1 << 36)
+            if ample[0] or ample[2] or not ample[1]:
+                return [f"with ample memory: {ample}"[:500]]
+            most = self.least(program, room, start, lambda ran: ran == ample)
+            wide = max(PAGE, (most - start) // STEPS // PAGE * PAGE)
+            limits = sorted({*range(start, most, wide), *range(max(start, most - STEPS // 4 * PAGE), most, PAGE)})
+            with ThreadPoolExecutor(os.cpu_count()) as pool:
+                rans = list(pool.map(lambda it: self.run(program, room, it), limits))
+            return self.judge(ample, zip(limits, rans))
+
+    def judge(self, ample, rans):
+        seen, found = set(), []
+        for most, (status, answers, errors) in rans:
+            code = errors.removeprefix("nms_tool: ").removesuffix("\n")
+            seen.add(code)
+            is_right = status == STATUS.get(code, 5) and code in self.may and ample[1].startswith(answers)
+            if not is_right and (status, answers, errors) != ample:
+                found.append(f"with {most // 1024} kB: status {status}, {errors[:200]!r}, {answers[:200]!r}")
+        return found[:5] + [f"no limit gave {it}" for it in sorted(self.must - seen)]
+
+
+def start_of(program):
+    """The least limit under which a program starts at all: it answers, or says that it wants memory."""
+    version = Call("", ["--version"], "")
+    return version.least(program, "/", 0, lambda ran: ran[0] == 0 or ran == (5, b"", "nms_tool: G2\n"))
+
+
+def calls():
+    records = prices(20000, "N")
+    many = "".join(records) + OFFERS
+    script = "".join(it + "F\n" * (place % 1000 == 0) for place, it in enumerate(records)) + "F\nN,0,ABC\n"
+    long, wide, under = {"setup.toml": setup(1)}, {"setup.toml": setup(1000)}, ["--setup", "setup.toml"]
+    plan = [*"plan given.changes B ABC 600 10.01".split(), *under]
+    check = [*"check given.changes given.plan".split(), *under]
+    late = PLAN.replace("PLAN,3", "PLAN,20003")
+    live = [*"live feed_a feed_b orders".split(), *under]
+    feeds = {"feed_a": many.replace("Q,Y", "Q,N"), "feed_b": "Q,Y,ABC,A,,,10.01,200\n", "orders": "O,0,B,ABC,600,10.01\n"}
+    orders = {**feeds, "feed_a": OFFERS.replace("Q,Y", "Q,N"), "orders": "O,0,B,ABC,600,10.01\n" * 2000}
+    yield Call("a script", [], "G2 C9", given="Q,N,ABC,A,9.99,300,10.01,200\nF\nN,0,ABC\n", pieces=EACH)
+    yield Call("a long script", ["script", *under], "E4", files=long, given=script)
+    yield Call("a script on a wide board", ["script", *under], "C9 E4", files=wide, given=OFFERS + "F\nN,0,ABC\n")
+    yield Call("a long report", ["report", "given.changes", "ABC", *under], "E4", "B1", {**long, "given.changes": many})
+    yield Call("a report of a wide board", ["report", "given.changes", "ABC", *under], "B1", "", {**wide, "given.changes": OFFERS})
+    yield Call("a long plan", plan, "E4", "B1 L12", {**long, "given.changes": many})
+    yield Call("a plan on a wide board", plan, "B1", "L12", {**wide, "given.changes": OFFERS})
+    yield Call("a long check", check, "E4", "A3 L12", {**long, "given.changes": many, "given.plan": late})
+    yield Call("a check on a wide board", check, "A3", "L12", {**wide, "given.changes": OFFERS, "given.plan": PLAN})
+    yield Call("a long live run", live, "E4", "E6 E7 E10 L12", {**long, **feeds})
+    yield Call("a live run on a wide board", live, "E6", "E7 E10 L12", {**wide, **orders})
+
+
+def main(program):
+    start = start_of(program)
+    passed, failed = 0, 0
+    for call in calls():
+        found = call.faults(program, start)
+        for fault in found:
+            print(f"DIFFERS: {call.name} with memory refused: {fault}", flush=True)
+        passed, failed = passed + (not found), failed + bool(found)
+    print(f"{passed} passed, {failed} failed")
+    return 1 if failed else 0
+
+
+if __name__ == "__main__":
+    sys.exit(main(os.path.realpath(sys.argv[1]) if len(sys.argv) > 1 else f"{TOP}/crates/nms_tool/out/nms_tool"))
