@@ -24,11 +24,11 @@ abbrev pub level : ℤ → ℤ → List Usable → ℕ
 level cutoff marginal rows = total (level_part cutoff marginal) rows
 
 -- the leg of a row
-pub leg_to : Usable → ℕ → Leg
+unfoldable pub leg_to : Usable → ℕ → Leg
 leg_to row shares = record { part = row.part; price = row.price; shares = shares }
 
 -- with a leg or without
-with-leg : (row : Usable) (shares : ℕ) (legs : List Leg) → (0 < shares) ⊎ (shares ≤ 0) → (0 < shares) × (with_leg row shares legs ≡ leg_to row shares ∷ legs) ⊎ (shares ≡ 0) × (with_leg row shares legs ≡ legs)
+pub with-leg : (row : Usable) (shares : ℕ) (legs : List Leg) → (0 < shares) ⊎ (shares ≤ 0) → (0 < shares) × (with_leg row shares legs ≡ leg_to row shares ∷ legs) ⊎ (shares ≡ 0) × (with_leg row shares legs ≡ legs)
 unfolding leg_to
 with-leg row shares legs (inl some) = inl (some, rw (lt-ltb 0 shares some) refl)
 with-leg row shares legs (inr none) = inr (omega (arith, none), rw (le-ltb 0 shares none) refl)

@@ -6,6 +6,7 @@ mod LegLemmas
 mod MarginalLemmas
 mod OrderLemmas
 mod PlanLemmas
+mod StandLemmas
 mod SumFacts
 mod TierLemmas
 mod TotalLemmas

@@ -38,20 +38,20 @@ use Rattle.nms_sweep.proofs.CutLemmas.{best_first, cut_of_row, row_of_cut}
 use Rattle.nms_sweep.proofs.FitLemmas.{Fits, fits}
 use Rattle.nms_sweep.proofs.LegLemmas.{GoesTo, cost_legs, given_gets, goes_to_row, legs_apart, level, sum_legs}
 use Rattle.nms_sweep.proofs.MarginalLemmas.{marginal_is}
-use Rattle.nms_sweep.proofs.OrderLemmas.{Ordered, ordered_from}
+use Rattle.nms_sweep.proofs.OrderLemmas.{Ordered, in_order_from, ordered_from}
 use Rattle.nms_sweep.proofs.TierLemmas.{Gets, level_part}
 use Rattle.nms_sweep.proofs.TotalLemmas.{amount_same, total_same}
 
 -- ---- the rows in another order
 
-in_other : {X : Type 0} (one other : List X) → IsPermutation one other → (x : X) → In x one → In x other
+pub in_other : {X : Type 0} (one other : List X) → IsPermutation one other → (x : X) → In x one → In x other
 in_other {X} one other same =
     In-All (λ (x : X). In x other) one (All-permutation (λ (x : X). In x other) other one (IsPermutation-sym one other same) (All-In (λ (x : X). In x other) other (λ x within. within)))
 
 eq-flips : (m n : ℕ) → nat_eq m n ≡ nat_eq n m
 eq-flips m n = grind arith
 
-apart_other : (one other : List Usable) → IsPermutation one other → Apart row_part one → Apart row_part other
+pub apart_other : (one other : List Usable) → IsPermutation one other → Apart row_part one → Apart row_part other
 apart_other one other same apart =
     Apart-IsDistinct row_part other (IsDistinct-IsPermutation nat_eq eq-flips (map row_part one) (map row_part other) (IsPermutation-map row_part one other same) (IsDistinct-Apart row_part one apart))
 
@@ -61,16 +61,16 @@ place : Row → ℕ
 place row = row.part
 
 -- what a usable row is
-record IsOf (seen : Seen) (asked : Terms) (fees : List FeeSchedule) (row : Usable) (quoted : Row) : Type 0 where
+pub record IsOf (seen : Seen) (asked : Terms) (fees : List FeeSchedule) (row : Usable) (quoted : Row) : Type 0 where
   pub within : In quoted (contra_rows asked.side seen)
   pub is : row ≡ usable_row asked fees quoted
 
-usable_is : (seen : Seen) (asked : Terms) (fees : List FeeSchedule) (row : Usable) → In row (usable seen asked fees) → (quoted : Row) × IsOf seen asked fees row quoted
+pub usable_is : (seen : Seen) (asked : Terms) (fees : List FeeSchedule) (row : Usable) → In row (usable seen asked fees) → (quoted : Row) × IsOf seen asked fees row quoted
 usable_is seen asked fees row within =
     let from = map-In (usable_row asked fees) (filter (is_usable asked) (contra_rows asked.side seen)) row within in
     (from.0, record { within = (filter-In (is_usable asked) (contra_rows asked.side seen) from.0 from.1).0; is = from.2 })
 
-usable_apart : (seen : Seen) (asked : Terms) (fees : List FeeSchedule) → IsStrictlyIncreasing (map (λ row. row.part) (contra_rows asked.side seen)) → Apart row_part (usable seen asked fees)
+pub usable_apart : (seen : Seen) (asked : Terms) (fees : List FeeSchedule) → IsStrictlyIncreasing (map (λ row. row.part) (contra_rows asked.side seen)) → Apart row_part (usable seen asked fees)
 unfolding place
 usable_apart seen asked fees rising =
     Apart-map place row_part (usable_row asked fees) (λ row. refl) (filter (is_usable asked) (contra_rows asked.side seen))
@@ -91,8 +91,8 @@ pub table : (seen : Seen) (asked : Terms) (fees : List FeeSchedule) (by_price by
 table seen asked fees by_price by_cost rising same ordered again cheapest = record {
   same_price = same;
   same_cost = IsPermutation-trans (usable seen asked fees) by_price by_cost same again;
-  ordered_price = ordered_from Price by_price ordered;
-  ordered_cost = ordered_from Cost by_cost cheapest;
+  ordered_price = ordered_from Price by_price (in_order_from Price by_price ordered);
+  ordered_cost = ordered_from Cost by_cost (in_order_from Cost by_cost cheapest);
   apart = usable_apart seen asked fees rising;
   ranks = λ row within. let at = usable_is seen asked fees row within in rw at.1.is refl;
   costs = λ row within. let at = usable_is seen asked fees row within in rw at.1.is refl;
@@ -331,6 +331,10 @@ lawful side fees rows by_price by_cost table' asked cost legs fills' =
     let at = goes_to_row fills'.cutoff fills'.marginal fills'.left by_price leg (subst (In leg) fills'.is within) in
     (at.0, in_other by_price rows (IsPermutation-sym rows by_price same) at.0 at.1, at.2.part) in
     record {
+      on_usable = λ part some.
+          let leg = given-by legs part some in
+          let at = goes leg.0 leg.1 in
+          Any-In (λ (row : Usable). row.part ≡ part) rows at.0 at.1 (sym at.2 ∙ leg.2);
       within = All-In (λ (row : Usable). given_by legs row.part ≤ row.size) rows (λ row within. (gets row within).within);
       at_most = omega (arith, filled-given legs rows table'.apart goes, fills'.sum);
       swept = All-In (λ (row : Usable). 0 < given_by legs row.part → SweepsBetter rows (given_by legs) row) rows (λ row within some.
@@ -357,10 +361,6 @@ faultless seen asked fees plan by_price by_cost table' version order symbol fill
       shares = All-In (λ (leg : Leg). 1 ≤ leg.shares) legs (λ leg within. (goes leg within).2.shares);
       prices = All-In (λ (leg : Leg). Any (λ (row : Row). (row.part ≡ leg.part) × (row.price ≡ leg.price)) (contra_rows asked.side seen)) legs (λ leg within. let at = goes leg within in quoted seen asked fees at.0 at.1 leg at.2);
       once = IsDistinct-Apart leg_part legs (subst (Apart leg_part) (sym fills'.is) (legs_apart fills'.cutoff fills'.marginal fills'.left by_price apart));
-      on_usable = λ part some.
-          let leg = given-by legs part some in
-          let at = goes leg.0 leg.1 in
-          Any-In (λ (row : Usable). row.part ≡ part) rows at.0 at.1 (sym at.2.part ∙ leg.2);
       lawful = lawful asked.side fees rows by_price by_cost table' asked.shares plan.cost legs fills';
       filled = filled' ∙ sym fills'.sum;
       cost = sym fills'.pays;

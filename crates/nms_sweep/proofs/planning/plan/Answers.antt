@@ -10,8 +10,10 @@ use Rattle.nms_rules.specs.Usable.{Usable, usable}
 use Rattle.nms_rules.proofs.LawfulLemmas.{none_of_faultless}
 use Rattle.nms_rules.proofs.OptimalLemmas.{accepted_optimal}
 use Rattle.nms_sweep.specs.Choice.{cost_chosen, legs_chosen}
+use Rattle.nms_sweep.specs.Order.{AreInOrder}
 use Rattle.nms_sweep.specs.declared.choice.Choice.{Choice}
 use Rattle.nms_sweep.proofs.PlanLemmas.{Fills, Found, accepted, faultless, found_from, legs_found}
+use Rattle.nms_sweep.proofs.StandLemmas.{chosen_in_order}
 use Rattle.nms_sweep.proofs.planning.plan.Goals as goal
 
 pub legs_chosen-legs-requires-clause-few : goal.legs_chosen-legs-requires-clause-few
@@ -69,3 +71,17 @@ returns-clause-lawful c =
 pub returns-clause-optimal : goal.returns-clause-optimal
 returns-clause-optimal c =
     accepted_optimal c.args.view.now c.args.order.now c.args.fees.now _ c.cuts_of-cuts.result.items c.version.ensures.bids c.version.ensures.offers (returns-clause-accepted c)
+
+pub returns-clause-ordered : goal.returns-clause-ordered
+returns-clause-ordered c =
+    let seen = c.args.view.now in
+    let asked : Terms = c.args.order.now in
+    let fees = c.args.fees.now in
+    let rows : List Usable = c.as_slice-rows.result.now in
+    let by_price : List Usable = c.in_order-best_first.result.items in
+    let most = c.fillable-most.result in
+    let found : Option Choice = c.chosen-choice.result in
+    let are : rows ≡ usable seen asked fees = c.as_slice-rows.ensures.value ∙ c.usable_rows-usable.ensures.rows in
+    let legs : c.legs_chosen-legs.result.items ≡ legs_chosen rows most found by_price = c.legs_chosen-legs.ensures ∙ ap (legs_chosen rows most found) c.as_slice-by_price.ensures.value in
+    subst (AreInOrder asked.side) (sym legs)
+    (chosen_in_order seen asked fees rows by_price are c.usable_rows-usable.ensures.rising c.in_order-best_first.ensures.same c.in_order-best_first.ensures.ordered most found)
