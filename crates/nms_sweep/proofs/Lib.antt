@@ -1,6 +1,8 @@
 mod BoundLemmas
 mod ChoiceLemmas
 mod CutLemmas
+mod ExactLemmas
+mod FillingLemmas
 mod FitLemmas
 mod LegLemmas
 mod MarginalLemmas

@@ -38,7 +38,7 @@ use Rattle.nms_sweep.proofs.CutLemmas.{best_first, cut_of_row, row_of_cut}
 use Rattle.nms_sweep.proofs.FitLemmas.{Fits, fits}
 use Rattle.nms_sweep.proofs.LegLemmas.{GoesTo, cost_legs, given_gets, goes_to_row, legs_apart, level, sum_legs}
 use Rattle.nms_sweep.proofs.MarginalLemmas.{marginal_is}
-use Rattle.nms_sweep.proofs.OrderLemmas.{Ordered, in_order_from, ordered_from}
+use Rattle.nms_sweep.proofs.OrderLemmas.{InOrder, Ordered, in_order_from, ordered_from}
 use Rattle.nms_sweep.proofs.TierLemmas.{Gets, level_part}
 use Rattle.nms_sweep.proofs.TotalLemmas.{amount_same, total_same}
 
@@ -80,6 +80,7 @@ usable_apart seen asked fees rising =
 pub record Table (side : OrderSide) (fees : List FeeSchedule) (rows by_price by_cost : List Usable) : Type 0 where
   pub same_price : IsPermutation rows by_price
   pub same_cost : IsPermutation rows by_cost
+  pub in_order : InOrder Price by_price
   pub ordered_price : Ordered Price by_price
   pub ordered_cost : Ordered Cost by_cost
   pub apart : Apart row_part rows
@@ -91,6 +92,7 @@ pub table : (seen : Seen) (asked : Terms) (fees : List FeeSchedule) (by_price by
 table seen asked fees by_price by_cost rising same ordered again cheapest = record {
   same_price = same;
   same_cost = IsPermutation-trans (usable seen asked fees) by_price by_cost same again;
+  in_order = in_order_from Price by_price ordered;
   ordered_price = ordered_from Price by_price (in_order_from Price by_price ordered);
   ordered_cost = ordered_from Cost by_cost (in_order_from Cost by_cost cheapest);
   apart = usable_apart seen asked fees rising;
@@ -101,12 +103,12 @@ table seen asked fees by_price by_cost rising same ordered again cheapest = reco
 -- ---- what a cut says
 
 -- more must be swept, or less is there, or it has a marginal
-record IsFit (rows by_cost : List Usable) (most : ℕ) (cutoff : ℤ) : Type 0 where
+pub record IsFit (rows by_cost : List Usable) (most : ℕ) (cutoff : ℤ) : Type 0 where
   pub sweeps : swept cutoff rows ≤ most
   pub reaches : most ≤ swept cutoff rows + pool cutoff rows
   pub is : kind_at rows by_cost most cutoff ≡ Marginal (share_cost cutoff (most - swept cutoff rows) (pos 0) by_cost)
 
-Kinds : List Usable → List Usable → ℕ → ℤ → Type 0
+unfoldable pub Kinds : List Usable → List Usable → ℕ → ℤ → Type 0
 Kinds rows by_cost most cutoff =
     (most < swept cutoff rows) × (kind_at rows by_cost most cutoff ≡ TooMuch)
     ⊎ ((swept cutoff rows + pool cutoff rows < most) × (kind_at rows by_cost most cutoff ≡ TooLittle) ⊎ IsFit rows by_cost most cutoff)
@@ -118,7 +120,7 @@ kinds-step rows by_cost most cutoff (inr right) (inl little) = inr (inl (little,
 kinds-step rows by_cost most cutoff (inr right) (inr enough) =
     inr (inr (record { sweeps = right; reaches = enough; is = rw (le-ltb most (swept cutoff rows) right, le-ltb (swept cutoff rows + pool cutoff rows) most enough) refl }))
 
-kinds : (rows by_cost : List Usable) (most : ℕ) (cutoff : ℤ) → Kinds rows by_cost most cutoff
+pub kinds : (rows by_cost : List Usable) (most : ℕ) (cutoff : ℤ) → Kinds rows by_cost most cutoff
 kinds rows by_cost most cutoff = kinds-step rows by_cost most cutoff (cases_lt most (swept cutoff rows)) (cases_lt (swept cutoff rows + pool cutoff rows) most)
 
 -- ---- a cutoff that can be filled at
@@ -166,13 +168,13 @@ right-offer side fees rows by_price by_cost table' most cutoff choice (inr (inr 
 -- ---- the cuts, and what they offer
 
 -- the row of a cut
-record RowOf (side : OrderSide) (rows by_cost : List Usable) (most : ℕ) (cut : Cut) (row : Usable) : Type 0 where
+pub record RowOf (side : OrderSide) (rows by_cost : List Usable) (most : ℕ) (cut : Cut) (row : Usable) : Type 0 where
   pub within : In row rows
   pub price : cut.price ≡ row.price
   pub rank : rank_of side cut.price ≡ row.rank
   pub kind : cut.kind ≡ kind_at rows by_cost most row.rank
 
-row-of : (side : OrderSide) (fees : List FeeSchedule) (rows by_price by_cost : List Usable) → Table side fees rows by_price by_cost → (most : ℕ) (cut : Cut) → In cut (cuts_of (kind_at rows by_cost most) by_price)
+pub row-of : (side : OrderSide) (fees : List FeeSchedule) (rows by_price by_cost : List Usable) → Table side fees rows by_price by_cost → (most : ℕ) (cut : Cut) → In cut (cuts_of (kind_at rows by_cost most) by_price)
     → (row : Usable) × RowOf side rows by_cost most cut row
 row-of side fees rows by_price by_cost table' most cut within =
     let at = row_of_cut (kind_at rows by_cost most) by_price cut within in
