@@ -1,24 +1,25 @@
 -- The legs at a cutoff and a marginal take the pool in order: by unit cost, then price, then place.
-use Rattle.std.proofs.Common.{ℕ, ◌≡◌, ◌<◌, ◌≤◌, ◌-◌, true, false, List, [], ◌∷◌, ◌⊎◌, inl, inr, refl, sym, ◌∙◌, subst, arith, min}
+use Rattle.std.proofs.Common.{ℕ, ◌≡◌, ◌<◌, ◌≤◌, ◌-◌, true, false, List, [], ◌∷◌, ◌⊎◌, inl, inr, refl, ap, sym, ◌∙◌, subst, arith, min}
 use Rattle.std.specs.Prelude.{ℤ, ◌<ℤ◌}
 use Rattle.std.proofs.lemmas.Bool.{and_from, both_ways, cases_lt}
 use Rattle.std.proofs.lemmas.Int.{ints}
+use Rattle.std.proofs.lemmas.List.Sorted.{IsPermutation-sym}
 use Rattle.std.specs.Int.RustNames.{int_lt}
 use Rattle.nms_quote.specs.declared.order.OrderSide.{OrderSide}
 use Rattle.nms_quote.specs.declared.plan.Leg.{Leg}
 use Rattle.nms_fee_book.specs.declared.fee_schedule.FeeSchedule.{FeeSchedule}
 use Rattle.nms_rules.specs.Cutoff.{is_pooled, is_swept}
-use Rattle.nms_rules.specs.Faultless.{given_by}
+use Rattle.nms_rules.specs.Faultless.{given_by, sum_of}
 use Rattle.nms_rules.specs.Usable.{Usable}
 use Rattle.nms_rules.proofs.ApartLemmas.{Apart}
-use Rattle.nms_rules.proofs.GivenLemmas.{gives-other, gives-own, row_part}
-use Rattle.nms_rules.proofs.MemberLemmas.{All-In, In}
+use Rattle.nms_rules.proofs.GivenLemmas.{filled-given, gives-other, gives-own, row_part}
+use Rattle.nms_rules.proofs.MemberLemmas.{All-In, Any-In, In, In-Any}
 use Rattle.nms_rules.proofs.SignedLemmas.{true-lt}
 use Rattle.nms_sweep.specs.Choice.{is_below, is_level, left_after, legs_of, share_of}
 use Rattle.nms_sweep.specs.Filling.{FillsAt, FillsInOrder, TakesEarlier}
 use Rattle.nms_sweep.specs.Order.{comes_before, is_placed_before}
 use Rattle.nms_sweep.specs.declared.row_order.Key.TheVariants.{Price, Cost}
-use Rattle.nms_sweep.proofs.LegLemmas.{given-later, given-with, given_gets, given_share, leg_to, with-leg}
+use Rattle.nms_sweep.proofs.LegLemmas.{given-later, given-with, given_gets, given_share, goes_to_row, leg_to, with-leg}
 use Rattle.nms_sweep.proofs.OrderLemmas.{InOrder, itself, none-in, then-true}
 use Rattle.nms_sweep.proofs.PlanLemmas.{Fills, Table, apart_other, in_other}
 use Rattle.nms_sweep.proofs.TierLemmas.{Above, Below, Beyond, Gets, Level, Swept, Tier, tier}
@@ -145,7 +146,14 @@ filling side fees rows by_price by_cost table' most cost legs fills' =
     let made : List Leg = legs_of cutoff fills'.marginal fills'.left by_price in
     let among : (row : Usable) → In row rows → In row by_price = in_other rows by_price same in
     let gets : (row : Usable) → In row rows → Gets cutoff row (given_by made row.part) = λ row within. given_gets cutoff fills'.marginal fills'.left by_price apart row (among row within) in
+    let goes : (leg : Leg) → In leg made → (row : Usable) × In row rows × (leg.part ≡ row.part) =
+    λ leg within.
+    let at = goes_to_row cutoff fills'.marginal fills'.left by_price leg within in
+    (at.0, in_other by_price rows (IsPermutation-sym rows by_price same) at.0 at.1, at.2.part) in
     let fills_at : FillsAt rows (given_by made) cutoff = record {
+      at = λ some.
+          let at = In-Any (λ (row : Usable). row.rank ≡ cutoff) by_price (fills'.at (omega (arith, some, filled-given made rows table'.apart goes, ap sum_of (sym fills'.is), fills'.sum))) in
+          Any-In (λ (row : Usable). row.rank ≡ cutoff) rows at.0 (in_other by_price rows (IsPermutation-sym rows by_price same) at.0 at.1) at.2;
       sweeps = All-In (λ (row : Usable). is_swept cutoff row ≡ true → given_by made row.part ≡ row.size) rows (λ row within. (gets row within).sweeps);
       takes = All-In (λ (row : Usable). is_pooled cutoff row ≡ true → 0 < given_by made row.part → TakesEarlier cutoff rows (given_by made) row) rows (λ row within pooled some.
           All-In (λ (other : Usable). is_pooled cutoff other ≡ true → comes_before Cost other row ≡ true → given_by made other.part ≡ other.size) rows (λ other also pooled_other ahead.

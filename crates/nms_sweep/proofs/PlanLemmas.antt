@@ -126,6 +126,7 @@ kinds rows by_cost most cutoff = kinds-step rows by_cost most cutoff (cases_lt m
 -- ---- a cutoff that can be filled at
 
 record Right (rows : List Usable) (most : ℕ) (choice : Choice) : Type 0 where
+  pub at : (row : Usable) × In row rows × (row.rank ≡ choice.cutoff)
   pub sweeps : swept choice.cutoff rows ≤ most
   pub covers : below choice.cutoff choice.marginal rows ≤ most - swept choice.cutoff rows
   pub reaches : most - swept choice.cutoff rows ≤ below choice.cutoff choice.marginal rows + level choice.cutoff choice.marginal rows
@@ -135,10 +136,10 @@ record Right (rows : List Usable) (most : ℕ) (choice : Choice) : Type 0 where
 choice_at : List Usable → ℕ → ℤ → ℤ → Choice
 choice_at rows most cutoff marginal = record { cutoff = cutoff; marginal = marginal; cost = least_cost rows most cutoff marginal }
 
-right-fit : (side : OrderSide) (fees : List FeeSchedule) (rows by_price by_cost : List Usable) → Table side fees rows by_price by_cost → (most : ℕ) (cutoff : ℤ) → IsFit rows by_cost most cutoff
+right-fit : (side : OrderSide) (fees : List FeeSchedule) (rows by_price by_cost : List Usable) → Table side fees rows by_price by_cost → (most : ℕ) (cutoff : ℤ) → (row : Usable) × In row rows × (row.rank ≡ cutoff) → IsFit rows by_cost most cutoff
     → Right rows most (choice_at rows most cutoff (share_cost cutoff (most - swept cutoff rows) (pos 0) by_cost))
 unfolding choice_at
-right-fit side fees rows by_price by_cost table' most cutoff fit =
+right-fit side fees rows by_price by_cost table' most cutoff at fit =
     let number = most - swept cutoff rows in
     let marginal = share_cost cutoff number (pos 0) by_cost in
     let pools = total_same (pool_part cutoff) rows by_cost table'.same_cost in
@@ -146,6 +147,7 @@ right-fit side fees rows by_price by_cost table' most cutoff fit =
     let belows = total_same (below_part cutoff marginal) rows by_cost table'.same_cost in
     let levels = total_same (level_part cutoff marginal) rows by_cost table'.same_cost in
     record {
+      at = at;
       sweeps = fit.sweeps;
       covers = omega (arith, is.covers, belows);
       reaches = omega (arith, is.reaches, belows, levels);
@@ -157,13 +159,13 @@ some-same one other e = ap (λ found. unwrap_or found one) e
 
 -- what a cutoff offers is right
 right-offer : (side : OrderSide) (fees : List FeeSchedule) (rows by_price by_cost : List Usable) → Table side fees rows by_price by_cost → (most : ℕ) (cutoff : ℤ) (choice : Choice)
-    → Kinds rows by_cost most cutoff → candidate rows most cutoff (kind_at rows by_cost most cutoff) ≡ Some choice → Right rows most choice
+    → (row : Usable) × In row rows × (row.rank ≡ cutoff) → Kinds rows by_cost most cutoff → candidate rows most cutoff (kind_at rows by_cost most cutoff) ≡ Some choice → Right rows most choice
 unfolding Kinds choice_at
-right-offer side fees rows by_price by_cost table' most cutoff choice (inl much) e = absurd (false≢true (ap is_some (ap (candidate rows most cutoff) (sym much.1) ∙ e)))
-right-offer side fees rows by_price by_cost table' most cutoff choice (inr (inl little)) e = absurd (false≢true (ap is_some (ap (candidate rows most cutoff) (sym little.1) ∙ e)))
-right-offer side fees rows by_price by_cost table' most cutoff choice (inr (inr fit)) e =
+right-offer side fees rows by_price by_cost table' most cutoff choice at (inl much) e = absurd (false≢true (ap is_some (ap (candidate rows most cutoff) (sym much.1) ∙ e)))
+right-offer side fees rows by_price by_cost table' most cutoff choice at (inr (inl little)) e = absurd (false≢true (ap is_some (ap (candidate rows most cutoff) (sym little.1) ∙ e)))
+right-offer side fees rows by_price by_cost table' most cutoff choice at (inr (inr fit)) e =
     subst (Right rows most) (some-same (choice_at rows most cutoff (share_cost cutoff (most - swept cutoff rows) (pos 0) by_cost)) choice (ap (candidate rows most cutoff) (sym fit.is) ∙ e))
-    (right-fit side fees rows by_price by_cost table' most cutoff fit)
+    (right-fit side fees rows by_price by_cost table' most cutoff at fit)
 
 -- ---- the cuts, and what they offer
 
@@ -199,7 +201,7 @@ right-step : (side : OrderSide) (fees : List FeeSchedule) (rows by_price by_cost
 right-step side fees rows by_price by_cost table' most choice (inl none) = absurd (false≢true (ap is_some none))
 right-step side fees rows by_price by_cost table' most choice (inr at) =
     let row = row-of side fees rows by_price by_cost table' most at.0 at.1 in
-    right-offer side fees rows by_price by_cost table' most row.0.rank choice (kinds rows by_cost most row.0.rank) (sym (offers-as side rows by_cost most at.0 row.0 row.1) ∙ at.2)
+    right-offer side fees rows by_price by_cost table' most row.0.rank choice (row.0, row.1.within, refl) (kinds rows by_cost most row.0.rank) (sym (offers-as side rows by_cost most at.0 row.0 row.1) ∙ at.2)
 
 -- ---- what the legs fill and cost
 
@@ -208,6 +210,7 @@ pub record Fills (side : OrderSide) (fees : List FeeSchedule) (by_price : List U
   pub cutoff : ℤ
   pub marginal : ℤ
   pub left : ℕ
+  pub at : 0 < most → Any (λ row. row.rank ≡ cutoff) by_price
   pub is : legs ≡ legs_of cutoff marginal left by_price
   pub sum : sum_of legs ≡ most
   pub pays : cost_of fees side legs ≡ cost
@@ -232,6 +235,7 @@ fills-right side fees rows by_price by_cost table' most choice right =
       cutoff = cutoff;
       marginal = marginal;
       left = left;
+      at = λ some. Any-In (λ (row : Usable). row.rank ≡ cutoff) by_price right.at.0 (in_other rows by_price same right.at.0 right.at.1) right.at.2;
       is = refl;
       sum = sum;
       pays = omega (
@@ -297,7 +301,7 @@ fills-found side fees rows by_price by_cost table' asked (Some choice) e =
     (right-step side fees rows by_price by_cost table' most choice (chosen_offered side rows most None (cuts_of (kind_at rows by_cost most) by_price) choice e))
 fills-found side fees rows [] by_cost table' asked None e =
     let none : total (λ row. row.size) rows ≡ 0 = total-nothing rows table'.same_price in
-    record { cutoff = pos 0; marginal = pos 0; left = 0; is = legs-nothing; sum = omega (arith, none); pays = cost-nothing fees side }
+    record { cutoff = pos 0; marginal = pos 0; left = 0; at = λ some. absurd (omega (arith, none, some)); is = legs-nothing; sum = omega (arith, none); pays = cost-nothing fees side }
 fills-found side fees rows (row ∷ by_price) by_cost table' asked None e =
     let most = fillable rows asked in
     let all = total_same (λ (one : Usable). one.size) rows (row ∷ by_price) table'.same_price in

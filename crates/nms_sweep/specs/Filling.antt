@@ -7,7 +7,7 @@ use Rattle.nms_quote.specs.declared.certificate.Cut.{Cut}
 use Rattle.nms_quote.specs.declared.certificate.CutKind.{CutKind}
 use Rattle.nms_quote.specs.declared.certificate.CutKind.TheVariants.{TooMuch, TooLittle, Marginal}
 use Rattle.nms_quote.specs.declared.order.OrderSide.{OrderSide}
-use Rattle.nms_rules.specs.Assignment.{Assignment, total}
+use Rattle.nms_rules.specs.Assignment.{Assignment, filled, total}
 use Rattle.nms_rules.specs.Cutoff.{is_pooled, is_swept, pool, swept}
 use Rattle.nms_rules.specs.Usable.{Usable, rank_of}
 use Rattle.nms_sweep.specs.Choice.{below}
@@ -20,9 +20,10 @@ use Rattle.nms_sweep.specs.declared.row_order.Key.TheVariants.{Cost}
 abbrev pub TakesEarlier : ℤ → List Usable → Assignment → Usable → Type 0
 TakesEarlier cutoff rows given row = All (λ other. is_pooled cutoff other ≡ true → comes_before Cost other row ≡ true → given other.part ≡ other.size) rows
 
--- at a cutoff: what must be swept is, a row of the pool gets shares only where every earlier one is full, and no row
+-- at a cutoff, which is a usable price where anything is filled: what must be swept is, a row of the pool gets shares only where every earlier one is full, and no row
 -- at a worse price gets any
 pub record FillsAt (rows : List Usable) (given : Assignment) (cutoff : ℤ) : Type 0 where
+  pub at : 0 < filled given rows → Any (λ row. row.rank ≡ cutoff) rows
   pub sweeps : All (λ row. is_swept cutoff row ≡ true → given row.part ≡ row.size) rows
   pub takes : All (λ row. is_pooled cutoff row ≡ true → 0 < given row.part → TakesEarlier cutoff rows given row) rows
   pub beyond : All (λ row. cutoff <ℤ row.rank → given row.part ≡ 0) rows
