@@ -31,8 +31,8 @@ pub record IsPublishedVersion (live : Live) (number : ℕ) : Type 0 where
 -- what the answer's plan is on the quotations of its symbol in its version
 pub record IsBestPlanOn (settings : Settings) (seen : Seen) (answer : Answer) : Type 0 where
   pub of_version : seen.version ≡ answer.plan.version
-  -- at each price that it trades at it keeps the limit, and every protected quotation that this price would trade
-  -- through gets its full displayed size
+  -- at each price that it trades at it keeps the limit, and every protected quotation on the side that the order trades
+  -- with that this price would trade through gets its full displayed size
   pub never_through : NeverTradesThrough seen answer.plan.order answer.plan.legs.items
   -- it is lawful, and no lawful plan fills more, or as much for less with fees
   pub optimal : IsOptimal (usable seen answer.plan.order settings.fees) answer.plan.order.shares (given_by answer.plan.legs.items)

@@ -206,6 +206,7 @@ lawful-from seen asked fees plan passes is =
     let legs : List Leg = plan.legs.items in
     let rows : List Usable = usable seen asked fees in
     record {
+      on_usable = on_usable seen asked fees legs is;
       within = All-In (λ row. given_by legs row.part ≤ row.size) rows (usable_within seen asked fees legs is);
       at_most =
           let sum = filled-given legs rows (usable_apart seen asked fees is.rows)
@@ -231,7 +232,6 @@ faultless_of_none seen asked fees plan bids offers none =
       shares = All-In (λ leg. 1 ≤ leg.shares) legs is.shares;
       prices = All-In (λ leg. Any (λ row. (row.part ≡ leg.part) × (row.price ≡ leg.price)) (contra_rows asked.side seen)) legs (λ leg within. leg_price_shown seen asked leg (is.served leg within));
       once = IsDistinct-Apart leg_part legs is.once;
-      on_usable = on_usable seen asked fees legs is;
       lawful = lawful-from seen asked fees plan passes is;
       filled = eqb-true plan.filled (sum_of legs) (not-false (plan.filled == sum_of legs) passes.filled);
       cost = int-eq plan.cost (cost_of fees asked.side legs) (not-false (int_eq plan.cost (cost_of fees asked.side legs)) passes.cost);
@@ -271,7 +271,7 @@ faultless-serves seen asked fees plan bids offers is leg within =
     let once = Apart-IsDistinct leg_part legs is.once in
     let shares = In-All (λ one. 1 ≤ one.shares) legs is.shares leg within in
     let shown = In-Any (λ row. (row.part ≡ leg.part) × (row.price ≡ leg.price)) (contra_rows asked.side seen) (In-All (λ one. Any (λ row. (row.part ≡ one.part) × (row.price ≡ one.price)) (contra_rows asked.side seen)) legs is.prices leg within) in
-    let row = In-Any (λ one. one.part ≡ leg.part) (usable seen asked fees) (is.on_usable leg.part (omega (arith, shares, given-leg legs once leg within))) in
+    let row = In-Any (λ one. one.part ≡ leg.part) (usable seen asked fees) (is.lawful.on_usable leg.part (omega (arith, shares, given-leg legs once leg within))) in
     serves-step seen asked fees legs (rows_apart asked.side seen bids offers) once leg within shown.0 shown.1 shown.2.0 shown.2.1 row.0 row.1 row.2
     (In-All (λ one. given_by legs one.part ≤ one.size) (usable seen asked fees) is.lawful.within row.0 row.1) (row_for seen asked.side leg) refl
 

@@ -1,4 +1,4 @@
--- A plan without a breach leaves no quotation that it trades through.
+-- A plan without a breach leaves no quotation of its side that it trades through.
 use Rattle.std.proofs.Common.{ℕ, ◌≡◌, ◌≤◌, ◌&&◌, Bool, true, false, List, [], ◌∷◌, ◌++◌, ◌⊎◌, inl, inr, refl, sym, subst, ◌∙◌, nat_lt}
 use Rattle.std.specs.List.{filter}
 use Rattle.std.proofs.lemmas.Bool.{and_parts, cases_Bool, false≢true, ltb-false}
@@ -11,7 +11,7 @@ use Rattle.nms_board.specs.View.{Seen, rows_on}
 use Rattle.nms_board.specs.declared.row.Row.{Row}
 use Rattle.nms_rules.specs.Breach.{has_leg_beyond, is_beyond_limit, is_traded_through, some_is_beyond_limit}
 use Rattle.nms_rules.specs.Faultless.{given_by}
-use Rattle.nms_rules.specs.Laws.{KeepsLimit, LawfulPlansNeverTradeThrough, SweepsThrough}
+use Rattle.nms_rules.specs.Laws.{KeepsLimit, LawfulPlansNeverTradeThrough, SweepsThroughOnItsSide}
 use Rattle.nms_rules.specs.Through.{is_through, through_on, traded_through_at}
 use Rattle.nms_rules.specs.Usable.{contra, is_better}
 use Rattle.nms_rules.proofs.MemberLemmas.{All-In, In, filter-In, find-none, list_any-none, map-In}
@@ -60,7 +60,7 @@ unfolding is_traded_through some_is_beyond_limit
 never_through seen order fees plan none =
     let passes = passes-none seen order fees plan none in
     let legs : List Leg = plan.legs.items in
-    All-In (λ leg. KeepsLimit order leg.price × SweepsThrough seen order legs leg.price) legs (λ leg within. (
+    All-In (λ leg. KeepsLimit order leg.price × SweepsThroughOnItsSide seen order legs leg.price) legs (λ leg within. (
       list_any-none (is_beyond_limit order) legs passes.limit leg within,
       All-In (λ found. found.0 ≡ contra order.side → found.1.size ≤ given_by legs found.1.part) (traded_through_at seen leg.price) (λ found there same.
           let through = through_is seen leg.price found there in

@@ -1,7 +1,8 @@
 -- An accepted plan is optimal.
-use Rattle.std.proofs.Common.{◌≡◌, List, map, get_or, All, refl, ap, sym, ◌∙◌, subst}
+use Rattle.std.proofs.Common.{◌≡◌, List, map, get_or, All, refl, ap, sym, ◌∙◌, subst, arith}
 use Rattle.std.specs.List.{filter}
 use Rattle.std.specs.List.Sorted.{IsStrictlyIncreasing}
+use Rattle.std.proofs.lemmas.Int.{ints}
 use Rattle.std.proofs.lemmas.List.Elements.{All-map, recursion_from_All}
 use Rattle.nms_quote.specs.Terms.{Terms}
 use Rattle.nms_quote.specs.declared.certificate.Cut.{Cut}
@@ -15,6 +16,7 @@ use Rattle.nms_rules.specs.Accepted.{IsAccepted}
 use Rattle.nms_rules.specs.Assignment.{IsOptimal, fillable, total_cost}
 use Rattle.nms_rules.specs.Cutoff.{KindHolds}
 use Rattle.nms_rules.specs.Faultless.{given_by}
+use Rattle.nms_rules.specs.Laws.{IsBestPlan}
 use Rattle.nms_rules.specs.Usable.{Usable, contra_rows, is_usable, rank_of, usable, usable_row}
 use Rattle.nms_rules.proofs.PaidLemmas.{sums_rightly}
 use Rattle.nms_rules.proofs.SoundLemmas.{sound}
@@ -52,3 +54,20 @@ rows-rise Sell seen bids offers = bids.rising
 pub accepted_optimal : (seen : Seen) (asked : Terms) (fees : List FeeSchedule) (plan : Plan) (cuts : List Cut) → AreRows seen.bids → AreRows seen.offers → IsAccepted seen asked fees plan cuts
     → IsOptimal (usable seen asked fees) asked.shares (given_by plan.legs.items)
 accepted_optimal seen asked fees plan cuts bids offers is = optimal seen asked fees plan cuts (rows-rise asked.side seen bids offers) is
+
+-- what a lawful plan fills and costs is what its legs give the rows, so none is better than an optimal one
+pub accepted_best : (seen : Seen) (asked : Terms) (fees : List FeeSchedule) (plan : Plan) (cuts : List Cut) → AreRows seen.bids → AreRows seen.offers → IsAccepted seen asked fees plan cuts
+    → IsBestPlan seen asked fees plan
+accepted_best seen asked fees plan cuts bids offers is =
+    let rising = rows-rise asked.side seen bids offers in
+    let mine = sums_rightly seen asked fees plan rising is.faultless in
+    let best = optimal seen asked fees plan cuts rising is in
+    record {
+      lawful = is.faultless;
+      most = λ other lawful.
+          let sums = sums_rightly seen asked fees other rising lawful in
+          omega (arith, mine.filled_is, sums.filled_is, best.most (given_by other.legs.items) lawful.lawful);
+      cheapest = λ other lawful same.
+          let sums = sums_rightly seen asked fees other rising lawful in
+          omega (arith, ints, mine.cost_is, sums.cost_is, best.cheapest (given_by other.legs.items) lawful.lawful (sums.filled_is ∙ same ∙ sym mine.filled_is));
+    }

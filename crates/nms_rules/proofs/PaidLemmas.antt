@@ -248,7 +248,7 @@ sums_rightly seen asked fees plan rising is =
     let quoted : List Row = contra_rows asked.side seen in
     let apart = apart_rising place quoted rising in
     let some = given_some legs (recursion_from_All (λ (leg : Leg). 1 ≤ leg.shares) legs is.shares) in
-    let each = legs_rows asked fees quoted legs apart (recursion_from_All (λ (leg : Leg). Any (λ row. (row.part ≡ leg.part) × (row.price ≡ leg.price)) quoted) legs is.prices) (on_usable (usable seen asked fees) (given_by legs) legs is.on_usable some) in
+    let each = legs_rows asked fees quoted legs apart (recursion_from_All (λ (leg : Leg). Any (λ row. (row.part ≡ leg.part) × (row.price ≡ leg.price)) quoted) legs is.prices) (on_usable (usable seen asked fees) (given_by legs) legs is.lawful.on_usable some) in
     let apart' = apart_usable asked fees quoted apart in
     record {
       filled_is = filled_legs asked fees legs (usable seen asked fees) apart' each ∙ sym is.filled;

@@ -36,9 +36,10 @@ SweepsBetter rows given row = All (λ other. other.protected ≡ true → other.
 abbrev pub IsOnUsable : List Usable → Assignment → Type 0
 IsOnUsable rows given = (part : ℕ) → 0 < given part → Any (λ row. row.part ≡ part) rows
 
--- no row gets more than it shows, no more is bought or sold than asked, and where a row gets shares every
--- better protected one is swept
+-- shares go to usable rows alone, no row gets more than it shows, no more is bought or sold than asked, and where
+-- a row gets shares every better protected one is swept
 pub record IsLawful (rows : List Usable) (asked : ℕ) (given : Assignment) : Type 0 where
+  pub on_usable : IsOnUsable rows given
   pub within : All (λ row. given row.part ≤ row.size) rows
   pub at_most : filled given rows ≤ asked
   pub swept : All (λ row. 0 < given row.part → SweepsBetter rows given row) rows

@@ -10,7 +10,7 @@ use Rattle.nms_quote.specs.declared.plan.Plan.{Plan}
 use Rattle.nms_board.specs.View.{Seen}
 use Rattle.nms_fee_book.specs.Fees.{unit_cost_of}
 use Rattle.nms_fee_book.specs.declared.fee_schedule.FeeSchedule.{FeeSchedule}
-use Rattle.nms_rules.specs.Assignment.{Assignment, IsLawful, IsOnUsable}
+use Rattle.nms_rules.specs.Assignment.{Assignment, IsLawful}
 use Rattle.nms_rules.specs.Usable.{contra_rows, usable}
 
 -- the shares of the legs, by participant place
@@ -38,7 +38,6 @@ pub record IsFaultless (seen : Seen) (asked : Terms) (fees : List FeeSchedule) (
   pub shares : All (λ leg. 1 ≤ leg.shares) plan.legs.items
   pub prices : All (λ leg. Any (λ row. (row.part ≡ leg.part) × (row.price ≡ leg.price)) (contra_rows asked.side seen)) plan.legs.items
   pub once : IsDistinct nat_eq (map (λ leg. leg.part) plan.legs.items)
-  pub on_usable : IsOnUsable (usable seen asked fees) (given_by plan.legs.items)
   pub lawful : IsLawful (usable seen asked fees) asked.shares (given_by plan.legs.items)
   pub filled : plan.filled ≡ sum_of plan.legs.items
   pub cost : plan.cost ≡ cost_of fees asked.side plan.legs.items

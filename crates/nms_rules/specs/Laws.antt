@@ -1,7 +1,8 @@
 -- The laws above plans. Of lawful ones, in the words of 17 CFR 242.600, "trade-through" and "intermarket sweep order", and
--- 242.611(a), (b)(5) and (6): what the plan trades at a price that would trade through a protected quotation, it
--- trades with that quotation swept.
-use Rattle.std.specs.Prelude.{ℕ, ◌≡◌, ◌≤◌, false, None, List, All}
+-- 242.611(a), (b)(5) and (6): what the plan trades at a price that would trade through a protected quotation on the
+-- side that the order trades with, it trades with that quotation swept. In a crossed market the other side is not
+-- looked at: the exception for crossed markets, 242.611(b)(4), is not part of this product.
+use Rattle.std.specs.Prelude.{ℕ, ◌≡◌, ◌≤◌, ◌≤ℤ◌, false, None, List, All}
 use Rattle.nms_quote.specs.Terms.{Terms}
 use Rattle.nms_quote.specs.declared.certificate.Cut.{Cut}
 use Rattle.nms_quote.specs.declared.plan.Leg.{Leg}
@@ -11,7 +12,7 @@ use Rattle.nms_fee_book.specs.declared.fee_schedule.FeeSchedule.{FeeSchedule}
 use Rattle.nms_rules.specs.Accepted.{IsAccepted}
 use Rattle.nms_rules.specs.Assignment.{IsOptimal}
 use Rattle.nms_rules.specs.Breach.{breach_of}
-use Rattle.nms_rules.specs.Faultless.{given_by}
+use Rattle.nms_rules.specs.Faultless.{IsFaultless, given_by}
 use Rattle.nms_rules.specs.Through.{traded_through_at}
 use Rattle.nms_rules.specs.Usable.{contra, is_better, usable}
 
@@ -19,13 +20,15 @@ use Rattle.nms_rules.specs.Usable.{contra, is_better, usable}
 abbrev pub KeepsLimit : Terms → ℕ → Type 0
 KeepsLimit order price = is_better order.side order.limit price ≡ false
 
--- each quotation on the order's contra side that a trade at the price would trade through gets its full size
-abbrev pub SweepsThrough : Seen → Terms → List Leg → ℕ → Type 0
-SweepsThrough seen order legs price = All (λ found. found.0 ≡ contra order.side → found.1.size ≤ given_by legs found.1.part) (traded_through_at seen price)
+-- each quotation on the side that the order trades with that a trade at the price would trade through gets its full
+-- size
+abbrev pub SweepsThroughOnItsSide : Seen → Terms → List Leg → ℕ → Type 0
+SweepsThroughOnItsSide seen order legs price = All (λ found. found.0 ≡ contra order.side → found.1.size ≤ given_by legs found.1.part) (traded_through_at seen price)
 
--- at none of its prices does a plan trade through a protected quotation that it leaves, and each keeps the limit
+-- at none of its prices does a plan trade through a protected quotation on the side that it trades with and leave it,
+-- and each keeps the limit
 abbrev pub NeverTradesThrough : Seen → Terms → List Leg → Type 0
-NeverTradesThrough seen order legs = All (λ leg. KeepsLimit order leg.price × SweepsThrough seen order legs leg.price) legs
+NeverTradesThrough seen order legs = All (λ leg. KeepsLimit order leg.price × SweepsThroughOnItsSide seen order legs leg.price) legs
 
 -- so it is with each plan that has no breach
 abbrev pub LawfulPlansNeverTradeThrough : Type 0
@@ -33,8 +36,21 @@ LawfulPlansNeverTradeThrough =
     (seen : Seen) (order : Terms) (fees : List FeeSchedule) (plan : Plan)
     → breach_of seen order fees plan ≡ None → NeverTradesThrough seen order plan.legs.items
 
--- a plan that is accepted with its cuts is optimal, whoever made it (this product's own rule)
+-- a plan that is accepted with its cuts is an optimal way to spread shares over the usable rows, whoever made it (this
+-- product's own rule)
 abbrev pub AcceptedPlansAreOptimal : Type 0
 AcceptedPlansAreOptimal =
     (seen : Seen) (order : Terms) (fees : List FeeSchedule) (plan : Plan) (cuts : List Cut)
     → AreRows seen.bids → AreRows seen.offers → IsAccepted seen order fees plan cuts → IsOptimal (usable seen order fees) order.shares (given_by plan.legs.items)
+
+-- a lawful plan for an order on a view: no lawful one fills more, and none that fills as much costs less with fees
+pub record IsBestPlan (seen : Seen) (order : Terms) (fees : List FeeSchedule) (plan : Plan) : Type 0 where
+  pub lawful : IsFaultless seen order fees plan
+  pub most : (other : Plan) → IsFaultless seen order fees other → other.filled ≤ plan.filled
+  pub cheapest : (other : Plan) → IsFaultless seen order fees other → other.filled ≡ plan.filled → plan.cost ≤ℤ other.cost
+
+-- so it is with each plan that is accepted with its cuts (this product's own rule)
+abbrev pub AcceptedPlansAreBest : Type 0
+AcceptedPlansAreBest =
+    (seen : Seen) (order : Terms) (fees : List FeeSchedule) (plan : Plan) (cuts : List Cut)
+    → AreRows seen.bids → AreRows seen.offers → IsAccepted seen order fees plan cuts → IsBestPlan seen order fees plan

@@ -1,14 +1,21 @@
 //! The laws above plans: `specs/Laws`. The functions do nothing: their contracts are the laws.
-ghost use Rattle.nms_rules.specs.Laws.{AcceptedPlansAreOptimal, LawfulPlansNeverTradeThrough};
+ghost use Rattle.nms_rules.specs.Laws.{AcceptedPlansAreBest, AcceptedPlansAreOptimal, LawfulPlansNeverTradeThrough};
 
-/// A plan without a breach never trades through a protected quotation, at any of its prices, and keeps its limit
-/// (17 CFR 242.611(a), (b)(5) and (6)).
+/// A plan without a breach never trades through a protected quotation on the side that the order trades with, at any
+/// of its prices, and keeps its limit (17 CFR 242.611(a), (b)(5) and (6)). In a crossed market the other side is not
+/// looked at: the exception for crossed markets, 242.611(b)(4), is not part of this product.
 pub fn a_lawful_plan_never_trades_through()
     ensures { LawfulPlansNeverTradeThrough }
 {}
 
-/// A plan that is accepted with its certificate is optimal: no lawful plan fills more, and none that fills as much
-/// costs less with fees. This product's own rule.
+/// A plan that is accepted with its certificate is optimal: no lawful way to spread shares over the quotations fills
+/// more, and none that fills as much costs less with fees. This product's own rule.
 pub fn an_accepted_plan_is_optimal()
     ensures { AcceptedPlansAreOptimal }
+{}
+
+/// A plan that is accepted with its certificate is the best: no lawful plan for the order on the view fills more, and
+/// none that fills as much costs less with fees. This product's own rule.
+pub fn an_accepted_plan_is_best()
+    ensures { AcceptedPlansAreBest }
 {}

@@ -14,7 +14,9 @@ mod usable_row;
 pub use breach_finding::breach;
 pub use breach_kind::Breach;
 pub use cutoff::{fillable, is_pooled, is_swept, least_cost, pool, swept};
-pub use laws::{a_lawful_plan_never_trades_through, an_accepted_plan_is_optimal};
+pub use laws::{
+    a_lawful_plan_never_trades_through, an_accepted_plan_is_best, an_accepted_plan_is_optimal,
+};
 pub use leg_test::is_better;
 pub use rank::Rank;
 pub use through::traded_through;

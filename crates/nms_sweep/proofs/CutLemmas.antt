@@ -73,7 +73,7 @@ cut_of_row kind (first ∷ rows) row within = step (cut_of_row kind rows) (cuts-
 
 -- ---- best first
 
-rank-same : (side : OrderSide) (price other : ℕ) → rank_of side price ≡ rank_of side other → price ≡ other
+pub rank-same : (side : OrderSide) (price other : ℕ) → rank_of side price ≡ rank_of side other → price ≡ other
 rank-same Buy price other e = omega (arith, ints, e)
 rank-same Sell price other e = omega (arith, ints, e)
 

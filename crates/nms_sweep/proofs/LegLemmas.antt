@@ -17,18 +17,18 @@ use Rattle.nms_rules.proofs.ApartLemmas.{Apart}
 use Rattle.nms_rules.proofs.GivenLemmas.{given-cons, given-none, gives, gives-other, gives-own, leg_part, row_part}
 use Rattle.nms_rules.proofs.MemberLemmas.{In}
 use Rattle.nms_rules.proofs.SignedLemmas.{times-plus}
-use Rattle.nms_sweep.specs.Choice.{below, left_after, legs_of, share_of, with_leg}
+use Rattle.nms_sweep.specs.Choice.{below, is_level, left_after, legs_of, share_of, with_leg}
 use Rattle.nms_sweep.proofs.TierLemmas.{Gets, gets, level_part, share_costs, share_counts, tier}
 
 abbrev pub level : ℤ → ℤ → List Usable → ℕ
 level cutoff marginal rows = total (level_part cutoff marginal) rows
 
 -- the leg of a row
-pub leg_to : Usable → ℕ → Leg
+unfoldable pub leg_to : Usable → ℕ → Leg
 leg_to row shares = record { part = row.part; price = row.price; shares = shares }
 
 -- with a leg or without
-with-leg : (row : Usable) (shares : ℕ) (legs : List Leg) → (0 < shares) ⊎ (shares ≤ 0) → (0 < shares) × (with_leg row shares legs ≡ leg_to row shares ∷ legs) ⊎ (shares ≡ 0) × (with_leg row shares legs ≡ legs)
+pub with-leg : (row : Usable) (shares : ℕ) (legs : List Leg) → (0 < shares) ⊎ (shares ≤ 0) → (0 < shares) × (with_leg row shares legs ≡ leg_to row shares ∷ legs) ⊎ (shares ≡ 0) × (with_leg row shares legs ≡ legs)
 unfolding leg_to
 with-leg row shares legs (inl some) = inl (some, rw (lt-ltb 0 shares some) refl)
 with-leg row shares legs (inr none) = inr (omega (arith, none), rw (le-ltb 0 shares none) refl)
@@ -134,19 +134,24 @@ cases_eq m n = eq-step m n (cases_Bool (m == n))
     eq-step m n (inl e) = inl (eqb-true m n e)
     eq-step m n (inr e) = inr (eqb-false m n e)
 
-given-with : (row : Usable) (shares : ℕ) (legs : List Leg) (part : ℕ) → (0 < shares) × (with_leg row shares legs ≡ leg_to row shares ∷ legs) ⊎ (shares ≡ 0) × (with_leg row shares legs ≡ legs)
+pub given-with : (row : Usable) (shares : ℕ) (legs : List Leg) (part : ℕ) → (0 < shares) × (with_leg row shares legs ≡ leg_to row shares ∷ legs) ⊎ (shares ≡ 0) × (with_leg row shares legs ≡ legs)
     → given_by (with_leg row shares legs) part ≡ gives (leg_to row shares) part + given_by legs part
 unfolding leg_to
 given-with row shares legs part (inl is) = ap (λ (all : List Leg). given_by all part) is.1 ∙ given-cons (leg_to row shares) legs part
 given-with row shares legs part (inr is) = omega (arith, ap (λ (all : List Leg). given_by all part) is.1, gives-nothing row shares part is.0 (cases_eq row.part part))
 
 -- nothing from later legs to an earlier row
-given-later : (cutoff marginal : ℤ) (left : ℕ) (rows : List Usable) (part : ℕ) → ((row : Usable) → In row rows → part ≡ row.part → ⊥) → given_by (legs_of cutoff marginal left rows) part ≡ 0
+pub given-later : (cutoff marginal : ℤ) (left : ℕ) (rows : List Usable) (part : ℕ) → ((row : Usable) → In row rows → part ≡ row.part → ⊥) → given_by (legs_of cutoff marginal left rows) part ≡ 0
 given-later cutoff marginal left rows part lack =
     given-none (legs_of cutoff marginal left rows) part (λ leg within e. let at = goes_to_row cutoff marginal left rows leg within in lack at.0 at.1 (sym e ∙ at.2.part))
 
--- each row gets its share
-pub given_share : (cutoff marginal : ℤ) (left : ℕ) (rows : List Usable) → Apart row_part rows → (row : Usable) → In row rows → (rest : ℕ) × (given_by (legs_of cutoff marginal left rows) row.part ≡ share_of cutoff marginal rest row)
+-- what is left falls
+left-falls : (cutoff marginal : ℤ) (left : ℕ) (row : Usable) → (is_level cutoff marginal row ≡ true) ⊎ (is_level cutoff marginal row ≡ false) → left_after cutoff marginal left row ≤ left
+left-falls cutoff marginal left row (inl level) = rw level (omega arith)
+left-falls cutoff marginal left row (inr other) = rw other (omega arith)
+
+-- each row gets its share, of what is left by then
+pub given_share : (cutoff marginal : ℤ) (left : ℕ) (rows : List Usable) → Apart row_part rows → (row : Usable) → In row rows → (rest : ℕ) × (rest ≤ left) × (given_by (legs_of cutoff marginal left rows) row.part ≡ share_of cutoff marginal rest row)
 unfolding legs_of leg_to
 given_share cutoff marginal left [] apart row within = absurd within
 given_share cutoff marginal left (first ∷ rows) apart row (inl e) =
@@ -154,6 +159,7 @@ given_share cutoff marginal left (first ∷ rows) apart row (inl e) =
     let later = left_after cutoff marginal left first in
     let legs = legs_of cutoff marginal later rows in (
       left,
+      omega arith,
       rw e (omega (arith, given-with first share legs first.part (with-leg first share legs (cases_lt 0 share)), gives-own (leg_to first share) first.part refl, given-later cutoff marginal later rows first.part apart.0)),
     )
 given_share cutoff marginal left (first ∷ rows) apart row (inr within) =
@@ -161,9 +167,9 @@ given_share cutoff marginal left (first ∷ rows) apart row (inr within) =
     let later = left_after cutoff marginal left first in
     let legs = legs_of cutoff marginal later rows in
     let rest = given_share cutoff marginal later rows apart.1 row within in
-    (rest.0, omega (arith, given-with first share legs row.part (with-leg first share legs (cases_lt 0 share)), gives-other (leg_to first share) row.part (apart.0 row within), rest.1))
+    (rest.0, omega (arith, rest.1, left-falls cutoff marginal left first (cases_Bool (is_level cutoff marginal first))), omega (arith, given-with first share legs row.part (with-leg first share legs (cases_lt 0 share)), gives-other (leg_to first share) row.part (apart.0 row within), rest.2))
 
 pub given_gets : (cutoff marginal : ℤ) (left : ℕ) (rows : List Usable) → Apart row_part rows → (row : Usable) → In row rows → Gets cutoff row (given_by (legs_of cutoff marginal left rows) row.part)
 given_gets cutoff marginal left rows apart row within =
     let share = given_share cutoff marginal left rows apart row within in
-    subst (Gets cutoff row) (sym share.1) (gets cutoff marginal share.0 row)
+    subst (Gets cutoff row) (sym share.2) (gets cutoff marginal share.0 row)

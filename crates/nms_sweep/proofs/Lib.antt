@@ -1,11 +1,14 @@
 mod BoundLemmas
 mod ChoiceLemmas
 mod CutLemmas
+mod ExactLemmas
+mod FillingLemmas
 mod FitLemmas
 mod LegLemmas
 mod MarginalLemmas
 mod OrderLemmas
 mod PlanLemmas
+mod StandLemmas
 mod SumFacts
 mod TierLemmas
 mod TotalLemmas

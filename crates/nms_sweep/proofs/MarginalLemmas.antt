@@ -20,7 +20,7 @@ pub record IsMarginal (cutoff : ℤ) (rows : List Usable) (number : ℕ) (margin
   pub reaches : number ≤ below cutoff marginal rows + level cutoff marginal rows
 
 -- no row of a higher cost is below
-none-below : (cutoff marginal : ℤ) (row : Usable) (rows : List Usable) → marginal ≤ℤ row.cost → NoLess Cost row rows → below cutoff marginal rows ≡ 0
+pub none-below : (cutoff marginal : ℤ) (row : Usable) (rows : List Usable) → marginal ≤ℤ row.cost → NoLess Cost row rows → below cutoff marginal rows ≡ 0
 unfolding total
 none-below cutoff marginal row [] most no_less = refl
 none-below cutoff marginal row (other ∷ rows) most no_less =

@@ -38,20 +38,20 @@ use Rattle.nms_sweep.proofs.CutLemmas.{best_first, cut_of_row, row_of_cut}
 use Rattle.nms_sweep.proofs.FitLemmas.{Fits, fits}
 use Rattle.nms_sweep.proofs.LegLemmas.{GoesTo, cost_legs, given_gets, goes_to_row, legs_apart, level, sum_legs}
 use Rattle.nms_sweep.proofs.MarginalLemmas.{marginal_is}
-use Rattle.nms_sweep.proofs.OrderLemmas.{Ordered, ordered_from}
+use Rattle.nms_sweep.proofs.OrderLemmas.{InOrder, Ordered, in_order_from, ordered_from}
 use Rattle.nms_sweep.proofs.TierLemmas.{Gets, level_part}
 use Rattle.nms_sweep.proofs.TotalLemmas.{amount_same, total_same}
 
 -- ---- the rows in another order
 
-in_other : {X : Type 0} (one other : List X) → IsPermutation one other → (x : X) → In x one → In x other
+pub in_other : {X : Type 0} (one other : List X) → IsPermutation one other → (x : X) → In x one → In x other
 in_other {X} one other same =
     In-All (λ (x : X). In x other) one (All-permutation (λ (x : X). In x other) other one (IsPermutation-sym one other same) (All-In (λ (x : X). In x other) other (λ x within. within)))
 
 eq-flips : (m n : ℕ) → nat_eq m n ≡ nat_eq n m
 eq-flips m n = grind arith
 
-apart_other : (one other : List Usable) → IsPermutation one other → Apart row_part one → Apart row_part other
+pub apart_other : (one other : List Usable) → IsPermutation one other → Apart row_part one → Apart row_part other
 apart_other one other same apart =
     Apart-IsDistinct row_part other (IsDistinct-IsPermutation nat_eq eq-flips (map row_part one) (map row_part other) (IsPermutation-map row_part one other same) (IsDistinct-Apart row_part one apart))
 
@@ -61,16 +61,16 @@ place : Row → ℕ
 place row = row.part
 
 -- what a usable row is
-record IsOf (seen : Seen) (asked : Terms) (fees : List FeeSchedule) (row : Usable) (quoted : Row) : Type 0 where
+pub record IsOf (seen : Seen) (asked : Terms) (fees : List FeeSchedule) (row : Usable) (quoted : Row) : Type 0 where
   pub within : In quoted (contra_rows asked.side seen)
   pub is : row ≡ usable_row asked fees quoted
 
-usable_is : (seen : Seen) (asked : Terms) (fees : List FeeSchedule) (row : Usable) → In row (usable seen asked fees) → (quoted : Row) × IsOf seen asked fees row quoted
+pub usable_is : (seen : Seen) (asked : Terms) (fees : List FeeSchedule) (row : Usable) → In row (usable seen asked fees) → (quoted : Row) × IsOf seen asked fees row quoted
 usable_is seen asked fees row within =
     let from = map-In (usable_row asked fees) (filter (is_usable asked) (contra_rows asked.side seen)) row within in
     (from.0, record { within = (filter-In (is_usable asked) (contra_rows asked.side seen) from.0 from.1).0; is = from.2 })
 
-usable_apart : (seen : Seen) (asked : Terms) (fees : List FeeSchedule) → IsStrictlyIncreasing (map (λ row. row.part) (contra_rows asked.side seen)) → Apart row_part (usable seen asked fees)
+pub usable_apart : (seen : Seen) (asked : Terms) (fees : List FeeSchedule) → IsStrictlyIncreasing (map (λ row. row.part) (contra_rows asked.side seen)) → Apart row_part (usable seen asked fees)
 unfolding place
 usable_apart seen asked fees rising =
     Apart-map place row_part (usable_row asked fees) (λ row. refl) (filter (is_usable asked) (contra_rows asked.side seen))
@@ -80,6 +80,7 @@ usable_apart seen asked fees rising =
 pub record Table (side : OrderSide) (fees : List FeeSchedule) (rows by_price by_cost : List Usable) : Type 0 where
   pub same_price : IsPermutation rows by_price
   pub same_cost : IsPermutation rows by_cost
+  pub in_order : InOrder Price by_price
   pub ordered_price : Ordered Price by_price
   pub ordered_cost : Ordered Cost by_cost
   pub apart : Apart row_part rows
@@ -91,8 +92,9 @@ pub table : (seen : Seen) (asked : Terms) (fees : List FeeSchedule) (by_price by
 table seen asked fees by_price by_cost rising same ordered again cheapest = record {
   same_price = same;
   same_cost = IsPermutation-trans (usable seen asked fees) by_price by_cost same again;
-  ordered_price = ordered_from Price by_price ordered;
-  ordered_cost = ordered_from Cost by_cost cheapest;
+  in_order = in_order_from Price by_price ordered;
+  ordered_price = ordered_from Price by_price (in_order_from Price by_price ordered);
+  ordered_cost = ordered_from Cost by_cost (in_order_from Cost by_cost cheapest);
   apart = usable_apart seen asked fees rising;
   ranks = λ row within. let at = usable_is seen asked fees row within in rw at.1.is refl;
   costs = λ row within. let at = usable_is seen asked fees row within in rw at.1.is refl;
@@ -101,12 +103,12 @@ table seen asked fees by_price by_cost rising same ordered again cheapest = reco
 -- ---- what a cut says
 
 -- more must be swept, or less is there, or it has a marginal
-record IsFit (rows by_cost : List Usable) (most : ℕ) (cutoff : ℤ) : Type 0 where
+pub record IsFit (rows by_cost : List Usable) (most : ℕ) (cutoff : ℤ) : Type 0 where
   pub sweeps : swept cutoff rows ≤ most
   pub reaches : most ≤ swept cutoff rows + pool cutoff rows
   pub is : kind_at rows by_cost most cutoff ≡ Marginal (share_cost cutoff (most - swept cutoff rows) (pos 0) by_cost)
 
-Kinds : List Usable → List Usable → ℕ → ℤ → Type 0
+unfoldable pub Kinds : List Usable → List Usable → ℕ → ℤ → Type 0
 Kinds rows by_cost most cutoff =
     (most < swept cutoff rows) × (kind_at rows by_cost most cutoff ≡ TooMuch)
     ⊎ ((swept cutoff rows + pool cutoff rows < most) × (kind_at rows by_cost most cutoff ≡ TooLittle) ⊎ IsFit rows by_cost most cutoff)
@@ -118,12 +120,13 @@ kinds-step rows by_cost most cutoff (inr right) (inl little) = inr (inl (little,
 kinds-step rows by_cost most cutoff (inr right) (inr enough) =
     inr (inr (record { sweeps = right; reaches = enough; is = rw (le-ltb most (swept cutoff rows) right, le-ltb (swept cutoff rows + pool cutoff rows) most enough) refl }))
 
-kinds : (rows by_cost : List Usable) (most : ℕ) (cutoff : ℤ) → Kinds rows by_cost most cutoff
+pub kinds : (rows by_cost : List Usable) (most : ℕ) (cutoff : ℤ) → Kinds rows by_cost most cutoff
 kinds rows by_cost most cutoff = kinds-step rows by_cost most cutoff (cases_lt most (swept cutoff rows)) (cases_lt (swept cutoff rows + pool cutoff rows) most)
 
 -- ---- a cutoff that can be filled at
 
 record Right (rows : List Usable) (most : ℕ) (choice : Choice) : Type 0 where
+  pub at : (row : Usable) × In row rows × (row.rank ≡ choice.cutoff)
   pub sweeps : swept choice.cutoff rows ≤ most
   pub covers : below choice.cutoff choice.marginal rows ≤ most - swept choice.cutoff rows
   pub reaches : most - swept choice.cutoff rows ≤ below choice.cutoff choice.marginal rows + level choice.cutoff choice.marginal rows
@@ -133,10 +136,10 @@ record Right (rows : List Usable) (most : ℕ) (choice : Choice) : Type 0 where
 choice_at : List Usable → ℕ → ℤ → ℤ → Choice
 choice_at rows most cutoff marginal = record { cutoff = cutoff; marginal = marginal; cost = least_cost rows most cutoff marginal }
 
-right-fit : (side : OrderSide) (fees : List FeeSchedule) (rows by_price by_cost : List Usable) → Table side fees rows by_price by_cost → (most : ℕ) (cutoff : ℤ) → IsFit rows by_cost most cutoff
+right-fit : (side : OrderSide) (fees : List FeeSchedule) (rows by_price by_cost : List Usable) → Table side fees rows by_price by_cost → (most : ℕ) (cutoff : ℤ) → (row : Usable) × In row rows × (row.rank ≡ cutoff) → IsFit rows by_cost most cutoff
     → Right rows most (choice_at rows most cutoff (share_cost cutoff (most - swept cutoff rows) (pos 0) by_cost))
 unfolding choice_at
-right-fit side fees rows by_price by_cost table' most cutoff fit =
+right-fit side fees rows by_price by_cost table' most cutoff at fit =
     let number = most - swept cutoff rows in
     let marginal = share_cost cutoff number (pos 0) by_cost in
     let pools = total_same (pool_part cutoff) rows by_cost table'.same_cost in
@@ -144,6 +147,7 @@ right-fit side fees rows by_price by_cost table' most cutoff fit =
     let belows = total_same (below_part cutoff marginal) rows by_cost table'.same_cost in
     let levels = total_same (level_part cutoff marginal) rows by_cost table'.same_cost in
     record {
+      at = at;
       sweeps = fit.sweeps;
       covers = omega (arith, is.covers, belows);
       reaches = omega (arith, is.reaches, belows, levels);
@@ -155,24 +159,24 @@ some-same one other e = ap (λ found. unwrap_or found one) e
 
 -- what a cutoff offers is right
 right-offer : (side : OrderSide) (fees : List FeeSchedule) (rows by_price by_cost : List Usable) → Table side fees rows by_price by_cost → (most : ℕ) (cutoff : ℤ) (choice : Choice)
-    → Kinds rows by_cost most cutoff → candidate rows most cutoff (kind_at rows by_cost most cutoff) ≡ Some choice → Right rows most choice
+    → (row : Usable) × In row rows × (row.rank ≡ cutoff) → Kinds rows by_cost most cutoff → candidate rows most cutoff (kind_at rows by_cost most cutoff) ≡ Some choice → Right rows most choice
 unfolding Kinds choice_at
-right-offer side fees rows by_price by_cost table' most cutoff choice (inl much) e = absurd (false≢true (ap is_some (ap (candidate rows most cutoff) (sym much.1) ∙ e)))
-right-offer side fees rows by_price by_cost table' most cutoff choice (inr (inl little)) e = absurd (false≢true (ap is_some (ap (candidate rows most cutoff) (sym little.1) ∙ e)))
-right-offer side fees rows by_price by_cost table' most cutoff choice (inr (inr fit)) e =
+right-offer side fees rows by_price by_cost table' most cutoff choice at (inl much) e = absurd (false≢true (ap is_some (ap (candidate rows most cutoff) (sym much.1) ∙ e)))
+right-offer side fees rows by_price by_cost table' most cutoff choice at (inr (inl little)) e = absurd (false≢true (ap is_some (ap (candidate rows most cutoff) (sym little.1) ∙ e)))
+right-offer side fees rows by_price by_cost table' most cutoff choice at (inr (inr fit)) e =
     subst (Right rows most) (some-same (choice_at rows most cutoff (share_cost cutoff (most - swept cutoff rows) (pos 0) by_cost)) choice (ap (candidate rows most cutoff) (sym fit.is) ∙ e))
-    (right-fit side fees rows by_price by_cost table' most cutoff fit)
+    (right-fit side fees rows by_price by_cost table' most cutoff at fit)
 
 -- ---- the cuts, and what they offer
 
 -- the row of a cut
-record RowOf (side : OrderSide) (rows by_cost : List Usable) (most : ℕ) (cut : Cut) (row : Usable) : Type 0 where
+pub record RowOf (side : OrderSide) (rows by_cost : List Usable) (most : ℕ) (cut : Cut) (row : Usable) : Type 0 where
   pub within : In row rows
   pub price : cut.price ≡ row.price
   pub rank : rank_of side cut.price ≡ row.rank
   pub kind : cut.kind ≡ kind_at rows by_cost most row.rank
 
-row-of : (side : OrderSide) (fees : List FeeSchedule) (rows by_price by_cost : List Usable) → Table side fees rows by_price by_cost → (most : ℕ) (cut : Cut) → In cut (cuts_of (kind_at rows by_cost most) by_price)
+pub row-of : (side : OrderSide) (fees : List FeeSchedule) (rows by_price by_cost : List Usable) → Table side fees rows by_price by_cost → (most : ℕ) (cut : Cut) → In cut (cuts_of (kind_at rows by_cost most) by_price)
     → (row : Usable) × RowOf side rows by_cost most cut row
 row-of side fees rows by_price by_cost table' most cut within =
     let at = row_of_cut (kind_at rows by_cost most) by_price cut within in
@@ -197,7 +201,7 @@ right-step : (side : OrderSide) (fees : List FeeSchedule) (rows by_price by_cost
 right-step side fees rows by_price by_cost table' most choice (inl none) = absurd (false≢true (ap is_some none))
 right-step side fees rows by_price by_cost table' most choice (inr at) =
     let row = row-of side fees rows by_price by_cost table' most at.0 at.1 in
-    right-offer side fees rows by_price by_cost table' most row.0.rank choice (kinds rows by_cost most row.0.rank) (sym (offers-as side rows by_cost most at.0 row.0 row.1) ∙ at.2)
+    right-offer side fees rows by_price by_cost table' most row.0.rank choice (row.0, row.1.within, refl) (kinds rows by_cost most row.0.rank) (sym (offers-as side rows by_cost most at.0 row.0 row.1) ∙ at.2)
 
 -- ---- what the legs fill and cost
 
@@ -206,6 +210,7 @@ pub record Fills (side : OrderSide) (fees : List FeeSchedule) (by_price : List U
   pub cutoff : ℤ
   pub marginal : ℤ
   pub left : ℕ
+  pub at : 0 < most → Any (λ row. row.rank ≡ cutoff) by_price
   pub is : legs ≡ legs_of cutoff marginal left by_price
   pub sum : sum_of legs ≡ most
   pub pays : cost_of fees side legs ≡ cost
@@ -230,6 +235,7 @@ fills-right side fees rows by_price by_cost table' most choice right =
       cutoff = cutoff;
       marginal = marginal;
       left = left;
+      at = λ some. Any-In (λ (row : Usable). row.rank ≡ cutoff) by_price right.at.0 (in_other rows by_price same right.at.0 right.at.1) right.at.2;
       is = refl;
       sum = sum;
       pays = omega (
@@ -295,7 +301,7 @@ fills-found side fees rows by_price by_cost table' asked (Some choice) e =
     (right-step side fees rows by_price by_cost table' most choice (chosen_offered side rows most None (cuts_of (kind_at rows by_cost most) by_price) choice e))
 fills-found side fees rows [] by_cost table' asked None e =
     let none : total (λ row. row.size) rows ≡ 0 = total-nothing rows table'.same_price in
-    record { cutoff = pos 0; marginal = pos 0; left = 0; is = legs-nothing; sum = omega (arith, none); pays = cost-nothing fees side }
+    record { cutoff = pos 0; marginal = pos 0; left = 0; at = λ some. absurd (omega (arith, none, some)); is = legs-nothing; sum = omega (arith, none); pays = cost-nothing fees side }
 fills-found side fees rows (row ∷ by_price) by_cost table' asked None e =
     let most = fillable rows asked in
     let all = total_same (λ (one : Usable). one.size) rows (row ∷ by_price) table'.same_price in
@@ -331,6 +337,10 @@ lawful side fees rows by_price by_cost table' asked cost legs fills' =
     let at = goes_to_row fills'.cutoff fills'.marginal fills'.left by_price leg (subst (In leg) fills'.is within) in
     (at.0, in_other by_price rows (IsPermutation-sym rows by_price same) at.0 at.1, at.2.part) in
     record {
+      on_usable = λ part some.
+          let leg = given-by legs part some in
+          let at = goes leg.0 leg.1 in
+          Any-In (λ (row : Usable). row.part ≡ part) rows at.0 at.1 (sym at.2 ∙ leg.2);
       within = All-In (λ (row : Usable). given_by legs row.part ≤ row.size) rows (λ row within. (gets row within).within);
       at_most = omega (arith, filled-given legs rows table'.apart goes, fills'.sum);
       swept = All-In (λ (row : Usable). 0 < given_by legs row.part → SweepsBetter rows (given_by legs) row) rows (λ row within some.
@@ -357,10 +367,6 @@ faultless seen asked fees plan by_price by_cost table' version order symbol fill
       shares = All-In (λ (leg : Leg). 1 ≤ leg.shares) legs (λ leg within. (goes leg within).2.shares);
       prices = All-In (λ (leg : Leg). Any (λ (row : Row). (row.part ≡ leg.part) × (row.price ≡ leg.price)) (contra_rows asked.side seen)) legs (λ leg within. let at = goes leg within in quoted seen asked fees at.0 at.1 leg at.2);
       once = IsDistinct-Apart leg_part legs (subst (Apart leg_part) (sym fills'.is) (legs_apart fills'.cutoff fills'.marginal fills'.left by_price apart));
-      on_usable = λ part some.
-          let leg = given-by legs part some in
-          let at = goes leg.0 leg.1 in
-          Any-In (λ (row : Usable). row.part ≡ part) rows at.0 at.1 (sym at.2.part ∙ leg.2);
       lawful = lawful asked.side fees rows by_price by_cost table' asked.shares plan.cost legs fills';
       filled = filled' ∙ sym fills'.sum;
       cost = sym fills'.pays;

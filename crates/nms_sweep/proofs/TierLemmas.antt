@@ -14,7 +14,7 @@ use Rattle.nms_rules.proofs.SignedLemmas.{le-true, lt-false, lt-true, plus-times
 use Rattle.nms_sweep.specs.Choice.{below_part, is_below, is_level, left_after, share_of}
 
 -- a row at the marginal
-pub level_part : ℤ → ℤ → Usable → ℕ
+unfoldable pub level_part : ℤ → ℤ → Usable → ℕ
 level_part cutoff marginal row = if is_level cutoff marginal row then row.size else 0
 
 pub record Stands (cutoff marginal : ℤ) (row : Usable) (sweeps pools belows levels : Bool) : Type 0 where
@@ -23,22 +23,22 @@ pub record Stands (cutoff marginal : ℤ) (row : Usable) (sweeps pools belows le
   pub below : is_below cutoff marginal row ≡ belows
   pub level : is_level cutoff marginal row ≡ levels
 
-pub Swept : ℤ → ℤ → Usable → Type 0
+unfoldable pub Swept : ℤ → ℤ → Usable → Type 0
 Swept cutoff marginal row = Stands cutoff marginal row true false false false
 
-pub Below : ℤ → ℤ → Usable → Type 0
+unfoldable pub Below : ℤ → ℤ → Usable → Type 0
 Below cutoff marginal row = Stands cutoff marginal row false true true false × (row.cost <ℤ marginal)
 
-pub Level : ℤ → ℤ → Usable → Type 0
+unfoldable pub Level : ℤ → ℤ → Usable → Type 0
 Level cutoff marginal row = Stands cutoff marginal row false true false true × (row.cost ≡ marginal)
 
-pub Above : ℤ → ℤ → Usable → Type 0
+unfoldable pub Above : ℤ → ℤ → Usable → Type 0
 Above cutoff marginal row = Stands cutoff marginal row false true false false × (marginal <ℤ row.cost)
 
-pub Beyond : ℤ → ℤ → Usable → Type 0
+unfoldable pub Beyond : ℤ → ℤ → Usable → Type 0
 Beyond cutoff marginal row = Stands cutoff marginal row false false false false × (cutoff <ℤ row.rank)
 
-pub Tier : ℤ → ℤ → Usable → Type 0
+unfoldable pub Tier : ℤ → ℤ → Usable → Type 0
 Tier cutoff marginal row = Swept cutoff marginal row ⊎ (Below cutoff marginal row ⊎ (Level cutoff marginal row ⊎ (Above cutoff marginal row ⊎ Beyond cutoff marginal row)))
 
 tier-step : (cutoff marginal : ℤ) (row : Usable) → Sweeps cutoff row ⊎ (Pools cutoff row ⊎ Passes cutoff row)

@@ -4,4 +4,5 @@ pub use Rattle.nms_rules.specs.Faultless as Faultless
 pub use Rattle.nms_rules.specs.Usable as Usable
 pub mod Bounds
 pub mod Choice
+pub mod Filling
 pub mod Order

@@ -5,6 +5,8 @@ ghost use Rattle.nms_rules.specs.Assignment.{IsOptimal, fillable};
 ghost use Rattle.nms_rules.specs.Breach.{breach_of};
 ghost use Rattle.nms_rules.specs.Faultless.{given_by};
 ghost use Rattle.nms_rules.specs.Usable.{usable};
+ghost use Rattle.nms_sweep.specs.Filling.{AreExact, FillsInOrder};
+ghost use Rattle.nms_sweep.specs.Order.{AreInOrder};
 
 use crate::choice::{chosen, cost_chosen};
 use crate::cutting::cuts_of;
@@ -28,6 +30,9 @@ pub fn plan(view: &View, order: &Order, fees: &FeeBook) -> (Plan, Certificate)
     ensures most { result.0.filled ≡ fillable (usable view.now order.now fees.now) order.now.shares }
     ensures accepted { IsAccepted view.now order.now fees.now result.0 result.1.items }
     ensures optimal { IsOptimal (usable view.now order.now fees.now) order.now.shares (given_by result.0.legs.items) }
+    ensures ordered { AreInOrder order.now.side result.0.legs.items }
+    ensures filling { FillsInOrder (usable view.now order.now fees.now) (given_by result.0.legs.items) }
+    ensures exact { AreExact order.now.side (usable view.now order.now fees.now) result.0.filled result.1.items }
 {
     let usable = usable_rows(view, order, fees);
     let rows = usable.as_slice();

@@ -1,17 +1,23 @@
-use Rattle.std.proofs.Common.{◌≡◌, ◌≤◌, List, Option, ap, sym, ◌∙◌, subst, arith}
+use Rattle.std.proofs.Common.{◌≡◌, ◌≤◌, List, Option, refl, ap, sym, ◌∙◌, subst, arith}
 use Rattle.nms_quote.specs.Terms.{Terms}
 use Rattle.nms_quote.specs.contracts.order.Order.{the_view}
 use Rattle.nms_quote.specs.declared.certificate.Cut.{Cut}
 use Rattle.nms_quote.specs.declared.plan.Leg.{Leg}
 use Rattle.nms_quote.specs.declared.plan.Plan.{Plan}
+use Rattle.nms_rules.specs.Accepted.{IsAccepted}
 use Rattle.nms_rules.specs.Assignment.{fillable}
 use Rattle.nms_rules.specs.Faultless.{sum_of}
 use Rattle.nms_rules.specs.Usable.{Usable, usable}
 use Rattle.nms_rules.proofs.LawfulLemmas.{none_of_faultless}
 use Rattle.nms_rules.proofs.OptimalLemmas.{accepted_optimal}
 use Rattle.nms_sweep.specs.Choice.{cost_chosen, legs_chosen}
+use Rattle.nms_sweep.specs.Filling.{AreExact}
+use Rattle.nms_sweep.specs.Order.{AreInOrder}
 use Rattle.nms_sweep.specs.declared.choice.Choice.{Choice}
+use Rattle.nms_sweep.proofs.ExactLemmas.{exact}
+use Rattle.nms_sweep.proofs.FillingLemmas.{filling}
 use Rattle.nms_sweep.proofs.PlanLemmas.{Fills, Found, accepted, faultless, found_from, legs_found}
+use Rattle.nms_sweep.proofs.StandLemmas.{chosen_in_order}
 use Rattle.nms_sweep.proofs.planning.plan.Goals as goal
 
 pub legs_chosen-legs-requires-clause-few : goal.legs_chosen-legs-requires-clause-few
@@ -36,8 +42,8 @@ legs_chosen-legs-requires-clause-few c =
     subst (λ (one : List Usable). sum_of (legs_chosen one most found c.as_slice-by_price.result.now) ≤ 999999999) (sym are)
     (subst (λ (one : List Usable). sum_of (legs_chosen rows most found one) ≤ 999999999) (sym c.as_slice-by_price.ensures.value) sum)
 
-pub returns-clause-accepted : goal.returns-clause-accepted
-returns-clause-accepted c =
+pub returns : goal.returns
+returns c =
     let seen = c.args.view.now in
     let asked : Terms = c.args.order.now in
     let fees = c.args.fees.now in
@@ -60,12 +66,15 @@ returns-clause-accepted c =
     let paid = subst (λ cost. Fills asked.side fees by_price (fillable rows asked.shares) cost c.legs_chosen-legs.result.items) (sym c.cost_chosen.ensures) filled in
     let plan : Plan = record { version = c.version.result; order = the_view c.order.inside; legs = c.legs_chosen-legs.result; filled = most; cost = c.cost_chosen.result } in
     let is = faultless seen asked fees plan by_price by_cost all.rows c.version.ensures.version c.order.view_is c.requires all.fillable_is paid in
-    accepted seen asked fees plan by_price by_cost cuts all.rows is all.fillable_is all.cuts_are c.cuts_of-cuts.ensures.range (c.cost_chosen.ensures ∙ ap cost_chosen all.found_is)
-
-pub returns-clause-lawful : goal.returns-clause-lawful
-returns-clause-lawful c =
-    none_of_faultless c.args.view.now c.args.order.now c.args.fees.now _ c.version.ensures.bids c.version.ensures.offers (returns-clause-accepted c).faultless
-
-pub returns-clause-optimal : goal.returns-clause-optimal
-returns-clause-optimal c =
-    accepted_optimal c.args.view.now c.args.order.now c.args.fees.now _ c.cuts_of-cuts.result.items c.version.ensures.bids c.version.ensures.offers (returns-clause-accepted c)
+    let accepted' : IsAccepted seen asked fees plan cuts =
+    accepted seen asked fees plan by_price by_cost cuts all.rows is all.fillable_is all.cuts_are c.cuts_of-cuts.ensures.range (c.cost_chosen.ensures ∙ ap cost_chosen all.found_is) in
+    record {
+      lawful = none_of_faultless seen asked fees plan c.version.ensures.bids c.version.ensures.offers is;
+      most = all.fillable_is;
+      accepted = accepted';
+      optimal = accepted_optimal seen asked fees plan cuts c.version.ensures.bids c.version.ensures.offers accepted';
+      ordered = subst (AreInOrder asked.side) (sym legs)
+          (chosen_in_order seen asked fees rows by_price refl c.usable_rows-usable.ensures.rising all.rows.same_price c.in_order-best_first.ensures.ordered most found);
+      filling = filling asked.side fees rows by_price by_cost all.rows (fillable rows asked.shares) (cost_chosen found) c.legs_chosen-legs.result.items filled;
+      exact = subst (λ n. AreExact asked.side rows n cuts) (sym all.fillable_is) (exact asked.side fees rows by_price by_cost all.rows (fillable rows asked.shares) cuts all.cuts_are);
+    }
