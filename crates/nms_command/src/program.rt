@@ -1,10 +1,12 @@
 //! What the program does with its words, its streams and its files.
-ghost use Rattle.std.specs.Prelude.{◌≡◌};
-ghost use Rattle.nms_command.specs.Statuses.{status_of};
+ghost use Rattle.std.specs.Prelude.{◌≡◌, ◌⊎◌, ◌<◌, OnOk};
+ghost use Rattle.std.specs.Io.KnownBytes.{Appends};
+ghost use Rattle.nms_command.specs.Statuses.{fault_text, status_of};
 
 use crate::check::serve_check;
 use crate::ending::Ending;
 use crate::files::{open_file, read_file};
+use crate::line::write_line;
 use crate::living::serve_live;
 use crate::planning::serve_plan;
 use crate::tool_fault::ToolFault;
@@ -23,7 +25,8 @@ use std::{io, str};
 /// Does what the words ask for, with the script on `input`, and gives the exit status.
 ///
 /// Answers and help go to `answers`; the text of a parser's fault, or one line `nms_tool: CODE`, to
-/// `errors`.
+/// `errors`. Status 0 says that what the words ask for was done, of a plan that it is confirmed, and 4 that a plan was
+/// judged and is not confirmed.
 pub fn run_tool<T, R: Read + Drop, W: Write, E: Write>(
     rt: &T,
     words: &[&str],
@@ -33,6 +36,8 @@ pub fn run_tool<T, R: Read + Drop, W: Write, E: Write>(
 ) -> u8
 where
     T: Files + AllocGlobal + Threads + Wait + Sync,
+    ensures known { result < 8 }
+    ensures quiet { (result ≡ 0) ⊎ (result ≡ 4) → E.contents errors.new ≡ E.contents errors.old }
 {
     match serve_words(rt, words, &mut input, answers) {
         Ok(ending) => ending.status(),
@@ -44,23 +49,26 @@ where
 pub fn tell_fault<E: Write>(fault: &ToolFault, errors: &mut E) -> u8
     ensures { result ≡ status_of fault.now }
 {
-    let _ = match fault {
-        ToolFault::Words(WordsFault::Parser { text, .. }) => tell(errors, text.as_str()),
-        _ => tell_code(errors, fault.code()),
-    };
+    let _ = write_fault(fault, errors);
     fault.status()
 }
 
-/// Writes a text, and flushes it.
-fn tell<W: Write>(writer: &mut W, text: &str) -> io::Result<()> {
-    writer.write_all(text.as_bytes())?;
-    writer.flush()
+/// Writes what is told of a fault: the parser's text, or one line with the code.
+fn write_fault<E: Write>(fault: &ToolFault, errors: &mut E) -> io::Result<()>
+    ensures { OnOk result (Appends (E.contents errors.old) (E.contents errors.new) (fault_text fault.now)) }
+{
+    match fault {
+        ToolFault::Words(WordsFault::Parser { text, .. }) => tell(errors, text.as_str()),
+        _ => write_line(errors, "nms_tool: ", fault.code()),
+    }
 }
 
-/// Tells a code of this program.
-fn tell_code<E: Write>(errors: &mut E, code: &str) -> io::Result<()> {
-    writeln!(errors, "nms_tool: {code}")?;
-    errors.flush()
+/// Writes a text, and flushes it.
+fn tell<W: Write>(writer: &mut W, text: &str) -> io::Result<()>
+    ensures { OnOk result (Appends (W.contents writer.old) (W.contents writer.new) text.now) }
+{
+    writer.write_all(text.as_bytes())?;
+    writer.flush()
 }
 
 /// Serves the request that the words are, or tells the help that they ask for.

@@ -1,0 +1,2 @@
+mod CheckFacts
+mod StatusFacts
