@@ -1,2 +1,3 @@
 mod CheckFacts
+mod ServedFacts
 mod StatusFacts

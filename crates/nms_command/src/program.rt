@@ -1,6 +1,9 @@
-//! What the program does with its words, its streams and its files.
-ghost use Rattle.std.specs.Prelude.{◌≡◌, ◌⊎◌, ◌<◌, OnOk};
+//! What the program does with its words, its streams and its files (specs/Served).
+ghost use Rattle.std.specs.Prelude.{◌≡◌, ◌⊎◌, ◌<◌, IfOk, OnOk, map};
 ghost use Rattle.std.specs.Io.KnownBytes.{Appends};
+ghost use Rattle.std.specs.String.{string_bytes};
+ghost use Rattle.nms_words.specs.CommandLine.{shown};
+ghost use Rattle.nms_command.specs.Served.{AreServed, IsServed, IsSetup, Reports, Scripts, Serves};
 ghost use Rattle.nms_command.specs.Statuses.{fault_text, status_of};
 
 use crate::check::serve_check;
@@ -38,6 +41,8 @@ where
     T: Files + AllocGlobal + Threads + Wait + Sync,
     ensures known { result < 8 }
     ensures quiet { (result ≡ 0) ⊎ (result ≡ 4) → E.contents errors.new ≡ E.contents errors.old }
+    ensures done { result ≡ 0 → AreServed (map (λ word. word.now) words.entry.now) (R.remaining input) (W.contents answers.old) (W.contents answers.new) Ending.Done }
+    ensures not_confirmed { result ≡ 4 → AreServed (map (λ word. word.now) words.entry.now) (R.remaining input) (W.contents answers.old) (W.contents answers.new) Ending.NotConfirmed }
 {
     match serve_words(rt, words, &mut input, answers) {
         Ok(ending) => ending.status(),
@@ -80,6 +85,7 @@ fn serve_words<T, R: Read, W: Write>(
 ) -> Result<Ending, ToolFault>
 where
     T: Files + AllocGlobal + Threads + Wait + Sync,
+    ensures { IfOk result (AreServed (map (λ word. word.now) words.entry.now) (R.remaining input.old) (W.contents answers.old) (W.contents answers.new)) }
 {
     match read_words(rt.alloc(), words) {
         Ok(request) => serve_request(rt, &request, input, answers),
@@ -97,6 +103,7 @@ fn serve_request<T, R: Read, W: Write>(
 ) -> Result<Ending, ToolFault>
 where
     T: Files + AllocGlobal + Threads + Wait + Sync,
+    ensures { IfOk result (IsServed (shown request.now) (R.remaining input.old) (W.contents answers.old) (W.contents answers.new)) }
 {
     let setup = setup_of(rt, request)?;
     serve_under(rt, &setup, request, input, answers)
@@ -112,6 +119,7 @@ fn serve_under<T, R: Read, W: Write>(
 ) -> Result<Ending, ToolFault>
 where
     T: Files + AllocGlobal + Threads + Wait + Sync,
+    ensures { IfOk result (Serves request.now.command setup.now (shown request.now) (R.remaining input.old) (W.contents answers.old) (W.contents answers.new)) }
 {
     match request.command {
         Sub::Script => serve_script(rt, setup, input, answers),
@@ -123,7 +131,9 @@ where
 }
 
 /// Answers with the help, or with the version.
-fn tell_help<W: Write>(answers: &mut W, help: &str) -> Result<Ending, ToolFault> {
+fn tell_help<W: Write>(answers: &mut W, help: &str) -> Result<Ending, ToolFault>
+    ensures { IfOk result (λ ends. ends ≡ Ending.Done) }
+{
     match tell(answers, help) {
         Ok(()) => Ok(Ending::Done),
         Err(_) => Err(ToolFault::Script(ScriptFault::WriteFault)),
@@ -131,7 +141,9 @@ fn tell_help<W: Write>(answers: &mut W, help: &str) -> Result<Ending, ToolFault>
 }
 
 /// The setup of the file that the request names, or the built-in one.
-fn setup_of<T: Files + AllocGlobal>(rt: &T, request: &Request) -> Result<Setup, ToolFault> {
+fn setup_of<T: Files + AllocGlobal>(rt: &T, request: &Request) -> Result<Setup, ToolFault>
+    ensures { IfOk result (λ setup. IsSetup setup) }
+{
     let Some(file) = &request.setup else {
         return read_text(rt.alloc(), SETUP_K);
     };
@@ -143,7 +155,9 @@ fn setup_of<T: Files + AllocGlobal>(rt: &T, request: &Request) -> Result<Setup, 
 }
 
 /// The setup that a text says.
-fn read_text(alloc: Global, text: &str) -> Result<Setup, ToolFault> {
+fn read_text(alloc: Global, text: &str) -> Result<Setup, ToolFault>
+    ensures { IfOk result (λ setup. IsSetup setup) }
+{
     match read_setup(alloc, text) {
         Ok(setup) => Ok(setup),
         Err(fault) => Err(ToolFault::Setup(fault)),
@@ -156,7 +170,9 @@ fn serve_script<T: AllocGlobal, R: Read, W: Write>(
     setup: &Setup,
     input: &mut R,
     answers: &mut W,
-) -> Result<Ending, ToolFault> {
+) -> Result<Ending, ToolFault>
+    ensures { IfOk result (λ ends. (ends ≡ Ending.Done) × Scripts setup.now (R.remaining input.old) (W.contents answers.old) (W.contents answers.new)) }
+{
     match run_script(rt.alloc(), setup, input, answers) {
         Ok(_) => Ok(Ending::Done),
         Err(fault) => Err(ToolFault::Script(fault)),
@@ -169,7 +185,9 @@ fn serve_report<T: Files + AllocGlobal, W: Write>(
     setup: &Setup,
     words: &[String],
     answers: &mut W,
-) -> Result<Ending, ToolFault> {
+) -> Result<Ending, ToolFault>
+    ensures { IfOk result (λ ends. (ends ≡ Ending.Done) × Reports setup.now (map string_bytes words.now) (W.contents answers.old) (W.contents answers.new)) }
+{
     let [changes, symbol] = words else {
         return Err(ToolFault::Usage);
     };
