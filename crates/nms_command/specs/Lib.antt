@@ -1,1 +1,3 @@
+pub mod Check
+pub mod Served
 pub mod Statuses

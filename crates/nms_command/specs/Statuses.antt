@@ -1,7 +1,10 @@
 -- The exit status of each fault of the program, and the code that its line on standard error names: those that the crate of
 -- the fault gives it. This product's own rule: 1 for streams and files, 2 for words, 3 for the setup, 5 for memory, 6 for
 -- lines, plans and lengths, 7 for a live run.
-use Rattle.std.specs.Prelude.{ℕ, List, codes}
+use Rattle.std.specs.Prelude.{ℕ, ◌++◌, ◌∷◌, List, [], codes}
+use Rattle.std.specs.String.{string_bytes}
+use Rattle.nms_command.specs.declared.ending.Ending.{Ending}
+use Rattle.nms_command.specs.declared.ending.Ending.TheVariants as ending
 use Rattle.nms_command.specs.declared.tool_fault.ToolFault.{ToolFault}
 use Rattle.nms_command.specs.declared.tool_fault.ToolFault.TheVariants as tool
 use Rattle.nms_fees.specs.Faults as setup_faults
@@ -10,6 +13,12 @@ use Rattle.nms_lines.specs.PlanFaults as plan_faults
 use Rattle.nms_live.specs.Faults as live_faults
 use Rattle.nms_text.specs.Faults as text_faults
 use Rattle.nms_words.specs.Faults as words_faults
+use Rattle.nms_words.specs.declared.words_fault.WordsFault.TheVariants as words
+
+-- how a request ends that was served: with 0, or with 4 where a plan was judged and is not confirmed
+abbrev pub status_of_ending : Ending → ℕ
+status_of_ending ending.Done = 0
+status_of_ending ending.NotConfirmed = 4
 
 abbrev pub status_of : ToolFault → ℕ
 status_of (tool.Words fault) = words_faults.status_of fault
@@ -43,3 +52,8 @@ code_of (tool.Feed fault) = file_faults.code_of_feed fault
 code_of (tool.Orders fault) = file_faults.code_of_orders fault
 code_of (tool.Live fault) = live_faults.code_of fault
 code_of (tool.LiveText fault) = text_faults.code_of_live_text fault
+
+-- what is written of it on standard error: the parser's own text, or one line with the code
+abbrev pub fault_text : ToolFault → List ℕ
+fault_text (tool.Words (words.Parser text help)) = string_bytes text
+fault_text fault = codes "nms_tool: " ++ (code_of fault ++ 10 ∷ [])

@@ -1,19 +1,22 @@
-//! The subcommand `check`: whether a plan is confirmed on the changes of a file.
-ghost use Rattle.std.specs.Prelude.{◌≡◌, ◌≤◌, All, length, true};
+//! The subcommand `check`: whether a plan is confirmed on the changes of a file (specs/Check).
+ghost use Rattle.std.specs.Prelude.{◌≡◌, ◌<◌, ◌≤◌, ◌++◌, ◌∷◌, [], All, IfOk, length, true};
+ghost use Rattle.std.specs.Io.KnownBytes.{Appends};
 ghost use Rattle.nms_quote.specs.Roster.{holds, sizes_of};
 ghost use Rattle.nms_quote.specs.declared.TheConstants.{MOST_CHANGES};
+ghost use Rattle.nms_lines.specs.Text.{record_text};
+ghost use Rattle.nms_command.specs.Check.{Judges, JudgesFiles, JudgesOnFile, JudgesText, Tells, doubt_record};
 
 use crate::ending::Ending;
 use crate::files::{open_file, read_file};
+use crate::line::write_line;
 use crate::tool_fault::ToolFault;
 use nms_cert::Doubt;
 use nms_fees::Setup;
 use nms_files::{AuditFault, audit, read_changes};
 use nms_lines::read_plan;
-use nms_quote::Change;
+use nms_quote::{Certificate, Change, Plan};
 use nms_text::ScriptFault;
 use std::alloc::Global;
-use std::io;
 use std::io::{Read, Write};
 use std::rt::Files;
 
@@ -23,7 +26,9 @@ pub(crate) fn serve_check<T: Files + AllocGlobal, W: Write>(
     setup: &Setup,
     words: &[String],
     answers: &mut W,
-) -> Result<Ending, ToolFault> {
+) -> Result<Ending, ToolFault>
+    ensures { IfOk result (JudgesFiles setup.now (W.contents answers.old) (W.contents answers.new)) }
+{
     let [changes, plan] = words else {
         return Err(ToolFault::Usage);
     };
@@ -40,7 +45,9 @@ fn check_text<R: Read + Drop, W: Write>(
     source: R,
     text: &[u8],
     answers: &mut W,
-) -> Result<Ending, ToolFault> {
+) -> Result<Ending, ToolFault>
+    ensures { IfOk result (JudgesOnFile setup.now (R.remaining source) text.now (W.contents answers.old) (W.contents answers.new)) }
+{
     match read_changes(alloc, setup, source) {
         Ok(changes) => judge(alloc, setup, &changes, text, answers),
         Err(fault) => Err(ToolFault::Changes(fault)),
@@ -57,61 +64,74 @@ fn judge<W: Write>(
 ) -> Result<Ending, ToolFault>
     requires held { All (λ change. holds (sizes_of setup.now.roster) change ≡ true) changes.now }
     requires few { length changes.now ≤ MOST_CHANGES }
+    ensures { IfOk result (JudgesText setup.now changes.now text.now (W.contents answers.old) (W.contents answers.new)) }
 {
     match read_plan(alloc, text, setup.roster()) {
         Ok((plan, certificate)) => {
-            let finding = audit(alloc, setup, changes, &plan, &certificate);
-            tell_finding(answers, finding)
+            judge_plan(alloc, setup, changes, &plan, &certificate, answers)
         }
         Err(fault) => Err(ToolFault::PlanText(fault)),
     }
+}
+
+/// Writes whether a plan is confirmed by its certificate on its version of these changes.
+fn judge_plan<W: Write>(
+    alloc: Global,
+    setup: &Setup,
+    changes: &[Change],
+    plan: &Plan,
+    certificate: &Certificate,
+    answers: &mut W,
+) -> Result<Ending, ToolFault>
+    requires sym { plan.now.order.sym < length setup.now.roster.syms }
+    requires held { All (λ change. holds (sizes_of setup.now.roster) change ≡ true) changes.now }
+    requires few { length changes.now ≤ MOST_CHANGES }
+    ensures { IfOk result (Judges setup.now changes.now plan.now certificate.now.items (W.contents answers.old) (W.contents answers.new)) }
+{
+    let finding = audit(alloc, setup, changes, plan, certificate);
+    tell_finding(answers, finding)
 }
 
 /// Tells what an audit found.
 fn tell_finding<W: Write>(
     answers: &mut W,
     finding: Result<(), AuditFault>,
-) -> Result<Ending, ToolFault> {
-    let told = match finding {
-        Ok(()) => tell_confirmed(answers),
-        Err(AuditFault::VersionBeyondTape) => tell_code(
-            answers,
-            AuditFault::VersionBeyondTape.code(),
-        ),
+) -> Result<Ending, ToolFault>
+    ensures { IfOk result (Tells finding (W.contents answers.old) (W.contents answers.new)) }
+{
+    match finding {
+        Ok(()) => tell_line(answers, "CONFIRMED", "", Ending::Done),
+        Err(AuditFault::VersionBeyondTape) => {
+            tell_line(answers, "DOUBT,", "A1", Ending::NotConfirmed)
+        }
         Err(AuditFault::Doubt(doubt)) => tell_doubt(answers, doubt),
-        Err(AuditFault::NoMemory) => return Err(ToolFault::NoAudit),
-    };
-    match told {
-        Ok(ending) => Ok(ending),
-        Err(_) => Err(ToolFault::Script(ScriptFault::WriteFault)),
+        Err(AuditFault::NoMemory) => Err(ToolFault::NoAudit),
     }
-}
-
-/// Tells that a plan is confirmed.
-fn tell_confirmed<W: Write>(answers: &mut W) -> io::Result<Ending> {
-    writeln!(answers, "CONFIRMED")?;
-    answers.flush()?;
-    Ok(Ending::Done)
 }
 
 /// Tells the code of a doubt: of a breach its own code behind it.
-fn tell_doubt<W: Write>(answers: &mut W, doubt: Doubt) -> io::Result<Ending> {
+fn tell_doubt<W: Write>(answers: &mut W, doubt: Doubt) -> Result<Ending, ToolFault>
+    ensures { IfOk result (λ ends. (ends ≡ Ending.NotConfirmed) × Appends (W.contents answers.old) (W.contents answers.new) (record_text (doubt_record doubt))) }
+{
     match doubt {
-        Doubt::Breach(breach) => tell_breach(answers, breach.code()),
-        other => tell_code(answers, other.code()),
+        Doubt::Breach(breach) => {
+            tell_line(answers, "DOUBT,K1,", breach.code(), Ending::NotConfirmed)
+        }
+        other => tell_line(answers, "DOUBT,", other.code(), Ending::NotConfirmed),
     }
 }
 
-/// Tells a doubt that is a breach of this code.
-fn tell_breach<W: Write>(answers: &mut W, code: &str) -> io::Result<Ending> {
-    writeln!(answers, "DOUBT,K1,{code}")?;
-    answers.flush()?;
-    Ok(Ending::NotConfirmed)
-}
-
-/// Tells a doubt of this code.
-fn tell_code<W: Write>(answers: &mut W, code: &str) -> io::Result<Ending> {
-    writeln!(answers, "DOUBT,{code}")?;
-    answers.flush()?;
-    Ok(Ending::NotConfirmed)
+/// Tells a line, and so how the request ends.
+fn tell_line<W: Write>(
+    answers: &mut W,
+    head: &str,
+    code: &str,
+    ending: Ending,
+) -> Result<Ending, ToolFault>
+    ensures { IfOk result (λ ends. (ends ≡ ending) × Appends (W.contents answers.old) (W.contents answers.new) (head.now ++ (code.now ++ 10 ∷ []))) }
+{
+    match write_line(answers, head, code) {
+        Ok(()) => Ok(ending),
+        Err(_) => Err(ToolFault::Script(ScriptFault::WriteFault)),
+    }
 }

@@ -1,3 +1,7 @@
+//! How a request ends that was served.
+ghost use Rattle.std.specs.Prelude.{◌≡◌};
+ghost use Rattle.nms_command.specs.Statuses.{status_of_ending};
+
 /// How a request ends that was served.
 #[derive(Clone, Copy)]
 pub(crate) enum Ending {
@@ -9,7 +13,9 @@ pub(crate) enum Ending {
 
 impl Ending {
     /// The exit status.
-    pub(crate) fn status(self) -> u8 {
+    pub(crate) fn status(self) -> u8
+        ensures { result ≡ status_of_ending self }
+    {
         match self {
             Ending::Done => 0,
             Ending::NotConfirmed => 4,

@@ -4,6 +4,7 @@
 mod check;
 mod ending;
 mod files;
+mod line;
 mod living;
 mod planning;
 mod program;

@@ -1,4 +1,6 @@
 //! The subcommand `live`: two feeds, the tape and the desks at once, each in a thread of its own.
+ghost use Rattle.std.specs.Prelude.{◌≡◌, IfOk};
+
 use crate::ending::Ending;
 use crate::files::open_file;
 use crate::tool_fault::ToolFault;
@@ -22,7 +24,9 @@ pub(crate) fn serve_live<T: Files + AllocGlobal + Threads + Wait + Sync, W: Writ
     setup: &Setup,
     words: &[String],
     answers: &mut W,
-) -> Result<Ending, ToolFault> {
+) -> Result<Ending, ToolFault>
+    ensures { IfOk result (λ ends. ends ≡ Ending.Done) }
+{
     let [feed_a, feed_b, orders] = words else {
         return Err(ToolFault::Usage);
     };
@@ -50,7 +54,9 @@ fn serve_feeds<T: AllocGlobal + Threads + Wait + Sync, R: Read + Drop, W: Write>
     feed_b: Vec<u8>,
     orders: R,
     answers: &mut W,
-) -> Result<Ending, ToolFault> {
+) -> Result<Ending, ToolFault>
+    ensures { IfOk result (λ ends. ends ≡ Ending.Done) }
+{
     let orders = match read_orders(rt.alloc(), setup, orders) {
         Ok(orders) => orders,
         Err(fault) => return Err(ToolFault::Orders(fault)),
@@ -67,7 +73,9 @@ fn tell_run<W: Write>(
     setup: &Setup,
     live: &Live,
     answers: &mut W,
-) -> Result<Ending, ToolFault> {
+) -> Result<Ending, ToolFault>
+    ensures { IfOk result (λ ends. ends ≡ Ending.Done) }
+{
     let taken = live.tape.len() as u64;
     match write_live(alloc, setup.roster(), taken, &live.closing, answers) {
         Ok(()) => Ok(Ending::Done),

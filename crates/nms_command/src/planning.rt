@@ -1,4 +1,8 @@
 //! The subcommand `plan`: an order planned on the changes of a file.
+ghost use Rattle.std.specs.Prelude.{◌≡◌, IfOk, map};
+ghost use Rattle.std.specs.String.{string_bytes};
+ghost use Rattle.nms_command.specs.Served.{Plans};
+
 use crate::ending::Ending;
 use crate::files::open_file;
 use crate::tool_fault::ToolFault;
@@ -14,7 +18,9 @@ pub(crate) fn serve_plan<T: Files + AllocGlobal, W: Write>(
     setup: &Setup,
     request: &Request,
     answers: &mut W,
-) -> Result<Ending, ToolFault> {
+) -> Result<Ending, ToolFault>
+    ensures { IfOk result (λ ends. (ends ≡ Ending.Done) × Plans setup.now (map string_bytes request.now.words.items) request.now.manual (W.contents answers.old) (W.contents answers.new)) }
+{
     let [changes, side, sym, shares, limit] = request.words.as_slice() else {
         return Err(ToolFault::Usage);
     };

@@ -1,10 +1,15 @@
-//! What the program does with its words, its streams and its files.
-ghost use Rattle.std.specs.Prelude.{◌≡◌};
-ghost use Rattle.nms_command.specs.Statuses.{status_of};
+//! What the program does with its words, its streams and its files (specs/Served).
+ghost use Rattle.std.specs.Prelude.{◌≡◌, ◌⊎◌, ◌<◌, IfOk, OnOk, map};
+ghost use Rattle.std.specs.Io.KnownBytes.{Appends};
+ghost use Rattle.std.specs.String.{string_bytes};
+ghost use Rattle.nms_words.specs.CommandLine.{shown};
+ghost use Rattle.nms_command.specs.Served.{AreServed, IsServed, IsSetup, Reports, Scripts, Serves};
+ghost use Rattle.nms_command.specs.Statuses.{fault_text, status_of};
 
 use crate::check::serve_check;
 use crate::ending::Ending;
 use crate::files::{open_file, read_file};
+use crate::line::write_line;
 use crate::living::serve_live;
 use crate::planning::serve_plan;
 use crate::tool_fault::ToolFault;
@@ -23,7 +28,8 @@ use std::{io, str};
 /// Does what the words ask for, with the script on `input`, and gives the exit status.
 ///
 /// Answers and help go to `answers`; the text of a parser's fault, or one line `nms_tool: CODE`, to
-/// `errors`.
+/// `errors`. Status 0 says that what the words ask for was done, of a plan that it is confirmed, and 4 that a plan was
+/// judged and is not confirmed.
 pub fn run_tool<T, R: Read + Drop, W: Write, E: Write>(
     rt: &T,
     words: &[&str],
@@ -33,6 +39,10 @@ pub fn run_tool<T, R: Read + Drop, W: Write, E: Write>(
 ) -> u8
 where
     T: Files + AllocGlobal + Threads + Wait + Sync,
+    ensures known { result < 8 }
+    ensures quiet { (result ≡ 0) ⊎ (result ≡ 4) → E.contents errors.new ≡ E.contents errors.old }
+    ensures done { result ≡ 0 → AreServed (map (λ word. word.now) words.entry.now) (R.remaining input) (W.contents answers.old) (W.contents answers.new) Ending.Done }
+    ensures not_confirmed { result ≡ 4 → AreServed (map (λ word. word.now) words.entry.now) (R.remaining input) (W.contents answers.old) (W.contents answers.new) Ending.NotConfirmed }
 {
     match serve_words(rt, words, &mut input, answers) {
         Ok(ending) => ending.status(),
@@ -44,23 +54,26 @@ where
 pub fn tell_fault<E: Write>(fault: &ToolFault, errors: &mut E) -> u8
     ensures { result ≡ status_of fault.now }
 {
-    let _ = match fault {
-        ToolFault::Words(WordsFault::Parser { text, .. }) => tell(errors, text.as_str()),
-        _ => tell_code(errors, fault.code()),
-    };
+    let _ = write_fault(fault, errors);
     fault.status()
 }
 
-/// Writes a text, and flushes it.
-fn tell<W: Write>(writer: &mut W, text: &str) -> io::Result<()> {
-    writer.write_all(text.as_bytes())?;
-    writer.flush()
+/// Writes what is told of a fault: the parser's text, or one line with the code.
+fn write_fault<E: Write>(fault: &ToolFault, errors: &mut E) -> io::Result<()>
+    ensures { OnOk result (Appends (E.contents errors.old) (E.contents errors.new) (fault_text fault.now)) }
+{
+    match fault {
+        ToolFault::Words(WordsFault::Parser { text, .. }) => tell(errors, text.as_str()),
+        _ => write_line(errors, "nms_tool: ", fault.code()),
+    }
 }
 
-/// Tells a code of this program.
-fn tell_code<E: Write>(errors: &mut E, code: &str) -> io::Result<()> {
-    writeln!(errors, "nms_tool: {code}")?;
-    errors.flush()
+/// Writes a text, and flushes it.
+fn tell<W: Write>(writer: &mut W, text: &str) -> io::Result<()>
+    ensures { OnOk result (Appends (W.contents writer.old) (W.contents writer.new) text.now) }
+{
+    writer.write_all(text.as_bytes())?;
+    writer.flush()
 }
 
 /// Serves the request that the words are, or tells the help that they ask for.
@@ -72,6 +85,7 @@ fn serve_words<T, R: Read, W: Write>(
 ) -> Result<Ending, ToolFault>
 where
     T: Files + AllocGlobal + Threads + Wait + Sync,
+    ensures { IfOk result (AreServed (map (λ word. word.now) words.entry.now) (R.remaining input.old) (W.contents answers.old) (W.contents answers.new)) }
 {
     match read_words(rt.alloc(), words) {
         Ok(request) => serve_request(rt, &request, input, answers),
@@ -89,6 +103,7 @@ fn serve_request<T, R: Read, W: Write>(
 ) -> Result<Ending, ToolFault>
 where
     T: Files + AllocGlobal + Threads + Wait + Sync,
+    ensures { IfOk result (IsServed (shown request.now) (R.remaining input.old) (W.contents answers.old) (W.contents answers.new)) }
 {
     let setup = setup_of(rt, request)?;
     serve_under(rt, &setup, request, input, answers)
@@ -104,6 +119,7 @@ fn serve_under<T, R: Read, W: Write>(
 ) -> Result<Ending, ToolFault>
 where
     T: Files + AllocGlobal + Threads + Wait + Sync,
+    ensures { IfOk result (Serves request.now.command setup.now (shown request.now) (R.remaining input.old) (W.contents answers.old) (W.contents answers.new)) }
 {
     match request.command {
         Sub::Script => serve_script(rt, setup, input, answers),
@@ -115,7 +131,9 @@ where
 }
 
 /// Answers with the help, or with the version.
-fn tell_help<W: Write>(answers: &mut W, help: &str) -> Result<Ending, ToolFault> {
+fn tell_help<W: Write>(answers: &mut W, help: &str) -> Result<Ending, ToolFault>
+    ensures { IfOk result (λ ends. ends ≡ Ending.Done) }
+{
     match tell(answers, help) {
         Ok(()) => Ok(Ending::Done),
         Err(_) => Err(ToolFault::Script(ScriptFault::WriteFault)),
@@ -123,7 +141,9 @@ fn tell_help<W: Write>(answers: &mut W, help: &str) -> Result<Ending, ToolFault>
 }
 
 /// The setup of the file that the request names, or the built-in one.
-fn setup_of<T: Files + AllocGlobal>(rt: &T, request: &Request) -> Result<Setup, ToolFault> {
+fn setup_of<T: Files + AllocGlobal>(rt: &T, request: &Request) -> Result<Setup, ToolFault>
+    ensures { IfOk result (λ setup. IsSetup setup) }
+{
     let Some(file) = &request.setup else {
         return read_text(rt.alloc(), SETUP_K);
     };
@@ -135,7 +155,9 @@ fn setup_of<T: Files + AllocGlobal>(rt: &T, request: &Request) -> Result<Setup, 
 }
 
 /// The setup that a text says.
-fn read_text(alloc: Global, text: &str) -> Result<Setup, ToolFault> {
+fn read_text(alloc: Global, text: &str) -> Result<Setup, ToolFault>
+    ensures { IfOk result (λ setup. IsSetup setup) }
+{
     match read_setup(alloc, text) {
         Ok(setup) => Ok(setup),
         Err(fault) => Err(ToolFault::Setup(fault)),
@@ -148,7 +170,9 @@ fn serve_script<T: AllocGlobal, R: Read, W: Write>(
     setup: &Setup,
     input: &mut R,
     answers: &mut W,
-) -> Result<Ending, ToolFault> {
+) -> Result<Ending, ToolFault>
+    ensures { IfOk result (λ ends. (ends ≡ Ending.Done) × Scripts setup.now (R.remaining input.old) (W.contents answers.old) (W.contents answers.new)) }
+{
     match run_script(rt.alloc(), setup, input, answers) {
         Ok(_) => Ok(Ending::Done),
         Err(fault) => Err(ToolFault::Script(fault)),
@@ -161,7 +185,9 @@ fn serve_report<T: Files + AllocGlobal, W: Write>(
     setup: &Setup,
     words: &[String],
     answers: &mut W,
-) -> Result<Ending, ToolFault> {
+) -> Result<Ending, ToolFault>
+    ensures { IfOk result (λ ends. (ends ≡ Ending.Done) × Reports setup.now (map string_bytes words.now) (W.contents answers.old) (W.contents answers.new)) }
+{
     let [changes, symbol] = words else {
         return Err(ToolFault::Usage);
     };

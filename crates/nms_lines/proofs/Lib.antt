@@ -3,6 +3,8 @@ pub mod FieldFacts
 pub mod FirstFault
 pub mod HeadFacts
 pub mod LeftFacts
+pub mod OneReading
+pub mod OneText
 pub mod PlanFacts
 pub mod PlanRoundTrip
 pub mod PlanTextFacts

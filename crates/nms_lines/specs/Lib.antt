@@ -19,3 +19,4 @@ pub mod Records
 pub mod Sides
 pub mod Sources
 pub mod Text
+pub mod TextLaws

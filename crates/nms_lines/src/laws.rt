@@ -1,9 +1,12 @@
-//! The laws above the reading of a record and the text of a plan: `specs/Laws` and `specs/PlanLaws`. The functions
-//! do nothing: their contracts are the laws.
+//! The laws above the reading of a record and the text of a plan: `specs/Laws`, `specs/PlanLaws` and `specs/TextLaws`.
+//! The functions do nothing that counts: their contracts are the laws.
+ghost use Rattle.std.specs.Prelude.{◌≡◌, ◌<◌, ℕ, List, length, true};
+ghost use Rattle.nms_quote.specs.Roster.{is_part_name, is_symbol_name, part_text, symbol_text};
 ghost use Rattle.nms_lines.specs.Laws.{ReadsLeastFault};
 ghost use Rattle.nms_lines.specs.PlanLaws.{ReadsAsWritten};
+ghost use Rattle.nms_lines.specs.TextLaws.{HasOneList, HasOneText};
 
-use nms_quote::Roster;
+use nms_quote::{Part, Roster, Sym};
 use nms_units::{Money, Price, digits_read_as_printed};
 
 /// A record is read as a fault exactly where that fault holds of it and none of a smaller number does, and
@@ -22,4 +25,56 @@ pub fn a_plan_reads_as_written(roster: &Roster)
     Price::reads_what_it_prints();
     Money::reads_what_it_prints();
     roster.finds_each_name();
+}
+
+/// A text has exactly one list of records. So what `read_plan` answers of a text's records it answers of each text.
+pub fn a_text_has_one_list_of_records()
+    ensures { (bytes : List ℕ) → HasOneList bytes }
+{}
+
+/// A plan has one text: its records as they stand, with which scripts and live runs answer, are what `write_plan` writes,
+/// since no field of theirs needs a quote. So these answers too are read as the plan.
+pub fn a_plan_has_one_text(roster: &Roster)
+    ensures { HasOneText roster.now }
+{
+    part_names_are_formed(roster);
+    symbol_names_are_formed(roster);
+}
+
+/// Each participant's name is of its form.
+fn part_names_are_formed(roster: &Roster)
+    ensures { (part : ℕ) → part < length roster.now.parts → is_part_name (part_text roster.now part) ≡ true }
+{
+    for place in 0..roster.parts() {
+        part_name_is_formed(roster, place);
+    }
+}
+
+/// The participant's name at a place is of its form.
+fn part_name_is_formed(roster: &Roster, place: usize)
+    requires { place < length roster.now.parts }
+    ensures { is_part_name (part_text roster.now place) ≡ true }
+{
+    roster.parts();
+    let part = Part::new(place as u8).unwrap();
+    roster.part_name(part);
+}
+
+/// Each symbol's name is of its form.
+fn symbol_names_are_formed(roster: &Roster)
+    ensures { (sym : ℕ) → sym < length roster.now.syms → is_symbol_name (symbol_text roster.now sym) ≡ true }
+{
+    for place in 0..roster.syms() {
+        symbol_name_is_formed(roster, place);
+    }
+}
+
+/// The symbol's name at a place is of its form.
+fn symbol_name_is_formed(roster: &Roster, place: usize)
+    requires { place < length roster.now.syms }
+    ensures { is_symbol_name (symbol_text roster.now place) ≡ true }
+{
+    roster.syms();
+    let sym = Sym::new(place as u16).unwrap();
+    roster.sym_name(sym);
 }

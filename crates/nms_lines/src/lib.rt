@@ -21,7 +21,10 @@ mod record_reading;
 mod side;
 
 pub use csv::{ByteRecord, Reader};
-pub use laws::{a_plan_reads_as_written, the_least_fault_is_read};
+pub use laws::{
+    a_plan_has_one_text, a_plan_reads_as_written, a_text_has_one_list_of_records,
+    the_least_fault_is_read,
+};
 pub use line::{Kind, Line, Reading};
 pub use line_fault::LineFault;
 pub use line_reading::read_line;

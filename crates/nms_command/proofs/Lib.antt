@@ -1,0 +1,3 @@
+mod CheckFacts
+mod ServedFacts
+mod StatusFacts

@@ -1,0 +1,4 @@
+use Rattle.nms_command.proofs.program.read_text.Goals as goal
+
+pub returns-in-Ok : goal.returns-in-Ok
+returns-in-Ok c = (c.args.text.now, c.in-Ok.ensures.read)
