@@ -11,17 +11,16 @@ use Rattle.nms_rules.specs.Assignment.{Assignment, filled, total}
 use Rattle.nms_rules.specs.Cutoff.{is_pooled, is_swept, pool, swept}
 use Rattle.nms_rules.specs.Usable.{Usable, rank_of}
 use Rattle.nms_sweep.specs.Choice.{below}
-use Rattle.nms_sweep.specs.Order.{comes_before}
-use Rattle.nms_sweep.specs.declared.row_order.Key.TheVariants.{Cost}
+use Rattle.nms_sweep.specs.Order.{is_taken_before}
 
 -- ---- the shares
 
--- every row of the pool that comes before this one, by unit cost, then price, then place, gets its full size
+-- every row of the pool that is taken before this one, by unit cost, then price, then place, gets its full size
 abbrev pub TakesEarlier : ℤ → List Usable → Assignment → Usable → Type 0
-TakesEarlier cutoff rows given row = All (λ other. is_pooled cutoff other ≡ true → comes_before Cost other row ≡ true → given other.part ≡ other.size) rows
+TakesEarlier cutoff rows given row = All (λ other. is_pooled cutoff other ≡ true → is_taken_before other row ≡ true → given other.part ≡ other.size) rows
 
--- at a cutoff, which is a usable price where anything is filled: what must be swept is, a row of the pool gets shares only where every earlier one is full, and no row
--- at a worse price gets any
+-- at a cutoff, which is a usable price where anything is filled: what must be swept is, a row of the pool gets shares
+-- only where every earlier one is full, and no row at a worse price gets any
 pub record FillsAt (rows : List Usable) (given : Assignment) (cutoff : ℤ) : Type 0 where
   pub at : 0 < filled given rows → Any (λ row. row.rank ≡ cutoff) rows
   pub sweeps : All (λ row. is_swept cutoff row ≡ true → given row.part ≡ row.size) rows
