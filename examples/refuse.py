@@ -115,10 +115,12 @@ def calls():
     late = PLAN.replace("PLAN,3", "PLAN,20003")
     live = [*"live feed_a feed_b orders".split(), *under]
     feeds = {"feed_a": many.replace("Q,Y", "Q,N"), "feed_b": "Q,Y,ABC,A,,,10.01,200\n", "orders": "O,0,B,ABC,600,10.01\n"}
-    orders = {**feeds, "feed_a": OFFERS.replace("Q,Y", "Q,N"), "orders": "O,0,B,ABC,600,10.01\n" * 2000}
+    short = {**feeds, "feed_a": OFFERS.replace("Q,Y", "Q,N")}
+    orders = {**short, "orders": "O,0,B,ABC,600,10.01\n" * 4000}
     yield Call("a script", [], "G2 C9", given="Q,N,ABC,A,9.99,300,10.01,200\nF\nN,0,ABC\n", pieces=EACH)
     yield Call("a long script", ["script", *under], "E4", files=long, given=script)
     yield Call("a script on a wide board", ["script", *under], "C9 E4", files=wide, given=OFFERS + "F\nN,0,ABC\n")
+    yield Call("a script of one long record", ["script", *under], "E4", files=long, given="Q,N,ABC," + "A" * 2000000 + "\n")
     yield Call("a long report", ["report", "given.changes", "ABC", *under], "E4", "B1", {**long, "given.changes": many})
     yield Call("a report of a wide board", ["report", "given.changes", "ABC", *under], "B1", "", {**wide, "given.changes": OFFERS})
     yield Call("a long plan", plan, "E4", "B1 L12", {**long, "given.changes": many})
@@ -126,7 +128,8 @@ def calls():
     yield Call("a long check", check, "E4", "A3 L12", {**long, "given.changes": many, "given.plan": late})
     yield Call("a check on a wide board", check, "A3", "L12", {**wide, "given.changes": OFFERS, "given.plan": PLAN})
     yield Call("a long live run", live, "E4", "E6 E7 E10 L12", {**long, **feeds})
-    yield Call("a live run on a wide board", live, "E6", "E7 E10 L12", {**wide, **orders})
+    yield Call("a live run on a wide board", live, "E6", "E7 E10 L12", {**wide, **short})
+    yield Call("a live run of many orders", live, "E4", "E6 E7 E10 L12", {**long, **orders})
 
 
 def main(program):
