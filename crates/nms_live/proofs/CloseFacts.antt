@@ -9,6 +9,7 @@ use Rattle.nms_versions.specs.Published.{Batches, publications}
 use Rattle.nms_versions.specs.Taped.{AllBegin, longest_of}
 use Rattle.nms_versions.proofs.Beginnings.{prefix_length}
 use Rattle.nms_live.specs.Answering.{IsBestOn, IsClosed, IsSound, IsWorked, versions}
+use Rattle.nms_live.specs.Keeping.{AreListed}
 use Rattle.nms_live.specs.Lists.{IsRising, SomeOf}
 use Rattle.nms_quote.specs.declared.answer.Answer.{Answer}
 use Rattle.nms_quote.specs.declared.desk_order.DeskOrder.{DeskOrder}
@@ -16,10 +17,6 @@ use Rattle.nms_live.proofs.NumberFacts.{all_append, all_weaker}
 
 prefix_take : (front tape : Tape) → IsPrefix front tape → version (length front) tape ≡ front
 prefix_take front tape p = ap (take (length front)) (sym p.1) ∙ take-append_seam front p.0
-
--- every publication is 0 or was listed
-abbrev pub AreListed : Batches → List ℕ → Type 0
-AreListed published listed = (n : ℕ) → Contains (publications published) n → (n ≡ 0) ⊎ Contains listed n
 
 -- these versions begin the tape, and were published
 pub record AreSettled (published : Batches) (tape : Tape) (known : List Tape) : Type 0 where
@@ -33,7 +30,7 @@ best_at settings published listed tape earlier answer listed_all begins among be
     let whole : version answer.plan.version tape ≡ earlier = ap (λ (n : ℕ). version n tape) is ∙ prefix_take earlier tape begins in
     let P : Tape → Type 0 = λ t. IsBestOn settings t answer in
     let Q : ℕ → Type 0 = λ n. (n ≡ 0) ⊎ Contains listed n in
-    (record { published_it = subst Q (sym is) (listed_all (length earlier) among); best = subst P (sym whole) best }, omega (arith, is, prefix_length earlier tape begins))
+    (record { published_it = subst Q (sym is) ((listed_all (length earlier)).0 among); best = subst P (sym whole) best }, omega (arith, is, prefix_length earlier tape begins))
 
 sound_one : (settings : Settings) (published : Batches) (listed : List ℕ) (tape : Tape) (known : List Tape) (answer : Answer) → AreListed published listed
     → AllBegin tape known → AllByRecursion (λ earlier. Contains (publications published) (length earlier)) known → SomeOf (λ t. IsBestOn settings t answer) known

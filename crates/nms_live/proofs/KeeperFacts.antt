@@ -2,22 +2,55 @@
 use Rattle.std.proofs.Common.{ℕ, ◌≡◌, ◌≤◌, ◌⊎◌, ◌++◌, List, [], ◌∷◌, length, Option, ap, sym, subst, inl, inr, arith, length-append}
 use Rattle.std.specs.Prelude.{◌↔◌}
 use Rattle.std.specs.List.{AllByRecursion, Contains}
-use Rattle.std.proofs.lemmas.List.Elements.{Contains-append_left, Contains-push}
+use Rattle.std.proofs.lemmas.List.Elements.{Contains-append_left, Contains-push, Contains-push_cases}
 use Rattle.nms_versions.specs.Published.{Batches, changes, publications}
 use Rattle.nms_versions.specs.Taped.{Taped, tape_of}
 use Rattle.nms_live.specs.Faults.{IsNoLineIfAny}
-use Rattle.nms_live.specs.Keeping.{IsKept}
+use Rattle.nms_live.specs.Keeping.{AreListed, IsKept}
 use Rattle.nms_live.specs.declared.live_fault.LiveFault.{LiveFault}
 use Rattle.nms_live.proofs.NumberFacts.{all_push, below_all, rising_push}
 
 -- while nothing is published all is kept, whatever it stops for
 pub kept_with : (old new : Taped) (listed : List ℕ) (stop other : Option LiveFault) → new.published ≡ old.published → IsNoLineIfAny other → IsKept old listed stop → IsKept new listed other
 kept_with old new listed stop other same fine had = record {
-  published = λ n is. had.published n (subst (λ (b : Batches). Contains (publications b) n) same is);
+  published = subst (λ (b : Batches). AreListed b listed) (sym same) had.published;
   rising = had.rising;
   within = subst (λ (b : Batches). AllByRecursion (λ n. n ≤ length (changes b)) listed) (sym same) had.within;
   stopped = fine;
 }
+
+-- a length more was published and listed
+listed_more : (old new : Batches) (listed : List ℕ) (n : ℕ) → ((m : ℕ) → Contains (publications new) m ↔ Contains (publications old) m ⊎ (m ≡ n)) → AreListed old listed
+    → AreListed new (listed ++ n ∷ [])
+listed_more old new listed n these had = λ m. (
+  λ among. elim ((these m).0 among) as (λ (h : Contains (publications old) m ⊎ (m ≡ n)). (m ≡ 0) ⊎ Contains (listed ++ n ∷ []) m) [
+    | inl before ↦ elim ((had m).0 before) as (λ (h : (m ≡ 0) ⊎ Contains listed m). (m ≡ 0) ⊎ Contains (listed ++ n ∷ []) m) [
+      | inl none ↦ inl none
+      | inr among ↦ inr (Contains-append_left listed (n ∷ []) m among)
+    ]
+    | inr here ↦ inr (rw here (Contains-push listed n))
+  ],
+  λ either. elim either as (λ (h : (m ≡ 0) ⊎ Contains (listed ++ n ∷ []) m). Contains (publications new) m) [
+    | inl none ↦ (these m).1 (inl ((had m).1 (inl none)))
+    | inr among ↦ elim (Contains-push_cases listed n m among) as (λ (h : Contains listed m ⊎ (n ≡ m)). Contains (publications new) m) [
+      | inl before ↦ (these m).1 (inl ((had m).1 (inr before)))
+      | inr here ↦ (these m).1 (inr (sym here))
+    ]
+  ],
+)
+
+-- nothing was published but the empty version
+pub none_listed : AreListed [] []
+none_listed n = (
+  λ among. elim (Contains-push_cases [] 0 n among) as (λ (h : Contains [] n ⊎ (0 ≡ n)). (n ≡ 0) ⊎ Contains [] n) [
+    | inl nowhere ↦ inr nowhere
+    | inr here ↦ inl (sym here)
+  ],
+  λ either. elim either as (λ (h : (n ≡ 0) ⊎ Contains [] n). Contains (publications []) n) [
+    | inl none ↦ rw none (Contains-push [] 0)
+    | inr nowhere ↦ absurd (omega (arith, nowhere.1))
+  ],
+)
 
 -- the whole tape was published, and its length listed
 pub kept_more : (old new : Taped) (listed more : List ℕ) (stop : Option LiveFault)
@@ -29,13 +62,7 @@ kept_more old new listed more stop these whole is had =
     let below = below_all listed (length (changes old.published)) n le had.within in
     let top : n ≤ length (changes new.published) = omega (arith, ap length whole) in
     rw is (record {
-      published = λ m among. elim ((these m).0 among) as (λ (h : Contains (publications old.published) m ⊎ (m ≡ n)). (m ≡ 0) ⊎ Contains (listed ++ n ∷ []) m) [
-        | inl before ↦ elim (had.published m before) as (λ (h : (m ≡ 0) ⊎ Contains listed m). (m ≡ 0) ⊎ Contains (listed ++ n ∷ []) m) [
-          | inl none ↦ inl none
-          | inr among ↦ inr (Contains-append_left listed (n ∷ []) m among)
-        ]
-        | inr here ↦ inr (rw here (Contains-push listed n))
-      ];
+      published = listed_more old.published new.published listed n these had.published;
       rising = rising_push listed n had.rising below;
       within = all_push (λ k. k ≤ length (changes new.published)) listed n (below_all listed n (length (changes new.published)) top below) top;
       stopped = had.stopped;

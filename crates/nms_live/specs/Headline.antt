@@ -1,11 +1,13 @@
 -- What is promised of each answer of a live run (17 CFR 242.600, "intermarket sweep order", "national best bid and
 -- national best offer"; 242.611(a), (b)(5) and (6)). That no lawful plan is better is this product's own rule.
-use Rattle.std.specs.Prelude.{ℕ, ◌≡◌, ◌≤◌, ◌⊎◌, ◌++◌, AllPairs, List, length, Option}
+use Rattle.std.specs.Prelude.{ℕ, ◌≡◌, ◌<◌, ◌≤◌, ◌⊎◌, ◌↔◌, ◌++◌, AllPairs, List, length, Option, Some}
 use Rattle.std.specs.List.{AllByRecursion, Contains}
-use Rattle.nms_quote.specs.Tape.{version}
+use Rattle.nms_quote.specs.Roster.{sizes_of}
+use Rattle.nms_quote.specs.Tape.{Tape, version}
 use Rattle.nms_quote.specs.declared.side_quote.Side.{Side}
 use Rattle.nms_quote.specs.declared.side_quote.Side.TheVariants.{Bid, Offer}
-use Rattle.nms_board.specs.View.{Seen}
+use Rattle.nms_board.specs.Quotation.{quotation_of}
+use Rattle.nms_board.specs.View.{Seen, rows_on}
 use Rattle.nms_board.specs.declared.row.Row.{Row}
 use Rattle.nms_fees.specs.Settings.{Settings}
 use Rattle.nms_nbbo.specs.Best.{IsBestOf}
@@ -22,6 +24,11 @@ use Rattle.nms_live.specs.declared.live.Live.{Live}
 -- the rule's ranking finds one best row, or that there is none, and nothing else is
 abbrev pub HasOneBest : Side → List Row → Type 0
 HasOneBest side rows = (best : Option Row) × IsBestOf side rows best × ((other : Option Row) → IsBestOf side rows other → other ≡ best)
+
+-- by the changes of the tape a participant of the roster quotes this on the side of the symbol
+abbrev pub IsQuotation : Settings → Tape → ℕ → Side → Row → Type 0
+IsQuotation settings tape sym side row =
+    (part : ℕ) × (part < (sizes_of settings.roster).parts) × (quotation_of (sizes_of settings.roster) tape sym side part ≡ Some row)
 
 -- one published version of the tape, its first so many changes: the length at some publishing, or 0, of the empty one
 pub record IsPublishedVersion (live : Live) (number : ℕ) : Type 0 where
@@ -43,11 +50,17 @@ pub record IsBestPlanOn (settings : Settings) (seen : Seen) (answer : Answer) : 
 -- its plan is the best lawful one there
 pub record IsBestOfItsVersion (settings : Settings) (live : Live) (answer : Answer) : Type 0 where
   pub version_is : IsPublishedVersion live answer.plan.version
+  -- the rows that the plan was made on are what the version's changes leave quoted in its symbol, none missing and
+  -- none more; of these rows speak all that follow
+  pub rows : (side : Side) (row : Row) → Contains (rows_on side (basis_of settings live answer)) row
+      ↔ IsQuotation settings (version answer.plan.version live.tape.items) answer.plan.order.sym side row
   pub bid : HasOneBest Bid (basis_of settings live answer).bids
   pub offer : HasOneBest Offer (basis_of settings live answer).offers
   pub plan_is : IsBestPlanOn settings (basis_of settings live answer) answer
 
--- all answers are, those of the run and the closing ones; and none is on an older version than its desk saw before
+-- all answers are, those of the run and the closing ones; none is on an older version than its desk saw before; and
+-- the closing ones are on the whole tape, of which their desk was told
 pub record AreBestOfTheirVersions (settings : Settings) (live : Live) : Type 0 where
   pub each : AllByRecursion (IsBestOfItsVersion settings live) (live.answers.items ++ live.closing.items)
   pub no_older : (desk : ℕ) → AllPairs (λ earlier later. earlier ≤ later) (versions (of_desk desk (live.answers.items ++ live.closing.items)))
+  pub told : AllByRecursion (λ answer. answer.plan.version ≡ length live.tape.items) live.closing.items

@@ -1,9 +1,10 @@
 -- What the taker keeps while a run goes on. This product's own rule.
-use Rattle.std.specs.Prelude.{ℕ, ◌≡◌, ◌≤◌, ◌⊎◌, List, length, Option, None}
+use Rattle.std.specs.Prelude.{ℕ, ◌≡◌, ◌≤◌, ◌⊎◌, ◌↔◌, List, length, Option, None}
 use Rattle.std.specs.List.{AllByRecursion, Contains}
 use Rattle.nms_quote.specs.declared.marked.Marked.{Marked}
 use Rattle.nms_flow.specs.Run.{changes_in}
-use Rattle.nms_versions.specs.Published.{changes, publications}
+use Rattle.nms_quote.specs.Tape.{Tape}
+use Rattle.nms_versions.specs.Published.{Batches, NoneEmpty, changes, publications}
 use Rattle.nms_versions.specs.Taped.{Taped, tape_of}
 use Rattle.nms_live.specs.Faults.{IsNoLineIfAny}
 use Rattle.nms_live.specs.Lists.{EndsWith, IsRising}
@@ -15,9 +16,13 @@ pub record Keeping : Type 0 where
   pub listed : List ℕ
   pub stop : Option LiveFault
 
--- each publication is listed, but for 0; the lengths listed never fall, and none is beyond what was published last
+-- a length is a publication exactly where it is 0 or listed
+abbrev pub AreListed : Batches → List ℕ → Type 0
+AreListed batches listed = (n : ℕ) → Contains (publications batches) n ↔ (n ≡ 0) ⊎ Contains listed n
+
+-- the publications are 0 and the lengths listed; these never fall, and none is beyond what was published last
 pub record IsKept (taped : Taped) (listed : List ℕ) (stop : Option LiveFault) : Type 0 where
-  pub published : (n : ℕ) → Contains (publications taped.published) n → (n ≡ 0) ⊎ Contains listed n
+  pub published : AreListed taped.published listed
   pub rising : IsRising listed
   pub within : AllByRecursion (λ n. n ≤ length (changes taped.published)) listed
   pub stopped : IsNoLineIfAny stop
@@ -36,3 +41,11 @@ HasTaken keeping taken = keeping.stop ≡ None → tape_of keeping.taped ≡ cha
 pub record IsWhole (keeping : Keeping) : Type 0 where
   pub published : changes keeping.taped.published ≡ tape_of keeping.taped
   pub ends : EndsWith keeping.listed (length (tape_of keeping.taped))
+
+-- the tape was published in batches, none of them empty, and a length is the one after some of them exactly where it
+-- is 0 or listed
+pub record WasPublished (tape : Tape) (listed : List ℕ) : Type 0 where
+  pub batches : Batches
+  pub whole : changes batches ≡ tape
+  pub none_empty : NoneEmpty batches
+  pub listed_them : AreListed batches listed

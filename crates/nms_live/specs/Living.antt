@@ -2,6 +2,7 @@
 use Rattle.std.specs.Prelude.{ℕ, ◌≤◌, List, length}
 use Rattle.nms_fees.specs.Settings.{Settings}
 use Rattle.nms_live.specs.Answering.{IsAnswered}
+use Rattle.nms_live.specs.Keeping.{WasPublished}
 use Rattle.nms_live.specs.Lists.{EndsWith, IsRising}
 use Rattle.nms_live.specs.Reading.{IsTapeOf}
 use Rattle.nms_quote.specs.declared.desk_order.DeskOrder.{DeskOrder}
@@ -12,7 +13,9 @@ pub record IsLive (settings : Settings) (a b : List ℕ) (orders : List DeskOrde
   -- every record of both feeds reads as a change of its feed, and the tape is a merge of these, within its limit
   pub tape : IsTapeOf settings.roster a b live.tape.items
   pub limit : length live.tape.items ≤ settings.tape_limit
-  -- what was published never falls and ends with the whole tape
+  -- the tape was published batch by batch: the lengths that were published are 0 and those that are listed, and no others
+  pub published : WasPublished live.tape.items live.published.items
+  -- they never fall and end with the whole tape
   pub rising : IsRising live.published.items
   pub ends : EndsWith live.published.items (length live.tape.items)
   -- each order has an answer, and one on the whole tape, each the best on its version

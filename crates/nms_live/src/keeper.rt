@@ -5,7 +5,7 @@ ghost use Rattle.std.specs.Vec.{vec_len, vec_capacity};
 ghost use Rattle.nms_versions.specs.Published.{changes, committed, publications};
 ghost use Rattle.nms_versions.specs.Taped.{tape_of};
 ghost use Rattle.nms_live.specs.Faults.{IsNoLineIfAny};
-ghost use Rattle.nms_live.specs.Keeping.{IsKept, IsSameKeeping, IsWhole};
+ghost use Rattle.nms_live.specs.Keeping.{IsKept, IsSameKeeping, IsWhole, WasPublished};
 ghost use Rattle.nms_live.specs.Lists.{IsRising};
 
 use crate::MOST_WAITING;
@@ -142,6 +142,7 @@ impl Keeper {
         ensures within { length result.0.items ≤ self.taped.limit }
         ensures listed { result.1.items ≡ self.listed }
         ensures rising { IsRising self.listed }
+        ensures published { changes self.taped.published ≡ tape_of self.taped → WasPublished (tape_of self.taped) self.listed }
     {
         let Keeper {
             publisher,

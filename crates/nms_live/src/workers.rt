@@ -34,9 +34,10 @@ use std::sync::atomic::{AtomicBool, Ordering};
 use std::thread;
 use std::thread::{PromisedHandle, Scope, Threads};
 
-/// Starts a worker for each desk, in order of number.
-fn start_desks<'s, E, G: Gate>(
+/// Starts a worker for each desk, in order of number. Where one can't be started, those before it are waited for.
+fn start_desks<'s, E, R: Threads, G: Gate>(
     scope: &'s Scope<'s, E>,
+    rt: &R,
     alloc: Global,
     setup: &'s Setup,
     gate: &'s G,
@@ -60,6 +61,7 @@ fn start_desks<'s, E, G: Gate>(
     for desk in desks {
         match start_desk(
             scope,
+            rt,
             alloc,
             setup,
             gate,
@@ -69,7 +71,10 @@ fn start_desks<'s, E, G: Gate>(
             &mut handles,
         ) {
             Ok(()) => {}
-            Err(fault) => return Err(fault),
+            Err(fault) => {
+                join_started(rt, handles);
+                return Err(fault);
+            }
         }
         number += 1;
     }
@@ -77,8 +82,9 @@ fn start_desks<'s, E, G: Gate>(
 }
 
 /// Starts the worker of a desk, and puts it behind those that were started before.
-fn start_desk<'s, E, G: Gate>(
+fn start_desk<'s, E, R: Threads, G: Gate>(
     scope: &'s Scope<'s, E>,
+    rt: &R,
     alloc: Global,
     setup: &'s Setup,
     gate: &'s G,
@@ -109,7 +115,18 @@ fn start_desk<'s, E, G: Gate>(
     };
     match handles.push(handle) {
         Ok(()) => Ok(()),
-        Err(_) => Err(LiveFault::NoMemory),
+        Err(back) => {
+            let _worked = back.value.join(rt);
+            Err(LiveFault::NoMemory)
+        }
+    }
+}
+
+/// Waits for the desks' workers that were started where not all of them could be. What they give back is let go: a
+/// handle that is dropped would keep it for ever.
+fn join_started<R: Threads>(rt: &R, handles: Vec<PromisedHandle<Desked, DeskJob>>) {
+    for handle in handles {
+        let _worked = handle.join(rt);
     }
 }
 
@@ -181,6 +198,7 @@ fn run_feeds<'s, E, R: Threads + Wait + Sync, G: Gate>(
         // Feed A runs already: it ends once its changes are taken.
         ended_b.store(true, Ordering::SeqCst);
         take_until_ended(rt, gate, keeper, &mut taker, ended_a, ended_b);
+        let _fed = child_a.join(rt);
         return Some(LiveFault::Open);
     };
     take_until_ended(rt, gate, keeper, &mut taker, ended_a, ended_b);
@@ -285,7 +303,7 @@ fn run_workers<'s, E, R: Threads + Wait + Sync, G: Gate>(
     ensures done { IfOk result (λ desks. IsDone setup.now text_a.now.items text_b.now.items orders.now.items keeper.new desks.items) }
     ensures fault { IfErr result (IsLiveFault setup.now.roster text_a.now.items text_b.now.items) }
 {
-    let (handles, back) = match start_crew(scope, alloc, setup, gate, desks, orders) {
+    let (handles, back) = match start_crew(scope, rt, alloc, setup, gate, desks, orders) {
         Ok(crew) => crew,
         Err(fault) => return Err(fault),
     };
@@ -301,8 +319,9 @@ fn run_workers<'s, E, R: Threads + Wait + Sync, G: Gate>(
 }
 
 /// Makes room for what the desks' workers give back, and starts them.
-fn start_crew<'s, E, G: Gate>(
+fn start_crew<'s, E, R: Threads, G: Gate>(
     scope: &'s Scope<'s, E>,
+    rt: &R,
     alloc: Global,
     setup: &'s Setup,
     gate: &'s G,
@@ -321,7 +340,7 @@ fn start_crew<'s, E, G: Gate>(
     if back.reserve(desks.len()).is_err() {
         return Err(LiveFault::NoMemory);
     }
-    match start_desks(scope, alloc, setup, gate, desks, orders) {
+    match start_desks(scope, rt, alloc, setup, gate, desks, orders) {
         Ok(handles) => Ok((handles, back)),
         Err(fault) => Err(fault),
     }

@@ -1,10 +1,13 @@
 //! Tests of what no clause says: that the calls succeed and come back, and a run of two threads.
 ghost use Rattle.std.specs.Prelude.{◌≡◌, ◌≤◌, ◌+◌, [], length, IfOk};
 
-use nms_feed::{Delivered, Full, LaneFault, NotEmpty, Sender, Taker, close, open_lane};
+use nms_feed::{
+    Delivered, Full, LEAST_CAPACITY, LaneFault, MOST_CAPACITY, NotEmpty, Sender, Taker, close,
+    open_lane,
+};
 use nms_quote::{Change, Part, QState, SideQuote, Sym};
 use nms_units::{Price, Shares};
-use std::alloc::AllocError;
+use std::alloc::{AllocError, Global};
 use std::process::Abort;
 use std::snapshot::Snapshot;
 use std::sync::Wait;
@@ -81,6 +84,36 @@ fn a_new_lane_takes_a_change_at_once(rt: HostRuntime) -> Result<(), Fail> {
     let change = bid_of(0, 1).ok_or("a bid")?;
     assert_eq!(rt; a.try_send(&rt, change), Ok(()));
     Ok(())
+}
+
+/// Sends a change until the lane is full, and tells how often it was sent.
+fn fill<R: Wait>(rt: &R, sender: &mut Sender, change: &Change) -> u32
+    requires { sender.old.sent ≡ [] }
+{
+    for number in 0..2000u32 {
+        if sender.try_send(rt, *change).is_err() {
+            return number;
+        }
+    }
+    2000
+}
+
+/// How many changes a lane takes that was opened for so many.
+fn room<R: Wait>(rt: &R, alloc: Global, capacity: usize) -> Option<u32> {
+    if !(LEAST_CAPACITY..=MOST_CAPACITY).contains(&capacity) {
+        return None;
+    }
+    let (mut a, _b, _taker) = open_lane(alloc, capacity).ok()?;
+    let change = bid_of(0, 1)?;
+    Some(fill(rt, &mut a, &change))
+}
+
+#[test]
+fn a_lane_takes_as_many_as_it_was_opened_for(rt: HostRuntime) {
+    for capacity in [2u32, 3, 5, 64, 1023, 1024] {
+        let told = room(&rt, rt.alloc(), capacity as usize);
+        assert_eq!(rt; told, Some(capacity));
+    }
 }
 
 #[test]

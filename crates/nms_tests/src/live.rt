@@ -2,8 +2,10 @@
 ghost use Rattle.std.specs.Prelude.{◌≡◌, ◌<◌, All, IfSome};
 
 mod chance;
+mod gated;
 mod judge;
 mod overlap;
+mod pace;
 mod worked;
 
 use nms_fees::read_setup;

@@ -3,7 +3,7 @@ use super::{Wanted, order_of};
 use nms_board::Boards;
 use nms_cert::confirm;
 use nms_fees::read_setup;
-use nms_live::{Answer, Live, MOST_WAITING};
+use nms_live::{Answer, Live};
 use nms_quote::Change;
 use std::alloc::Global;
 
@@ -25,6 +25,9 @@ fn is_merge(tape: &[Change], from_a: &[Change], from_b: &[Change]) -> bool {
     rest_a.next().is_none() && rest_b.next().is_none()
 }
 
+/// The most changes that are appended between two publishings: the rule's own number, and not the program's.
+const MOST_BETWEEN: u64 = 64;
+
 /// Whether each publishing shows more than the one before it, up to 64 changes, and the last one all so many. The
 /// last one alone may show nothing new.
 fn rises_to(published: &[u64], all: u64) -> bool {
@@ -33,12 +36,12 @@ fn rises_to(published: &[u64], all: u64) -> bool {
     };
     let mut last = 0u64;
     for number in before {
-        if *number <= last || *number > last.saturating_add(MOST_WAITING) {
+        if *number <= last || *number > last.saturating_add(MOST_BETWEEN) {
             return false;
         }
         last = *number;
     }
-    *end == all && last <= *end && *end <= last.saturating_add(MOST_WAITING)
+    *end == all && last <= *end && *end <= last.saturating_add(MOST_BETWEEN)
 }
 
 /// Whether the answer is to this order of the table.

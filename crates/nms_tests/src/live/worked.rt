@@ -145,7 +145,7 @@ fn the_first_refused_record_is_named_and_feed_a_goes_first(rt: HostRuntime) {
 }
 
 /// Five changes of one participant.
-const FIVE: &[u8] =
+pub(crate) const FIVE: &[u8] =
     b"Q,N,ABC,A,,,10.00,100\nQ,N,ABC,A,,,10.00,100\nQ,N,ABC,A,,,10.00,100\nQ,N,ABC,A,,,10.00,100\nQ,N,ABC,A,,,10.00,100\n";
 
 /// The lengths of the tape and of the answers, and the last publishing.

@@ -1,10 +1,5 @@
-use Rattle.std.proofs.Common.{ℕ, List, subst}
-use Rattle.nms_quote.specs.declared.feed.Feed.{Feed}
 use Rattle.nms_quote.specs.declared.feed.Feed.TheVariants as feed
-use Rattle.nms_fees.specs.Settings.{Settings}
 use Rattle.nms_versions.specs.Taped.{tape_of}
-use Rattle.nms_live.specs.Crew.{IsFeedJob}
-use Rattle.nms_live.specs.Reading.{IsFed}
 use Rattle.nms_live.proofs.CrewFacts.{fed_by_job}
 use Rattle.nms_live.proofs.TapeFacts.{fed_whole, tape_of_feeds}
 use Rattle.nms_live.proofs.workers.run_feeds.Goals as goal

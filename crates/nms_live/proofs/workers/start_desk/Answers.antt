@@ -1,11 +1,10 @@
-use Rattle.std.proofs.Common.{◌≡◌, ◌++◌, ◌∷◌, [], ap, ◌∙◌, rules}
+use Rattle.std.proofs.Common.{ap, ◌∙◌, rules}
 use Rattle.nms_live.specs.Crew.{IsJob}
 use Rattle.nms_live.specs.declared.desk_work.DeskJob.{DeskJob}
-use Rattle.nms_live.proofs.workers.start_desk.Goals.{in-Ok-push, in-Err}
 use Rattle.nms_live.proofs.workers.start_desk.Goals as goal
 
-pub returns-clause-started : goal.returns-clause-started
-returns-clause-started g c =
+pub returns-in-Ok-push-clause-started : goal.returns-in-Ok-push-clause-started
+returns-in-Ok-push-clause-started g c =
     let handle = c.in-Ok.handle in
     let kept = c.in-Ok.ensures.ok in
     let job : IsJob c.args.setup.now c.args.orders.now.items c.args.desk c.args.number handle.promise = record {
@@ -14,9 +13,4 @@ returns-clause-started g c =
       place_is = ap (λ (j : DeskJob). j.number) kept;
       desk_is = ap (λ (j : DeskJob). j.desk.value) kept ∙ c.of-2.ensures;
     } in
-    elim c.match-push.branch [
-      | in-Ok-push w ↦
-          let pushed : c.push.new.self.items ≡ c.args.handles.now.items ++ handle ∷ [] = search rules in
-          rw w.result-is (handle, pushed, job)
-      | in-Err w ↦ rw w.result-is tt
-    ]
+    (handle, c.in-Ok-push.ensures.items, job)

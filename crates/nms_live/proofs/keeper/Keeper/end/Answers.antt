@@ -1,0 +1,15 @@
+use Rattle.std.proofs.Common.{◌≡◌, subst}
+use Rattle.nms_versions.specs.Published.{changes}
+use Rattle.nms_versions.specs.Taped.{tape_of}
+use Rattle.nms_live.specs.Keeping.{Keeping, WasPublished}
+use Rattle.nms_live.proofs.keeper.Keeper.end.Goals as goal
+
+pub returns-clause-published : goal.returns-clause-published
+returns-clause-published g c =
+    subst (λ (k : Keeping). changes k.taped.published ≡ tape_of k.taped → WasPublished (tape_of k.taped) k.listed) c.self.view_is
+    (λ whole. record {
+      batches = c.self.inside.publisher.published;
+      whole = whole;
+      none_empty = c.tape-within.ensures.batches;
+      listed_them = c.self.invariant.0.published;
+    })

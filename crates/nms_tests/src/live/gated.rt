@@ -1,0 +1,144 @@
+//! What a gate is asked and told: each send, look and publishing of the run once, and told behind it.
+use super::worked::{FIVE, order, told};
+use super::{Wanted, run, setup_text};
+use nms_live::{Gate, GatePoint, Live};
+use nms_quote::Feed;
+use std::alloc::Global;
+use std::sync::Wait;
+use std::sync::atomic::{AtomicBool, AtomicU64, Ordering};
+use std::test::Fail;
+use std::thread;
+use std::thread::Threads;
+
+/// Counts the looks that it is asked for and told of.
+#[derive(Drop)]
+struct Counting {
+    asked: AtomicU64,
+    told: AtomicU64,
+}
+
+impl Gate for Counting {
+    fn may(&self, at: GatePoint) -> bool {
+        if matches!(at, GatePoint::Look { .. }) {
+            self.asked.fetch_add(1, Ordering::SeqCst);
+        }
+        true
+    }
+
+    fn done(&self, at: GatePoint) {
+        if matches!(at, GatePoint::Look { .. }) {
+            self.told.fetch_add(1, Ordering::SeqCst);
+        }
+    }
+}
+
+/// A run through a lane of 16.
+fn run_small<R: Threads + Wait + Sync, G: Gate>(
+    rt: &R,
+    alloc: Global,
+    feeds: (&[u8], &[u8]),
+    table: &[Wanted],
+    gate: &G,
+) -> Option<Live> {
+    let setup = setup_text(alloc, 1000, 16, 2)?;
+    run(rt, alloc, setup.as_str(), feeds, table, gate)?.ok()
+}
+
+#[test]
+fn closing_looks_do_not_pass_the_gate(rt: HostRuntime) -> Result<(), Fail> {
+    let gate = Counting {
+        asked: AtomicU64::new(0),
+        told: AtomicU64::new(0),
+    };
+    let mut other = order();
+    other.desk = 1;
+    let table = [order(), other, order()];
+    let live = run_small(&rt, rt.alloc(), (FIVE, b""), &table, &gate).ok_or("a run")?;
+    assert_eq!(rt; (live.answers.len(), live.closing.len()), (3, 3));
+    let asked = gate.asked.load(Ordering::SeqCst);
+    let told = gate.told.load(Ordering::SeqCst);
+    assert_eq!(rt; (asked, told), (3, 3));
+    Ok(())
+}
+
+/// Is told of a send, a publishing and a look, and lets none of them go on before the next one was made: that one
+/// finds what was told of made.
+#[derive(Drop)]
+struct Relay {
+    published_first: AtomicBool,
+    published_second: AtomicBool,
+    looked: AtomicBool,
+    gave_up: AtomicBool,
+}
+
+/// A gate that nobody was at.
+fn make_relay() -> Relay {
+    Relay {
+        published_first: AtomicBool::new(false),
+        published_second: AtomicBool::new(false),
+        looked: AtomicBool::new(false),
+        gave_up: AtomicBool::new(false),
+    }
+}
+
+fn is_set(flag: &AtomicBool) -> bool {
+    flag.load(Ordering::SeqCst)
+}
+
+fn set(flag: &AtomicBool) {
+    flag.store(true, Ordering::SeqCst);
+}
+
+impl Relay {
+    /// Waits until a flag is set.
+    fn wait(&self, flag: &AtomicBool) {
+        for _ in 0..1_000_000u32 {
+            if is_set(flag) {
+                return;
+            }
+            thread::yield_now();
+        }
+        set(&self.gave_up);
+    }
+}
+
+impl Gate for Relay {
+    fn may(&self, at: GatePoint) -> bool {
+        match at {
+            GatePoint::Send { k, .. } => k == 0 || is_set(&self.looked),
+            GatePoint::Look { .. } => is_set(&self.published_first),
+            GatePoint::Publish { .. } => true,
+        }
+    }
+
+    fn done(&self, at: GatePoint) {
+        match at {
+            GatePoint::Send {
+                feed: Feed::A,
+                k: 0,
+            } => self.wait(&self.published_first),
+            GatePoint::Publish { k: 0 } => {
+                set(&self.published_first);
+                self.wait(&self.looked);
+            }
+            GatePoint::Look { .. } => {
+                set(&self.looked);
+                self.wait(&self.published_second);
+            }
+            GatePoint::Publish { k: 1 } => set(&self.published_second),
+            _ => {}
+        }
+    }
+}
+
+#[test]
+fn a_gate_is_told_of_what_was_made(rt: HostRuntime) -> Result<(), Fail> {
+    let gate = make_relay();
+    let live = run_small(&rt, rt.alloc(), (FIVE, b""), &[order()], &gate).ok_or("a run")?;
+    // The first send was taken and published while the feed waited; the look showed it, and not the second one, while
+    // the taker waited; the second one was published while the desk waited.
+    assert!(rt; !is_set(&gate.gave_up));
+    let answer = live.answers.first().ok_or("an answer")?;
+    assert_eq!(rt; told(answer), (0, 0, 1, 100));
+    Ok(())
+}

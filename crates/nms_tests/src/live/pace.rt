@@ -1,0 +1,93 @@
+//! How far the feeds get ahead: the room of the lane, and how much is appended between two publishings.
+use super::{run, setup_text};
+use nms_live::{Gate, GatePoint, Live};
+use nms_quote::Feed;
+use std::alloc::Global;
+use std::sync::Wait;
+use std::sync::atomic::{AtomicBool, Ordering};
+use std::test::Fail;
+use std::thread::Threads;
+
+/// Holds the taker at its first publishing, with one change taken, until feed A has sent so many more.
+#[derive(Drop)]
+struct Held {
+    more: u64,
+    is_held: AtomicBool,
+    is_sent: AtomicBool,
+}
+
+/// A gate that nobody was at.
+fn make_held(more: u64) -> Held {
+    Held {
+        more,
+        is_held: AtomicBool::new(false),
+        is_sent: AtomicBool::new(false),
+    }
+}
+
+impl Gate for Held {
+    fn may(&self, at: GatePoint) -> bool {
+        match at {
+            GatePoint::Publish { k: 0 } => {
+                self.is_held.store(true, Ordering::SeqCst);
+                self.is_sent.load(Ordering::SeqCst)
+            }
+            GatePoint::Send { k, .. } => k == 0 || self.is_held.load(Ordering::SeqCst),
+            _ => true,
+        }
+    }
+
+    fn done(&self, at: GatePoint) {
+        match at {
+            GatePoint::Send { feed: Feed::A, k } if k == self.more => {
+                self.is_sent.store(true, Ordering::SeqCst);
+            }
+            _ => {}
+        }
+    }
+}
+
+/// So many changes of one participant.
+fn changes(alloc: Global, count: u64) -> Option<Vec<u8>> {
+    let mut text = Vec::new(alloc);
+    for _ in 0..count {
+        let record = b"Q,N,ABC,A,,,10.00,100\n".as_slice();
+        text.extend_from_slice(record).ok()?;
+    }
+    Some(text)
+}
+
+/// What is published where feed A sends one change and so many more, all of these while the taker is held, through a
+/// lane of so many.
+fn published<R: Threads + Wait + Sync>(
+    rt: &R,
+    alloc: Global,
+    queue: u32,
+    more: u64,
+) -> Option<Vec<u64>> {
+    let setup = setup_text(alloc, 2000, queue, 1)?;
+    let text = changes(alloc, more.saturating_add(1))?;
+    let gate = make_held(more);
+    let feeds = (text.as_slice(), b"".as_slice());
+    let Live { published, .. } = run(rt, alloc, setup.as_str(), feeds, &[], &gate)?.ok()?;
+    Some(published)
+}
+
+#[test]
+fn the_taker_publishes_behind_64_changes_and_where_the_lane_is_empty(
+    rt: HostRuntime,
+) -> Result<(), Fail> {
+    let lengths = published(&rt, rt.alloc(), 1024, 200).ok_or("a run")?;
+    // The first change alone; 64 at a time of those that lay in the lane; the 8 that were left; the end.
+    let due = [1u64, 65, 129, 193, 201, 201];
+    assert_eq!(rt; lengths.as_slice(), due.as_slice());
+    Ok(())
+}
+
+#[test]
+fn the_lane_of_a_run_takes_as_many_as_its_setup_says(rt: HostRuntime) {
+    for queue in [2u32, 3, 5, 64, 1024] {
+        let told = published(&rt, rt.alloc(), queue, u64::from(queue));
+        assert!(rt; told.is_some(), "in a lane of {queue}");
+    }
+}
