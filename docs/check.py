@@ -198,7 +198,7 @@ def check_names():
         text = prose(page)
         for span in SPAN.findall(text):
             named(page, span)
-        for word in re.findall(r"^    .*?\b((?:examples|crates|docs|bench|build)/[\w./-]+)", text, re.M):
+        for word in re.findall(r"\b((?:examples|crates|docs|bench|build)/[\w./-]+)", "\n".join(re.findall(r"^    .*", text, re.M))):
             check(has_path(page, word) or "/out" in word, page, f"no file `{word}`")
         for span, crate in re.findall(r"`([A-Za-z_][\w:]*)`(?: and `\w+`)? of `(nms_\w+)`", text):
             if crate in TREE:
@@ -214,7 +214,8 @@ def check_codes():
                 check(letter + number in CODES, page, f"no code {letter}{number}")
     text = read("crates/nms_words/src/help_text.rt")
     helped = re.findall(r"^  ([A-Z]\d+) ", text, re.M)
-    told = [(row[CELLS][0], SPAN.findall(row[CELLS][1])) for row in rows(prose("docs/ERRORS.md")) if re.fullmatch(r"[A-Z]\d+", row[CELLS][0])]
+    coded = (row[CELLS] for row in rows(prose("docs/ERRORS.md")) if re.fullmatch(r"[A-Z]\d+", row[CELLS][0]))
+    told = [(cells[0], SPAN.findall(cells[1])) for cells in coded]
     for code in sorted(CODES):
         check(helped.count(code) == 1, "the help", f"{code} stands there {helped.count(code)} times")
         check([it for it, _ in told].count(code) == 1, "docs/ERRORS.md", f"{code} has {[it for it, _ in told].count(code)} rows")
