@@ -1,6 +1,7 @@
 mod BoundLemmas
 mod ChoiceLemmas
 mod CutLemmas
+mod CutoffLemmas
 mod ExactLemmas
 mod FillingLemmas
 mod FitLemmas
@@ -12,3 +13,4 @@ mod StandLemmas
 mod SumFacts
 mod TierLemmas
 mod TotalLemmas
+mod WalkLemmas

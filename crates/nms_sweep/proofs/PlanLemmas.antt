@@ -29,7 +29,7 @@ use Rattle.nms_rules.proofs.ApartLemmas.{Apart, Apart-IsDistinct, Apart-filter, 
 use Rattle.nms_rules.proofs.GivenLemmas.{filled-given, given-by, leg_part, row_part}
 use Rattle.nms_rules.proofs.MemberLemmas.{All-In, Any-In, In, In-All, filter-In, map-In}
 use Rattle.nms_rules.proofs.SignedLemmas.{times-plus, true-lt}
-use Rattle.nms_sweep.specs.Choice.{IsInRange, below, below_part, candidate, chosen, cost_chosen, cuts_of, kind_at, legs_chosen, legs_of, share_cost}
+use Rattle.nms_sweep.specs.Choice.{IsInRange, below, below_part, candidate, chosen, cost_chosen, cut_at, cuts_of, kind_at, legs_chosen, legs_of, share_cost}
 use Rattle.nms_sweep.specs.Order.{IsOrdered}
 use Rattle.nms_sweep.specs.declared.choice.Choice.{Choice}
 use Rattle.nms_sweep.specs.declared.row_order.Key.TheVariants.{Price, Cost}
@@ -116,9 +116,9 @@ Kinds rows by_cost most cutoff =
 kinds-step : (rows by_cost : List Usable) (most : ℕ) (cutoff : ℤ) → (most < swept cutoff rows) ⊎ (swept cutoff rows ≤ most) → (swept cutoff rows + pool cutoff rows < most) ⊎ (most ≤ swept cutoff rows + pool cutoff rows) → Kinds rows by_cost most cutoff
 unfolding Kinds
 kinds-step rows by_cost most cutoff (inl much) little = inl (much, rw (lt-ltb most (swept cutoff rows) much) refl)
-kinds-step rows by_cost most cutoff (inr right) (inl little) = inr (inl (little, rw (le-ltb most (swept cutoff rows) right, lt-ltb (swept cutoff rows + pool cutoff rows) most little) refl))
+kinds-step rows by_cost most cutoff (inr right) (inl little) = inr (inl (little, rw (le-ltb most (swept cutoff rows) right, lt-ltb (pool cutoff rows) (most - swept cutoff rows) (omega (arith, little, right))) refl))
 kinds-step rows by_cost most cutoff (inr right) (inr enough) =
-    inr (inr (record { sweeps = right; reaches = enough; is = rw (le-ltb most (swept cutoff rows) right, le-ltb (swept cutoff rows + pool cutoff rows) most enough) refl }))
+    inr (inr (record { sweeps = right; reaches = enough; is = rw (le-ltb most (swept cutoff rows) right, le-ltb (pool cutoff rows) (most - swept cutoff rows) (omega (arith, enough))) refl }))
 
 pub kinds : (rows by_cost : List Usable) (most : ℕ) (cutoff : ℤ) → Kinds rows by_cost most cutoff
 kinds rows by_cost most cutoff = kinds-step rows by_cost most cutoff (cases_lt most (swept cutoff rows)) (cases_lt (swept cutoff rows + pool cutoff rows) most)
@@ -427,7 +427,7 @@ accepted seen asked fees plan by_price by_cost cuts table' is full made range pa
           let row = row-of asked.side fees rows by_price by_cost table' most cut (subst (In cut) made within) in
           Any-In (λ (one : Usable). one.price ≡ cut.price) rows row.0 row.1.within (sym row.1.price));
       best_first = subst (AllPairs (λ (cut later : Cut). is_better asked.side cut.price later.price ≡ true)) (sym made)
-          (best_first asked.side kind by_price (λ row within. table'.ranks row (in_other by_price rows (IsPermutation-sym rows by_price same) row within)) table'.ordered_price);
+          (best_first (λ (cut : Cut). cut.price) (cut_at kind) (λ row. refl) asked.side by_price (λ row within. table'.ranks row (in_other by_price rows (IsPermutation-sym rows by_price same) row within)) table'.ordered_price);
       holds = All-In (λ (cut : Cut). KindHolds rows most plan.cost (rank_of asked.side cut.price) cut.kind) cuts (λ cut within.
           subst (λ cost. KindHolds rows most cost (rank_of asked.side cut.price) cut.kind) (sym (paid ∙ ap (λ (all : List Cut). cost_chosen (chosen asked.side rows most None all)) made))
           (cut-holds asked.side fees rows by_price by_cost table' most cut (subst (In cut) made within) (In-All (λ (one : Cut). IsInRange one.kind) cuts range cut within)));

@@ -1,7 +1,7 @@
 -- Which of the best plans is chosen. At a cutoff, the protected rows at better prices in full, then the pool by unit
 -- cost, then better price, then place; of the cutoffs the one of least cost, of equals the one at the best price.
 -- This product's own rule.
-use Rattle.std.specs.Prelude.{ℕ, ℤ, pos, neg_ℤ, ◌+◌, ◌-◌, ◌^◌, ◌==◌, ◌≤ℤ◌, ◌&&◌, Bool, false, not, min, nat_le, nat_lt, List, [], ◌∷◌, Option, Some, None, if◌then◌else◌}
+use Rattle.std.specs.Prelude.{ℕ, ℤ, pos, neg_ℤ, ◌-◌, ◌^◌, ◌==◌, ◌≤ℤ◌, ◌&&◌, Bool, false, not, min, nat_le, nat_lt, List, [], ◌∷◌, Option, Some, None, if◌then◌else◌}
 use Rattle.std.specs.Int.RustNames.{int_lt}
 use Rattle.nms_quote.specs.declared.certificate.Cut.{Cut}
 use Rattle.nms_quote.specs.declared.certificate.CutKind.{CutKind}
@@ -24,12 +24,15 @@ share_cost cutoff number last (row ∷ rows) =
 
 -- ---- the cuts
 
--- what the cut at a cutoff says
+-- what the cut at a cutoff says, where so many shares must be swept and the pool has so many
+abbrev pub kind_by : List Usable → ℕ → ℤ → ℕ → ℕ → CutKind
+kind_by by_cost most cutoff swept pool =
+    if nat_lt most swept then TooMuch
+    else if nat_lt pool (most - swept) then TooLittle
+    else Marginal (share_cost cutoff (most - swept) (pos 0) by_cost)
+
 abbrev pub kind_at : List Usable → List Usable → ℕ → ℤ → CutKind
-kind_at rows by_cost most cutoff =
-    if nat_lt most (swept cutoff rows) then TooMuch
-    else if nat_lt (swept cutoff rows + pool cutoff rows) most then TooLittle
-    else Marginal (share_cost cutoff (most - swept cutoff rows) (pos 0) by_cost)
+kind_at rows by_cost most cutoff = kind_by by_cost most cutoff (swept cutoff rows) (pool cutoff rows)
 
 -- a marginal within 10^18, if it is one
 abbrev pub IsInRange : CutKind → Type 0
@@ -42,11 +45,18 @@ abbrev pub starts_at : ℕ → List Usable → Bool
 starts_at price [] = false
 starts_at price (row ∷ rows) = row.price == price
 
--- a cut for each price of rows in the order of their prices
-unfoldable pub cuts_of : (ℤ → CutKind) → List Usable → List Cut
-cuts_of kind [] = []
-cuts_of kind (row ∷ rows) =
-    if starts_at row.price rows then cuts_of kind rows else record { price = row.price; kind = kind row.rank } ∷ cuts_of kind rows
+-- of each price of rows in the order of their prices, what its last row makes
+unfoldable pub per_price : {X : Type 0} → (Usable → X) → List Usable → List X
+per_price made [] = []
+per_price made (row ∷ rows) = if starts_at row.price rows then per_price made rows else made row ∷ per_price made rows
+
+-- the cut of a row
+abbrev pub cut_at : (ℤ → CutKind) → Usable → Cut
+cut_at kind row = record { price = row.price; kind = kind row.rank }
+
+-- a cut for each price
+abbrev pub cuts_of : (ℤ → CutKind) → List Usable → List Cut
+cuts_of kind rows = per_price (cut_at kind) rows
 
 -- ---- the cutoff
 

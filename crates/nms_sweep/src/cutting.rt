@@ -1,16 +1,17 @@
 //! The cuts of a certificate: `specs/Choice`.
 ghost use Rattle.std.specs.Prelude.{◌≡◌, ◌≤◌, pos, neg_ℤ, ◌^◌, ◌-◌, ◌≤ℤ◌, All, length};
 ghost use Rattle.nms_rules.specs.Cutoff.{pool_part};
-ghost use Rattle.nms_sweep.specs.Choice.{IsInRange, cuts_of, kind_at, share_cost, starts_at};
+ghost use Rattle.nms_sweep.specs.Choice.{IsInRange, cuts_of, kind_at, share_cost};
 
+use crate::cutoffs::starts_at;
 use arrayvec::ArrayVec;
 use nms_quote::{Certificate, Cut, CutKind};
 use nms_rules::{Rank, UsableRow, is_pooled, pool, swept};
-use nms_units::{Money, Price};
+use nms_units::Money;
 
 /// A cut for each usable price, best price first, where so many can be filled. The rows come by place, in the order
 /// of their prices, and in that of their costs.
-#[tactic(auto, unfolding(crate::specs::Choice::cuts_of))]
+#[tactic(auto, unfolding(crate::specs::Choice::per_price))]
 pub(crate) fn cuts_of(
     rows: &[UsableRow],
     by_price: &[UsableRow],
@@ -37,16 +38,6 @@ pub(crate) fn cuts_of(
     cuts
 }
 
-/// Whether the first of the rows is at a price.
-fn starts_at(price: Price, rows: &[UsableRow]) -> bool
-    ensures { result ≡ starts_at price rows.now }
-{
-    match rows.first() {
-        Some(row) => row.price == price,
-        None => false,
-    }
-}
-
 /// What the cut at a cutoff says.
 fn kind_at(rows: &[UsableRow], by_cost: &[UsableRow], most: u64, cutoff: Rank) -> CutKind
     requires { length rows.now ≤ 32 }
@@ -56,7 +47,7 @@ fn kind_at(rows: &[UsableRow], by_cost: &[UsableRow], most: u64, cutoff: Rank) -
     let swept = swept(rows, cutoff);
     if most < swept {
         CutKind::TooMuch
-    } else if swept + pool(rows, cutoff) < most {
+    } else if pool(rows, cutoff) < most - swept {
         CutKind::TooLittle
     } else {
         CutKind::Marginal(share_cost(by_cost, cutoff, most - swept))
