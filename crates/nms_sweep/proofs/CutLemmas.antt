@@ -1,17 +1,18 @@
 -- What each price makes, best first: its cutoff, its cut.
-use Rattle.std.proofs.Common.{ℕ, ◌≡◌, true, false, List, [], ◌∷◌, ◌⊎◌, inl, inr, refl, ap, sym, ◌∙◌, subst, arith}
+use Rattle.std.proofs.Common.{ℕ, ◌≡◌, true, false, ◌≤◌, length, map, List, [], ◌∷◌, ◌⊎◌, inl, inr, refl, ap, sym, ◌∙◌, subst, arith}
 use Rattle.std.specs.Prelude.{ℤ, ◌<ℤ◌, ◌≤ℤ◌, AllPairs}
-use Rattle.std.proofs.lemmas.Bool.{cases_Bool, cond-true, cond-false, eqb-false, eqb-true, false≢true}
+use Rattle.std.proofs.lemmas.Bool.{both_ways, cases_Bool, cond-true, cond-false, eqb-false, eqb-true, false≢true}
 use Rattle.std.proofs.lemmas.Int.{by_lt_z, ints}
 use Rattle.std.proofs.lemmas.List.Kept.{AllPairs-cons}
 use Rattle.nms_quote.specs.declared.certificate.Cut.{Cut}
 use Rattle.nms_quote.specs.declared.certificate.CutKind.{CutKind}
 use Rattle.nms_quote.specs.declared.order.OrderSide.{OrderSide}
 use Rattle.nms_quote.specs.declared.order.OrderSide.TheVariants.{Buy, Sell}
+use Rattle.nms_rules.specs.Cutoff.{pool, swept}
 use Rattle.nms_rules.specs.Usable.{Usable, is_better, rank_of}
 use Rattle.nms_rules.proofs.MemberLemmas.{All-In, In}
 use Rattle.nms_rules.proofs.OrderLemmas.{better-from-rank}
-use Rattle.nms_sweep.specs.Choice.{cut_at, cuts_of, per_price, starts_at}
+use Rattle.nms_sweep.specs.Choice.{kind_by, per_price, starts_at}
 use Rattle.nms_sweep.specs.declared.row_order.Key.TheVariants.{Price}
 use Rattle.nms_sweep.proofs.OrderLemmas.{NoLess, Ordered}
 
@@ -25,6 +26,35 @@ per-step made row rows (inr last) = inr (last, cond-false (starts_at row.price r
 pub per_cases : {X : Type 0} (made : Usable → X) (row : Usable) (rows : List Usable)
     → (starts_at row.price rows ≡ true) × (per_price made (row ∷ rows) ≡ per_price made rows) ⊎ (starts_at row.price rows ≡ false) × (per_price made (row ∷ rows) ≡ made row ∷ per_price made rows)
 per_cases made row rows = per-step made row rows (cases_Bool (starts_at row.price rows))
+
+-- no more are made than there are rows
+pub per_few : {X : Type 0} (made : Usable → X) (rows : List Usable) → length (per_price made rows) ≤ length rows
+unfolding per_price
+per_few made [] = omega arith
+per_few {X} made (row ∷ rows) = step (per_few made rows) (per_cases made row rows)
+  where
+    step : length (per_price made rows) ≤ length rows
+        → (starts_at row.price rows ≡ true) × (per_price made (row ∷ rows) ≡ per_price made rows) ⊎ (starts_at row.price rows ≡ false) × (per_price made (row ∷ rows) ≡ made row ∷ per_price made rows)
+        → length (per_price made (row ∷ rows)) ≤ length (row ∷ rows)
+    step rest (inl is) = omega (arith, rest, ap length is.1)
+    step rest (inr is) = omega (arith, rest, ap length is.1)
+
+-- what is made of that
+pub map_per_price : {X Y : Type 0} (f : X → Y) (made : Usable → X) (other : Usable → Y) (rows : List Usable) → ((row : Usable) → In row rows → f (made row) ≡ other row) → map f (per_price made rows) ≡ per_price other rows
+unfolding per_price
+map_per_price f made other [] each = refl
+map_per_price {X} {Y} f made other (row ∷ rows) each =
+    step (map_per_price f made other rows (λ one within. each one (inr within))) (per_cases made row rows) (per_cases other row rows)
+  where
+    step : map f (per_price made rows) ≡ per_price other rows
+        → (starts_at row.price rows ≡ true) × (per_price made (row ∷ rows) ≡ per_price made rows) ⊎ (starts_at row.price rows ≡ false) × (per_price made (row ∷ rows) ≡ made row ∷ per_price made rows)
+        → (starts_at row.price rows ≡ true) × (per_price other (row ∷ rows) ≡ per_price other rows) ⊎ (starts_at row.price rows ≡ false) × (per_price other (row ∷ rows) ≡ other row ∷ per_price other rows)
+        → map f (per_price made (row ∷ rows)) ≡ per_price other (row ∷ rows)
+    step rest (inl is) (inl also) = ap (map f) is.1 ∙ rest ∙ sym also.1
+    step rest (inl is) (inr also) = absurd (both_ways (starts_at row.price rows) also.0 is.0)
+    step rest (inr is) (inl also) = absurd (both_ways (starts_at row.price rows) is.0 also.0)
+    step rest (inr is) (inr also) =
+        ap (map f) is.1 ∙ ap (λ (one : Y). one ∷ map f (per_price made rows)) (each row (inl refl)) ∙ ap (λ (more : List Y). other row ∷ more) rest ∙ sym also.1
 
 -- ---- each is made of a row, and each price has its own
 
@@ -65,6 +95,17 @@ made_for {X} made (first ∷ rows) row within = step (made_for made rows) (per_c
     step rest (inr is) (inr later) = let at = rest row later in (at.0, subst (In (made at.0)) (sym is.1) (inr at.1), at.2)
 
 -- ---- the cuts
+
+-- what the cut at a cutoff says, by the sums over the rows
+abbrev pub kind_at : List Usable → List Usable → ℕ → ℤ → CutKind
+kind_at rows by_cost most cutoff = kind_by by_cost most cutoff (swept cutoff rows) (pool cutoff rows)
+
+-- the cut of a row, and one for each price
+abbrev pub cut_at : (ℤ → CutKind) → Usable → Cut
+cut_at kind row = record { price = row.price; kind = kind row.rank }
+
+abbrev pub cuts_of : (ℤ → CutKind) → List Usable → List Cut
+cuts_of kind rows = per_price (cut_at kind) rows
 
 pub record IsCutOf (kind : ℤ → CutKind) (row : Usable) (cut : Cut) : Type 0 where
   pub price : cut.price ≡ row.price

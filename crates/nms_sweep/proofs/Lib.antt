@@ -9,6 +9,7 @@ mod LegLemmas
 mod MarginalLemmas
 mod OrderLemmas
 mod PlanLemmas
+mod SameLemmas
 mod StandLemmas
 mod SumFacts
 mod TierLemmas

@@ -12,6 +12,7 @@ use Rattle.nms_rules.specs.Assignment.{total}
 use Rattle.nms_rules.specs.Cutoff.{is_pooled, is_swept, least_cost, pool, pool_part, swept}
 use Rattle.nms_rules.specs.Usable.{Usable, rank_of}
 use Rattle.nms_sweep.specs.declared.choice.Choice.{Choice}
+use Rattle.nms_sweep.specs.declared.cutoffs.Cutoff.{Cutoff}
 
 -- ---- the marginal
 
@@ -31,9 +32,6 @@ kind_by by_cost most cutoff swept pool =
     else if nat_lt pool (most - swept) then TooLittle
     else Marginal (share_cost cutoff (most - swept) (pos 0) by_cost)
 
-abbrev pub kind_at : List Usable → List Usable → ℕ → ℤ → CutKind
-kind_at rows by_cost most cutoff = kind_by by_cost most cutoff (swept cutoff rows) (pool cutoff rows)
-
 -- a marginal within 10^18, if it is one
 abbrev pub IsInRange : CutKind → Type 0
 IsInRange TooMuch = Unit {0}
@@ -50,13 +48,9 @@ unfoldable pub per_price : {X : Type 0} → (Usable → X) → List Usable → L
 per_price made [] = []
 per_price made (row ∷ rows) = if starts_at row.price rows then per_price made rows else made row ∷ per_price made rows
 
--- the cut of a row
-abbrev pub cut_at : (ℤ → CutKind) → Usable → Cut
-cut_at kind row = record { price = row.price; kind = kind row.rank }
-
--- a cut for each price
-abbrev pub cuts_of : (ℤ → CutKind) → List Usable → List Cut
-cuts_of kind rows = per_price (cut_at kind) rows
+-- the cut of a cutoff
+abbrev pub cut_by : OrderSide → List Usable → ℕ → Cutoff → Cut
+cut_by side by_cost most cutoff = record { price = cutoff.price; kind = kind_by by_cost most (rank_of side cutoff.price) cutoff.swept cutoff.pool }
 
 -- ---- the cutoff
 
