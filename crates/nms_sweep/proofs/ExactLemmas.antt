@@ -15,9 +15,10 @@ use Rattle.nms_rules.specs.Usable.{Usable, rank_of}
 use Rattle.nms_rules.proofs.CutoffLemmas.{Passes, Pools, Sweeps, places, pool-is, pool-not}
 use Rattle.nms_rules.proofs.MemberLemmas.{All-In, Any-In, In}
 use Rattle.nms_rules.proofs.SignedLemmas.{lt-true}
-use Rattle.nms_sweep.specs.Choice.{below, below_part, cuts_of, is_below, kind_at, share_cost}
+use Rattle.nms_sweep.specs.Choice.{below, below_part, is_below, share_cost}
 use Rattle.nms_sweep.specs.Filling.{AreExact, IsMarginalAt, KindIs, up_to, up_to_part}
 use Rattle.nms_sweep.specs.declared.row_order.Key.TheVariants.{Cost}
+use Rattle.nms_sweep.proofs.CutLemmas.{cuts_of, kind_at}
 use Rattle.nms_sweep.proofs.LegLemmas.{level}
 use Rattle.nms_sweep.proofs.MarginalLemmas.{marginal_is, none-below}
 use Rattle.nms_sweep.proofs.OrderLemmas.{Ordered}

@@ -22,13 +22,13 @@ pub record Fits (rows : List Usable) (most : ℕ) (row : Usable) : Type 0 where
   pub reaches : most ≤ swept row.rank rows + pool row.rank rows
 
 -- nothing has to be swept of rows at no better a price
-none-swept : (row : Usable) (rows : List Usable) → NoLess Price row rows → swept row.rank rows ≡ 0
+pub none-swept : (row : Usable) (rows : List Usable) → NoLess Price row rows → swept row.rank rows ≡ 0
 unfolding total
 none-swept row [] each = refl
 none-swept row (other ∷ rows) each = omega (arith, swept_far row.rank other each.0, none-swept row rows each.1)
 
 -- rows at the price or better are swept or in the pool
-all-within : (cutoff : ℤ) (rows : List Usable) → AllByRecursion (λ row. row.rank ≤ℤ cutoff) rows → shown rows ≡ swept cutoff rows + pool cutoff rows
+pub all-within : (cutoff : ℤ) (rows : List Usable) → AllByRecursion (λ row. row.rank ≤ℤ cutoff) rows → shown rows ≡ swept cutoff rows + pool cutoff rows
 unfolding total
 all-within cutoff [] each = refl
 all-within cutoff (row ∷ rows) each = omega (arith, within_parts cutoff row each.0, all-within cutoff rows each.1)
@@ -37,7 +37,7 @@ within-more : (near far : ℤ) (rows : List Usable) → near ≤ℤ far → AllB
 within-more near far [] order each = tt
 within-more near far (row ∷ rows) order each = (omega (arith, ints, order, each.0), within-more near far rows order each.1)
 
-within-push : (cutoff : ℤ) (rows : List Usable) (row : Usable) → AllByRecursion (λ one. one.rank ≤ℤ cutoff) rows → row.rank ≤ℤ cutoff → AllByRecursion (λ one. one.rank ≤ℤ cutoff) (rows ++ row ∷ [])
+pub within-push : (cutoff : ℤ) (rows : List Usable) (row : Usable) → AllByRecursion (λ one. one.rank ≤ℤ cutoff) rows → row.rank ≤ℤ cutoff → AllByRecursion (λ one. one.rank ≤ℤ cutoff) (rows ++ row ∷ [])
 within-push cutoff [] row each last = (last, tt)
 within-push cutoff (first ∷ rows) row each last = (each.0, within-push cutoff rows row each.1 last)
 

@@ -1,6 +1,7 @@
 mod BoundLemmas
 mod ChoiceLemmas
 mod CutLemmas
+mod CutoffLemmas
 mod ExactLemmas
 mod FillingLemmas
 mod FitLemmas
@@ -8,7 +9,9 @@ mod LegLemmas
 mod MarginalLemmas
 mod OrderLemmas
 mod PlanLemmas
+mod SameLemmas
 mod StandLemmas
 mod SumFacts
 mod TierLemmas
 mod TotalLemmas
+mod WalkLemmas

@@ -14,9 +14,10 @@ use Rattle.nms_quote.specs.declared.certificate.Cut.{Cut}
 use Rattle.nms_quote.specs.declared.certificate.CutKind.{CutKind}
 use Rattle.nms_quote.specs.declared.certificate.CutKind.TheVariants.{TooMuch, TooLittle, Marginal}
 use Rattle.nms_quote.specs.declared.order.OrderSide.{OrderSide}
+use Rattle.nms_quote.specs.declared.order.OrderSide.TheVariants.{Buy, Sell}
 use Rattle.nms_quote.specs.declared.plan.Leg.{Leg}
 use Rattle.nms_quote.specs.declared.plan.Plan.{Plan}
-use Rattle.nms_board.specs.View.{Seen}
+use Rattle.nms_board.specs.View.{AreRows, Seen}
 use Rattle.nms_board.specs.declared.row.Row.{Row}
 use Rattle.nms_fee_book.specs.Fees.{unit_cost_of}
 use Rattle.nms_fee_book.specs.declared.fee_schedule.FeeSchedule.{FeeSchedule}
@@ -29,16 +30,19 @@ use Rattle.nms_rules.proofs.ApartLemmas.{Apart, Apart-IsDistinct, Apart-filter, 
 use Rattle.nms_rules.proofs.GivenLemmas.{filled-given, given-by, leg_part, row_part}
 use Rattle.nms_rules.proofs.MemberLemmas.{All-In, Any-In, In, In-All, filter-In, map-In}
 use Rattle.nms_rules.proofs.SignedLemmas.{times-plus, true-lt}
-use Rattle.nms_sweep.specs.Choice.{IsInRange, below, below_part, candidate, chosen, cost_chosen, cuts_of, kind_at, legs_chosen, legs_of, share_cost}
-use Rattle.nms_sweep.specs.Order.{IsOrdered}
+use Rattle.nms_sweep.specs.Choice.{IsInRange, below, below_part, candidate, chosen, cost_chosen, cut_by, kind_by, legs_chosen, legs_of, share_cost}
+use Rattle.nms_sweep.specs.Cutoffs.{cutoff_at, cutoffs_of}
+use Rattle.nms_sweep.specs.Order.{IsByPrice, IsOrdered}
 use Rattle.nms_sweep.specs.declared.choice.Choice.{Choice}
+use Rattle.nms_sweep.specs.declared.cutoffs.Cutoff.{Cutoff}
 use Rattle.nms_sweep.specs.declared.row_order.Key.TheVariants.{Price, Cost}
 use Rattle.nms_sweep.proofs.ChoiceLemmas.{IsNoDearer, Offered, chosen_least, chosen_offered, offer}
-use Rattle.nms_sweep.proofs.CutLemmas.{best_first, cut_of_row, row_of_cut}
+use Rattle.nms_sweep.proofs.CutLemmas.{best_first, cut_at, cut_of_row, cuts_of, kind_at, map_per_price, row_of_cut}
 use Rattle.nms_sweep.proofs.FitLemmas.{Fits, fits}
 use Rattle.nms_sweep.proofs.LegLemmas.{GoesTo, cost_legs, given_gets, goes_to_row, legs_apart, level, sum_legs}
 use Rattle.nms_sweep.proofs.MarginalLemmas.{marginal_is}
 use Rattle.nms_sweep.proofs.OrderLemmas.{InOrder, Ordered, in_order_from, ordered_from}
+use Rattle.nms_sweep.proofs.SameLemmas.{chosen_same, fillable_same}
 use Rattle.nms_sweep.proofs.TierLemmas.{Gets, level_part}
 use Rattle.nms_sweep.proofs.TotalLemmas.{amount_same, total_same}
 
@@ -116,9 +120,9 @@ Kinds rows by_cost most cutoff =
 kinds-step : (rows by_cost : List Usable) (most : ℕ) (cutoff : ℤ) → (most < swept cutoff rows) ⊎ (swept cutoff rows ≤ most) → (swept cutoff rows + pool cutoff rows < most) ⊎ (most ≤ swept cutoff rows + pool cutoff rows) → Kinds rows by_cost most cutoff
 unfolding Kinds
 kinds-step rows by_cost most cutoff (inl much) little = inl (much, rw (lt-ltb most (swept cutoff rows) much) refl)
-kinds-step rows by_cost most cutoff (inr right) (inl little) = inr (inl (little, rw (le-ltb most (swept cutoff rows) right, lt-ltb (swept cutoff rows + pool cutoff rows) most little) refl))
+kinds-step rows by_cost most cutoff (inr right) (inl little) = inr (inl (little, rw (le-ltb most (swept cutoff rows) right, lt-ltb (pool cutoff rows) (most - swept cutoff rows) (omega (arith, little, right))) refl))
 kinds-step rows by_cost most cutoff (inr right) (inr enough) =
-    inr (inr (record { sweeps = right; reaches = enough; is = rw (le-ltb most (swept cutoff rows) right, le-ltb (swept cutoff rows + pool cutoff rows) most enough) refl }))
+    inr (inr (record { sweeps = right; reaches = enough; is = rw (le-ltb most (swept cutoff rows) right, le-ltb (pool cutoff rows) (most - swept cutoff rows) (omega (arith, enough))) refl }))
 
 pub kinds : (rows by_cost : List Usable) (most : ℕ) (cutoff : ℤ) → Kinds rows by_cost most cutoff
 kinds rows by_cost most cutoff = kinds-step rows by_cost most cutoff (cases_lt most (swept cutoff rows)) (cases_lt (swept cutoff rows + pool cutoff rows) most)
@@ -427,7 +431,7 @@ accepted seen asked fees plan by_price by_cost cuts table' is full made range pa
           let row = row-of asked.side fees rows by_price by_cost table' most cut (subst (In cut) made within) in
           Any-In (λ (one : Usable). one.price ≡ cut.price) rows row.0 row.1.within (sym row.1.price));
       best_first = subst (AllPairs (λ (cut later : Cut). is_better asked.side cut.price later.price ≡ true)) (sym made)
-          (best_first asked.side kind by_price (λ row within. table'.ranks row (in_other by_price rows (IsPermutation-sym rows by_price same) row within)) table'.ordered_price);
+          (best_first (λ (cut : Cut). cut.price) (cut_at kind) (λ row. refl) asked.side by_price (λ row within. table'.ranks row (in_other by_price rows (IsPermutation-sym rows by_price same) row within)) table'.ordered_price);
       holds = All-In (λ (cut : Cut). KindHolds rows most plan.cost (rank_of asked.side cut.price) cut.kind) cuts (λ cut within.
           subst (λ cost. KindHolds rows most cost (rank_of asked.side cut.price) cut.kind) (sym (paid ∙ ap (λ (all : List Cut). cost_chosen (chosen asked.side rows most None all)) made))
           (cut-holds asked.side fees rows by_price by_cost table' most cut (subst (In cut) made within) (In-All (λ (one : Cut). IsInRange one.kind) cuts range cut within)));
@@ -442,20 +446,45 @@ pub record Found (seen : Seen) (asked : Terms) (fees : List FeeSchedule) (by_pri
   pub cuts_are : cuts ≡ cuts_of (kind_at (usable seen asked fees) by_cost (fillable (usable seen asked fees) asked.shares)) by_price
   pub found_is : found ≡ chosen asked.side (usable seen asked fees) (fillable (usable seen asked fees) asked.shares) None cuts
 
+-- by place they rise
+pub rising : (side : OrderSide) (seen : Seen) → AreRows seen.bids → AreRows seen.offers → IsStrictlyIncreasing (map (λ row. row.part) (contra_rows side seen))
+rising Buy seen bids offers = offers.rising
+rising Sell seen bids offers = bids.rising
+
+cut-with : ℕ → CutKind → Cut
+cut-with price kind = record { price = price; kind = kind }
+
+-- the cuts of the cutoffs are those of the prices
+cuts-made : (side : OrderSide) (fees : List FeeSchedule) (rows by_price by_cost : List Usable) → Table side fees rows by_price by_cost → (most : ℕ)
+    → map (cut_by side by_cost most) (cutoffs_of by_price by_price) ≡ cuts_of (kind_at rows by_cost most) by_price
+unfolding cut-with
+cuts-made side fees rows by_price by_cost table' most =
+    let same = table'.same_price in
+    map_per_price (cut_by side by_cost most) (cutoff_at by_price) (cut_at (kind_at rows by_cost most)) by_price (λ row within.
+    let rank = table'.ranks row (in_other by_price rows (IsPermutation-sym rows by_price same) row within) in
+    ap (cut-with row.price)
+    (ap (λ cutoff. kind_by by_cost most cutoff (swept row.rank by_price) (pool row.rank by_price)) (sym rank)
+    ∙ ap (λ n. kind_by by_cost most row.rank n (pool row.rank by_price)) (total_same (swept_part row.rank) rows by_price same)
+    ∙ ap (kind_by by_cost most row.rank (swept row.rank rows)) (total_same (pool_part row.rank) rows by_price same)))
+
 -- of slices that show the rows
-pub found_from : (seen : Seen) (asked : Terms) (fees : List FeeSchedule) (terms : Terms) (rows prices costs by_price by_cost : List Usable) (cuts : List Cut) (most : ℕ) (found : Option Choice)
-    → terms ≡ asked → rows ≡ usable seen asked fees → prices ≡ by_price → costs ≡ by_cost → IsStrictlyIncreasing (map (λ row. row.part) (contra_rows asked.side seen))
-    → IsPermutation rows by_price → IsOrdered Price by_price → IsPermutation prices by_cost → IsOrdered Cost by_cost
-    → most ≡ fillable rows terms.shares → cuts ≡ cuts_of (kind_at rows costs most) prices → found ≡ chosen terms.side rows most None cuts → Found seen asked fees by_price by_cost cuts most found
-found_from seen asked fees terms rows prices costs by_price by_cost cuts most found same are first cheap rising by_price_same ordered by_cost_same cheapest count made choice =
+pub found_from : (seen : Seen) (asked : Terms) (fees : List FeeSchedule) (terms : Terms) (first again last costs : List Usable) (coming : List Cutoff) (by_price by_cost : List Usable) (cuts : List Cut) (most : ℕ) (found : Option Choice)
+    → terms ≡ asked → AreRows seen.bids → AreRows seen.offers → IsPermutation (usable seen asked fees) by_price → IsByPrice by_price → coming ≡ cutoffs_of by_price by_price
+    → first ≡ by_price → again ≡ by_price → last ≡ by_price → costs ≡ by_cost → IsPermutation again by_cost → IsOrdered Cost by_cost
+    → most ≡ fillable first terms.shares → cuts ≡ map (cut_by terms.side costs most) coming → found ≡ chosen terms.side last most None cuts → Found seen asked fees by_price by_cost cuts most found
+found_from seen asked fees terms first again last costs coming by_price by_cost cuts most found same bids offers rows_same ordered comes one two three cheap cost_same cheapest count made choice =
     let usables : List Usable = usable seen asked fees in
-    let count' : most ≡ fillable usables asked.shares = count ∙ ap (λ (one : List Usable). fillable one terms.shares) are ∙ ap (λ (one : Terms). fillable usables one.shares) same in
+    let rows = table seen asked fees by_price by_cost (rising asked.side seen bids offers) rows_same ordered (subst (λ (some : List Usable). IsPermutation some by_cost) two cost_same) cheapest in
+    let count' : most ≡ fillable usables asked.shares =
+    count ∙ ap (λ (some : List Usable). fillable some terms.shares) one ∙ ap (λ (some : Terms). fillable by_price some.shares) same ∙ fillable_same usables by_price rows_same asked.shares in
     record {
-      rows = table seen asked fees by_price by_cost rising (subst (λ (one : List Usable). IsPermutation one by_price) are by_price_same) ordered (subst (λ (one : List Usable). IsPermutation one by_cost) first by_cost_same) cheapest;
+      rows = rows;
       fillable_is = count';
-      cuts_are = made ∙ ap (λ (one : List Usable). cuts_of (kind_at one costs most) prices) are ∙ ap (λ (one : List Usable). cuts_of (kind_at usables one most) prices) cheap
-          ∙ ap (λ (one : List Usable). cuts_of (kind_at usables by_cost most) one) first ∙ ap (λ n. cuts_of (kind_at usables by_cost n) by_price) count';
-      found_is = choice ∙ ap (λ (one : List Usable). chosen terms.side one most None cuts) are ∙ ap (λ (one : Terms). chosen one.side usables most None cuts) same ∙ ap (λ n. chosen asked.side usables n None cuts) count';
+      cuts_are = made ∙ ap (map (cut_by terms.side costs most)) comes ∙ ap (λ (some : List Usable). map (cut_by terms.side some most) (cutoffs_of by_price by_price)) cheap
+          ∙ ap (λ (some : Terms). map (cut_by some.side by_cost most) (cutoffs_of by_price by_price)) same ∙ cuts-made asked.side fees usables by_price by_cost rows most
+          ∙ ap (λ n. cuts_of (kind_at usables by_cost n) by_price) count';
+      found_is = choice ∙ ap (λ (some : List Usable). chosen terms.side some most None cuts) three ∙ ap (λ (some : Terms). chosen some.side by_price most None cuts) same
+          ∙ chosen_same asked.side usables by_price rows_same most None cuts ∙ ap (λ n. chosen asked.side usables n None cuts) count';
     }
 
 pub legs_found : (seen : Seen) (asked : Terms) (fees : List FeeSchedule) (by_price by_cost : List Usable) (cuts : List Cut) (most : ℕ) (found : Option Choice) → Found seen asked fees by_price by_cost cuts most found

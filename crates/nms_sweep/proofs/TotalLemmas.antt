@@ -1,6 +1,6 @@
 -- Sums over the same rows in another order.
 use Rattle.std.proofs.Common.{ℕ, suc, ◌≡◌, ◌≤◌, ◌+◌, List, [], ◌∷◌, ◌++◌, refl, sym, ◌∙◌, arith}
-use Rattle.std.specs.Prelude.{ℤ, pos, negsuc, sum_by, ◌-ℤ◌}
+use Rattle.std.specs.Prelude.{ℤ, pos, negsuc, sum_by, ◌+ℤ◌, ◌-ℤ◌}
 use Rattle.std.specs.List.Sorted.{IsPermutation}
 use Rattle.std.proofs.lemmas.Int.{ints}
 use Rattle.std.proofs.lemmas.List.Sorted.{sum_by-IsPermutation}
@@ -45,6 +45,11 @@ pub total_append : (part : Usable → ℕ) (one other : List Usable) → total p
 unfolding total
 total_append part [] other = omega arith
 total_append part (row ∷ one) other = omega (arith, total_append part one other)
+
+pub amount_append : (part : Usable → ℤ) (one other : List Usable) → amount part (one ++ other) ≡ amount part one +ℤ amount part other
+unfolding amount
+amount_append part [] other = omega (arith, ints)
+amount_append part (row ∷ one) other = omega (arith, ints, amount_append part one other)
 
 pub total_at_most : (less more : Usable → ℕ) (rows : List Usable) → ((row : Usable) → less row ≤ more row) → total less rows ≤ total more rows
 unfolding total

@@ -1,7 +1,7 @@
 -- Which of the best plans is chosen. At a cutoff, the protected rows at better prices in full, then the pool by unit
 -- cost, then better price, then place; of the cutoffs the one of least cost, of equals the one at the best price.
 -- This product's own rule.
-use Rattle.std.specs.Prelude.{ℕ, ℤ, pos, neg_ℤ, ◌+◌, ◌-◌, ◌^◌, ◌==◌, ◌≤ℤ◌, ◌&&◌, Bool, false, not, min, nat_le, nat_lt, List, [], ◌∷◌, Option, Some, None, if◌then◌else◌}
+use Rattle.std.specs.Prelude.{ℕ, ℤ, pos, neg_ℤ, ◌-◌, ◌^◌, ◌==◌, ◌≤ℤ◌, ◌&&◌, Bool, false, not, min, nat_le, nat_lt, List, [], ◌∷◌, Option, Some, None, if◌then◌else◌}
 use Rattle.std.specs.Int.RustNames.{int_lt}
 use Rattle.nms_quote.specs.declared.certificate.Cut.{Cut}
 use Rattle.nms_quote.specs.declared.certificate.CutKind.{CutKind}
@@ -12,6 +12,7 @@ use Rattle.nms_rules.specs.Assignment.{total}
 use Rattle.nms_rules.specs.Cutoff.{is_pooled, is_swept, least_cost, pool, pool_part, swept}
 use Rattle.nms_rules.specs.Usable.{Usable, rank_of}
 use Rattle.nms_sweep.specs.declared.choice.Choice.{Choice}
+use Rattle.nms_sweep.specs.declared.cutoffs.Cutoff.{Cutoff}
 
 -- ---- the marginal
 
@@ -24,12 +25,12 @@ share_cost cutoff number last (row ∷ rows) =
 
 -- ---- the cuts
 
--- what the cut at a cutoff says
-abbrev pub kind_at : List Usable → List Usable → ℕ → ℤ → CutKind
-kind_at rows by_cost most cutoff =
-    if nat_lt most (swept cutoff rows) then TooMuch
-    else if nat_lt (swept cutoff rows + pool cutoff rows) most then TooLittle
-    else Marginal (share_cost cutoff (most - swept cutoff rows) (pos 0) by_cost)
+-- what the cut at a cutoff says, where so many shares must be swept and the pool has so many
+abbrev pub kind_by : List Usable → ℕ → ℤ → ℕ → ℕ → CutKind
+kind_by by_cost most cutoff swept pool =
+    if nat_lt most swept then TooMuch
+    else if nat_lt pool (most - swept) then TooLittle
+    else Marginal (share_cost cutoff (most - swept) (pos 0) by_cost)
 
 -- a marginal within 10^18, if it is one
 abbrev pub IsInRange : CutKind → Type 0
@@ -42,11 +43,14 @@ abbrev pub starts_at : ℕ → List Usable → Bool
 starts_at price [] = false
 starts_at price (row ∷ rows) = row.price == price
 
--- a cut for each price of rows in the order of their prices
-unfoldable pub cuts_of : (ℤ → CutKind) → List Usable → List Cut
-cuts_of kind [] = []
-cuts_of kind (row ∷ rows) =
-    if starts_at row.price rows then cuts_of kind rows else record { price = row.price; kind = kind row.rank } ∷ cuts_of kind rows
+-- of each price of rows in the order of their prices, what its last row makes
+unfoldable pub per_price : {X : Type 0} → (Usable → X) → List Usable → List X
+per_price made [] = []
+per_price made (row ∷ rows) = if starts_at row.price rows then per_price made rows else made row ∷ per_price made rows
+
+-- the cut of a cutoff
+abbrev pub cut_by : OrderSide → List Usable → ℕ → Cutoff → Cut
+cut_by side by_cost most cutoff = record { price = cutoff.price; kind = kind_by by_cost most (rank_of side cutoff.price) cutoff.swept cutoff.pool }
 
 -- ---- the cutoff
 

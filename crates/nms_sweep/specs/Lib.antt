@@ -4,5 +4,7 @@ pub use Rattle.nms_rules.specs.Faultless as Faultless
 pub use Rattle.nms_rules.specs.Usable as Usable
 pub mod Bounds
 pub mod Choice
+pub mod Cutoffs
 pub mod Filling
 pub mod Order
+pub mod Passed

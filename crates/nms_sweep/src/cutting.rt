@@ -1,62 +1,46 @@
 //! The cuts of a certificate: `specs/Choice`.
-ghost use Rattle.std.specs.Prelude.{◌≡◌, ◌≤◌, pos, neg_ℤ, ◌^◌, ◌-◌, ◌≤ℤ◌, All, length};
+ghost use Rattle.std.specs.Prelude.{◌≡◌, ◌≤◌, pos, neg_ℤ, ◌^◌, ◌-◌, ◌≤ℤ◌, All, length, map};
 ghost use Rattle.nms_rules.specs.Cutoff.{pool_part};
-ghost use Rattle.nms_sweep.specs.Choice.{IsInRange, cuts_of, kind_at, share_cost, starts_at};
+ghost use Rattle.nms_sweep.specs.Choice.{IsInRange, cut_by, kind_by, share_cost};
 
+use crate::cutoffs::Cutoffs;
 use arrayvec::ArrayVec;
-use nms_quote::{Certificate, Cut, CutKind};
-use nms_rules::{Rank, UsableRow, is_pooled, pool, swept};
-use nms_units::{Money, Price};
+use nms_quote::{Certificate, Cut, CutKind, OrderSide};
+use nms_rules::{Rank, UsableRow, is_pooled};
+use nms_units::Money;
 
-/// A cut for each usable price, best price first, where so many can be filled. The rows come by place, in the order
-/// of their prices, and in that of their costs.
-#[tactic(auto, unfolding(crate::specs::Choice::cuts_of))]
+/// A cut for each cutoff that is to come, where so many can be filled. The rows come in the order of their costs.
 pub(crate) fn cuts_of(
-    rows: &[UsableRow],
-    by_price: &[UsableRow],
+    side: OrderSide,
+    cutoffs: &mut Cutoffs,
     by_cost: &[UsableRow],
     most: u64,
 ) -> Certificate
-    requires rows { length rows.now ≤ 32 }
-    requires by_price { length by_price.now ≤ 32 }
-    ensures cuts { result.items ≡ cuts_of (kind_at rows.now by_cost.now most) by_price.now }
+    requires few { length cutoffs.old.to_come ≤ 32 }
+    ensures cuts { result.items ≡ map (cut_by side by_cost.now most) cutoffs.old.to_come }
     ensures range { All (λ cut. IsInRange cut.kind) result.items }
+    ensures rows { cutoffs.new.rows ≡ cutoffs.old.rows }
 {
     let mut cuts = ArrayVec::new_in(());
-    let mut behind = by_price;
-    while let Some((row, more)) = behind.split_first() {
-        if !starts_at(row.price, more) {
-            let kind = kind_at(rows, by_cost, most, row.rank);
-            cuts.push(Cut {
-                price: row.price,
-                kind,
-            });
-        }
-        behind = more;
+    while let Some(cutoff) = cutoffs.next() {
+        let rank = Rank::of(side, cutoff.price);
+        let kind = kind_by(by_cost, most, rank, cutoff.swept, cutoff.pool);
+        cuts.push(Cut {
+            price: cutoff.price,
+            kind,
+        });
     }
     cuts
 }
 
-/// Whether the first of the rows is at a price.
-fn starts_at(price: Price, rows: &[UsableRow]) -> bool
-    ensures { result ≡ starts_at price rows.now }
-{
-    match rows.first() {
-        Some(row) => row.price == price,
-        None => false,
-    }
-}
-
-/// What the cut at a cutoff says.
-fn kind_at(rows: &[UsableRow], by_cost: &[UsableRow], most: u64, cutoff: Rank) -> CutKind
-    requires { length rows.now ≤ 32 }
-    ensures kind { result ≡ kind_at rows.now by_cost.now most cutoff }
+/// What the cut at a cutoff says, where so many shares must be swept and the pool has so many.
+fn kind_by(by_cost: &[UsableRow], most: u64, cutoff: Rank, swept: u64, pool: u64) -> CutKind
+    ensures kind { result ≡ kind_by by_cost.now most cutoff swept pool }
     ensures range { IsInRange result }
 {
-    let swept = swept(rows, cutoff);
     if most < swept {
         CutKind::TooMuch
-    } else if swept + pool(rows, cutoff) < most {
+    } else if pool < most - swept {
         CutKind::TooLittle
     } else {
         CutKind::Marginal(share_cost(by_cost, cutoff, most - swept))

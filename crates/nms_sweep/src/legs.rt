@@ -9,17 +9,16 @@ use nms_quote::Leg;
 use nms_rules::{Rank, UsableRow, is_pooled, is_swept, swept};
 use nms_units::{Money, Shares};
 
-/// The legs at the chosen cutoff, best price first, then by place; none where nothing can be filled.
+/// The legs at the chosen cutoff, best price first, then by place; none where nothing can be filled. The rows come in
+/// the order of their prices.
 pub(crate) fn legs_chosen(
     rows: &[UsableRow],
     most: u64,
     choice: &Option<Choice>,
-    by_price: &[UsableRow],
 ) -> ArrayVec<Leg, 32>
     requires rows { length rows.now ≤ 32 }
-    requires by_price { length by_price.now ≤ 32 }
-    requires few { sum_of (legs_chosen rows.now most choice.now by_price.now) ≤ 999999999 }
-    ensures { result.items ≡ legs_chosen rows.now most choice.now by_price.now }
+    requires few { sum_of (legs_chosen rows.now most choice.now rows.now) ≤ 999999999 }
+    ensures { result.items ≡ legs_chosen rows.now most choice.now rows.now }
 {
     let Some(choice) = choice else {
         return ArrayVec::new_in(());
@@ -27,7 +26,7 @@ pub(crate) fn legs_chosen(
     let (cutoff, marginal) = (choice.cutoff, choice.marginal);
     let rest = most.saturating_sub(swept(rows, cutoff));
     let left = rest.saturating_sub(below(rows, cutoff, marginal));
-    legs_of(cutoff, marginal, left, by_price)
+    legs_of(cutoff, marginal, left, rows)
 }
 
 /// The legs at a cutoff, where so many shares are left to take at the marginal.

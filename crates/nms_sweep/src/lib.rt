@@ -3,11 +3,13 @@
 #![tactic(auto)]
 
 mod choice;
+mod cutoffs;
 mod cutting;
 mod laws;
 mod legs;
 mod planning;
 mod row_order;
 
+pub use cutoffs::{Cutoff, Cutoffs};
 pub use laws::an_accepted_plan_is_within_bounds;
 pub use planning::plan;

@@ -9,21 +9,23 @@ ghost use Rattle.nms_sweep.specs.Filling.{AreExact, FillsInOrder};
 ghost use Rattle.nms_sweep.specs.Order.{AreInOrder};
 
 use crate::choice::{chosen, cost_chosen};
+use crate::cutoffs::Cutoffs;
 use crate::cutting::cuts_of;
 use crate::legs::legs_chosen;
 use crate::row_order::{Key, in_order};
 use nms_board::View;
 use nms_fee_book::FeeBook;
 use nms_quote::{Certificate, Order, Plan};
-use nms_rules::{fillable, usable_rows};
+use nms_rules::fillable;
 
 /// Plans an intermarket sweep order on a view (17 CFR 242.600; 242.611(b)(5) and (6)), and gives the certificate
 /// that the plan is optimal: no lawful plan fills more, and none that fills as much costs less with fees.
 ///
 /// It always answers, and takes no memory. Legs stand by price, best first, then by participant place. Among equally
 /// good plans the choice is fixed: the cutoff at the best price; there the protected quotations that are better in
-/// full, then the others by unit cost, then better price, then place. The work is that of a few passes over the
-/// usable quotations for each of their prices, of which there are at most 32.
+/// full, then the others by unit cost, then better price, then place. The cuts are made in
+/// one walk over the prices; for each that can be filled at, what filling there costs takes a pass over the usable
+/// quotations, of which there are at most 32.
 pub fn plan(view: &View, order: &Order, fees: &FeeBook) -> (Plan, Certificate)
     requires { order.now.sym ≡ view.now.sym }
     ensures lawful { breach_of view.now order.now fees.now result.0 ≡ None }
@@ -34,17 +36,16 @@ pub fn plan(view: &View, order: &Order, fees: &FeeBook) -> (Plan, Certificate)
     ensures filling { FillsInOrder (usable view.now order.now fees.now) (given_by result.0.legs.items) }
     ensures exact { AreExact order.now.side (usable view.now order.now fees.now) result.0.filled result.1.items }
 {
-    let usable = usable_rows(view, order, fees);
-    let rows = usable.as_slice();
-    let most = fillable(rows, order.shares);
-    let best_first = in_order(Key::Price, rows);
-    let by_price = best_first.as_slice();
-    let cheapest_first = in_order(Key::Cost, by_price);
-    let cuts = cuts_of(rows, by_price, cheapest_first.as_slice(), most);
+    let version = view.version();
+    let mut cutoffs = Cutoffs::new(view, order, fees);
+    let most = fillable(cutoffs.rows(), order.shares);
+    let cheapest_first = in_order(Key::Cost, cutoffs.rows());
+    let cuts = cuts_of(order.side, &mut cutoffs, cheapest_first.as_slice(), most);
+    let rows = cutoffs.rows();
     let choice = chosen(order.side, rows, most, &cuts);
-    let legs = legs_chosen(rows, most, &choice, by_price);
+    let legs = legs_chosen(rows, most, &choice);
     let plan = Plan {
-        version: view.version(),
+        version,
         order: *order,
         legs,
         filled: most as u32,

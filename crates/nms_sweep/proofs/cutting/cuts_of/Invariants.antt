@@ -1,14 +1,15 @@
-use Rattle.std.proofs.Common.{◌≡◌, ◌≤◌, ◌+◌, ◌++◌, All, length}
+use Rattle.std.proofs.Common.{◌≡◌, ◌≤◌, ◌+◌, ◌++◌, All, length, map}
 use Rattle.nms_quote.specs.declared.certificate.Cut.{Cut}
-use Rattle.nms_sweep.specs.Choice.{IsInRange, cuts_of, kind_at}
+use Rattle.nms_sweep.specs.Choice.{IsInRange, cut_by}
 use Rattle.nms_sweep.proofs.cutting.cuts_of.Given as goal
 
-abbrev pub invariant-loop-row : goal.invariant-loop-row
-invariant-loop-row l = record {
-  cuts : cuts_of (kind_at l.rows l.by_cost l.most) l.by_price ≡ l.cuts.items ++ cuts_of (kind_at l.rows l.by_cost l.most) l.behind;
+abbrev pub invariant-loop-cutoff : goal.invariant-loop-cutoff
+invariant-loop-cutoff l = record {
+  cuts : map (cut_by l.side l.by_cost l.most) l.fn.cutoffs.to_come ≡ l.cuts.items ++ map (cut_by l.side l.by_cost l.most) l.cutoffs.to_come;
   range : All (λ (cut : Cut). IsInRange cut.kind) l.cuts.items;
-  room : length l.cuts.items + length l.behind ≤ 32;
+  room : length l.cuts.items + length l.cutoffs.to_come ≤ 32;
+  rows : l.cutoffs.rows ≡ l.fn.cutoffs.rows;
 }
 
-abbrev pub decreases-loop-row : goal.decreases-loop-row
-decreases-loop-row l = length l.behind
+abbrev pub decreases-loop-cutoff : goal.decreases-loop-cutoff
+decreases-loop-cutoff l = length l.cutoffs.to_come
