@@ -4,3 +4,4 @@ pub mod LawLemmas
 pub mod ListLemmas
 mod RowLemmas
 pub mod PartLemmas
+pub mod RankLemmas

@@ -1,5 +1,5 @@
 //! Laws above the definitions of the board. Each function does nothing: its contract is the law.
-ghost use Rattle.std.specs.Prelude.{◌≡◌, ◌≢◌, ℕ, ◌≤◌, All, AllPairs, [], ◌∷◌, ◌++◌, length, true, false, Option, Some, None};
+ghost use Rattle.std.specs.Prelude.{◌≡◌, ◌≢◌, ℕ, ◌≤◌, All, List, AllPairs, [], ◌∷◌, ◌++◌, length, true, false, Option, Some, None};
 ghost use Rattle.nms_quote.specs.Content.{Content};
 ghost use Rattle.nms_quote.specs.Roster.{Sizes, holds};
 ghost use Rattle.nms_quote.specs.Tape.{Tape, participant_of};
@@ -12,6 +12,7 @@ ghost use Rattle.nms_board.specs.Examples.{ExamplesHold};
 ghost use Rattle.nms_board.specs.History.{concerns, content_at, on_side, receipt_of, said_of};
 ghost use Rattle.nms_board.specs.Laws.{HidesAndKeeps, IsReceipt, KeepsSide};
 ghost use Rattle.nms_board.specs.Quotation.{quotation_of, quotations};
+ghost use Rattle.nms_board.specs.Ranking.{IsRankOrder, ranked};
 ghost use Rattle.nms_board.specs.Shown.{rows_held};
 ghost use Rattle.nms_board.specs.View.{AreRows};
 ghost use Rattle.nms_board.specs.declared.row.Row.{Row};
@@ -68,6 +69,16 @@ pub fn receipts_differ()
 pub fn quotations_stand_by_participant()
     ensures { (sizes : Sizes) (tape : Tape) (sym : ℕ) (side : Side)
         → AreRows (quotations sizes tape sym side) }
+{}
+
+/// The quotations on a side of a symbol have one rank order: the same rows, each of which ranks above every
+/// later one.
+pub fn rows_have_one_rank_order()
+    ensures in_order { (sizes : Sizes) (tape : Tape) (sym : ℕ) (side : Side)
+        → IsRankOrder side (quotations sizes tape sym side)
+        (ranked side (quotations sizes tape sym side)) }
+    ensures one { (side : Side) (rows in_order : List Row) → IsRankOrder side rows in_order
+        → in_order ≡ ranked side rows }
 {}
 
 /// A change leaves the quotations of every symbol that it does not concern.

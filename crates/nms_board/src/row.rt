@@ -1,5 +1,8 @@
 //! A row of a side, which is a quotation: `specs/Quotation`.
-use nms_quote::Part;
+ghost use Rattle.std.specs.Prelude.{◌≡◌};
+ghost use Rattle.nms_board.specs.Ranking.{better_price, ranks_above};
+
+use nms_quote::{Part, Side};
 use nms_units::Price;
 
 /// A quotation: a participant's bid or offer in a symbol that shows at least one round lot
@@ -28,5 +31,30 @@ impl Default for Row {
             part: Part::new(0).unwrap(),
             protected: false,
         }
+    }
+}
+
+impl Row {
+    /// Whether a row ranks above another one of its side: by price, then by size, then by receipt.
+    pub fn ranks_above(&self, side: Side, other: &Row) -> bool
+        ensures { result ≡ ranks_above side self.now other.now }
+    {
+        if self.price != other.price {
+            return is_better(side, self.price, other.price);
+        }
+        if self.size != other.size {
+            return self.size > other.size;
+        }
+        self.receipt < other.receipt
+    }
+}
+
+/// Whether a bid is higher than another one, or an offer lower.
+fn is_better(side: Side, price: Price, other: Price) -> bool
+    ensures { result ≡ better_price side price other }
+{
+    match side {
+        Side::Bid => price > other,
+        Side::Offer => price < other,
     }
 }

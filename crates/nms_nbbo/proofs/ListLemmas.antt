@@ -3,10 +3,7 @@ use Rattle.std.proofs.Common.{◌≡◌, ℕ, zero, suc, ◌+◌, ◌<◌, ◌�
 use Rattle.std.specs.List.{find, filter_map, cons_option, range_with_len}
 use Rattle.std.proofs.lemmas.Bool.{cases_Bool}
 use Rattle.std.proofs.lemmas.List.Elements.{All-nil, All-cons}
-
--- what stands in the rest of a list stands in the list
-pub in_rest : {X : Type 0} (y : X) (ys : List X) (x : X) → Contains ys x → Contains (y ∷ ys) x
-in_rest y ys x (k, below, at) = (suc k, omega arith, at)
+use Rattle.nms_board.proofs.ListLemmas.{in_rest}
 
 -- what is found stands in the list and passes
 pub found : {X : Type 0} (passes : X → Bool) (xs : List X) (x : X) → find passes xs ≡ Some x → Contains xs x × (passes x ≡ true)
@@ -21,18 +18,6 @@ found passes (y ∷ ys) x h =
           let later : find passes ys ≡ Some x = rw e at h in
           let (stands, passed) = found passes ys x later in
           (in_rest y ys x stands, passed)
-    ]
-
--- what alone passes is found
-pub found_alone : {X : Type 0} (passes : X → Bool) (xs : List X) (x : X) → Contains xs x → passes x ≡ true → ((y : X) → Contains xs y → passes y ≡ true → y ≡ x) → find passes xs ≡ Some x
-found_alone passes [] x (k, below, at) passed alone = absurd (omega arith)
-found_alone passes (y ∷ ys) x (zero, below, at) passed alone =
-    let first : passes y ≡ true = cc in
-    rw first (ap Some at)
-found_alone passes (y ∷ ys) x (suc k, below, at) passed alone =
-    elim (cases_Bool (passes y)) [
-      | inl e ↦ rw e (ap Some (alone y (0, omega arith, refl) e))
-      | inr e ↦ rw e (found_alone passes ys x (k, omega arith, at) passed (λ z stands yields. alone z (in_rest y ys z stands) yields))
     ]
 
 -- a front at which nothing is found may be left out

@@ -1,6 +1,6 @@
 -- That rows are ranked in a strict order, and what follows for the best of them.
 use Rattle.std.specs.Prelude.{All, IfSome}
-use Rattle.std.proofs.Common.{◌≡◌, ◌≢◌, ◌<◌, ℕ, true, false, cond, AllPairs, List, [], ◌∷◌, length, get_or, refl, arith, Option, Some, None, sym, ap, ◌∙◌, subst, inl, inr, ltb, eqb}
+use Rattle.std.proofs.Common.{◌≡◌, ◌≢◌, ◌<◌, ℕ, false, cond, AllPairs, List, [], ◌∷◌, length, get_or, refl, arith, Option, Some, None, sym, ap, ◌∙◌, subst, inl, inr, ltb, eqb}
 use Rattle.std.specs.List.{reduce, IsFirstBest}
 use Rattle.std.specs.Option.{option_map}
 use Rattle.std.specs.Cmp.{IsStrictWeakOrder}
@@ -17,13 +17,10 @@ use Rattle.nms_nbbo.specs.declared.market_kind.Market.TheVariants as market
 use Rattle.nms_nbbo.specs.Laws.{RankAlike}
 use Rattle.nms_nbbo.specs.Market.{market_of}
 use Rattle.nms_board.specs.Ranking.{ranks_above}
+use Rattle.nms_board.proofs.RankLemmas.{above_one_way}
 use Rattle.nms_nbbo.specs.Best.{IsBest, IsBestOf}
 
--- the two laws of a strict weak order, side by side
-above_one_way : (side : Side) (row other : Row) → ranks_above side row other ≡ true → ranks_above side other row ≡ false
-above_one_way Bid row other h = grind (arith, nat_tests)
-above_one_way Offer row other h = grind (arith, nat_tests)
-
+-- what does not rank above a row that does not rank above a third does not rank above the third
 above_chain : (side : Side) (a b c : Row) → ranks_above side a b ≡ false → ranks_above side b c ≡ false → ranks_above side a c ≡ false
 above_chain Bid a b c h k = grind (arith, nat_tests)
 above_chain Offer a b c h k = grind (arith, nat_tests)

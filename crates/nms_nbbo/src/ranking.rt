@@ -4,13 +4,12 @@ ghost use Rattle.std.specs.List.{cons_option, reduce};
 ghost use Rattle.nms_board.specs.Shown.{rows_held};
 ghost use Rattle.nms_board.specs.declared.row.Row.{Row};
 ghost use Rattle.nms_board.specs.View.{rows_on};
-ghost use Rattle.nms_board.specs.Ranking.{better_price, better_row, ranks_above, protected_among};
+ghost use Rattle.nms_board.specs.Ranking.{better_row, protected_among};
 ghost use Rattle.nms_nbbo.specs.Best.{IsBestOf};
 
 use arrayvec::ArrayVec;
 use nms_board::{Boards, MOST_ROWS, Row, View};
 use nms_quote::{Part, Side, Sym};
-use nms_units::Price;
 
 /// The best bid or the best offer (17 CFR 242.600, "national best bid and national best offer"), and
 /// `None` exactly where the side is empty. A manual quotation ranks as any other.
@@ -42,7 +41,7 @@ fn better_of(side: Side, best: Option<Row>, row: Option<Row>) -> Option<Row>
         return best;
     };
     match best {
-        Some(best) if !is_above(side, &row, &best) => Some(best),
+        Some(best) if !row.ranks_above(side, &best) => Some(best),
         _ => Some(row),
     }
 }
@@ -58,7 +57,7 @@ pub fn protected(view: &View, side: Side) -> ArrayVec<Row, MOST_ROWS>
 fn best_among(side: Side, rows: &[Row]) -> Option<Row>
     ensures { IsBestOf side rows.now result }
 {
-    rows.iter().copied().reduce(|best, row| if is_above(side, &row, &best) {
+    rows.iter().copied().reduce(|best, row| if row.ranks_above(side, &best) {
         row
     } else {
         best
@@ -77,27 +76,4 @@ fn protected_among(rows: &[Row]) -> ArrayVec<Row, MOST_ROWS>
         }
     }
     kept
-}
-
-/// Whether a row ranks above another one of its side: by price, then by size, then by receipt.
-fn is_above(side: Side, row: &Row, other: &Row) -> bool
-    ensures { result ≡ ranks_above side row.now other.now }
-{
-    if row.price != other.price {
-        return is_better(side, row.price, other.price);
-    }
-    if row.size != other.size {
-        return row.size > other.size;
-    }
-    row.receipt < other.receipt
-}
-
-/// Whether a bid is higher than another one, or an offer lower.
-fn is_better(side: Side, price: Price, other: Price) -> bool
-    ensures { result ≡ better_price side price other }
-{
-    match side {
-        Side::Bid => price > other,
-        Side::Offer => price < other,
-    }
 }
