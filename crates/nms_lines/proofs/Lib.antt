@@ -10,3 +10,4 @@ pub mod PlanRoundTrip
 pub mod PlanTextFacts
 pub mod ReadFacts
 pub mod SideFacts
+pub mod WrittenFacts

@@ -20,3 +20,4 @@ pub mod Sides
 pub mod Sources
 pub mod Text
 pub mod TextLaws
+pub mod Written

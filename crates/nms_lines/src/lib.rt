@@ -19,6 +19,7 @@ mod plan_writing;
 mod record_fault;
 mod record_reading;
 mod side;
+mod text_writing;
 
 pub use csv::{ByteRecord, Reader};
 pub use laws::{
@@ -33,3 +34,4 @@ pub use plan_text_fault::PlanTextFault;
 pub use plan_writing::write_plan;
 pub use record_fault::RecordFault;
 pub use record_reading::{open_records, read_next};
+pub use text_writing::write_text;

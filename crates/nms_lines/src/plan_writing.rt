@@ -5,8 +5,10 @@ ghost use Rattle.csv.specs.Records.{fields_of, partial_of};
 ghost use Rattle.csv.specs.Writing.{row_text, default_writer};
 ghost use Rattle.nms_lines.specs.PlanText.{csv_text, cut_record, end_record, flag_text, kind_fields, leg_record, plan_record, plan_text, side_letter};
 ghost use Rattle.nms_lines.specs.PlanWriter.{HasWritten, order_fields};
+ghost use Rattle.nms_lines.specs.Written.{AppendsPart};
 
 use crate::plan_text_fault::PlanTextFault;
+use crate::text_writing::write_text;
 use csv::{ByteRecord, Writer, WriterBuilder};
 use nms_quote::{Certificate, Cut, CutKind, Leg, Order, OrderSide, Plan, Roster};
 use std::alloc::{AllocError, Global};
@@ -17,7 +19,7 @@ use std::io::Write;
 /// end; prices with four decimals, money with nine.
 ///
 /// `NoMemory` where memory ran out, and then nothing was written; `WriteFault` where the writer failed, and then
-/// some of the text may have gone out. The writer is not flushed.
+/// a first part of the text was written, and nothing else. The writer is not flushed.
 pub fn write_plan<W: Write>(
     alloc: Global,
     plan: &Plan,
@@ -29,12 +31,13 @@ pub fn write_plan<W: Write>(
     requires sym { plan.now.order.sym < length roster.now.syms }
     ensures written { OnOk result (Appends (W.contents out.old) (W.contents out.new) (plan_text roster.now plan.now certificate.now.items)) }
     ensures unwritten { result ≡ Err PlanTextFault.NoMemory → W.contents out.new ≡ W.contents out.old }
+    ensures cut { result ≡ Err PlanTextFault.WriteFault → AppendsPart (W.contents out.old) (W.contents out.new) (plan_text roster.now plan.now certificate.now.items) }
     ensures faults { result ≢ Err PlanTextFault.BadPlanText }
 {
     let Ok(text) = text_of_plan(alloc, plan, certificate, roster) else {
         return Err(PlanTextFault::NoMemory);
     };
-    match out.write_all(text.as_slice()) {
+    match write_text(out, text.as_slice()) {
         Ok(()) => Ok(()),
         Err(_) => Err(PlanTextFault::WriteFault),
     }

@@ -1,5 +1,5 @@
 -- A plan as a desk is told it refuses no record.
-use Rattle.std.proofs.Common.{ℕ, ◌≡◌, ◌++◌, List, [], ◌∷◌, map, refl}
+use Rattle.std.proofs.Common.{◌≡◌, ◌++◌, List, [], ◌∷◌, map, refl}
 use Rattle.std.specs.Prelude.{count_by}
 use Rattle.nms_quote.specs.Roster.{Listing}
 use Rattle.nms_quote.specs.declared.certificate.Cut.{Cut}

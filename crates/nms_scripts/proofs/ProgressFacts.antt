@@ -1,7 +1,7 @@
 -- How a script comes from one record to the next.
 use Rattle.std.proofs.Common.{ℕ, ◌≡◌, ◌≢◌, ◌≤◌, ◌+◌, ◌++◌, Bool, cond, List, [], ◌∷◌, length, Option, Some, None, refl, ap, sym, subst, ◌∙◌, arith, append_assoc, length-append}
 use Rattle.std.specs.Prelude.{count_by}
-use Rattle.std.specs.Io.KnownBytes.{Appends}
+use Rattle.std.specs.Io.KnownBytes.{Appends, append_known}
 use Rattle.std.proofs.lemmas.List.{append-nil}
 use Rattle.std.proofs.lemmas.List.Concat.{flat_map-append}
 use Rattle.std.proofs.lemmas.List.Sums.{sum_by-append}
@@ -14,13 +14,15 @@ use Rattle.nms_text.specs.declared.script_fault.ScriptFault.{ScriptFault}
 use Rattle.nms_text.specs.declared.script_fault.ScriptFault.TheVariants as script_fault
 use Rattle.nms_scripts.specs.declared.counts.Counts.{Counts}
 use Rattle.nms_lines.specs.Text.{record_text, text_of}
+use Rattle.nms_lines.specs.Written.{AppendsPart}
+use Rattle.nms_lines.proofs.WrittenFacts.{appended, part_more}
 use Rattle.nms_text.proofs.PairFacts.{appends-none}
 use Rattle.nms_flow.specs.Flow.{State, IsAfter, room_of, room_under}
 use Rattle.nms_flow.specs.Run.{Event, IsRun, published_by, taken_by}
 use Rattle.nms_fees.specs.Settings.{Settings}
 use Rattle.nms_scripts.specs.declared.TheConstants.{MOST_RECORDS}
-use Rattle.nms_scripts.specs.Progress.{HasAnswered, HasCome, StopsAfter}
-use Rattle.nms_scripts.specs.Script.{Answers, AnswersBeginning, AnswersFrom, AnswersRecord, Serves, is_refusal, tally_of}
+use Rattle.nms_scripts.specs.Progress.{HasAnswered, HasCome, IsEnd, StopsAfter}
+use Rattle.nms_scripts.specs.Script.{Answers, AnswersBeginning, AnswersFrom, AnswersInPart, AnswersRecord, Serves, is_refusal, tally_of}
 
 -- the beginning with no record
 pub begin_none : (bytes : Option (List ℕ)) → BeginRecords bytes []
@@ -97,6 +99,30 @@ answers_beginning settings bytes old new done refused fault stops =
       written = so_far.written;
       long = stops.3;
     }
+
+-- a record was read and answered, and the writer failed within its answer
+pub breaks_off : {R : Type 0} (remaining : R → Option (List ℕ)) (settings : Settings) (bytes : Option (List ℕ)) (reader next : Reader R) (machine moved : State) (old now new : Option (List ℕ)) (done refused : ℕ)
+    (fields : Record) (before after shown : List ℕ) (is_refused : Bool) (come : HasCome remaining settings bytes reader machine old now done refused)
+    → ReadsFrom remaining next bytes (come.so_far.records ++ fields ∷ []) → before ≡ [] → Serves (AnswersRecord settings (done + 1) fields) machine moved (Some before) (Some after) is_refused
+    → room_of moved ≡ room_of machine → shown ≡ after → AppendsPart now new shown
+    → AnswersInPart settings bytes old new
+breaks_off remaining settings bytes reader next machine moved old now new done refused fields before after shown is_refused come reads empty serves room is_shown cut =
+    let whole = append_known now shown in
+    let meant = appended now shown in
+    let on = comes_on remaining settings bytes reader next machine moved old now whole done refused fields before after shown is_refused come reads empty serves room is_shown meant in
+    let all = on.so_far in
+    record {
+      text = text_of come.so_far.told ++ shown;
+      whole = whole;
+      leaves = answers_beginning settings bytes old whole (done + 1) (refused + cond is_refused 1 0) script_fault.WriteFault (moved, all, on.reads.begins, λ e. absurd (cc));
+      meant = appends-more old now whole (text_of come.so_far.told) shown come.so_far.written meant;
+      cut = part_more old now new (text_of come.so_far.told) shown come.so_far.written cut;
+    }
+
+-- the script ended before its next answer
+pub ends_before : (settings : Settings) (bytes old new : Option (List ℕ)) (done refused : ℕ) (fault : ScriptFault) → fault ≢ script_fault.WriteFault
+    → StopsAfter settings bytes old new done refused fault → IsEnd settings bytes old new done refused fault
+ends_before settings bytes old new done refused fault other stops = record { stopped = λ _. stops; cut = λ e. absurd (other e) }
 
 -- before a record is read, no more than were answered
 pub stops_after : {R : Type 0} (remaining : R → Option (List ℕ)) (settings : Settings) (bytes : Option (List ℕ)) (reader : Reader R) (machine : State) (old new : Option (List ℕ)) (done refused : ℕ) (fault : ScriptFault)

@@ -14,7 +14,7 @@ use Rattle.nms_fees.specs.Settings.{Settings}
 use Rattle.nms_flow.specs.Run.{Event, took}
 use Rattle.nms_flow.specs.declared.step.Step.TheVariants as step
 use Rattle.nms_flow.specs.declared.step_fault.StepFault.{StepFault}
-use Rattle.nms_scripts.specs.Script.{AnswersFrom, IsTooLong, is_refusal}
+use Rattle.nms_scripts.specs.Script.{AnswersFrom, AnswersInPart, IsTooLong, is_refusal}
 
 -- so many records were answered, so many of them refused, and the answers were written
 pub record HasAnswered (settings : Settings) (machine : State) (old new : Option (List ℕ)) (done refused : ℕ) : Type 0 where
@@ -39,12 +39,17 @@ StopsAfter settings bytes old new done refused fault =
     (last : State) × (so_far : HasAnswered settings last old new done refused) × BeginRecords bytes so_far.records
     × (fault ≡ script_fault.TooLong → IsTooLong bytes so_far.records)
 
+-- a fault ended the script there, or the writer's failure within the last answer
+pub record IsEnd (settings : Settings) (bytes old new : Option (List ℕ)) (done refused : ℕ) (fault : ScriptFault) : Type 0 where
+  pub stopped : fault ≢ script_fault.WriteFault → StopsAfter settings bytes old new done refused fault
+  pub cut : fault ≡ script_fault.WriteFault → AnswersInPart settings bytes old new
+
 -- where one record more leads
 abbrev pub AdvancesTo : {R : Type 0} (remaining : R → Option (List ℕ)) (settings : Settings) (bytes : Option (List ℕ)) (reader : Reader R) (machine : State) (old new : Option (List ℕ)) (done refused : ℕ) → Result Progress ScriptFault → Type 0
 AdvancesTo remaining settings bytes reader machine old new done refused (Ok (progress.Answered more)) = HasCome remaining settings bytes reader machine old new (done + 1) (refused + (if more then 1 else 0))
 AdvancesTo remaining settings bytes reader machine old new done refused (Ok progress.Ended) =
     (so_far : HasAnswered settings machine old new done refused) × AreAllRecords bytes so_far.records
-AdvancesTo remaining settings bytes reader machine old new done refused (Err fault) = fault ≢ script_fault.WriteFault → StopsAfter settings bytes old new done refused fault
+AdvancesTo remaining settings bytes reader machine old new done refused (Err fault) = IsEnd settings bytes old new done refused fault
 
 -- the machine went on by some takes
 abbrev pub TakesSome : State → State → Type 0

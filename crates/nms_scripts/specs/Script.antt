@@ -17,6 +17,7 @@ use Rattle.nms_lines.specs.Layout.{Record, field}
 use Rattle.nms_lines.specs.Lines.{reading}
 use Rattle.nms_lines.specs.Records.{AreAllRecords, BeginRecords}
 use Rattle.nms_lines.specs.Text.{text_of}
+use Rattle.nms_lines.specs.Written.{WritesPart}
 use Rattle.nms_lines.specs.declared.line.Line.{Line}
 use Rattle.nms_lines.specs.declared.line.Line.TheVariants as line
 use Rattle.nms_lines.specs.declared.line.Reading.TheVariants as source
@@ -154,6 +155,10 @@ pub record AnswersBeginning (settings : Settings) (bytes old new : Option (List 
   pub answer : IsScriptAnswer settings records events told
   pub written : Appends old new (text_of told)
   pub long : fault ≡ script_fault.TooLong → IsTooLong bytes records
+
+-- one whose writer failed: what was written is a first part of the answer to the first records of the text
+abbrev pub AnswersInPart : Settings → (bytes old new : Option (List ℕ)) → Type 0
+AnswersInPart settings bytes old new = WritesPart (λ whole. AnswersBeginning settings bytes old whole script_fault.WriteFault) old new
 
 -- the machine went on by events that were answered so, and what they tell was added to the text. Whether
 -- it was a refusal is told too

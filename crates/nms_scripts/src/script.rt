@@ -6,7 +6,7 @@ ghost use Rattle.nms_lines.specs.Layout.{Record};
 ghost use Rattle.nms_lines.specs.Records.{AreAllRecords, HasStopped, ReadsFrom};
 ghost use Rattle.nms_flow.specs.Flow.{IsAfter, room_of, room_under};
 ghost use Rattle.nms_flow.specs.Run.{Event, published_by, taken_by};
-ghost use Rattle.nms_scripts.specs.Script.{Answers, AnswersBeginning};
+ghost use Rattle.nms_scripts.specs.Script.{Answers, AnswersBeginning, AnswersInPart};
 ghost use Rattle.nms_scripts.specs.Progress.{AdvancesTo, HasCome};
 
 use crate::MOST_RECORDS;
@@ -40,9 +40,9 @@ struct Script {
 /// next record is read.
 ///
 /// A refused record is answered by `ERR`, its number and the code, and changes nothing, except that `F`
-/// keeps what it took before a full tape. `ReadFault` and `TooLong` (more than 10,000,000 records) leave
-/// the answers to the records before; after `WriteFault` nothing is said of what was written; after
-/// `NoMemory` the answers to the records before are written.
+/// keeps what it took before a full tape. `ReadFault`, `TooLong` (more than 10,000,000 records) and
+/// `NoMemory` leave the answers to the records before; `WriteFault` leaves a first part of the answers to
+/// the records that were read. No fault leaves anything else.
 pub fn run_script<R: Read + Drop, W: Write>(
     alloc: Global,
     setup: &Setup,
@@ -51,6 +51,7 @@ pub fn run_script<R: Read + Drop, W: Write>(
 ) -> Result<Counts, ScriptFault>
     ensures answered { IfOk result (Answers setup.now (R.remaining reader) (W.contents writer.old) (W.contents writer.new)) }
     ensures stopped { IfErr result (λ fault. fault ≢ ScriptFault.WriteFault → AnswersBeginning setup.now (R.remaining reader) (W.contents writer.old) (W.contents writer.new) fault) }
+    ensures cut { IfErr result (λ fault. fault ≡ ScriptFault.WriteFault → AnswersInPart setup.now (R.remaining reader) (W.contents writer.old) (W.contents writer.new)) }
 {
     let mut reader = open_records(alloc, reader);
     match open(alloc, setup) {
@@ -70,6 +71,7 @@ fn answer_records<R: Read, W: Write>(
     requires stands { IsAfter script.old.flow [] }
     ensures answered { (bytes : Option (List ℕ)) → ReadsFrom R.remaining reader.old bytes [] → IfOk result (Answers setup.now bytes (W.contents writer.old) (W.contents writer.new)) }
     ensures stopped { (bytes : Option (List ℕ)) → ReadsFrom R.remaining reader.old bytes [] → IfErr result (λ fault. fault ≢ ScriptFault.WriteFault → AnswersBeginning setup.now bytes (W.contents writer.old) (W.contents writer.new) fault) }
+    ensures cut { (bytes : Option (List ℕ)) → ReadsFrom R.remaining reader.old bytes [] → IfErr result (λ fault. fault ≡ ScriptFault.WriteFault → AnswersInPart setup.now bytes (W.contents writer.old) (W.contents writer.new)) }
     ensures failed { (bytes : Option (List ℕ)) → ReadsFrom R.remaining reader.old bytes [] → IfErr result (λ fault. fault ≡ ScriptFault.ReadFault → HasStopped reader.new) }
 {
     let mut refused = 0;
@@ -143,6 +145,7 @@ fn read<R: Read>(reader: &mut Reader<R>, row: &mut ByteRecord) -> Result<bool, S
     ensures end { (bytes : Option (List ℕ)) (seen : List Record) → ReadsFrom R.remaining reader.old bytes seen → result ≡ Ok false → AreAllRecords bytes seen }
     ensures stopped { (bytes : Option (List ℕ)) (seen : List Record) → ReadsFrom R.remaining reader.old bytes seen → OnErr result (HasStopped reader.new) }
     ensures short { IfErr result (λ fault. fault ≢ ScriptFault.TooLong) }
+    ensures unwritten { IfErr result (λ fault. fault ≢ ScriptFault.WriteFault) }
 {
     match read_next(reader, row) {
         Ok(found) => Ok(found),

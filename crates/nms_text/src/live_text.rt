@@ -3,6 +3,7 @@ ghost use Rattle.std.specs.Prelude.{◌≡◌, ◌≢◌, ◌++◌, ◌∷◌, [
 ghost use Rattle.std.specs.List.{flat_map};
 ghost use Rattle.std.specs.Io.KnownBytes.{Appends};
 ghost use Rattle.nms_lines.specs.Text.{text_of};
+ghost use Rattle.nms_lines.specs.Written.{AppendsPart};
 ghost use Rattle.nms_text.specs.LiveText.{answer_head, answer_records, live_records, tape_record};
 
 use crate::answer::end;
@@ -17,7 +18,7 @@ use std::io::Write;
 /// Writes how many changes a live run took, and for each order in order its answer on all of them: the desk, the
 /// order's number, and the plan with its certificate. One write, flushed.
 ///
-/// Only `WriteFault` leaves something written.
+/// Only `WriteFault` leaves something written: a first part of that text.
 pub fn write_live<W: Write>(
     alloc: Global,
     roster: &Roster,
@@ -26,6 +27,7 @@ pub fn write_live<W: Write>(
     answers: &mut W,
 ) -> Result<(), LiveTextFault>
     ensures written { OnOk result (Appends (W.contents answers.old) (W.contents answers.new) (text_of (live_records roster.now taken closing.now))) }
+    ensures cut { IfErr result (λ fault. fault ≡ LiveTextFault.WriteFault → AppendsPart (W.contents answers.old) (W.contents answers.new) (text_of (live_records roster.now taken closing.now))) }
     ensures unwritten { IfErr result (λ fault. fault ≢ LiveTextFault.WriteFault → W.contents answers.new ≡ W.contents answers.old) }
 {
     let mut text = Vec::new(alloc);

@@ -1,7 +1,7 @@
 use Rattle.std.proofs.Common.{rules, ◌≡◌, Bool, Ok, Err, ap, ◌∙◌, ◌≢◌}
 use Rattle.csv.specs.Records.{fields_of}
 use Rattle.nms_text.specs.declared.script_fault.ScriptFault.TheVariants as fault
-use Rattle.nms_scripts.proofs.ProgressFacts.{comes_on, stops_after}
+use Rattle.nms_scripts.proofs.ProgressFacts.{breaks_off, comes_on, ends_before, stops_after}
 use Rattle.nms_scripts.proofs.script.advance.Goals as goal
 
 pub returns-then-not-branch-clause-came : goal.returns-then-not-branch-clause-came
@@ -15,17 +15,21 @@ returns-clause-came g c bytes old refused come =
     c.args.done refused (fields_of c.read.new.row) c.clear.new.self.items c.serve.new.out.items c.deref.result.now c.in-Ok.refused
     come found c.clear.ensures.items c.in-Ok.ensures.served c.in-Ok.ensures.room c.deref.ensures.value c.in_ok-tell.ensures.written
 
+too_long : fault.TooLong ≢ fault.WriteFault
+too_long e = cc
+
 -- the answers to what was read before stand
 pub returns-in_err-read-clause-came : goal.returns-in_err-read-clause-came
 returns-in_err-read-clause-came g c bytes old refused come =
     let stops = stops_after g.R.Read.remaining c.args.setup.now bytes c.args.reader.now c.args.script.now.flow old (g.W.Write.contents c.args.writer.now) c.args.done refused c.in_err-read.field-0.0
     come come.reads.begins c.in_err-read.ensures.short in
     let is_fault : c.from_residual.result ≡ Err c.in_err-read.field-0.0 = search rules in
-    rw is_fault (λ _. stops)
+    rw is_fault (ends_before c.args.setup.now bytes old (g.W.Write.contents c.args.writer.now) c.args.done refused c.in_err-read.field-0.0 c.in_err-read.ensures.unwritten stops)
 
 pub returns-then-done-eq-MOST_RECORDS-clause-came : goal.returns-then-done-eq-MOST_RECORDS-clause-came
-returns-then-done-eq-MOST_RECORDS-clause-came g c bytes old refused come _ =
-    let is_found = c.in_ok-read.was ∙ ap (λ (b : Bool). Ok b) c.if-not-branch.false in (
+returns-then-done-eq-MOST_RECORDS-clause-came g c bytes old refused come =
+    let is_found = c.in_ok-read.was ∙ ap (λ (b : Bool). Ok b) c.if-not-branch.false in
+    ends_before c.args.setup.now bytes old (g.W.Write.contents c.args.writer.now) c.args.done refused fault.TooLong too_long (
       c.args.script.now.flow,
       come.so_far,
       come.reads.begins,
@@ -35,7 +39,21 @@ returns-then-done-eq-MOST_RECORDS-clause-came g c bytes old refused come _ =
 no_memory : fault.NoMemory ≢ fault.TooLong
 no_memory e = cc
 
+memory_is_no_write : fault.NoMemory ≢ fault.WriteFault
+memory_is_no_write e = cc
+
 pub returns-in_default-clause-came : goal.returns-in_default-clause-came
-returns-in_default-clause-came g c bytes old refused come _ =
-    stops_after g.R.Read.remaining c.args.setup.now bytes c.args.reader.now c.args.script.now.flow old (g.W.Write.contents c.args.writer.now) c.args.done refused fault.NoMemory
-    come come.reads.begins no_memory
+returns-in_default-clause-came g c bytes old refused come =
+    ends_before c.args.setup.now bytes old (g.W.Write.contents c.args.writer.now) c.args.done refused fault.NoMemory memory_is_no_write
+    (stops_after g.R.Read.remaining c.args.setup.now bytes c.args.reader.now c.args.script.now.flow old (g.W.Write.contents c.args.writer.now) c.args.done refused fault.NoMemory
+    come come.reads.begins no_memory)
+
+-- the writer failed within the answer to the last record that was read
+pub returns-in_err-tell-clause-came : goal.returns-in_err-tell-clause-came
+returns-in_err-tell-clause-came g c bytes old refused come =
+    let found = c.read.ensures.found bytes come.so_far.records come.reads (c.in_ok-read.was ∙ ap (λ (b : Bool). Ok b) c.if-not-branch.false) in
+    let off = breaks_off g.R.Read.remaining c.args.setup.now bytes c.args.reader.now c.read.new.reader c.args.script.now.flow c.serve.new.flow old (g.W.Write.contents c.args.writer.now) (g.W.Write.contents c.tell.new.writer)
+    c.args.done refused (fields_of c.read.new.row) c.clear.new.self.items c.serve.new.out.items c.deref.result.now c.in-Ok.refused
+    come found c.clear.ensures.items c.in-Ok.ensures.served c.in-Ok.ensures.room c.deref.ensures.value c.in_err-tell.ensures.part in
+    let is_fault : c.from_residual-in_err-tell.result ≡ Err c.in_err-tell.field-0.0 = search rules in
+    rw is_fault (record { stopped = λ other. absurd (other c.in_err-tell.ensures.refused); cut = λ _. off })

@@ -22,7 +22,10 @@ returns-in-Ok-Ended-clause-answered g c bytes reads =
 pub returns-in-Err-clause-stopped : goal.returns-in-Err-clause-stopped
 returns-in-Err-clause-stopped g c bytes reads not_write =
     let came = c.in-Err.ensures.came bytes (g.W.Write.contents c.args.writer.now) c.loop-done.refused (c.loop-done.invariant.come bytes reads) in
-    answers_beginning c.args.setup.now bytes (g.W.Write.contents c.args.writer.now) (g.W.Write.contents c.advance.new.writer) c.loop-done.done c.loop-done.refused c.in-Err.fault (came not_write)
+    answers_beginning c.args.setup.now bytes (g.W.Write.contents c.args.writer.now) (g.W.Write.contents c.advance.new.writer) c.loop-done.done c.loop-done.refused c.in-Err.fault (came.stopped not_write)
+
+pub returns-in-Err-clause-cut : goal.returns-in-Err-clause-cut
+returns-in-Err-clause-cut g c bytes reads = (c.in-Err.ensures.came bytes (g.W.Write.contents c.args.writer.now) c.loop-done.refused (c.loop-done.invariant.come bytes reads)).cut
 
 byte_of : (b : Bool) → bool_byte b ≡ cond b 1 0
 byte_of true = refl
