@@ -1,6 +1,7 @@
 #!/bin/sh
-# Writes the examples and cases of this folder as one input of crates/nms_examples, which the gate runs. With the
-# word `check` it compares instead, and ends with a line `N passed, M failed`; with `print` it writes the input out.
+# Writes the examples and cases of this folder as one input of crates/nms_examples, which the gate runs: all but those that
+# a call of the program shows whole, which check.py runs. With the word `check` it compares instead, and ends with a line
+# `N passed, M failed`; with `print` it writes all examples and cases out.
 set -eu
 export LC_ALL=C
 cd "$(dirname "$0")"
@@ -103,7 +104,7 @@ runs() {
     printf '%s\n' 7 '-- errors' 'nms_tool: E7'
 }
 
-# The examples that have files of their own, then what is made above, then each file of cases.
+# All: the examples that have files of their own, then what is made above, then each file of cases.
 bundle() {
     setup
     script first.script
@@ -132,10 +133,18 @@ bundle() {
     cat cases/*.cases
 }
 
+# All but reports and calls, and no setup that nothing stands behind.
+below() {
+    bundle | awk '
+        /^== / { kind = $2 }
+        kind == "setup" { held = (/^== / ? "" : held) $0 "\n"; next }
+        kind != "report" && kind != "command" { printf "%s%s\n", held, $0; held = "" }'
+}
+
 if [ "${1:-}" = print ]; then
     bundle
 elif [ "${1:-}" = check ]; then
-    if bundle | cmp -s - "$stored"; then
+    if below | cmp -s - "$stored"; then
         echo '1 passed, 0 failed'
     else
         echo 'DIFFERS: crates/nms_examples/stdin: run examples/bundle.sh'
@@ -143,5 +152,5 @@ elif [ "${1:-}" = check ]; then
         exit 1
     fi
 else
-    bundle >"$stored"
+    below >"$stored"
 fi

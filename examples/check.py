@@ -6,8 +6,8 @@ that is named, and compares what it writes on both streams and its status with w
 
 It writes a line for each difference, and last `N passed, M failed`; status 1 where one failed. None is left out by
 forgetting: the runs are the rows of README.md's table, every file of this folder has to be named by one, the cases are
-all that bundle.sh makes and finds, and a kind of case that is not known fails. Cases of a part below the command line
-(a record, a number, a step) are run by crates/nms_examples alone.
+all that bundle.sh makes and finds, and a kind of case that is not known fails. What no call shows, or not whole, has to
+stand in the stored input of crates/nms_examples.
 """
 import os
 import re
@@ -20,8 +20,10 @@ HERE = os.path.dirname(os.path.realpath(__file__))
 TOP = os.path.dirname(HERE)
 # What of this folder is neither run nor given.
 TOOLS = {"README.md", "bundle.sh", "check.py", "refuse.py", "judge.py", "judge_live.py", "judge_orders.py", "judge_plans.py"}
-# Kinds of case that crates/nms_examples alone runs.
-BELOW = {"breach", "lines", "numbers", "plan", "rewrite", "settings", "steps", "text", "trials", "words"}
+# Kinds of case that no call shows, which crates/nms_examples runs.
+BELOW = {"breach", "lines", "numbers", "plan", "rewrite", "settings", "steps", "text", "trials"}
+# Those that a call shows whole. Of a script it does not tell the counts, of a doubt not the cut: both run them.
+WHOLE = {"report", "command", "stream"}
 # Seconds that a call may take.
 MOST = 60
 
@@ -113,7 +115,7 @@ def example(row):
 
 class Case:
     def __init__(self, file, title, body, setup):
-        self.file, self.title, self.setup = file, title, setup
+        self.file, self.title, self.setup, self.text = file, title, setup, (setup, title, body)
         self.kind = title.split(" ")[0]
         self.body, _, self.gives = body.partition(b"-- gives\n")
         self.has_gives = b"-- gives\n" in body
@@ -207,7 +209,10 @@ def command(case, _):
 KINDS = {"script": script, "report": report, "check": check, "command": command, "stream": command}
 
 
-def call_of(case, statuses):
+def call_of(case, statuses, stored):
+    """The call that shows a case; `None` where there is none, or a row of the table has it."""
+    if case.kind not in WHOLE and case.text not in stored:
+        raise Wrong("not in the stored input of crates/nms_examples")
     if case.kind in KINDS and case.has_gives:
         return KINDS[case.kind](case, statuses)
     if case.kind in BELOW and (case.has_gives or case.kind == "trials"):
@@ -243,9 +248,9 @@ def main(program):
     here = sorted(it for it in os.listdir(HERE) if not os.path.isdir(os.path.join(HERE, it)))
     failed += [f"examples/{it}: no example runs it or compares with it" for it in here if it not in named]
     failed += [f"examples/cases/{it}: no file of cases" for it in os.listdir(f"{HERE}/cases") if not it.endswith(".cases")]
-    statuses = exits(cases)
+    statuses, stored = exits(cases), {it.text for it in cases_of("stdin", read("../crates/nms_examples/stdin"))}
     for case in cases:
-        take(f"{case.file}: {case.title}", lambda case=case: call_of(case, statuses))
+        take(f"{case.file}: {case.title}", lambda case=case: call_of(case, statuses, stored))
 
     def run(named_call):
         name, call = named_call

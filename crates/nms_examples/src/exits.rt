@@ -1,23 +1,17 @@
-//! What the program tells of each fault, and the exit status that it ends with.
+//! The code of each fault that ends the program, and the exit status that it ends with.
 
 use crate::Failed;
 use nms_board::BoardFault;
-use nms_command::{ToolFault, WordsFault};
-use nms_engine::{
-    ChangesFault, FeedFault, LiveFault, LiveTextFault, OrdersFault, PlanFault, ReportFault,
-    ScriptFault,
-};
 use nms_fees::SetupFault;
+use nms_files::{ChangesFault, FeedFault, OrdersFault, PlanFault, ReportFault};
 use nms_lines::{LineFault, PlanTextFault};
+use nms_live::LiveFault;
 use nms_quote::Feed;
+use nms_text::{LiveTextFault, ScriptFault};
 use std::io::Write;
 
 /// Adds of each fault its code and its exit status, a line each.
 pub(crate) fn tell_exits(given: &mut Vec<u8>) -> Result<(), Failed> {
-    tell(given, &ToolFault::Words(WordsFault::NoMemory))?;
-    tell(given, &ToolFault::Usage)?;
-    tell(given, &ToolFault::Unreadable)?;
-    tell(given, &ToolFault::NoAudit)?;
     tell_setup_exits(given)?;
     tell_change_exits(given)?;
     tell_file_exits(given)?;
@@ -26,8 +20,7 @@ pub(crate) fn tell_exits(given: &mut Vec<u8>) -> Result<(), Failed> {
 }
 
 /// Adds a fault's code and its exit status.
-fn tell(given: &mut Vec<u8>, fault: &ToolFault) -> Result<(), Failed> {
-    let (code, status) = (fault.code(), fault.status());
+fn tell(given: &mut Vec<u8>, code: &str, status: u8) -> Result<(), Failed> {
     writeln!(given, "{code} {status}").map_err(|_| Failed)
 }
 
@@ -44,7 +37,7 @@ fn tell_setup_exits(given: &mut Vec<u8>) -> Result<(), Failed> {
         SetupFault::TooMany,
         SetupFault::NoMemory,
     ] {
-        tell(given, &ToolFault::Setup(fault))?;
+        tell(given, fault.code(), fault.status())?;
     }
     Ok(())
 }
@@ -63,16 +56,18 @@ fn tell_change_exits(given: &mut Vec<u8>) -> Result<(), Failed> {
         LineFault::WrongFeed,
         LineFault::BadDesk,
     ] {
-        tell(given, &ToolFault::Changes(ChangesFault::Line(fault)))?;
+        let fault = ChangesFault::Line(fault);
+        tell(given, fault.code(), fault.status())?;
     }
     for fault in [
         ChangesFault::ReadFault,
         ChangesFault::TapeFull,
         ChangesFault::NoMemory,
     ] {
-        tell(given, &ToolFault::Changes(fault))?;
-        tell(given, &ToolFault::Report(ReportFault::Changes(fault)))?;
-        tell(given, &ToolFault::Plan(PlanFault::Changes(fault)))?;
+        let (report, plan) = (ReportFault::Changes(fault), PlanFault::Changes(fault));
+        tell(given, fault.code(), fault.status())?;
+        tell(given, report.code(), report.status())?;
+        tell(given, plan.code(), plan.status())?;
     }
     Ok(())
 }
@@ -85,28 +80,28 @@ fn tell_file_exits(given: &mut Vec<u8>) -> Result<(), Failed> {
         ScriptFault::TooLong,
         ScriptFault::NoMemory,
     ] {
-        tell(given, &ToolFault::Script(fault))?;
+        tell(given, fault.code(), fault.status())?;
     }
     for fault in [
         ReportFault::Board(BoardFault::NoMemory),
         ReportFault::WriteFault,
         ReportFault::NoMemory,
     ] {
-        tell(given, &ToolFault::Report(fault))?;
+        tell(given, fault.code(), fault.status())?;
     }
     for fault in [
         FeedFault::ReadFault,
         FeedFault::TooLong,
         FeedFault::NoMemory,
     ] {
-        tell(given, &ToolFault::Feed(fault))?;
+        tell(given, fault.code(), fault.status())?;
     }
     for fault in [
         OrdersFault::ReadFault,
         OrdersFault::Line(LineFault::BadDesk),
         OrdersFault::NoMemory,
     ] {
-        tell(given, &ToolFault::Orders(fault))?;
+        tell(given, fault.code(), fault.status())?;
     }
     Ok(())
 }
@@ -118,14 +113,14 @@ fn tell_plan_exits(given: &mut Vec<u8>) -> Result<(), Failed> {
         PlanFault::NoMemory,
         PlanFault::WriteFault,
     ] {
-        tell(given, &ToolFault::Plan(fault))?;
+        tell(given, fault.code(), fault.status())?;
     }
     for fault in [
         PlanTextFault::BadPlanText,
         PlanTextFault::NoMemory,
         PlanTextFault::WriteFault,
     ] {
-        tell(given, &ToolFault::PlanText(fault))?;
+        tell(given, fault.code(), fault.status())?;
     }
     Ok(())
 }
@@ -145,10 +140,10 @@ fn tell_live_exits(given: &mut Vec<u8>) -> Result<(), Failed> {
         LiveFault::GateLimit,
         LiveFault::NoMemory,
     ] {
-        tell(given, &ToolFault::Live(fault))?;
+        tell(given, fault.code(), fault.status())?;
     }
     for fault in [LiveTextFault::NoMemory, LiveTextFault::WriteFault] {
-        tell(given, &ToolFault::LiveText(fault))?;
+        tell(given, fault.code(), fault.status())?;
     }
     Ok(())
 }

@@ -2,16 +2,15 @@
 
 use crate::Failed;
 use nms_board::BoardFault;
-use nms_command::WordsFault;
-use nms_engine::{
-    AuditFault, ChangesFault, FeedFault, LiveFault, LiveTextFault, OrdersFault, ReportFault,
-    ScriptFault,
-};
 use nms_fees::SetupFault;
+use nms_files::{AuditFault, ChangesFault, FeedFault, OrdersFault, ReportFault};
 use nms_flow::{FlowFault, StepFault};
 use nms_lines::{LineFault, PlanTextFault, RecordFault};
+use nms_live::LiveFault;
 use nms_quote::{Feed, RosterFault};
+use nms_text::{LiveTextFault, ScriptFault};
 use nms_units::UnitFault;
+use nms_words::WordsFault;
 use std::fmt::Display;
 use std::io::Write;
 

@@ -4,7 +4,6 @@
 #![tactic(auto)]
 
 mod breaches;
-mod commands;
 mod escapes;
 mod example;
 mod exits;
@@ -17,13 +16,10 @@ mod steps;
 mod trials;
 
 use example::give;
-use nms_engine::SETUP_K;
 use nms_fees::{Setup, read_setup};
+use nms_scripts::SETUP_K;
 use std::io::{Read, Write};
 use std::process::ExitCode;
-use std::rt::Files;
-use std::sync::Wait;
-use std::thread::Threads;
 use std::{io, str};
 
 /// The line behind which an example says what it must give.
@@ -40,15 +36,20 @@ fn main(rt: HostRuntime) -> ExitCode {
     }
 }
 
-/// Shows the examples under each setup, and gives whether each was as it must be.
-fn show_all<T>(rt: &T) -> Result<bool, Failed>
-where
-    T: Files + AllocGlobal + Input + Print + Eprint + Threads + Wait + Sync,
-{
+/// Shows the examples of the input, and gives whether each was as it must be.
+fn show_all<T: AllocGlobal + Input + Print + Eprint>(rt: &T) -> Result<bool, Failed> {
     let mut input = Vec::new(rt.alloc());
     rt.reader().read_to_end(&mut input).map_err(|_| Failed)?;
     let text = str::from_utf8(&input).map_err(|_| Failed)?;
-    let answers = &mut io::writer(rt);
+    show_parts(rt, text, &mut io::writer(rt))
+}
+
+/// Shows the examples of a text under each of its setups.
+fn show_parts<T, W>(rt: &T, text: &str, answers: &mut W) -> Result<bool, Failed>
+where
+    T: AllocGlobal + Eprint,
+    W: Write,
+{
     let mut all = true;
     for part in text.split("== setup").skip(1) {
         all &= show_part(rt, part, answers)?;
@@ -56,35 +57,47 @@ where
     Ok(all)
 }
 
-/// Shows the examples that stand behind a setup, and gives whether each was as it must be. An empty setup is the
-/// built-in one.
-fn show_part<T, W: Write>(rt: &T, part: &str, answers: &mut W) -> Result<bool, Failed>
+/// Shows the examples that stand behind a setup. An empty setup is the built-in one.
+fn show_part<T, W>(rt: &T, part: &str, answers: &mut W) -> Result<bool, Failed>
 where
-    T: Files + AllocGlobal + Eprint + Threads + Wait + Sync,
+    T: AllocGlobal + Eprint,
+    W: Write,
 {
     let (head, examples) = part.split_once("== ").ok_or(Failed)?;
-    let (_, document) = head.split_once('\n').ok_or(Failed)?;
-    let document = if document.is_empty() {
-        SETUP_K
-    } else {
-        document
-    };
-    let Ok(setup) = read_setup(rt.alloc(), document) else {
-        return Err(Failed);
-    };
+    match head.split_once('\n').ok_or(Failed)? {
+        (_, "") => show_under(rt, SETUP_K, examples, answers),
+        (_, document) => show_under(rt, document, examples, answers),
+    }
+}
+
+/// Shows examples under the setup of a document.
+fn show_under<T, W>(rt: &T, document: &str, examples: &str, answers: &mut W) -> Result<bool, Failed>
+where
+    T: AllocGlobal + Eprint,
+    W: Write,
+{
+    match read_setup(rt.alloc(), document) {
+        Ok(setup) => show_each(rt, &setup, examples, answers),
+        Err(_) => Err(Failed),
+    }
+}
+
+/// Shows examples under a setup.
+fn show_each<T, W>(rt: &T, setup: &Setup, examples: &str, answers: &mut W) -> Result<bool, Failed>
+where
+    T: AllocGlobal + Eprint,
+    W: Write,
+{
     let mut all = true;
     for example in examples.split("== ") {
         let (title, body) = example.split_once('\n').ok_or(Failed)?;
-        for piece in [b"== ".as_slice(), title.as_bytes(), b"\n"] {
-            answers.write_all(piece).map_err(|_| Failed)?;
-        }
-        all &= show(rt, &setup, title, body, answers)?;
+        all &= show(rt, setup, title, body, answers)?;
     }
     Ok(all)
 }
 
-/// Writes what an example gives; or, of one that says what it must give, whether it does, and gives that.
-fn show<T, W: Write>(
+/// Writes the title of an example and what it gives, or whether that is what it must give.
+fn show<T, W>(
     rt: &T,
     setup: &Setup,
     title: &str,
@@ -92,22 +105,54 @@ fn show<T, W: Write>(
     answers: &mut W,
 ) -> Result<bool, Failed>
 where
-    T: Files + AllocGlobal + Eprint + Threads + Wait + Sync,
+    T: AllocGlobal + Eprint,
+    W: Write,
 {
-    let Some((input, wanted)) = body.split_once(GIVES) else {
-        let given = give(rt, setup, title, body)?;
-        answers.write_all(&given).map_err(|_| Failed)?;
-        return Ok(true);
-    };
-    let given = give(rt, setup, title, input)?;
-    let as_it_must = given.as_slice() == wanted.as_bytes();
-    let (told, rest): (&[u8], &[u8]) = if as_it_must {
-        (b"as it must\n", b"")
-    } else {
-        (b"NOT AS IT MUST, but:\n", &given)
-    };
-    for piece in [told, rest] {
-        answers.write_all(piece).map_err(|_| Failed)?;
+    write(answers, &["== ", title, "\n"])?;
+    match body.split_once(GIVES) {
+        None => show_given(rt, setup, title, body, None, answers),
+        Some((input, wanted)) => show_given(rt, setup, title, input, Some(wanted), answers),
     }
-    Ok(as_it_must)
+}
+
+/// Writes what an example gives; or, where that is known, whether it is what it must give.
+fn show_given<T, W>(
+    rt: &T,
+    setup: &Setup,
+    title: &str,
+    input: &str,
+    wanted: Option<&str>,
+    answers: &mut W,
+) -> Result<bool, Failed>
+where
+    T: AllocGlobal + Eprint,
+    W: Write,
+{
+    let mut given = Vec::new(rt.alloc());
+    match give(rt, setup, title, input, &mut given) {
+        Ok(()) => tell(&given, wanted, answers),
+        Err(_) => Err(Failed),
+    }
+}
+
+/// Writes what was given, or whether it is what is wanted.
+fn tell<W: Write>(given: &[u8], wanted: Option<&str>, answers: &mut W) -> Result<bool, Failed> {
+    let given = str::from_utf8(given).map_err(|_| Failed)?;
+    match wanted {
+        None => write(answers, &[given])?,
+        Some(wanted) if given == wanted => write(answers, &["as it must\n"])?,
+        Some(_) => {
+            write(answers, &["NOT AS IT MUST, but:\n", given])?;
+            return Ok(false);
+        }
+    }
+    Ok(true)
+}
+
+/// Writes each piece.
+fn write<W: Write>(answers: &mut W, pieces: &[&str]) -> Result<(), Failed> {
+    for piece in pieces {
+        answers.write_all(piece.as_bytes()).map_err(|_| Failed)?;
+    }
+    Ok(())
 }

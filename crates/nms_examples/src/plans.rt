@@ -2,11 +2,12 @@
 
 use crate::Failed;
 use nms_cert::Doubt;
-use nms_engine::{AuditFault, audit, read_changes};
 use nms_fees::Setup;
+use nms_files::{AuditFault, audit, read_changes};
 use nms_lines::{read_plan, write_plan};
 use nms_quote::{Certificate, Plan};
 use std::alloc::Global;
+use std::fmt::Debug;
 use std::io::Write;
 use std::str;
 
@@ -30,8 +31,13 @@ pub(crate) fn give_plan(
 fn tell_plan(plan: &Plan, certificate: &Certificate, given: &mut Vec<u8>) -> Result<(), Failed> {
     let (version, order, filled, cost) = (plan.version, plan.order, plan.filled, plan.cost);
     writeln!(given, "{version} {order:?} {filled} {cost}").map_err(|_| Failed)?;
-    writeln!(given, "{:?}", plan.legs.as_slice()).map_err(|_| Failed)?;
-    writeln!(given, "{:?}", certificate.as_slice()).map_err(|_| Failed)
+    tell_all(given, plan.legs.as_slice())?;
+    tell_all(given, certificate.as_slice())
+}
+
+/// Adds the values of a list.
+fn tell_all<V: Debug>(given: &mut Vec<u8>, values: &[V]) -> Result<(), Failed> {
+    writeln!(given, "{values:?}").map_err(|_| Failed)
 }
 
 /// Adds the text that is written of what a plan's text says.

@@ -2,7 +2,7 @@
 
 use crate::Failed;
 use nms_fees::Setup;
-use nms_lines::{ByteRecord, Reading, open_records, read_line, read_next};
+use nms_lines::{ByteRecord, Reader, Reading, open_records, read_line, read_next};
 use nms_quote::{Feed, Roster};
 use std::alloc::Global;
 use std::io::Write;
@@ -20,13 +20,24 @@ pub(crate) fn give_lines(
 ) -> Result<(), Failed> {
     let (place, _) = title.split_once(' ').ok_or(Failed)?;
     let from = reading_named(place).ok_or(Failed)?;
-    let mut reader = open_records(alloc, input);
-    let mut row = ByteRecord::new(alloc);
+    let (mut reader, mut row) = (open_records(alloc, input), ByteRecord::new(alloc));
+    tell_lines(&mut reader, &mut row, setup.roster(), from, given)
+}
+
+/// Adds what each record of a reader says.
+fn tell_lines(
+    reader: &mut Reader<&[u8]>,
+    row: &mut ByteRecord,
+    roster: &Roster,
+    from: Reading,
+    given: &mut Vec<u8>,
+) -> Result<(), Failed> {
     for _ in 0..MOST {
-        if !read_next(&mut reader, &mut row).map_err(|_| Failed)? {
-            return Ok(());
+        match read_next(reader, row) {
+            Ok(true) => tell_line(row, roster, from, given)?,
+            Ok(false) => return Ok(()),
+            Err(_) => return Err(Failed),
         }
-        tell_line(&row, setup.roster(), from, given)?;
     }
     Err(Failed)
 }

@@ -95,14 +95,20 @@ fn tell_costs(setup: &Setup, costs: &str, given: &mut Vec<u8>) -> Result<(), Fai
 
 /// Adds what a share costs.
 fn tell_cost(setup: &Setup, question: &str, given: &mut Vec<u8>) -> Result<(), Failed> {
-    let (place, rest) = question.split_once(' ').ok_or(Failed)?;
-    let (side, price) = rest.split_once(' ').ok_or(Failed)?;
-    let place = place.parse::<u8>().map_err(|_| Failed)?;
-    let part = Part::new(place).ok_or(Failed)?;
-    let price = Price::parse(price.as_bytes()).map_err(|_| Failed)?;
-    let cost = match side {
-        "buy" => setup.fees().unit_cost(part, OrderSide::Buy, price),
-        _ => setup.fees().unit_cost(part, OrderSide::Sell, price),
-    };
+    let (part, side, price) = question_in(question).ok_or(Failed)?;
+    let cost = setup.fees().unit_cost(part, side, price);
     writeln!(given, "{cost}").map_err(|_| Failed)
+}
+
+/// The participant, the side and the price of a question.
+fn question_in(question: &str) -> Option<(Part, OrderSide, Price)> {
+    let (place, rest) = question.split_once(' ')?;
+    let (side, price) = rest.split_once(' ')?;
+    let part = Part::new(place.parse::<u8>().ok()?)?;
+    let side = if side == "buy" {
+        OrderSide::Buy
+    } else {
+        OrderSide::Sell
+    };
+    Some((part, side, Price::parse(price.as_bytes()).ok()?))
 }

@@ -1,6 +1,8 @@
 //! Readers that fail.
 use super::same;
-use nms_lines::{ByteRecord, RecordFault, open_records, read_next, the_least_fault_is_read};
+use nms_lines::{
+    ByteRecord, Reader, RecordFault, open_records, read_next, the_least_fault_is_read,
+};
 use std::io;
 use std::io::Read;
 use std::test::Fail;
@@ -36,10 +38,17 @@ pub(super) fn no_record_after_a_failed_read<T: AllocGlobal>(rt: &T) -> Result<()
         at: 0,
         cut: Some(3),
     };
-    let mut reader = open_records(rt.alloc(), source);
-    let mut row = ByteRecord::new(rt.alloc());
+    let (mut reader, mut row) = (
+        open_records(rt.alloc(), source),
+        ByteRecord::new(rt.alloc()),
+    );
+    try_reads(&mut reader, &mut row)
+}
+
+/// A read succeeds, the next one fails, and then there is none.
+fn try_reads(reader: &mut Reader<Flaky<'_>>, row: &mut ByteRecord) -> Result<(), Fail> {
     for found in [Ok(true), Err(RecordFault::Failed), Ok(false)] {
-        same(read_next(&mut reader, &mut row), found)?;
+        same(read_next(reader, row), found)?;
     }
     Ok(())
 }

@@ -9,13 +9,15 @@ fn participant_added(roster: &mut Roster, name: &str) -> Result<u8, RosterFault>
     Ok(roster.add_participant(name.as_bytes(), Feed::A)?.get())
 }
 
-pub(super) fn a_roster_takes_32_participants_and_tells_each_refusal<T: AllocGlobal>(
-    rt: &T,
-) -> Result<(), Fail> {
-    let mut roster = Roster::new(rt.alloc())?;
+/// Adds a participant under its place as a number, which is the place that it gets.
+fn add_participant_of(alloc: Global, roster: &mut Roster, place: u8) -> Result<(), Fail> {
+    let name = format!(in alloc; "{place}")?;
+    same(participant_added(roster, name.as_str()), Ok(place))
+}
+
+fn try_participants(alloc: Global, roster: &mut Roster) -> Result<(), Fail> {
     for place in 0..32u8 {
-        let name = format!(in rt.alloc(); "{place}")?;
-        same(participant_added(&mut roster, name.as_str()), Ok(place))?;
+        add_participant_of(alloc, roster, place)?;
     }
     for (name, fault) in [
         ("32", RosterFault::TooMany),
@@ -23,37 +25,46 @@ pub(super) fn a_roster_takes_32_participants_and_tells_each_refusal<T: AllocGlob
         ("n", RosterFault::BadName),
         ("ABCDE", RosterFault::BadName),
     ] {
-        same(participant_added(&mut roster, name), Err(fault))?;
+        same(participant_added(roster, name), Err(fault))?;
     }
     Ok(())
 }
 
-fn symbol_added(roster: &mut Roster, name: &str) -> Result<u16, Fail> {
-    let lot = Lot::new(100).ok_or("a lot")?;
-    Ok(roster.add_symbol(name.as_bytes(), lot)?.get())
-}
-
-/// Adds 1,000 symbols, each under its place as a number.
-fn roster_of_1000(alloc: Global) -> Result<Roster, Fail> {
-    let mut roster = Roster::new(alloc)?;
-    for place in 0..1000u16 {
-        let name = format!(in alloc; "{place}")?;
-        same(symbol_added(&mut roster, name.as_str())?, place)?;
-    }
-    Ok(roster)
-}
-
-pub(super) fn a_roster_takes_1000_symbols_and_tells_each_refusal<T: AllocGlobal>(
+pub(super) fn a_roster_takes_32_participants_and_tells_each_refusal<T: AllocGlobal>(
     rt: &T,
 ) -> Result<(), Fail> {
-    let mut roster = roster_of_1000(rt.alloc())?;
-    let lot = Lot::new(100).ok_or("a lot")?;
+    try_participants(rt.alloc(), &mut Roster::new(rt.alloc())?)
+}
+
+fn symbol_added(roster: &mut Roster, name: &str) -> Option<Result<u16, RosterFault>> {
+    match roster.add_symbol(name.as_bytes(), Lot::new(100)?) {
+        Ok(sym) => Some(Ok(sym.get())),
+        Err(fault) => Some(Err(fault)),
+    }
+}
+
+/// Adds a symbol under its place as a number, which is the place that it gets.
+fn add_symbol_of(alloc: Global, roster: &mut Roster, place: u16) -> Result<(), Fail> {
+    let name = format!(in alloc; "{place}")?;
+    same(symbol_added(roster, name.as_str()), Some(Ok(place)))
+}
+
+fn try_symbols(alloc: Global, roster: &mut Roster) -> Result<(), Fail> {
+    for place in 0..1000u16 {
+        add_symbol_of(alloc, roster, place)?;
+    }
     for (name, fault) in [
         ("AAPL", RosterFault::TooMany),
         ("999", RosterFault::Duplicate),
         ("aapl", RosterFault::BadName),
     ] {
-        same(roster.add_symbol(name.as_bytes(), lot), Err(fault))?;
+        same(symbol_added(roster, name), Some(Err(fault)))?;
     }
     Ok(())
+}
+
+pub(super) fn a_roster_takes_1000_symbols_and_tells_each_refusal<T: AllocGlobal>(
+    rt: &T,
+) -> Result<(), Fail> {
+    try_symbols(rt.alloc(), &mut Roster::new(rt.alloc())?)
 }
