@@ -1,3 +1,4 @@
 mod LineFacts
+mod PartFacts
 mod LegFacts
 mod FitFacts

@@ -5,6 +5,7 @@ ghost use Rattle.nms_quote.specs.Roster.{holds, sizes_of};
 ghost use Rattle.nms_quote.specs.declared.side_quote.Side.{Side};
 ghost use Rattle.nms_quote.specs.declared.TheConstants.{MOST_CHANGES};
 ghost use Rattle.nms_board.specs.View.{rows_on, view_of};
+ghost use Rattle.nms_lines.specs.Written.{WritesPart};
 ghost use Rattle.nms_files.specs.ChangeFile.{IsFileFault, IsFileTape, IsReportFault, ReportsFile, WritesNothing, change_reading};
 
 use crate::changes_fault::{ChangesFault, ReportFault};
@@ -82,7 +83,7 @@ fn read_change(row: &ByteRecord, roster: &Roster) -> Result<Change, LineFault>
 
 /// Writes the report of a symbol of the roster after all the changes of a file: one write, flushed.
 ///
-/// The file is read first. Only `WriteFault` leaves something written.
+/// The file is read first. Only `WriteFault` leaves something written: a first part of that report.
 pub fn report_changes<R: Read + Drop, W: Write>(
     alloc: Global,
     setup: &Setup,
@@ -93,6 +94,7 @@ pub fn report_changes<R: Read + Drop, W: Write>(
     requires { sym < length setup.now.roster.syms }
     ensures written { OnOk result (ReportsFile setup.now (R.remaining source) sym (W.contents writer.old) (W.contents writer.new)) }
     ensures refused { IfErr result (IsReportFault setup.now (R.remaining source)) }
+    ensures cut { IfErr result (λ fault. fault ≡ ReportFault.WriteFault → WritesPart (ReportsFile setup.now (R.remaining source) sym (W.contents writer.old)) (W.contents writer.old) (W.contents writer.new)) }
     ensures unwritten { IfErr result (WritesNothing (W.contents writer.old) (W.contents writer.new)) }
 {
     let changes = match read_changes(alloc, setup, source) {
