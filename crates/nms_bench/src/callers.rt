@@ -7,7 +7,7 @@ use crate::Failed;
 use crate::looks::{quotation, setup_text};
 use nms_board::Boards;
 use nms_fees::{Setup, read_setup};
-use nms_quote::{Change, Feed, Marked, Order, OrderSide, SideQuote, Sym};
+use nms_quote::{Change, Feed, Order, OrderSide, SideQuote, Sym};
 use nms_units::{Price, Shares};
 use std::alloc::Global;
 use std::sync::Wait;
@@ -58,28 +58,38 @@ fn make_under<R: AllocGlobal + Threads + Wait + Sync>(
 
 /// The published version, and the participant of the best bid.
 fn tell_machine(alloc: Global, setup: &Setup, sym: Sym, changes: u32) -> Result<String, Failed> {
-    let marked = marked_changes(alloc, changes)?;
-    let (version, best) = machine::consolidate(alloc, setup, marked.as_slice(), sym).map_err(
-        |_| Failed,
-    )?;
+    let changes = changes_of(alloc, changes)?;
+    let (version, best) = machine::consolidate(
+        alloc,
+        setup,
+        Feed::A,
+        changes.as_slice(),
+        sym,
+    ).map_err(|_| Failed)?;
     let place = best.bid.map(|row| row.part.get());
     format!(in alloc; "{version} {place:?}").map_err(|_| Failed)
 }
 
-/// So many changes, each on feed A.
-fn marked_changes(alloc: Global, changes: u32) -> Result<Vec<Marked>, Failed> {
-    // The prover has to have met these types before a change is moved into a list.
-    let _met: (Option<Change>, Option<SideQuote>) = (None, None);
-    let mut marked = Vec::new(alloc);
-    for number in 0..changes {
-        let change = quotation(u64::from(number)).ok_or(Failed)?;
-        let from_a = Marked {
-            feed: Feed::A,
-            change,
-        };
-        marked.push(from_a).map_err(|_| Failed)?;
+/// So many changes.
+fn changes_of(alloc: Global, count: u32) -> Result<Vec<Change>, Failed> {
+    let mut changes = Vec::new(alloc);
+    for number in 0..count {
+        push_change(&mut changes, number)?;
     }
-    Ok(marked)
+    Ok(changes)
+}
+
+/// One change more.
+fn push_change(changes: &mut Vec<Change>, number: u32) -> Result<(), Failed> {
+    let Some(change) = quotation(u64::from(number)) else {
+        return Err(Failed);
+    };
+    // Moving a change takes a mention of the types in it: the prover has to have seen them.
+    let _seen: Option<SideQuote> = None;
+    match changes.push(change) {
+        Ok(()) => Ok(()),
+        Err(_) => Err(Failed),
+    }
 }
 
 /// What an order for 950 shares fills and costs after so many changes, and whether it was confirmed.

@@ -1,7 +1,7 @@
 //! The machine: changes are sent, taken and published, and a look shows the published version.
 use nms_fees::Setup;
 use nms_flow::{BestRows, Flow, FlowFault, StepFault};
-use nms_quote::{Marked, Sym};
+use nms_quote::{Change, Feed, Sym};
 use std::alloc::Global;
 
 /// Why there is no answer.
@@ -15,19 +15,20 @@ pub(crate) enum ConsolidateFault {
     Stranger,
 }
 
-/// The version that is published after all the changes, and the best rows that it shows of a symbol.
+/// The version that is published after all the changes of a feed, and the best rows that it shows of a symbol.
 pub(crate) fn consolidate(
     alloc: Global,
     setup: &Setup,
-    changes: &[Marked],
+    feed: Feed,
+    changes: &[Change],
     sym: Sym,
 ) -> Result<(u64, BestRows), ConsolidateFault> {
     let mut flow = match Flow::new(alloc, setup) {
         Ok(flow) => flow,
         Err(fault) => return Err(ConsolidateFault::Opening(fault)),
     };
-    for marked in changes {
-        send_and_take(&mut flow, marked)?;
+    for change in changes {
+        send_and_take(&mut flow, feed, change)?;
     }
     let version = flow.publish();
     if !flow.has_sym(sym) {
@@ -36,12 +37,12 @@ pub(crate) fn consolidate(
     Ok((version, flow.best(sym)))
 }
 
-/// Sends a change on its feed, and takes it to the tape.
-fn send_and_take(flow: &mut Flow, marked: &Marked) -> Result<(), ConsolidateFault> {
-    if !flow.holds(&marked.change) {
+/// Sends a change on the feed, and takes it to the tape.
+fn send_and_take(flow: &mut Flow, feed: Feed, change: &Change) -> Result<(), ConsolidateFault> {
+    if !flow.holds(change) {
         return Err(ConsolidateFault::Stranger);
     }
-    let sent = flow.send(marked.feed, marked.change);
+    let sent = flow.send(feed, *change);
     let taken = sent.and_then(|_| flow.take().map(|_| ()));
     taken.map_err(ConsolidateFault::Step)
 }
