@@ -76,7 +76,7 @@ fn run<R: Threads + Wait + Sync>(
 }
 
 /// Sends a change so many times.
-fn send_all<R: Wait>(rt: &R, mut sender: Sender, change: &Change, changes: u32) -> Sender
+pub(crate) fn send_all<R: Wait>(rt: &R, mut sender: Sender, change: &Change, changes: u32) -> Sender
     requires { sender.sent ≡ [] }
     ensures lane { result.lane ≡ sender.lane }
     ensures feed { result.feed ≡ sender.feed }

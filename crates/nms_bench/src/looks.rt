@@ -46,7 +46,7 @@ pub(crate) fn measure<R: AllocGlobal + Threads + Wait + Clock + Sync>(
 }
 
 /// A setup of that board and so many desks.
-fn setup_text(alloc: Global, desks: u8) -> Result<String, AllocError> {
+pub(crate) fn setup_text(alloc: Global, desks: u8) -> Result<String, AllocError> {
     let mut text = format!(in alloc; "tape_limit = 10000000\nqueue = 2\ndesks = {desks}\n")?;
     for place in 0..PARTICIPANTS {
         let entry = format!(in alloc;
@@ -180,7 +180,7 @@ fn publish_batch<R: Wait>(rt: &R, publisher: &mut Publisher, number: &mut u64) -
 }
 
 /// The change of that number: each participant quotes each symbol in turn, with other shares each time round.
-fn quotation(number: u64) -> Option<Change> {
+pub(crate) fn quotation(number: u64) -> Option<Change> {
     let price = Price::new(100_000)?;
     let shares = Shares::new(100 * (1 + number / (PARTICIPANTS * SYMBOLS) % 9) as u32)?;
     Some(Change::Quote {

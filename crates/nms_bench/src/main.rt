@@ -1,8 +1,10 @@
-//! Measures the lane and the looks. Each line of standard input is a run: `lane CAPACITY CHANGES` through a lane of
-//! that capacity with so many changes from each of two threads, or `looks DESKS LOOKS` with so many looks by each of
-//! so many desks.
+//! Measures the lane and the looks, and makes the calls of `docs/CALLING.md`. Each line of standard input is a run:
+//! `lane CAPACITY CHANGES` through a lane of that capacity with so many changes from each of two threads, or
+//! `looks DESKS LOOKS` with so many looks by each of so many desks, or `machine`, `sweep` or `threads` with the place of
+//! a symbol and a number of changes.
 #![tactic(auto)]
 
+mod callers;
 mod lane;
 mod looks;
 
@@ -30,7 +32,7 @@ fn main(rt: HostRuntime) -> ExitCode {
 }
 
 /// Makes each run and writes its line with what came of it: how many changes each thread sent and how many were
-/// taken, or how many rows the looks showed where they belong.
+/// taken, or how many rows the looks showed where they belong, or what a call came to.
 fn run_all<R: AllocGlobal + Threads + Wait + Clock + Sync, W: Write>(
     rt: &R,
     input: &[u8],
@@ -49,10 +51,14 @@ fn run_all<R: AllocGlobal + Threads + Wait + Clock + Sync, W: Write>(
                 taken,
             } = lane::measure(rt, capacity, second)?;
             writeln!(answers, "{line} {sent_a} {sent_b} {taken}").map_err(|_| Failed)?;
-        } else {
+        } else if kind == "looks" {
             let desks = first.parse::<u8>().map_err(|_| Failed)?;
             let rows = looks::measure(rt, desks, second)?;
             writeln!(answers, "{line} {rows}").map_err(|_| Failed)?;
+        } else {
+            let sym = first.parse::<u16>().map_err(|_| Failed)?;
+            let told = callers::make(rt, kind, sym, second)?;
+            writeln!(answers, "{line} {told}").map_err(|_| Failed)?;
         }
     }
     Ok(())

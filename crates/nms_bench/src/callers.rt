@@ -1,0 +1,132 @@
+//! Callers of these crates as another repository writes them; `docs/CALLING.md` shows them. Here each is called once.
+mod machine;
+mod sweeping;
+mod threads;
+
+use crate::Failed;
+use crate::looks::{quotation, setup_text};
+use nms_board::Boards;
+use nms_fees::{Setup, read_setup};
+use nms_quote::{Change, Feed, Order, OrderSide, SideQuote, Sym};
+use nms_units::{Price, Shares};
+use std::alloc::Global;
+use std::sync::Wait;
+use std::thread::Threads;
+
+/// Makes the call that a word names, with so many changes, on the symbol at a place, and tells what came of it.
+pub(crate) fn make<R: AllocGlobal + Threads + Wait + Sync>(
+    rt: &R,
+    kind: &str,
+    sym: u16,
+    changes: u32,
+) -> Result<String, Failed> {
+    let sym = Sym::new(sym).ok_or(Failed)?;
+    let text = setup_text(rt.alloc(), 1).map_err(|_| Failed)?;
+    make_over(rt, text.as_str(), kind, sym, changes)
+}
+
+/// The same over a setup's text.
+fn make_over<R: AllocGlobal + Threads + Wait + Sync>(
+    rt: &R,
+    text: &str,
+    kind: &str,
+    sym: Sym,
+    changes: u32,
+) -> Result<String, Failed> {
+    match read_setup(rt.alloc(), text) {
+        Ok(setup) => make_under(rt, &setup, kind, sym, changes),
+        Err(_) => Err(Failed),
+    }
+}
+
+/// The same under a setup.
+fn make_under<R: AllocGlobal + Threads + Wait + Sync>(
+    rt: &R,
+    setup: &Setup,
+    kind: &str,
+    sym: Sym,
+    changes: u32,
+) -> Result<String, Failed> {
+    let alloc = rt.alloc();
+    match kind {
+        "machine" => tell_machine(alloc, setup, sym, changes),
+        "sweep" => tell_sweep(alloc, setup, sym, changes),
+        "threads" => tell_threads(rt, alloc, setup, sym, changes),
+        _ => Err(Failed),
+    }
+}
+
+/// The published version, and the participant of the best bid.
+fn tell_machine(alloc: Global, setup: &Setup, sym: Sym, changes: u32) -> Result<String, Failed> {
+    let changes = changes_of(alloc, changes)?;
+    let (version, best) = machine::consolidate(
+        alloc,
+        setup,
+        Feed::A,
+        changes.as_slice(),
+        sym,
+    ).map_err(|_| Failed)?;
+    let place = best.bid.map(|row| row.part.get());
+    format!(in alloc; "{version} {place:?}").map_err(|_| Failed)
+}
+
+/// So many changes.
+fn changes_of(alloc: Global, count: u32) -> Result<Vec<Change>, Failed> {
+    let mut changes = Vec::new(alloc);
+    for number in 0..count {
+        push_change(&mut changes, number)?;
+    }
+    Ok(changes)
+}
+
+/// One change more.
+fn push_change(changes: &mut Vec<Change>, number: u32) -> Result<(), Failed> {
+    let Some(change) = quotation(u64::from(number)) else {
+        return Err(Failed);
+    };
+    // Moving a change takes a mention of the types in it: the prover has to have seen them.
+    let _seen: Option<SideQuote> = None;
+    match changes.push(change) {
+        Ok(()) => Ok(()),
+        Err(_) => Err(Failed),
+    }
+}
+
+/// What an order for 950 shares fills and costs after so many changes, and whether it was confirmed.
+fn tell_sweep(alloc: Global, setup: &Setup, sym: Sym, changes: u32) -> Result<String, Failed> {
+    let mut board = Boards::new(alloc, setup.roster()).map_err(|_| Failed)?;
+    // The prover has to have met this type before a change is applied.
+    let _met: Option<SideQuote> = None;
+    for number in 0..changes {
+        let change = quotation(u64::from(number)).ok_or(Failed)?;
+        if board.takes(&change) {
+            board.apply(change);
+        }
+    }
+    let order = order_of(sym).ok_or(Failed)?;
+    let (plan, finding) = sweeping::plan_and_confirm(&board, &order, setup.fees());
+    format!(in alloc; "{} {} {}", plan.filled, plan.cost, finding.is_ok()).map_err(|_| Failed)
+}
+
+/// An order to buy 950 shares of a symbol at 10.00 or better.
+fn order_of(sym: Sym) -> Option<Order> {
+    let (shares, limit) = (Shares::new(950)?, Price::new(100_000)?);
+    Order::new(OrderSide::Buy, sym, shares, limit, false)
+}
+
+/// How many changes each feed sent and how many were taken, and the version that the desk was settled on.
+fn tell_threads<R: Threads + Wait + Sync>(
+    rt: &R,
+    alloc: Global,
+    setup: &Setup,
+    sym: Sym,
+    changes: u32,
+) -> Result<String, Failed> {
+    let change = quotation(0).ok_or(Failed)?;
+    let came = threads::run(rt, alloc, setup, &change, changes, sym)?;
+    let (sent, taken) = (
+        (came.delivered.sent_a, came.delivered.sent_b),
+        came.delivered.taken,
+    );
+    format!(in alloc; "{} {} {taken} {}", sent.0, sent.1, came.settled).map_err(|_| Failed)
+}

@@ -1,0 +1,184 @@
+//! A lane, published versions and a desk: two feeds, the taker and the desk, each in a thread of one's own.
+ghost use Rattle.std.specs.Prelude.{◌≡◌, [], All, IfOk, IfSome};
+
+use crate::Failed;
+use crate::lane::send_all;
+use nms_feed::{Delivered, Sender, Taker, close, open_lane};
+use nms_fees::Setup;
+use nms_quote::{Change, Sym};
+use nms_versions::{Desk, Publisher, open_tape};
+use std::alloc::Global;
+use std::sync::Wait;
+use std::thread;
+use std::thread::Threads;
+
+/// What a run came to: what went through the lane, and the version that the desk was settled on.
+#[derive(Clone, Copy, Debug, PartialEq, Eq)]
+pub(crate) struct Came {
+    pub(crate) delivered: Delivered,
+    pub(crate) settled: u64,
+}
+
+/// Sends a change so many times from each feed, publishes what comes, and looks at a symbol meanwhile.
+pub(crate) fn run<R: Threads + Wait + Sync>(
+    rt: &R,
+    alloc: Global,
+    setup: &Setup,
+    change: &Change,
+    times: u32,
+    sym: Sym,
+) -> Result<Came, Failed> {
+    let (mut publisher, desk) = open(rt, alloc, setup)?;
+    let Ok((a, b, taker)) = open_lane(alloc, 64) else {
+        publisher.close(rt);
+        return Err(Failed);
+    };
+    let lent = &mut publisher;
+    let ((a, b, desk), (back, taker)) = thread::join(
+        rt,
+        move || -> (Sender, Sender, Desk)
+            requires { (a.sent ≡ []) × (b.sent ≡ []) }
+            ensures a { (result.0.lane ≡ a.lane) × (result.0.feed ≡ a.feed) }
+            ensures b { (result.1.lane ≡ b.lane) × (result.1.feed ≡ b.feed) }
+            ensures desk { result.2.opening ≡ desk.opening }
+        { send_and_look(rt, (a, b, desk), change, times, sym) },
+        move || -> (&mut Publisher, Taker)
+            ensures name { result.0.ghost_name ≡ lent.entry.ghost_name }
+            ensures opening { result.0.now.opening ≡ lent.entry.now.opening }
+            ensures lane { result.1.lane ≡ taker.lane }
+        {
+            let taker = publish_all(rt, lent, taker, 2 * u64::from(times));
+            (lent, taker)
+        },
+    );
+    take_back(back);
+    let settled = settle(rt, publisher, desk).ok_or(Failed)?;
+    let delivered = close(a, b, taker).map_err(|_| Failed)?;
+    Ok(Came { delivered, settled })
+}
+
+/// Ends a loan: what is known of the publisher that was lent is known of it from here on.
+fn take_back(publisher: &mut Publisher)
+    ensures { publisher.new ≡ publisher.old }
+{
+    let _publisher = publisher;
+}
+
+/// Opens a tape with one desk. Without one it is closed.
+fn open<R: Wait>(rt: &R, alloc: Global, setup: &Setup) -> Result<(Publisher, Desk), Failed>
+    ensures { IfOk result (λ ends. ends.1.opening ≡ ends.0.opening) }
+{
+    let Ok((publisher, desks)) = open_tape(alloc, rt, setup) else {
+        return Err(Failed);
+    };
+    match one_of(&publisher, desks) {
+        Some(desk) => Ok((publisher, desk)),
+        None => {
+            publisher.close(rt);
+            Err(Failed)
+        }
+    }
+}
+
+/// The last desk of an opening.
+fn one_of(publisher: &Publisher, mut desks: Vec<Desk>) -> Option<Desk>
+    requires { All (λ desk. desk.opening ≡ publisher.now.opening) desks.items }
+    ensures { IfSome result (λ desk. desk.opening ≡ publisher.now.opening) }
+{
+    desks.pop()
+}
+
+/// Sends from both feeds and looks, all at once.
+fn send_and_look<R: Threads + Wait + Sync>(
+    rt: &R,
+    ends: (Sender, Sender, Desk),
+    change: &Change,
+    times: u32,
+    sym: Sym,
+) -> (Sender, Sender, Desk)
+    requires { (ends.0.sent ≡ []) × (ends.1.sent ≡ []) }
+    ensures a { (result.0.lane ≡ ends.0.lane) × (result.0.feed ≡ ends.0.feed) }
+    ensures b { (result.1.lane ≡ ends.1.lane) × (result.1.feed ≡ ends.1.feed) }
+    ensures desk { result.2.opening ≡ ends.2.opening }
+{
+    let (a, b, desk) = ends;
+    let (a, (b, desk)) = thread::join(
+        rt,
+        move || -> Sender
+            requires { a.sent ≡ [] }
+            ensures { (result.lane ≡ a.lane) × (result.feed ≡ a.feed) }
+        { send_all(rt, a, change, times) },
+        move || -> (Sender, Desk)
+            requires { b.sent ≡ [] }
+            ensures { (result.0.lane ≡ b.lane) × (result.0.feed ≡ b.feed) × (result.1.opening ≡ desk.opening) }
+        {
+            thread::join(
+                rt,
+                move || -> Sender
+                    requires { b.sent ≡ [] }
+                    ensures { (result.lane ≡ b.lane) × (result.feed ≡ b.feed) }
+                { send_all(rt, b, change, times) },
+                move || -> Desk
+                    ensures { result.opening ≡ desk.opening }
+                { look_often(desk, sym, 1000) },
+            )
+        },
+    );
+    (a, b, desk)
+}
+
+/// Takes so many changes and appends them. Publishes where the lane is empty, and at the end.
+fn publish_all<R: Wait>(rt: &R, publisher: &mut Publisher, mut taker: Taker, changes: u64) -> Taker
+    ensures opening { publisher.new.opening ≡ publisher.old.opening }
+    ensures lane { result.lane ≡ taker.lane }
+{
+    let mut taken = 0;
+    for _ in rt.forever() {
+        if taken >= changes {
+            break;
+        }
+        match taker.take(rt) {
+            Some(change) => {
+                append(publisher, change);
+                taken += 1;
+            }
+            None => {
+                publisher.publish(rt);
+                thread::yield_now();
+            }
+        }
+    }
+    publisher.publish(rt);
+    taker
+}
+
+/// Appends a change of the roster. A full tape, or want of memory, leaves it out.
+fn append(publisher: &mut Publisher, change: Change) -> bool
+    ensures { publisher.new.opening ≡ publisher.old.opening }
+{
+    publisher.holds(&change) && publisher.append(change).is_ok()
+}
+
+/// Looks so often. No look shows an older version than one before it.
+fn look_often(mut desk: Desk, sym: Sym, looks: u32) -> Desk
+    ensures { result.opening ≡ desk.opening }
+{
+    for _look in 0..looks {
+        if let Ok(_view) = desk.look(sym) {}
+    }
+    desk
+}
+
+/// Tells the desk of the whole tape, and settles it: all that it saw was of this tape, and was published.
+fn settle<R: Wait>(rt: &R, mut publisher: Publisher, mut desk: Desk) -> Option<u64>
+    requires { desk.opening ≡ publisher.opening }
+{
+    let told = publisher.receipt();
+    let last = publisher.receipt();
+    publisher.close(rt);
+    desk.learn(told);
+    match desk.settle(last) {
+        Ok(settled) => Some(settled.version),
+        Err(_) => None,
+    }
+}
