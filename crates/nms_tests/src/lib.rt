@@ -1,9 +1,12 @@
 //! The tests of the crates below that take threads or long: the lane, published versions, live runs, the longest
-//! script, and the planner against a slow judge. What else no clause says stands in `nms_examples`.
+//! script, the cutoffs of an order, and the planner against a slow judge. What else no clause says stands in
+//! `nms_examples`.
 //!
 //! They stand here because the gate proves a crate once more for its own tests.
 #![tactic(auto)]
 
+#[cfg(test)]
+mod cutoffs;
 #[cfg(test)]
 mod feed;
 #[cfg(test)]
