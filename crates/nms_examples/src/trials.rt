@@ -55,7 +55,7 @@ fn try_scripts<T: AllocGlobal>(rt: &T, setup: &Setup) -> Result<(), Fail> {
     script_streams::a_failed_write_or_flush_ends_the_script(rt, setup)
 }
 
-/// Reports, and the block of the README.
+/// Reports, and the first caller of `docs/CALLING.md`.
 fn try_reports<T: AllocGlobal>(rt: &T, setup: &Setup) -> Result<(), Fail> {
     report_streams::a_report_is_one_write_and_flushed(rt, setup)?;
     report_streams::a_refused_file_is_read_to_its_end_and_nothing_is_written(rt, setup)?;

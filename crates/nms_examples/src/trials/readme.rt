@@ -1,4 +1,4 @@
-//! The block of Rust in the README, letter for letter, and its test.
+//! The first caller of `docs/CALLING.md`, letter for letter, and its test.
 use nms_board::{BoardFault, Boards, Row};
 use nms_nbbo::{Market, best, market};
 use nms_quote::{Change, Roster, Side, Sym};
