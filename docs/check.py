@@ -149,7 +149,7 @@ def below(name):
 
 # What a page names in backquotes.
 
-def is_placeholder(word):
+def is_stand_in(word):
     return bool(re.search(r"NAME|\b[A-Z]{2,}(_[A-Z]+)*\b|\.\.\.|…|\$", word)) and not re.search(r"README|HANDLES|docs/", word)
 
 
@@ -183,11 +183,11 @@ def named(page, span):
     words = span.split()
     for word in words:
         word = word.strip("(),;:'\"")
-        if is_path(word) and not word.startswith("/") and not is_placeholder(word):
+        if is_path(word) and not word.startswith("/") and not is_stand_in(word):
             check(has_path(page, word) or word.split("/")[0] in ("out", "KIT") or "/out" in word, page, f"no file `{word}`")
     for word in re.findall(r"\bnms_\w+", span):
         check(word in CRATES or word in WORDS, page, f"no crate `{word}`")
-    if re.fullmatch(r"[A-Za-z_]\w*(::\w+)*(\(\))?", span) and not is_placeholder(span) and len(span) > 2:
+    if re.fullmatch(r"[A-Za-z_]\w*(::\w+)*(\(\))?", span) and not is_stand_in(span) and len(span) > 2:
         for part in re.findall(r"\w+", span):
             check(part in WORDS or part in PORTED or part in CODES or has_path(page, part), page, f"nothing is named `{part}`")
 
