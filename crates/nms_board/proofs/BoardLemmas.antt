@@ -12,8 +12,9 @@ use Rattle.nms_quote.specs.declared.side_quote.QState.{QState}
 use Rattle.nms_quote.specs.declared.change.Change.{Change}
 use Rattle.nms_quote.specs.declared.change.Change.TheVariants.{Quote, State, Withdraw}
 use Rattle.nms_board.specs.declared.TheConstants.{MOST_ROWS}
+use Rattle.nms_quote.specs.declared.TheConstants.{MOST_CHANGES}
 use Rattle.nms_board.specs.History.{before_equal_end, concerns, on_side, said_of, content_at, state_said, state_at, receipt_of, same_content}
-use Rattle.nms_board.specs.Cells.{Board, StandsFor, after, cells_after, cell_of, change_cell, empty_cell, held_after, held_of, opening, place_of, quoted, restated, set_if_some, takes, withdraw_from, withdrawn}
+use Rattle.nms_board.specs.Cells.{Board, IsBoard, StandsFor, after, cells_after, cell_of, change_cell, empty_cell, held_after, held_of, opening, place_of, quoted, restated, set_if_some, takes, withdraw_from, withdrawn}
 use Rattle.nms_board.specs.Quotation.{is_halted, quotation, quotation_of, quotations}
 use Rattle.nms_board.specs.Shown.{row_held, row_of_cell, rows_held, seen_on}
 use Rattle.nms_board.specs.View.{view_of}
@@ -133,15 +134,19 @@ pub withdraw_from_none : (n p : ℕ) (cells : List Cell) → withdraw_from n p 0
 unfolding withdraw_from
 withdraw_from_none n p cells = refl
 
--- a withdrawal keeps the number of cells
+-- one cell changed keeps the number of cells
+length-change_cell : (cells : List Cell) (i : ℕ) (f : Cell → Cell) → length (change_cell cells i f) ≡ length cells
+length-change_cell cells i f = by_read (slice_get cells i)
+  where
+    by_read : (read : Option Cell) → length (set_if_some cells i f read) ≡ length cells
+    by_read None = refl
+    by_read (Some cell) = length-set cells i (f cell)
+
+-- a withdrawal keeps it
 pub length-withdraw_from : (n p syms : ℕ) (cells : List Cell) → length (withdraw_from n p syms cells) ≡ length cells
 unfolding withdraw_from
 length-withdraw_from n p zero cells = refl
-length-withdraw_from n p (suc symbol) cells = by_read (slice_get (withdraw_from n p symbol cells) (place_of p symbol)) ∙ length-withdraw_from n p symbol cells
-  where
-    by_read : (read : Option Cell) → length (set_if_some (withdraw_from n p symbol cells) (place_of p symbol) (withdrawn n) read) ≡ length (withdraw_from n p symbol cells)
-    by_read None = refl
-    by_read (Some cell) = length-set (withdraw_from n p symbol cells) (place_of p symbol) (withdrawn n cell)
+length-withdraw_from n p (suc symbol) cells = length-change_cell (withdraw_from n p symbol cells) (place_of p symbol) (withdrawn n) ∙ length-withdraw_from n p symbol cells
 
 -- a withdrawal leaves the cells of other participants, and those of later symbols
 withdraw_from_elsewhere : (n p syms : ℕ) (cells : List Cell) (place : ℕ) → ((sym : ℕ) → sym < syms → place_of p sym ≢ place) → slice_get (withdraw_from n p syms cells) place ≡ slice_get cells place
@@ -233,6 +238,27 @@ stands_after board tape change stands taken =
       cells = λ part symbol in_parts in_syms. cell_after board tape change part symbol (record { stands = stands; in_parts = in_parts; in_syms = in_syms }) held;
     }
 
+-- and so does every change
+length-cells_after : (n syms : ℕ) (cells : List Cell) (change : Change) → length (cells_after n syms cells change) ≡ length cells
+length-cells_after n syms cells (Quote part symbol state bid offer) = length-change_cell cells (place_of part symbol) (quoted n state bid offer)
+length-cells_after n syms cells (State part symbol state) = length-change_cell cells (place_of part symbol) (restated state)
+length-cells_after n syms cells (Withdraw part) = length-withdraw_from n part syms cells
+
+-- a board stays one
+pub board_after : (board : Board) (change : Change) → IsBoard board → takes board change ≡ true → IsBoard (after board change)
+board_after board change is taken =
+    let room = ltb-true board.applied MOST_CHANGES (and_parts (holds board.sizes change) (nat_lt board.applied MOST_CHANGES) taken).1 in
+    record {
+      shape = record {
+        parts = is.shape.parts;
+        syms = is.shape.syms;
+        cells = length-cells_after (board.applied + 1) (length board.sizes.lots) board.cells change ∙ is.shape.cells;
+        applied = omega arith;
+      };
+      tape = is.tape ++ change ∷ [];
+      stands = stands_after board is.tape change is.stands taken;
+    }
+
 -- a symbol out of the roster has lot 0, which shows nothing
 quotation_no_lot : (lot part : ℕ) (state : Option QState) (receipt : ℕ) (content : Option Content) → lot ≡ 0 → quotation lot part state receipt content ≡ None
 quotation_no_lot lot part state receipt None no_lot = refl
@@ -272,11 +298,13 @@ row_stands board tape symbol side part stands in_parts =
           ∙ sym (quotation_no_lot lot part (state_at part symbol tape) (receipt_of part symbol side tape) (content_at part symbol side tape) no_lot)
     ]
 
+pub rows_stand : (board : Board) (tape : Tape) (sym : ℕ) (side : Side) → StandsFor board tape → rows_held board sym side ≡ quotations board.sizes tape sym side
+rows_stand board tape symbol side stands =
+    filter_map_same (row_held board symbol side) (quotation_of board.sizes tape symbol side) 0 board.sizes.parts (λ part low high. row_stands board tape symbol side part stands (omega arith))
+
 pub seen_stands : (board : Board) (tape : Tape) (sym : ℕ) → StandsFor board tape → seen_on board sym ≡ view_of board.sizes tape sym
 seen_stands board tape symbol stands =
-    let rows : (side : Side) → rows_held board symbol side ≡ quotations board.sizes tape symbol side =
-    λ side. filter_map_same (row_held board symbol side) (quotation_of board.sizes tape symbol side) 0 board.sizes.parts (λ part low high. row_stands board tape symbol side part stands (omega arith)) in
-    rw (stands.applied, rows Bid, rows Offer) refl
+    rw (stands.applied, rows_stand board tape symbol Bid stands, rows_stand board tape symbol Offer stands) refl
 
 -- a cell of one symbol is none of another's
 other_symbol : (p s part sym : ℕ) → p < MOST_ROWS → part < MOST_ROWS → (s == sym) ≡ false → place_of p s ≢ place_of part sym

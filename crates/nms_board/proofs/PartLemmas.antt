@@ -65,6 +65,10 @@ pub shown_parts : (board : Board) (sym : ℕ) (side : Side) → All (λ (row : R
 shown_parts board sym Bid = held_parts board sym Bid
 shown_parts board sym Offer = held_parts board sym Offer
 
+pub rows_seen : (board : Board) (sym : ℕ) (side : Side) → rows_on side (seen_on board sym) ≡ rows_held board sym side
+rows_seen board symbol Bid = refl
+rows_seen board symbol Offer = refl
+
 -- the same of what is seen
 pub seen_parts : (board : Board) (sym : ℕ) (seen : Seen) → seen ≡ seen_on board sym → (side : Side) → All (λ (row : Row). row.part < board.sizes.parts) (rows_on side seen)
 seen_parts board sym seen e side = subst (λ (s : Seen). All (λ (row : Row). row.part < board.sizes.parts) (rows_on side s)) (sym_of e) (shown_parts board sym side)

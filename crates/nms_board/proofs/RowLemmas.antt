@@ -1,5 +1,5 @@
 -- What a board's rows are like: each of its participant and of a size, in order of place.
-use Rattle.std.proofs.Common.{◌≡◌, ℕ, zero, suc, ◌+◌, ◌<◌, ◌≤◌, ◌==◌, Bool, true, false, All, List, [], ◌∷◌, ◌++◌, length, map, Option, Some, None, IfSome, get_or, slice_get, slice_index, option_and_then, if◌then◌else◌, refl, ap, ◌∙◌, arith, add-one}
+use Rattle.std.proofs.Common.{◌≡◌, ℕ, zero, suc, ◌+◌, ◌<◌, ◌≤◌, ◌==◌, Bool, true, false, All, List, [], ◌∷◌, ◌++◌, length, map, Option, Some, None, IfSome, get_or, slice_get, slice_index, if◌then◌else◌, refl, ap, ◌∙◌, arith, add-one}
 use Rattle.std.specs.List.{filter_map, cons_option, range_with_len}
 use Rattle.std.proofs.lemmas.Bool.{eqb-false}
 use Rattle.std.proofs.lemmas.Option.{get_or_from_slice_get, slice_get_read, slice_get_within}
@@ -9,13 +9,15 @@ use Rattle.nms_quote.specs.Roster.{Sizes}
 use Rattle.nms_quote.specs.Tape.{Tape}
 use Rattle.nms_quote.specs.declared.side_quote.Side.{Side}
 use Rattle.nms_quote.specs.declared.side_quote.QState.{QState}
-use Rattle.nms_board.specs.History.{content_at, on_side, receipt_of, state_at}
+use Rattle.nms_board.specs.History.{content_at, receipt_of, state_at}
 use Rattle.nms_board.specs.Quotation.{is_halted, is_automated, quotation, quotation_of, quotations}
 use Rattle.nms_board.specs.View.{AreRows}
-use Rattle.nms_board.specs.Cells.{Board, IsInShape, place_of}
+use Rattle.nms_board.specs.Cells.{Board, IsBoard, IsInShape, place_of}
 use Rattle.nms_board.specs.Shown.{row_held, row_of_cell, rows_held}
 use Rattle.nms_board.specs.declared.cell.Cell.{Cell}
 use Rattle.nms_board.specs.declared.row.Row.{Row}
+use Rattle.nms_board.proofs.BoardLemmas.{rows_stand}
+use Rattle.nms_board.proofs.LawLemmas.{rows_differ}
 use Rattle.nms_board.proofs.ListLemmas.{filter_map_more}
 
 -- a row of that participant, of a size
@@ -37,16 +39,10 @@ rising place (row ∷ []) from k below = absurd (omega arith)
 rising place (row ∷ next ∷ rows) from zero below = omega (arith, from.2.0)
 rising place (row ∷ next ∷ rows) from (suc k) below = rising (row.part + 1) (next ∷ rows) from.2 k (omega arith)
 
-sizes : (place : ℕ) (rows : List Row) → IsFrom place rows → All (λ row. 0 < row.size) rows
-sizes place [] from k d below = absurd (omega arith)
-sizes place (row ∷ rows) from zero d below = from.1
-sizes place (row ∷ rows) from (suc k) d below = sizes (row.part + 1) rows from.2 k d (omega arith)
-
-AreRows-from : (place : ℕ) (rows : List Row) → IsFrom place rows → AreRows rows
-AreRows-from place rows from = record {
-  rising = λ k below. rw add-one (rising place rows from k (omega arith));
-  sizes = sizes place rows from;
-}
+each_of_size : (place : ℕ) (rows : List Row) → IsFrom place rows → All (λ row. 0 < row.size) rows
+each_of_size place [] from k d below = absurd (omega arith)
+each_of_size place (row ∷ rows) from zero d below = from.1
+each_of_size place (row ∷ rows) from (suc k) d below = each_of_size (row.part + 1) rows from.2 k d (omega arith)
 
 quotation_is_row : (lot part : ℕ) (state : Option QState) (receipt : ℕ) (content : Option Content) → IfSome (quotation lot part state receipt content) (IsRowOf part)
 quotation_is_row lot part state receipt None = tt
@@ -58,13 +54,6 @@ quotation_is_row lot part state receipt (Some content) = by_tests (is_halted sta
     by_tests false true e = tt
     by_tests false false e = (refl, omega (arith, eqb-false (displayed_size lot content.shares) 0 e))
 
-row_held_is_row : (board : Board) (sym : ℕ) (side : Side) (part : ℕ) → IfSome (row_held board sym side part) (IsRowOf part)
-row_held_is_row board symbol side part = by_read (slice_get board.cells (place_of part symbol))
-  where
-    by_read : (read : Option Cell) → IfSome (option_and_then (row_of_cell (slice_index board.sizes.lots symbol) part side) read) (IsRowOf part)
-    by_read None = tt
-    by_read (Some cell) = quotation_is_row (slice_index board.sizes.lots symbol) part cell.state (on_side side cell.bid cell.offer).receipt (on_side side cell.bid cell.offer).quote
-
 IsFrom-cons : (place : ℕ) (row : Option Row) (rows : List Row) → IfSome row (IsRowOf place) → IsFrom (place + 1) rows → IsFrom place (cons_option row rows)
 IsFrom-cons place None rows is from = IsFrom-later place (place + 1) rows (omega arith) from
 IsFrom-cons place (Some row) rows is from = (omega (arith, is.0), is.1, rw is.0 from)
@@ -73,16 +62,22 @@ IsFrom-range : (f : ℕ → Option Row) → ((part : ℕ) → IfSome (f part) (I
 IsFrom-range f each place zero = tt
 IsFrom-range f each place (suc n) = IsFrom-cons place (f place) (filter_map f (range_with_len (place + 1) n)) (each place) (IsFrom-range f each (place + 1) n)
 
--- a board's rows are in order, each of a size
-pub rows_held_are_rows : (board : Board) (sym : ℕ) (side : Side) → AreRows (rows_held board sym side)
-rows_held_are_rows board symbol side = AreRows-from 0 (rows_held board symbol side) (IsFrom-range (row_held board symbol side) (row_held_is_row board symbol side) 0 board.sizes.parts)
-
--- and so are those that a tape shows
+-- the rows that a tape shows are in order, each of a size and of a receipt of its own
 pub quotations_are_rows : (sizes : Sizes) (tape : Tape) (sym : ℕ) (side : Side) → AreRows (quotations sizes tape sym side)
-quotations_are_rows sizes tape symbol side = AreRows-from 0 (quotations sizes tape symbol side)
-    (IsFrom-range (quotation_of sizes tape symbol side)
+quotations_are_rows sizes tape symbol side =
+    let from : IsFrom 0 (quotations sizes tape symbol side) =
+    IsFrom-range (quotation_of sizes tape symbol side)
     (λ part. quotation_is_row (slice_index sizes.lots symbol) part (state_at part symbol tape) (receipt_of part symbol side tape) (content_at part symbol side tape))
-    0 sizes.parts)
+    0 sizes.parts in
+    record {
+      rising = λ k below. rw add-one (rising 0 (quotations sizes tape symbol side) from k (omega arith));
+      sizes = each_of_size 0 (quotations sizes tape symbol side) from;
+      receipts = rows_differ sizes tape symbol side;
+    }
+
+-- and so are those of a board that stands for one
+pub rows_held_are_rows : (board : Board) (sym : ℕ) (side : Side) → IsBoard board → AreRows (rows_held board sym side)
+rows_held_are_rows board symbol side is = rw (rows_stand board is.tape symbol side is.stands) (quotations_are_rows board.sizes is.tape symbol side)
 
 length-cons_option : {Y : Type 0} (o : Option Y) (ys : List Y) → length (cons_option o ys) ≤ length ys + 1
 length-cons_option None ys = omega arith

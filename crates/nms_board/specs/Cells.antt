@@ -52,6 +52,12 @@ pub record StandsFor (board : Board) (tape : Tape) : Type 0 where
   pub cells : (part sym : ℕ) → part < board.sizes.parts → sym < length board.sizes.lots
       → slice_get board.cells (place_of part sym) ≡ Some (cell_of part sym tape)
 
+-- a board in shape that stands for some tape
+pub record IsBoard (board : Board) : Type 0 where
+  pub shape : IsInShape board
+  pub tape : Tape
+  pub stands : StandsFor board tape
+
 abbrev pub nothing_held : Held
 nothing_held = record { quote = None; receipt = 0 }
 

@@ -1,5 +1,5 @@
 -- What a look at one symbol shows.
-use Rattle.std.specs.Prelude.{ℕ, ◌==◌, ◌<◌, All, List, length, map, Option}
+use Rattle.std.specs.Prelude.{ℕ, ◌≢◌, ◌==◌, ◌<◌, All, AllPairs, List, length, map, Option}
 use Rattle.std.specs.List.{find}
 use Rattle.std.specs.List.Sorted.{IsStrictlyIncreasing}
 use Rattle.nms_quote.specs.Roster.{Sizes}
@@ -24,10 +24,11 @@ rows_on side seen = on_side side seen.bids seen.offers
 abbrev pub row_of : Side → ℕ → Seen → Option Row
 row_of side part seen = find (λ row. row.part == part) (rows_on side seen)
 
--- rows as a side shows them: by participant place, and each of a size
+-- rows as a side shows them: by participant place, each of a size, each pair of two receipts
 pub record AreRows (rows : List Row) : Type 0 where
   pub rising : IsStrictlyIncreasing (map (λ row. row.part) rows)
   pub sizes : All (λ row. 0 < row.size) rows
+  pub receipts : AllPairs (λ row other. row.receipt ≢ other.receipt) rows
 
 -- the view of the whole tape
 abbrev pub view_of : Sizes → Tape → ℕ → Seen

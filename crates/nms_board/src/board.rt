@@ -1,11 +1,12 @@
 //! Every participant's quotations in every symbol, and the changes that alter them: `specs/Cells`.
-ghost use Rattle.std.specs.Prelude.{◌≡◌, ℕ, ◌+◌, ◌*◌, ◌<◌, ◌≤◌, All, List, [], ◌∷◌, ◌++◌, length, map, vec_len, true, fold, IfOk, Some, nat_lt, slice_get};
+ghost use Rattle.std.specs.Prelude.{◌≡◌, ℕ, ◌+◌, ◌*◌, ◌<◌, ◌≤◌, All, List, [], ◌∷◌, ◌++◌, length, map, vec_len, true, fold, IfOk, IfSome, MatchOption, Some, nat_lt, slice_get};
 ghost use Rattle.std.specs.List.{cons_option};
 ghost use Rattle.nms_quote.specs.Roster.{holds, sizes_of};
 ghost use Rattle.nms_quote.specs.Tape.{Tape};
 ghost use Rattle.nms_quote.specs.declared.side_quote.Side.{Side};
 ghost use Rattle.nms_quote.specs.declared.side_quote.Side.TheVariants.{Bid, Offer};
 ghost use Rattle.nms_board.specs.Cells.{place_of, withdraw_from};
+ghost use Rattle.nms_board.specs.Ranking.{ranked_at};
 
 use crate::MOST_ROWS;
 use crate::board_fault::BoardFault;
@@ -30,7 +31,7 @@ pub struct Boards {
 }
 
 impl Model for Boards {
-    ghost use Rattle.nms_board.specs.Cells.{Board, IsInShape};
+    ghost use Rattle.nms_board.specs.Cells.{Board, IsBoard};
 
     ghost Value = { Board };
 
@@ -40,7 +41,7 @@ impl Model for Boards {
       applied = b.applied;
     } };
 
-    ghost invariant = { λ b. IsInShape (record {
+    ghost invariant = { λ b. IsBoard (record {
       sizes = record { parts = b.parts; lots = b.lots.items };
       cells = b.cells.items;
       applied = b.applied;
@@ -121,6 +122,18 @@ impl Boards {
     {
         let lot = self.lots[usize::from(sym.get())];
         self.cells[place_of(part, sym)].row(side, part, lot)
+    }
+
+    /// The row at a place of a side's rank order in a symbol, from 0 on: the one above which exactly so many
+    /// of the symbol's rows on the side rank. `None` stands for the places from their number on, and for no other.
+    pub fn ranked(&self, side: Side, sym: Sym, at: u8) -> Option<Row>
+        requires { sym < length self.now.sizes.lots }
+        ensures ranked { result ≡ ranked_at side (rows_held self.now sym side) at }
+        ensures there { MatchOption result (length (rows_held self.now sym side) ≤ at)
+            (λ row. at < length (rows_held self.now sym side)) }
+        ensures part { IfSome result (λ row. row.part < self.now.sizes.parts) }
+    {
+        self.view(sym).ranked(side, at)
     }
 
     fn lot_of(&self, sym: Sym) -> Option<Lot>

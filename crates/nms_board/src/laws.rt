@@ -65,7 +65,7 @@ pub fn receipts_differ()
 {}
 
 /// The quotations on a side of a symbol stand by participant place, no more than one of each participant, and each
-/// displays some shares.
+/// displays some shares and has a receipt of its own.
 pub fn quotations_stand_by_participant()
     ensures { (sizes : Sizes) (tape : Tape) (sym : ℕ) (side : Side)
         → AreRows (quotations sizes tape sym side) }

@@ -10,3 +10,10 @@ returns-clause-opening c = grind (arith, common_steps)
 
 pub returns-clause-stands : goal.returns-clause-stands
 returns-clause-stands c = subst (λ board. StandsFor board []) (sym (returns-clause-opening c)) (stands_opening (sizes_of c.args.roster.now) (omega arith))
+
+pub invariant_of-result : goal.invariant_of-result
+invariant_of-result c = record {
+  shape = grind (arith, common_steps);
+  tape = [];
+  stands = returns-clause-stands c;
+}

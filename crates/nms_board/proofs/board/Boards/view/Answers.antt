@@ -1,13 +1,15 @@
-use Rattle.std.proofs.Common.{◌≡◌, slice_get, None, ◌∙◌, sym, ap, refl}
+use Rattle.std.proofs.Common.{◌≡◌, slice_get, None, ◌∙◌, sym, ap, subst, refl}
 use Rattle.nms_quote.specs.declared.side_quote.Side.TheVariants.{Bid, Offer}
-use Rattle.nms_board.specs.Cells.{Board}
+use Rattle.nms_board.specs.Cells.{Board, IsBoard}
 use Rattle.nms_board.proofs.BoardLemmas.{rows_held_unlisted, seen_stands}
 use Rattle.nms_board.proofs.RowLemmas.{rows_held_are_rows}
 use Rattle.nms_board.proofs.PartLemmas.{seen_parts}
 use Rattle.nms_board.proofs.board.Boards.view.Goals as goal
 
 pub invariant_of-view-2 : goal.invariant_of-view-2
-invariant_of-view-2 c = (rw c.show.ensures.bids (rows_held_are_rows c.args.self.now c.args.sym Bid), rw c.show.ensures.offers (rows_held_are_rows c.args.self.now c.args.sym Offer))
+invariant_of-view-2 c =
+    let is : IsBoard c.args.self.now = subst IsBoard c.self.view_is c.self.invariant in
+    (rw c.show.ensures.bids (rows_held_are_rows c.args.self.now c.args.sym Bid is), rw c.show.ensures.offers (rows_held_are_rows c.args.self.now c.args.sym Offer is))
 
 pub returns-clause-cells : goal.returns-clause-cells
 returns-clause-cells c = rw (c.show.ensures.bids, c.show.ensures.offers, ← c.self.view_is) refl
