@@ -230,7 +230,7 @@ quotation_counts sizes tape symbol side part row is =
     (omega (arith, of_row.receipt_is, receipt_counts part symbol side tape of_row.quotes), omega (arith, of_row.receipt_is, (receipt_is_least part symbol side tape).within))
 
 -- what holds of each answer over a range holds of each element of the list of answers
-all_answers : {Y : Type 0} (P : Y → Type 0) (f : ℕ → Option Y) (low n : ℕ) → ((k : ℕ) (y : Y) → low ≤ k → f k ≡ Some y → P y) → All P (filter_map f (range_with_len low n))
+pub all_answers : {Y : Type 0} (P : Y → Type 0) (f : ℕ → Option Y) (low n : ℕ) → ((k : ℕ) (y : Y) → low ≤ k → f k ≡ Some y → P y) → All P (filter_map f (range_with_len low n))
 all_answers {Y = Y} P f low zero each = All-nil P
 all_answers {Y = Y} P f low (suc n) each = with_first (f low) (λ y is. each low y (omega arith) is) (all_answers P f (low + 1) n (λ k y above is. each k y (omega arith) is))
   where
@@ -239,7 +239,7 @@ all_answers {Y = Y} P f low (suc n) each = with_first (f low) (λ y is. each low
     with_first (Some y) holds rest = All-cons P y (filter_map f (range_with_len (low + 1) n)) (holds y refl) rest
 
 -- and what holds of two answers, of each two
-all_pairs_of_answers : {Y : Type 0} (R : Y → Y → Type 0) (f : ℕ → Option Y) → ((j k : ℕ) (y z : Y) → j < k → f j ≡ Some y → f k ≡ Some z → R y z) → (low n : ℕ) → AllPairs R (filter_map f (range_with_len low n))
+pub all_pairs_of_answers : {Y : Type 0} (R : Y → Y → Type 0) (f : ℕ → Option Y) → ((j k : ℕ) (y z : Y) → j < k → f j ≡ Some y → f k ≡ Some z → R y z) → (low n : ℕ) → AllPairs R (filter_map f (range_with_len low n))
 all_pairs_of_answers R f each low zero = λ i j d lt below. absurd (omega arith)
 all_pairs_of_answers {Y = Y} R f each low (suc n) = with_first (f low) (λ y is. all_answers (R y) f (low + 1) n (λ k z above z_is. each low k y z (omega arith) is z_is)) (all_pairs_of_answers R f each (low + 1) n)
   where

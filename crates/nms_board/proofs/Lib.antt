@@ -3,5 +3,6 @@ pub mod HistoryLemmas
 pub mod LawLemmas
 pub mod ListLemmas
 mod RowLemmas
+pub mod OrderLemmas
 pub mod PartLemmas
 pub mod RankLemmas

@@ -8,5 +8,6 @@ pub mod History
 pub mod Laws
 pub mod Quotation
 pub mod Ranking
+pub mod Ranks
 pub mod Shown
 pub mod View

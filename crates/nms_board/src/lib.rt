@@ -5,6 +5,7 @@ mod board;
 mod board_fault;
 mod cell;
 mod laws;
+mod ranks;
 mod row;
 mod view;
 
