@@ -115,10 +115,10 @@ pub change_cell_written : (cells : List Cell) (i place : ℕ) (f : Cell → Cell
 change_cell_written cells i place f cell new at below read written =
     rw (written, ← at) (sym (change_cell_is cells i f cell (slice_get_read cells (length cells) i cell refl below read)))
 
-change_cell_here : (cells : List Cell) (i : ℕ) (f : Cell → Cell) (cell : Cell) → slice_get cells i ≡ Some cell → slice_get (change_cell cells i f) i ≡ Some (f cell)
+pub change_cell_here : (cells : List Cell) (i : ℕ) (f : Cell → Cell) (cell : Cell) → slice_get cells i ≡ Some cell → slice_get (change_cell cells i f) i ≡ Some (f cell)
 change_cell_here cells i f cell there = rw (change_cell_is cells i f cell there) (slice_get-set_same cells i cell (f cell) there)
 
-change_cell_elsewhere : (cells : List Cell) (i j : ℕ) (f : Cell → Cell) → i ≢ j → slice_get (change_cell cells i f) j ≡ slice_get cells j
+pub change_cell_elsewhere : (cells : List Cell) (i j : ℕ) (f : Cell → Cell) → i ≢ j → slice_get (change_cell cells i f) j ≡ slice_get cells j
 change_cell_elsewhere cells i j f ne = by_read (slice_get cells i)
   where
     by_read : (read : Option Cell) → slice_get (set_if_some cells i f read) j ≡ slice_get cells j
@@ -135,7 +135,7 @@ unfolding withdraw_from
 withdraw_from_none n p cells = refl
 
 -- one cell changed keeps the number of cells
-length-change_cell : (cells : List Cell) (i : ℕ) (f : Cell → Cell) → length (change_cell cells i f) ≡ length cells
+pub length-change_cell : (cells : List Cell) (i : ℕ) (f : Cell → Cell) → length (change_cell cells i f) ≡ length cells
 length-change_cell cells i f = by_read (slice_get cells i)
   where
     by_read : (read : Option Cell) → length (set_if_some cells i f read) ≡ length cells
@@ -259,6 +259,17 @@ board_after board change is taken =
       stands = stands_after board is.tape change is.stands taken;
     }
 
+-- the symbol of a change that a board takes is of the roster
+pub quoted_below : (board : Board) (part sym : ℕ) (state : QState) (bid offer : Option Content) → takes board (Quote part sym state bid offer) ≡ true → sym < length board.sizes.lots
+quoted_below board part symbol state bid offer taken =
+    let held = (and_parts (holds board.sizes (Quote part symbol state bid offer)) (nat_lt board.applied MOST_CHANGES) taken).0 in
+    ltb-true symbol (length board.sizes.lots) (and_parts (nat_lt part board.sizes.parts) (nat_lt symbol (length board.sizes.lots)) held).1
+
+pub restated_below : (board : Board) (part sym : ℕ) (state : QState) → takes board (State part sym state) ≡ true → sym < length board.sizes.lots
+restated_below board part symbol state taken =
+    let held = (and_parts (holds board.sizes (State part symbol state)) (nat_lt board.applied MOST_CHANGES) taken).0 in
+    ltb-true symbol (length board.sizes.lots) (and_parts (nat_lt part board.sizes.parts) (nat_lt symbol (length board.sizes.lots)) held).1
+
 -- a symbol out of the roster has lot 0, which shows nothing
 quotation_no_lot : (lot part : ℕ) (state : Option QState) (receipt : ℕ) (content : Option Content) → lot ≡ 0 → quotation lot part state receipt content ≡ None
 quotation_no_lot lot part state receipt None no_lot = refl
@@ -287,7 +298,7 @@ row_of_cell_of lot part symbol Bid tape = refl
 row_of_cell_of lot part symbol Offer tape = refl
 
 -- what the cells show is what the tape says
-row_stands : (board : Board) (tape : Tape) (sym : ℕ) (side : Side) (part : ℕ) → StandsFor board tape → part < board.sizes.parts → row_held board sym side part ≡ quotation_of board.sizes tape sym side part
+pub row_stands : (board : Board) (tape : Tape) (sym : ℕ) (side : Side) (part : ℕ) → StandsFor board tape → part < board.sizes.parts → row_held board sym side part ≡ quotation_of board.sizes tape sym side part
 row_stands board tape symbol side part stands in_parts =
     let lot = slice_index board.sizes.lots symbol in
     elim (cases_lt symbol (length board.sizes.lots)) [

@@ -1,5 +1,6 @@
 pub mod BoardLemmas
 pub mod HistoryLemmas
+pub mod KeptLemmas
 pub mod LawLemmas
 pub mod ListLemmas
 mod RowLemmas

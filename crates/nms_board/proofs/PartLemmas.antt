@@ -29,7 +29,7 @@ quotation_part lot part state receipt (Some content) row e = by (is_halted state
     by false true shown p h = absurd (cc)
     by false false shown p h = let same : shown ≡ row = cc in subst (λ (r : Row). r.part ≡ part) same p
 
-held_part : (board : Board) (sym : ℕ) (side : Side) (part : ℕ) (row : Row) → row_held board sym side part ≡ Some row → row.part ≡ part
+pub held_part : (board : Board) (sym : ℕ) (side : Side) (part : ℕ) (row : Row) → row_held board sym side part ≡ Some row → row.part ≡ part
 held_part board sym side part row e = by (slice_get board.cells (place_of part sym)) e
   where
     by : (cell : Option Cell) → option_and_then (row_of_cell (slice_index board.sizes.lots sym) part side) cell ≡ Some row → row.part ≡ part

@@ -93,6 +93,12 @@ withdrawn n cell = record {
   offer = held_after n None cell.offer;
 }
 
+-- a cell that a change speaks of, after it
+abbrev pub altered : ℕ → Change → Cell → Cell
+altered n (change.Quote part sym state bid offer) = quoted n state bid offer
+altered n (change.State part sym state) = restated state
+altered n (change.Withdraw part) = withdrawn n
+
 abbrev pub set_if_some : List Cell → ℕ → (Cell → Cell) → Option Cell → List Cell
 set_if_some cells i f None = cells
 set_if_some cells i f (Some cell) = slice_set cells i (f cell)

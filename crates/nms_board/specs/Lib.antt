@@ -5,6 +5,7 @@ pub use Rattle.nms_quote.specs.Tape as Tape
 pub mod Cells
 pub mod Examples
 pub mod History
+pub mod Kept
 pub mod Laws
 pub mod Quotation
 pub mod Ranking

@@ -5,13 +5,16 @@ ghost use Rattle.nms_quote.specs.Roster.{holds, sizes_of};
 ghost use Rattle.nms_quote.specs.Tape.{Tape};
 ghost use Rattle.nms_quote.specs.declared.side_quote.Side.{Side};
 ghost use Rattle.nms_quote.specs.declared.side_quote.Side.TheVariants.{Bid, Offer};
-ghost use Rattle.nms_board.specs.Cells.{place_of, withdraw_from};
+ghost use Rattle.nms_board.specs.Cells.{altered, change_cell, place_of, withdraw_from};
+ghost use Rattle.nms_board.specs.Kept.{AreRanks, row_shown, symbol_cells};
+ghost use Rattle.nms_board.specs.Ranks.{AreOwn};
 ghost use Rattle.nms_board.specs.Ranking.{ranked_at};
 
 use crate::MOST_ROWS;
 use crate::board_fault::BoardFault;
 use crate::cell::{Cell, empty_cells};
 use crate::row::Row;
+use crate::symbol_ranks::{SymbolRanks, empty_ranks};
 use crate::view::View;
 use arrayvec::ArrayVec;
 use nms_quote::{Change, MOST_CHANGES, MOST_SYMBOLS, Part, Roster, Side, Sym};
@@ -27,11 +30,14 @@ pub struct Boards {
     lots: Vec<Lot>,
     /// `MOST_ROWS` cells for each symbol, by participant place.
     cells: Vec<Cell>,
+    /// The rank orders of each symbol, by place, so that a look ranks nothing.
+    ranks: Vec<SymbolRanks>,
     applied: u64,
 }
 
 impl Model for Boards {
     ghost use Rattle.nms_board.specs.Cells.{Board, IsBoard};
+    ghost use Rattle.nms_board.specs.Kept.{AreRanks};
 
     ghost Value = { Board };
 
@@ -45,7 +51,7 @@ impl Model for Boards {
       sizes = record { parts = b.parts; lots = b.lots.items };
       cells = b.cells.items;
       applied = b.applied;
-    }) };
+    }) × AreRanks (record { parts = b.parts; lots = b.lots.items }) b.cells.items b.ranks.items };
 }
 
 impl Boards {
@@ -66,10 +72,14 @@ impl Boards {
         let Ok(cells) = empty_cells(alloc, lots.len()) else {
             return Err(BoardFault::NoMemory);
         };
+        let Ok(ranks) = empty_ranks(alloc, lots.len()) else {
+            return Err(BoardFault::NoMemory);
+        };
         Ok(Boards {
             parts,
             lots,
             cells,
+            ranks,
             applied: 0,
         })
     }
@@ -153,23 +163,33 @@ impl Boards {
         self.applied += 1;
         let number = self.applied;
         match change {
-            Change::Quote {
+            Change::Quote { part, sym, .. } => alter(
+                number,
+                change,
                 part,
-                sym,
-                state,
-                bid,
-                offer,
-            } => {
-                self.cells[place_of(part, sym)].quote(number, state, bid, offer);
-            }
-            Change::State { part, sym, state } => {
-                self.cells[place_of(part, sym)].restate(state);
-            }
+                usize::from(sym.get()),
+                self.parts,
+                &self.lots,
+                &mut self.cells,
+                &mut self.ranks,
+            ),
+            Change::State { part, sym, .. } => alter(
+                number,
+                change,
+                part,
+                usize::from(sym.get()),
+                self.parts,
+                &self.lots,
+                &mut self.cells,
+                &mut self.ranks,
+            ),
             Change::Withdraw { part } => withdraw_from(
                 number,
                 part,
-                self.lots.len(),
+                self.parts,
+                &self.lots,
                 &mut self.cells,
+                &mut self.ranks,
             ),
         }
     }
@@ -270,12 +290,72 @@ fn place_of(part: Part, sym: Sym) -> usize
     MOST_ROWS * usize::from(sym.get()) + usize::from(part.get())
 }
 
-/// Withdraws the participant's cell in each of the first symbols, as the change of that number.
-fn withdraw_from(number: u64, part: Part, syms: usize, cells: &mut [Cell])
-    requires { MOST_ROWS * syms ≤ length cells.old }
-    ensures { cells.new ≡ withdraw_from number part syms cells.old }
+/// Withdraws the participant's cell in each symbol, as the change of that number.
+fn withdraw_from(
+    number: u64,
+    part: Part,
+    parts: u8,
+    lots: &[Lot],
+    cells: &mut [Cell],
+    ranks: &mut [SymbolRanks],
+)
+    requires part { part < parts }
+    requires parts { parts ≤ MOST_ROWS }
+    requires room { MOST_ROWS * length lots.now ≤ length cells.old }
+    requires ranks { AreRanks (record { parts = parts; lots = lots.now }) cells.old ranks.old }
+    ensures cells { cells.new ≡ withdraw_from number part (length lots.now) cells.old }
+    ensures ranks { AreRanks (record { parts = parts; lots = lots.now }) cells.new ranks.new }
 {
-    for sym in 0..syms {
-        cells[MOST_ROWS * sym + usize::from(part.get())].withdraw(number);
+    for sym in 0..lots.len() {
+        alter(
+            number,
+            Change::Withdraw { part },
+            part,
+            sym,
+            parts,
+            lots,
+            cells,
+            ranks,
+        );
     }
+}
+
+/// Alters the participant's cell in a symbol, as the change of that number says, and with it the symbol's
+/// rank orders.
+fn alter(
+    number: u64,
+    change: Change,
+    part: Part,
+    sym: usize,
+    parts: u8,
+    lots: &[Lot],
+    cells: &mut [Cell],
+    ranks: &mut [SymbolRanks],
+)
+    requires part { part < parts }
+    requires parts { parts ≤ MOST_ROWS }
+    requires sym { sym < length lots.now }
+    requires room { MOST_ROWS * length lots.now ≤ length cells.old }
+    requires ranks { AreRanks (record { parts = parts; lots = lots.now }) cells.old ranks.old }
+    requires own { (side : Side) → AreOwn (row_shown (record { parts = parts; lots = lots.now })
+        (change_cell cells.old (place_of part sym) (altered number change)) sym side) }
+    ensures cells { cells.new ≡ change_cell cells.old (place_of part sym) (altered number change) }
+    ensures ranks { AreRanks (record { parts = parts; lots = lots.now }) cells.new ranks.new }
+{
+    let lot = lots[sym];
+    let cell = &mut cells[MOST_ROWS * sym + usize::from(part.get())];
+    let bid = cell.row(Side::Bid, part, lot);
+    let offer = cell.row(Side::Offer, part, lot);
+    cell.alter(number, change);
+    let orders = &mut ranks[sym];
+    orders.settle(part, lot, bid, offer, symbol_cells(cells, sym, parts));
+}
+
+/// The cells of a symbol's participants.
+fn symbol_cells(cells: &[Cell], sym: usize, parts: u8) -> &[Cell]
+    requires { MOST_ROWS * sym + parts ≤ length cells.now }
+    ensures { result.now ≡ symbol_cells parts sym cells.now }
+{
+    let first = MOST_ROWS * sym;
+    &cells[first..first + usize::from(parts)]
 }

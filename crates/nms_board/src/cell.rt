@@ -5,7 +5,7 @@ ghost use Rattle.nms_board.specs.History.{same_content};
 
 use crate::MOST_ROWS;
 use crate::row::Row;
-use nms_quote::{MOST_SYMBOLS, Part, QState, Side, SideQuote};
+use nms_quote::{Change, MOST_SYMBOLS, Part, QState, Side, SideQuote};
 use nms_units::Lot;
 use std::alloc::{AllocError, Global};
 
@@ -65,7 +65,7 @@ pub struct Cell {
 }
 
 impl Cell {
-    ghost use Rattle.nms_board.specs.Cells.{empty_cell, quoted, restated, withdrawn};
+    ghost use Rattle.nms_board.specs.Cells.{altered, empty_cell, quoted, restated, withdrawn};
     ghost use Rattle.nms_board.specs.Shown.{row_of_cell};
 
     /// A participant that never quoted there.
@@ -99,6 +99,22 @@ impl Cell {
         ensures { self.new ≡ restated state self.old }
     {
         self.state = Some(state);
+    }
+
+    /// Takes a change that speaks of the participant in the symbol, as the change of that number.
+    pub(crate) fn alter(&mut self, number: u64, change: Change)
+        ensures { self.new ≡ altered number change self.old }
+    {
+        match change {
+            Change::Quote {
+                state,
+                bid,
+                offer,
+                ..
+            } => self.quote(number, state, bid, offer),
+            Change::State { state, .. } => self.restate(state),
+            Change::Withdraw { .. } => self.withdraw(number),
+        }
     }
 
     /// Takes a withdrawal of both sides, as the change of that number. The state stays.

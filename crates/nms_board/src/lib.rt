@@ -7,6 +7,7 @@ mod cell;
 mod laws;
 mod ranks;
 mod row;
+mod symbol_ranks;
 mod view;
 
 /// The most rows of a side of a symbol: one for each participant's place. This product's own rule.

@@ -1,7 +1,11 @@
 use Rattle.std.proofs.Common.{◌≡◌}
 use Rattle.nms_board.specs.Cells.{withdraw_from}
+use Rattle.nms_board.specs.Kept.{AreRanks}
 use Rattle.nms_board.proofs.board.withdraw_from.Given as goal
 
--- the symbols so far are withdrawn
+-- the cells of the symbols so far are withdrawn, and the orders are those of the cells
 abbrev pub invariant-loop-sym : goal.invariant-loop-sym
-invariant-loop-sym l = l.cells ≡ withdraw_from l.number l.part l.sym l.initial.cells
+invariant-loop-sym l = record {
+  cells : l.cells ≡ withdraw_from l.number l.part l.sym l.fn.cells;
+  ranks : AreRanks (record { parts = l.parts; lots = l.lots }) l.cells l.ranks;
+}

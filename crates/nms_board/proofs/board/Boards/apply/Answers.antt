@@ -1,36 +1,66 @@
-use Rattle.std.proofs.Common.{◌+◌, [], ◌∷◌, ◌++◌, List, sym, ap, subst, arith, rules}
+use Rattle.std.proofs.Common.{◌≡◌, [], ◌∷◌, ◌++◌, true, sym, subst, arith}
 use Rattle.std.proofs.lemmas.Grind.{common_steps}
-use Rattle.nms_board.specs.Cells.{IsBoard, StandsFor, quoted, restated, place_of}
-use Rattle.nms_board.specs.declared.cell.Cell.{Cell}
-use Rattle.nms_board.proofs.BoardLemmas.{board_after, change_cell_written, stands_after}
+use Rattle.nms_quote.specs.declared.change.Change.TheVariants.{Quote, State}
+use Rattle.nms_board.specs.Cells.{Board, IsBoard, StandsFor, after, takes}
+use Rattle.nms_board.proofs.BoardLemmas.{board_after, quoted_below, restated_below, stands_after}
+use Rattle.nms_board.proofs.KeptLemmas.{own_shown}
+use Rattle.nms_board.proofs.ListLemmas.{written_all}
 use Rattle.nms_board.proofs.board.Boards.apply.Goals as goal
 
+pub alter-requires-clause-own : goal.alter-requires-clause-own
+alter-requires-clause-own c = λ side.
+    let board : Board = record { sizes = record { parts = c.self.inside.parts; lots = c.self.inside.lots.items }; cells = c.self.inside.cells.items; applied = c.self.inside.applied } in
+    let change = Quote c.in-Quote.part c.in-Quote.sym c.in-Quote.state c.in-Quote.bid c.in-Quote.offer in
+    let taken : takes board change ≡ true = subst (λ (b : Board). takes b change ≡ true) (sym c.self.view_is) (subst (λ ch. takes c.args.self.now ch ≡ true) c.in-Quote.is c.requires) in
+    rw (c.deref.ensures.value, c.deref_mut.ensures.value, c.from.ensures, c.get.ensures.place)
+    (own_shown (after board change) c.in-Quote.sym side (board_after board change c.self.invariant.0 taken) (quoted_below board c.in-Quote.part c.in-Quote.sym c.in-Quote.state c.in-Quote.bid c.in-Quote.offer taken))
+
+pub alter-requires-in-State-clause-own : goal.alter-requires-in-State-clause-own
+alter-requires-in-State-clause-own c = λ side.
+    let board : Board = record { sizes = record { parts = c.self.inside.parts; lots = c.self.inside.lots.items }; cells = c.self.inside.cells.items; applied = c.self.inside.applied } in
+    let change = State c.in-State.part c.in-State.sym c.in-State.state in
+    let taken : takes board change ≡ true = subst (λ (b : Board). takes b change ≡ true) (sym c.self.view_is) (subst (λ ch. takes c.args.self.now ch ≡ true) c.in-State.is c.requires) in
+    rw (c.deref-in-State.ensures.value, c.deref_mut-in-State.ensures.value, c.from-in-State.ensures, c.get-in-State.ensures.place)
+    (own_shown (after board change) c.in-State.sym side (board_after board change c.self.invariant.0 taken) (restated_below board c.in-State.part c.in-State.sym c.in-State.state taken))
+
 pub returns-in-Quote-clause-after : goal.returns-in-Quote-clause-after
-returns-in-Quote-clause-after c =
-    let number = c.self.inside.applied + 1 in
-    rw (c.in-Quote.is, ← c.self.view_is)
-    (ap (λ (cells : List Cell). record { sizes = record { parts = c.self.inside.parts; lots = c.self.inside.lots.items }; cells = cells; applied = number })
-    (change_cell_written c.self.inside.cells.items c.place_of.result (place_of c.in-Quote.part c.in-Quote.sym) (quoted number c.in-Quote.state c.in-Quote.bid c.in-Quote.offer) c.index_mut.result.now c.quote.new.self
-    c.place_of.ensures.place (search rules) c.index_mut.ensures.value c.quote.ensures))
+returns-in-Quote-clause-after c = grind (arith, common_steps)
 
 pub invariant_of-self : goal.invariant_of-self
-invariant_of-self c = subst IsBoard (sym (returns-in-Quote-clause-after c)) (board_after c.args.self.now c.args.change (subst IsBoard c.self.view_is c.self.invariant) c.requires)
+invariant_of-self c = (
+  subst IsBoard (sym (returns-in-Quote-clause-after c)) (board_after c.args.self.now c.args.change (subst IsBoard c.self.view_is c.self.invariant.0) c.requires),
+  rw (
+    written_all c.self.inside.cells.len c.alter.new.cells c.self.inside.cells.items (omega (arith, c.alter.auto.cells)) (omega arith),
+    written_all c.self.inside.ranks.len c.alter.new.ranks c.self.inside.ranks.items (omega (arith, c.alter.auto.ranks)) (omega arith),
+    ← c.deref.ensures.value,
+  ) c.alter.ensures.ranks,
+)
 
 pub returns-in-State-clause-after : goal.returns-in-State-clause-after
-returns-in-State-clause-after c =
-    rw (c.in-State.is, ← c.self.view_is)
-    (ap (λ (cells : List Cell). record { sizes = record { parts = c.self.inside.parts; lots = c.self.inside.lots.items }; cells = cells; applied = c.self.inside.applied + 1 })
-    (change_cell_written c.self.inside.cells.items c.place_of-in-State.result (place_of c.in-State.part c.in-State.sym) (restated c.in-State.state) c.index_mut-in-State.result.now c.restate.new.self
-    c.place_of-in-State.ensures.place (grind (arith, common_steps)) c.index_mut-in-State.ensures.value c.restate.ensures))
+returns-in-State-clause-after c = grind (arith, common_steps)
 
 pub invariant_of-self-in-State : goal.invariant_of-self-in-State
-invariant_of-self-in-State c = subst IsBoard (sym (returns-in-State-clause-after c)) (board_after c.args.self.now c.args.change (subst IsBoard c.self.view_is c.self.invariant) c.requires)
+invariant_of-self-in-State c = (
+  subst IsBoard (sym (returns-in-State-clause-after c)) (board_after c.args.self.now c.args.change (subst IsBoard c.self.view_is c.self.invariant.0) c.requires),
+  rw (
+    written_all c.self.inside.cells.len c.alter-in-State.new.cells c.self.inside.cells.items (omega (arith, c.alter-in-State.auto.cells)) (omega arith),
+    written_all c.self.inside.ranks.len c.alter-in-State.new.ranks c.self.inside.ranks.items (omega (arith, c.alter-in-State.auto.ranks)) (omega arith),
+    ← c.deref-in-State.ensures.value,
+  ) c.alter-in-State.ensures.ranks,
+)
 
 pub returns-in-Withdraw-clause-after : goal.returns-in-Withdraw-clause-after
 returns-in-Withdraw-clause-after c = grind (arith, common_steps)
 
 pub invariant_of-self-in-Withdraw : goal.invariant_of-self-in-Withdraw
-invariant_of-self-in-Withdraw c = subst IsBoard (sym (returns-in-Withdraw-clause-after c)) (board_after c.args.self.now c.args.change (subst IsBoard c.self.view_is c.self.invariant) c.requires)
+invariant_of-self-in-Withdraw c = (
+  subst IsBoard (sym (returns-in-Withdraw-clause-after c)) (board_after c.args.self.now c.args.change (subst IsBoard c.self.view_is c.self.invariant.0) c.requires),
+  rw (
+    written_all c.self.inside.cells.len c.withdraw_from.new.cells c.self.inside.cells.items (omega (arith, c.withdraw_from.auto.cells)) (omega arith),
+    written_all c.self.inside.ranks.len c.withdraw_from.new.ranks c.self.inside.ranks.items (omega (arith, c.withdraw_from.auto.ranks)) (omega arith),
+    ← c.deref-in-Withdraw.ensures.value,
+  ) c.withdraw_from.ensures.ranks,
+)
 
 pub returns-in-Quote-clause-stands : goal.returns-in-Quote-clause-stands
 returns-in-Quote-clause-stands c = λ tape stands. subst (λ board. StandsFor board (tape ++ c.args.change ∷ [])) (sym (returns-in-Quote-clause-after c)) (stands_after c.args.self.now tape c.args.change stands c.requires)

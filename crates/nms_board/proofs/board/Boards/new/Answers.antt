@@ -1,8 +1,9 @@
-use Rattle.std.proofs.Common.{[], sym, subst, arith}
+use Rattle.std.proofs.Common.{◌≡◌, [], length, sym, subst, arith}
 use Rattle.std.proofs.lemmas.Grind.{common_steps}
 use Rattle.nms_quote.specs.Roster.{sizes_of}
 use Rattle.nms_board.specs.Cells.{StandsFor}
 use Rattle.nms_board.proofs.BoardLemmas.{stands_opening}
+use Rattle.nms_board.proofs.KeptLemmas.{ranks_opening}
 use Rattle.nms_board.proofs.board.Boards.new.Goals as goal
 
 pub returns-clause-opening : goal.returns-clause-opening
@@ -12,8 +13,10 @@ pub returns-clause-stands : goal.returns-clause-stands
 returns-clause-stands c = subst (λ board. StandsFor board []) (sym (returns-clause-opening c)) (stands_opening (sizes_of c.args.roster.now) (omega arith))
 
 pub invariant_of-result : goal.invariant_of-result
-invariant_of-result c = record {
-  shape = grind (arith, common_steps);
-  tape = [];
-  stands = returns-clause-stands c;
-}
+invariant_of-result c =
+    let syms : c.len.result ≡ length c.in-Ok.lots.items = omega arith in
+    let symbols : length c.in-Ok-empty_ranks.ranks.items ≡ length c.in-Ok.lots.items = omega (arith, c.in-Ok-empty_ranks.ensures.symbols) in (
+      record { shape = grind (arith, common_steps); tape = []; stands = returns-clause-stands c },
+      rw (c.in-Ok-empty_cells.ensures, syms)
+          (ranks_opening (record { parts = c.parts-parts.result; lots = c.in-Ok.lots.items }) c.in-Ok-empty_ranks.ranks.items c.parts-parts.ensures.within symbols c.in-Ok-empty_ranks.ensures.empty),
+    )

@@ -20,7 +20,7 @@ one_more c side =
     let part : c.unwrap-part.result ≡ c.loop-place.place = grind (arith, common_steps) in
     let listed = subst (λ (board : Board). slice_get board.sizes.lots c.args.sym ≡ Some c.args.lot) (sym c.self.view_is) c.requires.lot in
     let place : c.place_of.result ≡ place_of c.loop-place.place c.args.sym = c.place_of.ensures.place ∙ ap (λ part. place_of part c.args.sym) part in
-    rw (← c.self.view_is, part) (rows_more _ c.args.sym side c.loop-place.place c.args.lot c.place_of.result c.index-cell.result.now c.self.invariant.shape listed (omega arith) place c.index-cell.ensures)
+    rw (← c.self.view_is, part) (rows_more _ c.args.sym side c.loop-place.place c.args.lot c.place_of.result c.index-cell.result.now c.self.invariant.0.shape listed (omega arith) place c.index-cell.ensures)
 
 pub loop-place-preserved : goal.loop-place-preserved
 loop-place-preserved c = record {

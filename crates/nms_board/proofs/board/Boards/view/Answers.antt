@@ -8,7 +8,7 @@ use Rattle.nms_board.proofs.board.Boards.view.Goals as goal
 
 pub invariant_of-view-2 : goal.invariant_of-view-2
 invariant_of-view-2 c =
-    let is : IsBoard c.args.self.now = subst IsBoard c.self.view_is c.self.invariant in
+    let is : IsBoard c.args.self.now = subst IsBoard c.self.view_is c.self.invariant.0 in
     (rw c.show.ensures.bids (rows_held_are_rows c.args.self.now c.args.sym Bid is), rw c.show.ensures.offers (rows_held_are_rows c.args.self.now c.args.sym Offer is))
 
 pub returns-clause-cells : goal.returns-clause-cells
