@@ -1,6 +1,7 @@
 //! Every participant's quotations in every symbol, and the changes that alter them: `specs/Cells`.
 ghost use Rattle.std.specs.Prelude.{◌≡◌, ℕ, ◌+◌, ◌*◌, ◌<◌, ◌≤◌, All, List, [], ◌∷◌, ◌++◌, length, map, vec_len, true, fold, IfOk, IfSome, MatchOption, Some, nat_lt, slice_get};
 ghost use Rattle.std.specs.List.{cons_option};
+ghost use Rattle.std.specs.Option.{option_and_then};
 ghost use Rattle.nms_quote.specs.Roster.{holds, sizes_of};
 ghost use Rattle.nms_quote.specs.Tape.{Tape};
 ghost use Rattle.nms_quote.specs.declared.side_quote.Side.{Side};
@@ -143,7 +144,27 @@ impl Boards {
             (λ row. at < length (rows_held self.now sym side)) }
         ensures part { IfSome result (λ row. row.part < self.now.sizes.parts) }
     {
-        self.view(sym).ranked(side, at)
+        match self.part_ranked(side, sym, at) {
+            Some(part) => self.row(side, part, sym),
+            None => None,
+        }
+    }
+
+    /// The participant at a place of a side's rank order in a symbol.
+    fn part_ranked(&self, side: Side, sym: Sym, at: u8) -> Option<Part>
+        requires { sym < length self.now.sizes.lots }
+        ensures ranked { ranked_at side (rows_held self.now sym side) at
+            ≡ option_and_then (row_held self.now sym side) result }
+        ensures there { MatchOption (ranked_at side (rows_held self.now sym side) at)
+            (length (rows_held self.now sym side) ≤ at)
+            (λ row. at < length (rows_held self.now sym side)) }
+        ensures within { IfSome result (λ part. part < self.now.sizes.parts) }
+    {
+        let orders = &self.ranks[usize::from(sym.get())];
+        match orders.place(side, at) {
+            Some(place) => Part::new(place),
+            None => None,
+        }
     }
 
     fn lot_of(&self, sym: Sym) -> Option<Lot>

@@ -1,21 +1,27 @@
-use Rattle.std.proofs.Common.{◌≡◌, ◌<◌, ap, ◌∙◌}
-use Rattle.nms_board.specs.Shown.{rows_held}
-use Rattle.nms_board.specs.View.{rows_on}
+use Rattle.std.proofs.Common.{◌<◌, ◌≤◌, List, length, sym, ap, ◌∙◌}
+use Rattle.std.proofs.lemmas.Option.{MatchOption-at_none}
+use Rattle.std.specs.Option.{option_and_then}
+use Rattle.nms_board.specs.Shown.{row_held, rows_held}
 use Rattle.nms_board.specs.declared.row.Row.{Row}
 use Rattle.nms_board.proofs.ListLemmas.{found_is}
-use Rattle.nms_board.proofs.PartLemmas.{held_parts, rows_seen}
+use Rattle.nms_board.proofs.PartLemmas.{held_parts}
 use Rattle.nms_board.proofs.board.Boards.ranked.Goals as goal
 
-rows_are : (c : goal.After-ranked) → rows_on c.args.side c.view.result ≡ rows_held c.args.self.now c.args.sym c.args.side
-rows_are c = ap (rows_on c.args.side) c.view.ensures.cells ∙ rows_seen c.args.self.now c.args.sym c.args.side
+pub returns-in-Some-clause-ranked : goal.returns-in-Some-clause-ranked
+returns-in-Some-clause-ranked c = c.row.ensures ∙ sym (c.part_ranked.ensures.ranked ∙ ap (option_and_then (row_held c.args.self.now c.args.sym c.args.side)) c.in-Some.is)
 
-pub returns-clause-ranked : goal.returns-clause-ranked
-returns-clause-ranked c = rw (← rows_are c) c.ranked.ensures.ranked
+pub returns-in-Some-clause-there : goal.returns-in-Some-clause-there
+returns-in-Some-clause-there c = rw (returns-in-Some-clause-ranked c) c.part_ranked.ensures.there
 
-pub returns-clause-there : goal.returns-clause-there
-returns-clause-there c = rw (← rows_are c) c.ranked.ensures.there
-
-pub returns-clause-part : goal.returns-clause-part
-returns-clause-part c =
-    rw (c.ranked.ensures.ranked, rows_are c)
+pub returns-in-Some-clause-part : goal.returns-in-Some-clause-part
+returns-in-Some-clause-part c =
+    rw (returns-in-Some-clause-ranked c)
     (found_is (λ (row : Row). row.part < c.args.self.now.sizes.parts) _ (rows_held c.args.self.now c.args.sym c.args.side) (held_parts c.args.self.now c.args.sym c.args.side))
+
+pub returns-in-None-clause-ranked : goal.returns-in-None-clause-ranked
+returns-in-None-clause-ranked c = sym (c.part_ranked.ensures.ranked ∙ ap (option_and_then (row_held c.args.self.now c.args.sym c.args.side)) c.in-None.is)
+
+pub returns-in-None-clause-there : goal.returns-in-None-clause-there
+returns-in-None-clause-there c =
+    let rows : List Row = rows_held c.args.self.now c.args.sym c.args.side in
+    MatchOption-at_none (length rows ≤ c.args.at) (λ (row : Row). c.args.at < length rows) (sym (returns-in-None-clause-ranked c)) c.part_ranked.ensures.there
