@@ -1,4 +1,3 @@
-mod KeptLemmas
 mod LawLemmas
 pub mod ListFacts
 pub mod RunLemmas

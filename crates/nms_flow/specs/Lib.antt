@@ -5,7 +5,6 @@ pub use Rattle.nms_board.specs.View as View
 pub use Rattle.nms_nbbo.specs.Best as Best
 pub mod Faults
 pub mod Flow
-pub mod Kept
 pub mod Laws
 pub mod Run
 pub mod Shape

@@ -6,10 +6,9 @@ ghost use Rattle.nms_quote.specs.Tape.{Tape};
 ghost use Rattle.nms_quote.specs.declared.side_quote.Side.{Side};
 ghost use Rattle.nms_quote.specs.declared.side_quote.Side.TheVariants.{Bid, Offer};
 ghost use Rattle.nms_board.specs.Cells.{StandsFor};
-ghost use Rattle.nms_board.specs.Shown.{rows_held, seen_on};
+ghost use Rattle.nms_board.specs.Shown.{seen_on};
 ghost use Rattle.nms_board.specs.View.{rows_on};
 ghost use Rattle.nms_nbbo.specs.Best.{IsBestOf};
-ghost use Rattle.nms_flow.specs.Kept.{AreKept};
 ghost use Rattle.nms_flow.specs.Run.{Event, changes_in, replied};
 ghost use Rattle.nms_flow.specs.Shape.{HasShape, holds_step};
 ghost use Rattle.nms_flow.specs.declared.step.Step.TheVariants as step;
@@ -17,13 +16,13 @@ ghost use Rattle.nms_flow.specs.declared.reply.Reply.TheVariants as reply;
 
 use crate::best_rows::BestRows;
 use crate::flow_fault::FlowFault;
-use crate::kept_rows::KeptRows;
 use crate::reply::Reply;
 use crate::step::Step;
 use crate::step_fault::StepFault;
 use nms_board::{Boards, View};
 use nms_fees::Setup;
-use nms_quote::{Change, Feed, MOST_CHANGES, Marked, SideQuote, Sym};
+use nms_nbbo::best_on;
+use nms_quote::{Change, Feed, MOST_CHANGES, Marked, Side, SideQuote, Sym};
 use std::alloc::{AllocError, Global};
 use std::collections::VecDeque;
 use std::marker::Model;
@@ -42,20 +41,17 @@ pub struct Flow {
     pending: usize,
     most_queued: usize,
     most_taken: u64,
-    kept: KeptRows,
 }
 
 impl Model for Flow {
     ghost use Rattle.std.specs.VecDeque.{deque_capacity};
     ghost use Rattle.nms_flow.specs.Flow.{State, IsSound};
-    ghost use Rattle.nms_flow.specs.Kept.{AreKept};
 
     ghost Value = { State };
 
     ghost view = { λ f. record { board = f.board; changes = f.changes.items; pending = f.pending; most_queued = f.most_queued; most_taken = f.most_taken } };
 
-    ghost invariant = { λ f. IsSound (record { board = f.board; changes = f.changes.items; pending = f.pending; most_queued = f.most_queued; most_taken = f.most_taken }) (deque_capacity f.changes)
-        × AreKept f.board f.kept.known.items f.kept.rows.items };
+    ghost invariant = { λ f. IsSound (record { board = f.board; changes = f.changes.items; pending = f.pending; most_queued = f.most_queued; most_taken = f.most_taken }) (deque_capacity f.changes) };
 }
 
 impl Flow {
@@ -70,10 +66,9 @@ impl Flow {
     {
         let roster = setup.roster();
         let most_queued = setup.queue();
-        let (Ok(board), Ok(changes), Ok(kept)) = (
+        let (Ok(board), Ok(changes)) = (
             Boards::new(alloc, roster),
             VecDeque::with_capacity(alloc, most_queued),
-            KeptRows::new(alloc, roster.syms()),
         ) else {
             return Err(FlowFault::NoMemory);
         };
@@ -83,7 +78,6 @@ impl Flow {
             pending: 0,
             most_queued,
             most_taken: setup.tape_limit(),
-            kept,
         })
     }
 
@@ -145,7 +139,7 @@ impl Flow {
     pub fn publish(&mut self) -> u64
         ensures went { WentOn self.old self.new (step.Publish, Ok (reply.Published result)) }
     {
-        apply_first(&mut self.board, &mut self.kept, &self.changes, self.pending);
+        apply_first(&mut self.board, &self.changes, self.pending);
         drop_front(&mut self.changes, self.pending);
         self.pending = 0;
         self.board.applied()
@@ -180,14 +174,16 @@ impl Flow {
     }
 
     /// The best bid and the best offer that a look at a symbol of the roster shows, with no view made.
-    pub fn best(&mut self, sym: Sym) -> BestRows
-        requires { sym < length self.old.board.sizes.lots }
-        ensures went { (desk : ℕ) → WentOn self.old self.new (step.Look desk sym, Ok (reply.Seen (seen_on self.old.board sym))) }
-        ensures bid { IsBestOf Bid (seen_on self.old.board sym).bids result.bid }
-        ensures offer { IsBestOf Offer (seen_on self.old.board sym).offers result.offer }
-        ensures unchanged { self.new ≡ self.old }
+    pub fn best(&self, sym: Sym) -> BestRows
+        requires { sym < length self.now.board.sizes.lots }
+        ensures went { (desk : ℕ) → WentOn self.now self.now (step.Look desk sym, Ok (reply.Seen (seen_on self.now.board sym))) }
+        ensures bid { IsBestOf Bid (seen_on self.now.board sym).bids result.bid }
+        ensures offer { IsBestOf Offer (seen_on self.now.board sym).offers result.offer }
     {
-        self.kept.best(&self.board, sym)
+        BestRows {
+            bid: best_on(&self.board, Side::Bid, sym),
+            offer: best_on(&self.board, Side::Offer, sym),
+        }
     }
 
     /// Makes one step, which is one event. A fault leaves the machine as it was. `NoMemory` comes at a taking alone, and only
@@ -230,36 +226,31 @@ impl Flow {
     }
 }
 
-/// Applies the first changes of a queue in order, and forgets the best rows of the symbols that they concern.
-fn apply_first(board: &mut Boards, kept: &mut KeptRows, queue: &VecDeque<Marked>, count: usize)
+/// Applies the first changes of a queue in order.
+fn apply_first(board: &mut Boards, queue: &VecDeque<Marked>, count: usize)
     requires held { All (λ marked. holds board.old.sizes marked.change ≡ true) queue.now.items }
     requires there { count ≤ deque_len queue.now }
     requires room { board.old.applied + count ≤ MOST_CHANGES }
-    requires kept { AreKept board.old kept.old.known.items kept.old.rows.items }
     ensures stands { (tape : Tape) → StandsFor board.old tape → StandsFor board.new (tape ++ changes_in (take count queue.now.items)) }
     ensures sizes { board.new.sizes ≡ board.old.sizes }
     ensures applied { board.new.applied ≡ board.old.applied + count }
-    ensures kept { AreKept board.new kept.new.known.items kept.new.rows.items }
 {
     let (front, back) = queue.as_slices();
     let first = count.min(front.len());
-    apply_all(board, kept, &front[..first]);
-    apply_all(board, kept, &back[..count - first]);
+    apply_all(board, &front[..first]);
+    apply_all(board, &back[..count - first]);
 }
 
-/// Applies changes in order, and forgets the best rows of the symbols that they concern.
-fn apply_all(board: &mut Boards, kept: &mut KeptRows, changes: &[Marked])
+/// Applies changes in order.
+fn apply_all(board: &mut Boards, changes: &[Marked])
     requires held { All (λ marked. holds board.old.sizes marked.change ≡ true) changes.now }
     requires room { board.old.applied + length changes.now ≤ MOST_CHANGES }
-    requires kept { AreKept board.old kept.old.known.items kept.old.rows.items }
     ensures stands { (tape : Tape) → StandsFor board.old tape → StandsFor board.new (tape ++ changes_in changes.now) }
     ensures sizes { board.new.sizes ≡ board.old.sizes }
     ensures applied { board.new.applied ≡ board.old.applied + length changes.now }
-    ensures kept { AreKept board.new kept.new.known.items kept.new.rows.items }
 {
     for marked in changes {
         board.apply(marked.change);
-        kept.forget(&marked.change);
     }
 }
 

@@ -5,7 +5,6 @@
 mod best_rows;
 mod flow;
 mod flow_fault;
-mod kept_rows;
 mod laws;
 mod reply;
 mod step;

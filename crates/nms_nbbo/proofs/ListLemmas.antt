@@ -1,8 +1,9 @@
 -- Lists: what is found in one, and what a list of answers holds.
-use Rattle.std.proofs.Common.{◌≡◌, ℕ, zero, suc, ◌+◌, ◌<◌, ◌≤◌, Bool, true, List, [], ◌∷◌, All, Contains, arith, Option, Some, None, IfSome, refl, ◌∙◌, ap, inl, inr, zero-add, add-zero, suc-add}
-use Rattle.std.specs.List.{find, filter_map, cons_option, range_with_len}
+use Rattle.std.proofs.Common.{◌≡◌, ℕ, zero, suc, ◌+◌, ◌<◌, ◌≤◌, Bool, true, false, cond, List, [], ◌∷◌, All, Contains, arith, Option, Some, None, IfSome, refl, sym, ◌∙◌, ap, inl, inr, zero-add, add-zero, suc-add}
+use Rattle.std.specs.List.{count_by, find, filter_map, cons_option, range_with_len}
 use Rattle.std.proofs.lemmas.Bool.{cases_Bool}
 use Rattle.std.proofs.lemmas.List.Elements.{All-nil, All-cons}
+use Rattle.std.proofs.lemmas.List.Sums.{sum_by-cons}
 use Rattle.nms_board.proofs.ListLemmas.{in_rest}
 
 -- what is found stands in the list and passes
@@ -18,6 +19,16 @@ found passes (y ∷ ys) x h =
           let later : find passes ys ≡ Some x = rw e at h in
           let (stands, passed) = found passes ys x later in
           (in_rest y ys x stands, passed)
+    ]
+
+-- where none is counted, none passes
+pub none_counted : {X : Type 0} (passes : X → Bool) (xs : List X) → count_by passes xs ≡ 0 → All (λ x. passes x ≡ false) xs
+none_counted passes [] none = All-nil (λ x. passes x ≡ false)
+none_counted passes (x ∷ xs) none =
+    let counts : cond (passes x) 1 0 + count_by passes xs ≡ 0 = sym (sum_by-cons (λ y. cond (passes y) 1 0) x xs) ∙ none in
+    elim (cases_Bool (passes x)) [
+      | inl e ↦ absurd (let more : 1 + count_by passes xs ≡ 0 = rw e at counts in omega arith)
+      | inr e ↦ All-cons (λ y. passes y ≡ false) x xs e (none_counted passes xs (omega (arith, counts)))
     ]
 
 -- a front at which nothing is found may be left out

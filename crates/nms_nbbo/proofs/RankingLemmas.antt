@@ -1,11 +1,11 @@
 -- That rows are ranked in a strict order, and what follows for the best of them.
-use Rattle.std.specs.Prelude.{All, IfSome}
-use Rattle.std.proofs.Common.{◌≡◌, ◌≢◌, ◌<◌, ℕ, false, cond, AllPairs, List, [], ◌∷◌, length, get_or, refl, arith, Option, Some, None, sym, ap, ◌∙◌, subst, inl, inr, ltb, eqb}
-use Rattle.std.specs.List.{reduce, IsFirstBest}
+use Rattle.std.specs.Prelude.{All, IfSome, MatchOption}
+use Rattle.std.proofs.Common.{◌≡◌, ◌≢◌, ◌<◌, ◌≤◌, ℕ, false, cond, AllPairs, List, [], ◌∷◌, length, get_or, refl, arith, Option, Some, None, sym, ap, ◌∙◌, subst, inl, inr, ltb, eqb}
+use Rattle.std.specs.List.{IsFirstBest}
 use Rattle.std.specs.Option.{option_map}
 use Rattle.std.specs.Cmp.{IsStrictWeakOrder}
 use Rattle.std.proofs.lemmas.List.{get_or_default}
-use Rattle.std.proofs.lemmas.Bool.{cases_order}
+use Rattle.std.proofs.lemmas.Bool.{cases_order, eqb-true}
 use Rattle.std.proofs.lemmas.Bool.Decides.{nat_tests}
 use Rattle.std.proofs.lemmas.List.Elements.{All-contains}
 use Rattle.std.proofs.lemmas.List.MinMax.{IsFirstBest-from_best_of}
@@ -16,9 +16,10 @@ use Rattle.nms_nbbo.specs.declared.market_kind.Market.{Market}
 use Rattle.nms_nbbo.specs.declared.market_kind.Market.TheVariants as market
 use Rattle.nms_nbbo.specs.Laws.{RankAlike}
 use Rattle.nms_nbbo.specs.Market.{market_of}
-use Rattle.nms_board.specs.Ranking.{ranks_above}
+use Rattle.nms_board.specs.Ranking.{rank_among, ranked_at, ranks_above}
 use Rattle.nms_board.proofs.RankLemmas.{above_one_way}
 use Rattle.nms_nbbo.specs.Best.{IsBest, IsBestOf}
+use Rattle.nms_nbbo.proofs.ListLemmas.{found, none_counted}
 
 -- what does not rank above a row that does not rank above a third does not rank above the third
 above_chain : (side : Side) (a b c : Row) → ranks_above side a b ≡ false → ranks_above side b c ≡ false → ranks_above side a c ≡ false
@@ -36,12 +37,16 @@ best_from_first_best side rows place row h is =
       highest = λ k d below. rw (get_or_default rows place d row h.0 ∙ is) at (h.1 k d below);
     }
 
--- keeping the better of two rows leads to the best
-pub IsBestOf-reduce : (side : Side) (rows : List Row) → IsBestOf side rows (reduce (λ best row. cond (ranks_above side row best) row best) rows)
-IsBestOf-reduce side [] = refl
-IsBestOf-reduce side (row ∷ rows) =
-    let (place, first, is) = IsFirstBest-from_best_of (above_is_order side) row rows in
-    best_from_first_best side (row ∷ rows) place _ first (get_or_default (row ∷ rows) place _ row first.0 ∙ is)
+-- the row at the first place is the best
+pub first_is_best : (side : Side) (rows : List Row) (best : Option Row) → best ≡ ranked_at side rows 0 → MatchOption best (length rows ≤ 0) (λ row. 0 < length rows) → IsBestOf side rows best
+first_is_best side [] None first there = refl
+first_is_best side (row ∷ rows) None first there = absurd (omega (arith, there))
+first_is_best side rows (Some row) first there =
+    let (among, passed) = found (λ one. eqb (rank_among side rows one) 0) rows row (sym first) in
+    record {
+      among = among;
+      highest = none_counted (λ other. ranks_above side other row) rows (eqb-true (rank_among side rows row) 0 passed);
+    }
 
 -- two rows of which neither ranks above the other rank alike
 pub unranked_alike : (side : Side) (row other : Row) → ranks_above side row other ≡ false → ranks_above side other row ≡ false → RankAlike row other
@@ -96,7 +101,9 @@ market_of-best bids offers bid bid' offer offer' b b' o o' =
 -- a side with rows has a best one
 pub some_best : (side : Side) (rows : List Row) → rows ≢ [] → (row : Row) × IsBest side rows row
 some_best side [] some = absurd (some refl)
-some_best side (row ∷ rows) some = (_, IsBestOf-reduce side (row ∷ rows))
+some_best side (row ∷ rows) some =
+    let (place, first, is) = IsFirstBest-from_best_of (above_is_order side) row rows in
+    (_, best_from_first_best side (row ∷ rows) place _ first (get_or_default (row ∷ rows) place _ row first.0 ∙ is))
 
 -- where no two rows have one receipt, one row is best
 pub one_best : (side : Side) (rows : List Row) (row other : Row) → AllPairs (λ row other. row.receipt ≢ other.receipt) rows → IsBest side rows row → IsBest side rows other → row ≡ other

@@ -174,16 +174,15 @@ fn serve_tell(flow: &Flow, desk: u8, number: u64, out: &mut Vec<u8>) -> Result<b
 
 /// Lets a desk look, and appends the national best bid and offer that it saw.
 fn serve_best(
-    flow: &mut Flow,
+    flow: &Flow,
     roster: &Roster,
     desk: u8,
     sym: Sym,
     out: &mut Vec<u8>,
 ) -> Result<bool, AllocError>
-    requires room { flow.old.board.sizes ≡ sizes_of roster.now }
+    requires room { flow.now.board.sizes ≡ sizes_of roster.now }
     requires sym { sym < length roster.now.syms }
-    ensures served { IfOk result (Serves (ShowsBest roster.now desk sym) flow.old flow.new (Some out.old.items) (Some out.new.items)) }
-    ensures room { room_of flow.new ≡ room_of flow.old }
+    ensures { IfOk result (Serves (ShowsBest roster.now desk sym) flow.now flow.now (Some out.old.items) (Some out.new.items)) }
 {
     let best = flow.best(sym);
     tell_best(
@@ -201,17 +200,16 @@ fn serve_best(
 /// Lets a desk look, and appends the protected quotations that a trade at the price trades through. Between the best
 /// bid and the best offer there are none, and no view is made.
 fn serve_through(
-    flow: &mut Flow,
+    flow: &Flow,
     roster: &Roster,
     desk: u8,
     sym: Sym,
     price: Price,
     out: &mut Vec<u8>,
 ) -> Result<bool, AllocError>
-    requires room { flow.old.board.sizes ≡ sizes_of roster.now }
+    requires room { flow.now.board.sizes ≡ sizes_of roster.now }
     requires sym { sym < length roster.now.syms }
-    ensures served { IfOk result (Serves (ShowsThrough roster.now desk sym price) flow.old flow.new (Some out.old.items) (Some out.new.items)) }
-    ensures room { room_of flow.new ≡ room_of flow.old }
+    ensures { IfOk result (Serves (ShowsThrough roster.now desk sym price) flow.now flow.now (Some out.old.items) (Some out.new.items)) }
 {
     let rows = flow.best(sym);
     if is_beyond(&rows, price) {

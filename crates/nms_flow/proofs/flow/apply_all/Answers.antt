@@ -1,19 +1,10 @@
-use Rattle.std.proofs.Common.{◌≡◌, ◌++◌, ◌∷◌, [], List, true, take, arith, ap, sym, subst, ◌∙◌, append_assoc}
+use Rattle.std.proofs.Common.{◌++◌, ◌∷◌, [], List, take, arith, ap, sym, subst, ◌∙◌, append_assoc}
 use Rattle.std.proofs.lemmas.List.{map-append, take_more}
-use Rattle.nms_quote.specs.Roster.{Sizes, holds}
 use Rattle.nms_quote.specs.Tape.{Tape}
 use Rattle.nms_quote.specs.declared.marked.Marked.{Marked}
 use Rattle.nms_board.specs.Cells.{Board, StandsFor}
-use Rattle.nms_flow.specs.Kept.{AreKept}
 use Rattle.nms_flow.specs.Run.{changes_in}
 use Rattle.nms_flow.proofs.flow.apply_all.Goals as goal
-
--- the change at hand is of the roster
-held_now : (c : goal.After-forget) → holds c.loop-marked.board.sizes c.marked-item.result.change ≡ true
-held_now c =
-    let item = c.requires.held c.loop-marked.marked-index c.marked-item.result c.loop-marked-test.true in
-    subst (λ (s : Sizes). holds s c.marked-item.result.change ≡ true) (sym c.loop-marked.invariant.sizes)
-    (subst (λ (m : Marked). holds c.args.board.now.sizes m.change ≡ true) (sym c.marked-item.is) item)
 
 pub loop-marked-preserved : goal.loop-marked-preserved
 loop-marked-preserved c =
@@ -27,6 +18,4 @@ loop-marked-preserved c =
           (c.apply.ensures.stands _ (c.loop-marked.invariant.stands tape h));
       sizes = ap (λ (b : Board). b.sizes) c.apply.ensures.after ∙ c.loop-marked.invariant.sizes;
       applied = omega (arith, ap (λ (b : Board). b.applied) c.apply.ensures.after, c.loop-marked.invariant.applied);
-      kept = subst (λ (b : Board). AreKept b c.forget.new.self.known.items c.forget.new.self.rows.items) (sym c.apply.ensures.after)
-          (c.forget.ensures c.loop-marked.board (held_now c) c.loop-marked.invariant.kept);
     }

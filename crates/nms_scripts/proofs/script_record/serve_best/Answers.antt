@@ -1,4 +1,4 @@
-use Rattle.std.proofs.Common.{◌<◌, ◌∙◌, ap, subst, sym, refl}
+use Rattle.std.proofs.Common.{◌<◌, subst, sym, refl}
 use Rattle.std.specs.Prelude.{All}
 use Rattle.nms_quote.specs.Roster.{Sizes}
 use Rattle.nms_quote.specs.declared.side_quote.Side.TheVariants.{Bid, Offer}
@@ -6,7 +6,6 @@ use Rattle.nms_board.specs.View.{rows_on}
 use Rattle.nms_board.specs.Shown.{seen_on}
 use Rattle.nms_board.specs.declared.row.Row.{Row}
 use Rattle.nms_board.proofs.PartLemmas.{shown_parts}
-use Rattle.nms_flow.specs.Flow.{State}
 use Rattle.nms_nbbo.proofs.RankingLemmas.{best_part}
 use Rattle.nms_scripts.proofs.ScriptFacts.{shows_best}
 use Rattle.nms_scripts.proofs.script_record.serve_best.Goals as goal
@@ -19,8 +18,7 @@ pub tell_best-requires-clause-offer : goal.tell_best-requires-clause-offer
 tell_best-requires-clause-offer c = best_part Offer _ c.best-best.result.offer _ c.best-best.ensures.offer
     (subst (λ (s : Sizes). All (λ (row : Row). row.part < s.parts) (rows_on Offer (seen_on c.args.flow.now.board c.args.sym))) c.requires.room (shown_parts c.args.flow.now.board c.args.sym Offer))
 
-pub returns-clause-served : goal.returns-clause-served
-returns-clause-served c = shows_best c.args.roster.now c.args.flow.now c.best-best.new.self c.args.desk c.args.sym (seen_on c.args.flow.now.board c.args.sym) c.best-best.result.bid c.best-best.result.offer _ _
+pub returns : goal.returns
+returns c = shows_best c.args.roster.now c.args.flow.now c.args.flow.now c.args.desk c.args.sym (seen_on c.args.flow.now.board c.args.sym) c.best-best.result.bid c.best-best.result.offer _ _
     (c.best-best.ensures.went c.args.desk) c.best-best.ensures.bid c.best-best.ensures.offer
-    (c.in_ok-tell_best.ensures (seen_on c.args.flow.now.board c.args.sym) refl
-    (ap (λ (s : State). s.board.applied) (sym c.best-best.ensures.unchanged) ∙ sym c.published.ensures.count))
+    (c.in_ok-tell_best.ensures (seen_on c.args.flow.now.board c.args.sym) refl (sym c.published.ensures.count))

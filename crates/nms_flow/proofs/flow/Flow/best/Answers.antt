@@ -5,4 +5,4 @@ use Rattle.nms_flow.proofs.flow.Flow.best.Goals as goal
 
 pub returns-clause-went : goal.returns-clause-went
 returns-clause-went c desk =
-    rw c.self.view_is (went_looked c.args.self.now desk c.args.sym (seen_on c.args.self.now.board c.args.sym) (λ tape stands. seen_stands c.args.self.now.board tape c.args.sym stands))
+    went_looked c.args.self.now desk c.args.sym (seen_on c.args.self.now.board c.args.sym) (λ tape stands. seen_stands c.args.self.now.board tape c.args.sym stands)
