@@ -14,6 +14,8 @@ mod live;
 #[cfg(test)]
 mod long_script;
 #[cfg(test)]
+mod same;
+#[cfg(test)]
 mod sweep;
 #[cfg(test)]
 mod versions;
