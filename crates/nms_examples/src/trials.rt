@@ -1,6 +1,7 @@
 //! What the text of an example can't hold: streams that fail in mid-run or count, and limits. A call that does not
 //! answer as it must fails its trial, which says what was answered on standard error.
 mod limits;
+mod live_streams;
 mod plan_streams;
 mod readme;
 mod record_streams;
@@ -52,7 +53,9 @@ pub(crate) fn give_trials<T: AllocGlobal + Eprint>(
 fn try_scripts<T: AllocGlobal>(rt: &T, setup: &Setup) -> Result<(), Fail> {
     script_streams::each_answer_is_one_write_and_out_before_the_next_read(rt, setup)?;
     script_streams::a_failed_read_leaves_the_answers_so_far(rt, setup)?;
-    script_streams::a_failed_write_or_flush_ends_the_script(rt, setup)
+    script_streams::a_failed_write_or_flush_ends_the_script(rt, setup)?;
+    script_streams::the_worked_script_breaks_off_behind_its_publishing(rt, setup)?;
+    script_streams::the_worked_script_writes_nothing_where_its_first_write_fails(rt, setup)
 }
 
 /// Reports, and the first caller of `docs/CALLING.md`.
@@ -62,11 +65,13 @@ fn try_reports<T: AllocGlobal>(rt: &T, setup: &Setup) -> Result<(), Fail> {
     readme::shown::the_block_answers(rt, setup)
 }
 
-/// Readers of records, and writers of plans.
+/// Readers of records, and writers of plans and of live runs.
 fn try_readers<T: AllocGlobal>(rt: &T, setup: &Setup) -> Result<(), Fail> {
     record_streams::no_record_after_a_failed_read(rt)?;
     record_streams::the_law_of_faults_is_called();
-    plan_streams::a_failed_write_of_a_plan_is_told(rt, setup)
+    plan_streams::a_failed_write_of_a_plan_is_told(rt, setup)?;
+    plan_streams::a_plan_is_one_write_and_flushed(rt, setup)?;
+    live_streams::the_text_of_a_live_run_is_one_write_and_flushed(rt, setup)
 }
 
 /// How much a roster takes.

@@ -1,10 +1,15 @@
 //! The cutoffs of an order on a worked board, by values worked out by hand.
+ghost use Rattle.std.specs.Prelude.{◌≡◌, IfSome};
+
+use crate::same::same;
 use nms_board::{Boards, View};
-use nms_fees::{FeeBook, read_setup};
+use nms_fees::{FeeBook, Setup, read_setup};
 use nms_quote::{Change, Order, OrderSide, Part, QState, SideQuote, Sym};
 use nms_scripts::SETUP_K;
 use nms_sweep::{Cutoff, Cutoffs};
 use nms_units::{Price, Shares};
+use std::alloc::Global;
+use std::process::Abort;
 use std::test::Fail;
 
 /// An offer of a participant.
@@ -33,14 +38,22 @@ fn told(cutoff: Option<Cutoff>) -> Option<Told> {
     ))
 }
 
-/// The first five answers for an order to buy 200 shares at 0.5002 or less, manual quotations among them.
-fn first_five(view: &View, fees: &FeeBook) -> Option<[Option<Told>; 5]> {
+/// An order to buy 200 shares at 0.5002 or less, manual quotations among them.
+fn order_for(sym: Sym) -> Option<Order>
+    ensures { IfSome result (λ order. order.sym ≡ sym) }
+{
     let (shares, limit) = (Shares::new(200)?, Price::new(5002)?);
-    let order = Order::new(OrderSide::Buy, view.sym(), shares, limit, true)?;
+    Order::new(OrderSide::Buy, sym, shares, limit, true)
+}
+
+/// Compares the answers for that order, one after another.
+fn compare<R: Abort>(rt: &R, view: &View, fees: &FeeBook, due: &[Option<Told>]) -> Option<()> {
+    let order = order_for(view.sym())?;
     let mut cutoffs = Cutoffs::new(view, &order, fees);
-    let (first, second) = (told(cutoffs.next()), told(cutoffs.next()));
-    let (third, fourth) = (told(cutoffs.next()), told(cutoffs.next()));
-    Some([first, second, third, fourth, told(cutoffs.next())])
+    for due in due {
+        same(rt, told(cutoffs.next()), *due);
+    }
+    Some(())
 }
 
 /// N's manual offer is in the pool at each price and is never swept. P's protected one is in the pool at its own
@@ -48,8 +61,11 @@ fn first_five(view: &View, fees: &FeeBook) -> Option<[Option<Told>; 5]> {
 #[test]
 fn a_protected_row_is_swept_with_its_fee_at_the_next_price(rt: HostRuntime) -> Result<(), Fail> {
     let setup = read_setup(rt.alloc(), SETUP_K)?;
-    let mut boards = Boards::new(rt.alloc(), setup.roster())?;
-    let sym = setup.roster().find_sym(b"PNY").ok_or("no PNY")?;
+    compare_under(&rt, rt.alloc(), &setup)
+}
+
+/// Quotes the worked offers.
+fn quote_all(boards: &mut Boards, sym: Sym) {
     for (place, state, price, shares) in [
         (0, QState::Manual, 5000, 200),
         (1, QState::Automated, 5001, 100),
@@ -61,15 +77,20 @@ fn a_protected_row_is_swept_with_its_fee_at_the_next_price(rt: HostRuntime) -> R
             boards.apply(change);
         }
     }
-    assert_eq!(rt;
-        first_five(&boards.view(sym), setup.fees()),
-        Some([
-            Some((5000, 0, 0, 200)),
-            Some((5001, 0, 0, 300)),
-            Some((5002, 100, 50_160_030_000, 300)),
-            None,
-            None,
-        ])
-    );
+}
+
+/// Compares the answers on the worked offers, by values worked out by hand.
+fn compare_under<R: Abort>(rt: &R, alloc: Global, setup: &Setup) -> Result<(), Fail> {
+    let sym = setup.roster().find_sym(b"PNY").ok_or("no PNY")?;
+    let mut boards = Boards::new(alloc, setup.roster())?;
+    quote_all(&mut boards, sym);
+    let due = [
+        Some((5000, 0, 0, 200)),
+        Some((5001, 0, 0, 300)),
+        Some((5002, 100, 50_160_030_000, 300)),
+        None,
+        None,
+    ];
+    compare(rt, &boards.view(sym), setup.fees(), &due).ok_or("an order")?;
     Ok(())
 }

@@ -1,6 +1,8 @@
 //! Tests of what no clause says: that the calls succeed and come back, and a run of two threads.
 ghost use Rattle.std.specs.Prelude.{◌≡◌, ◌≤◌, ◌+◌, [], length, IfOk};
+ghost use Rattle.nms_quote.specs.declared.feed.Feed.TheVariants as feed;
 
+use crate::same::same;
 use nms_feed::{
     Delivered, Full, LEAST_CAPACITY, LaneFault, MOST_CAPACITY, NotEmpty, Sender, Taker, close,
     open_lane,
@@ -39,20 +41,37 @@ fn told_by(change: &Change) -> Option<(u8, u32)> {
 fn take_one<R: Wait + Abort>(rt: &R, taker: &mut Taker, wanted: Option<Change>)
     ensures { taker.new.lane ≡ taker.old.lane }
 {
-    assert_eq!(rt; taker.take(rt), wanted);
+    same(rt, taker.take(rt), wanted);
+}
+
+/// Two bids of the first participant, and one of the second.
+fn three_bids() -> Option<[Change; 3]> {
+    Some([bid_of(0, 1)?, bid_of(0, 2)?, bid_of(1, 1)?])
+}
+
+/// Closes a lane, and compares how many were sent from each end and taken.
+fn compare_closed<R: Abort>(rt: &R, a: Sender, b: Sender, taker: Taker, counts: (u64, u64, u64))
+    requires one_lane { (a.lane ≡ taker.lane) × (b.lane ≡ taker.lane) }
+    requires feeds { (a.feed ≡ feed.A) × (b.feed ≡ feed.B) }
+{
+    let (sent_a, sent_b, taken) = counts;
+    let due = Delivered {
+        sent_a,
+        sent_b,
+        taken,
+    };
+    same(rt, close(a, b, taker).ok(), Some(due));
 }
 
 #[test]
 fn a_full_lane_gives_the_change_back_and_closing_waits_for_the_taker(
     rt: HostRuntime,
 ) -> Result<(), Fail> {
+    let [a1, a2, b1] = &three_bids().ok_or("a bid")?;
     let (mut a, mut b, taker) = open_lane(rt.alloc(), 2)?;
-    let a1 = &bid_of(0, 1).ok_or("a bid")?;
-    let a2 = &bid_of(0, 2).ok_or("a bid")?;
-    let b1 = &bid_of(1, 1).ok_or("a bid")?;
     a.send(&rt, *a1);
     b.send(&rt, *b1);
-    assert_eq!(rt; a.try_send(&rt, *a2), Err(Full { change: *a2 }));
+    same(&rt, a.try_send(&rt, *a2), Err(Full { change: *a2 }));
     let Err(
         NotEmpty {
             mut a,
@@ -68,21 +87,15 @@ fn a_full_lane_gives_the_change_back_and_closing_waits_for_the_taker(
     take_one(&rt, &mut taker, Some(*b1));
     take_one(&rt, &mut taker, Some(*a2));
     take_one(&rt, &mut taker, None);
-    let closed = close(a, b, taker).ok();
-    let told = Delivered {
-        sent_a: 2,
-        sent_b: 1,
-        taken: 3,
-    };
-    assert_eq!(rt; closed, Some(told));
+    compare_closed(&rt, a, b, taker, (2, 1, 3));
     Ok(())
 }
 
 #[test]
 fn a_new_lane_takes_a_change_at_once(rt: HostRuntime) -> Result<(), Fail> {
-    let (mut a, _b, _taker) = open_lane(rt.alloc(), 1024)?;
     let change = bid_of(0, 1).ok_or("a bid")?;
-    assert_eq!(rt; a.try_send(&rt, change), Ok(()));
+    let (mut a, _b, _taker) = open_lane(rt.alloc(), 1024)?;
+    same(&rt, a.try_send(&rt, change), Ok(()));
     Ok(())
 }
 
@@ -103,25 +116,25 @@ fn room<R: Wait>(rt: &R, alloc: Global, capacity: usize) -> Option<u32> {
     if !(LEAST_CAPACITY..=MOST_CAPACITY).contains(&capacity) {
         return None;
     }
-    let (mut a, _b, _taker) = open_lane(alloc, capacity).ok()?;
     let change = bid_of(0, 1)?;
-    Some(fill(rt, &mut a, &change))
+    match open_lane(alloc, capacity) {
+        Ok((mut a, _b, _taker)) => Some(fill(rt, &mut a, &change)),
+        Err(_) => None,
+    }
 }
 
 #[test]
 fn a_lane_takes_as_many_as_it_was_opened_for(rt: HostRuntime) {
     for capacity in [2u32, 3, 5, 64, 1023, 1024] {
         let told = room(&rt, rt.alloc(), capacity as usize);
-        assert_eq!(rt; told, Some(capacity));
+        same(&rt, told, Some(capacity));
     }
 }
 
 #[test]
 fn a_taker_that_stops_and_takes_again_loses_nothing(rt: HostRuntime) -> Result<(), Fail> {
+    let [a1, a2, b1] = &three_bids().ok_or("a bid")?;
     let (mut a, mut b, mut taker) = open_lane(rt.alloc(), 4)?;
-    let a1 = &bid_of(0, 1).ok_or("a bid")?;
-    let a2 = &bid_of(0, 2).ok_or("a bid")?;
-    let b1 = &bid_of(1, 1).ok_or("a bid")?;
     take_one(&rt, &mut taker, None);
     a.send(&rt, *a1);
     b.send(&rt, *b1);
@@ -133,12 +146,7 @@ fn a_taker_that_stops_and_takes_again_loses_nothing(rt: HostRuntime) -> Result<(
     take_one(&rt, &mut taker, Some(*b1));
     take_one(&rt, &mut taker, Some(*a2));
     take_one(&rt, &mut taker, None);
-    let told = Delivered {
-        sent_a: 2,
-        sent_b: 1,
-        taken: 3,
-    };
-    assert_eq!(rt; close(a, b, taker).ok(), Some(told));
+    compare_closed(&rt, a, b, taker, (2, 1, 3));
     Ok(())
 }
 
@@ -168,7 +176,7 @@ fn send_1000<R: Wait>(rt: &R, mut sender: Sender, place: u8) -> Sender
 fn take_all<R: Wait + Abort>(rt: &R, mut taker: Taker, count: u32) -> Taker
     ensures { result.lane ≡ taker.lane }
 {
-    let mut last = [0u32; 2];
+    let mut last = (0u32, 0u32);
     let mut taken = 0u32;
     for _ in rt.forever() {
         if taken >= count {
@@ -180,17 +188,21 @@ fn take_all<R: Wait + Abort>(rt: &R, mut taker: Taker, count: u32) -> Taker
         };
         taken += 1;
         let told = told_by(&bid);
-        if last[0] < 1000 && told == Some((0, last[0] + 1)) {
-            last[0] += 1;
-        } else {
-            assert!(rt;
-                last[1] < 1000 && told == Some((1, last[1] + 1)),
-                "{told:?} after {last:?}"
-            );
-            last[1] += 1;
-        }
+        let next = follows(last, told);
+        same(rt, (told, last, next.is_some()), (told, last, true));
+        last = next.unwrap_or(last);
     }
     taker
+}
+
+/// Of two participants the shares of the last bids behind one more, if that is the next one of its participant.
+fn follows(last: (u32, u32), told: Option<(u8, u32)>) -> Option<(u32, u32)> {
+    let (a, b) = last;
+    match told? {
+        (0, shares) if a < 1000 && shares == a + 1 => Some((shares, b)),
+        (1, shares) if b < 1000 && shares == b + 1 => Some((a, shares)),
+        _ => None,
+    }
 }
 
 /// Sends 1,000 bids from each of two threads, and takes them on the caller's own.
@@ -242,12 +254,7 @@ fn run_both<R: Threads + Wait + Abort + Sync>(
 fn two_threads_send_1000_changes_each_through_a_lane_of_4(rt: HostRuntime) -> Result<(), Fail> {
     let (a, b, taker) = open_lane(rt.alloc(), 4)?;
     let (a, b, taker) = run_both(&rt, a, b, taker)?;
-    let told = Delivered {
-        sent_a: 1000,
-        sent_b: 1000,
-        taken: 2000,
-    };
-    assert_eq!(rt; close(a, b, taker).ok(), Some(told));
+    compare_closed(&rt, a, b, taker, (1000, 1000, 2000));
     Ok(())
 }
 
@@ -255,6 +262,10 @@ fn two_threads_send_1000_changes_each_through_a_lane_of_4(rt: HostRuntime) -> Re
 fn faults_print_their_codes(rt: HostRuntime) -> Result<(), Fail> {
     let change = bid_of(0, 1).ok_or("a bid")?;
     let told = format!(in rt.alloc(); "{}; {}", LaneFault::NoMemory, Full { change })?;
-    assert_eq!(rt; told.as_str(), "N1: out of memory; N2: the lane is full");
+    same(
+        &rt,
+        told.as_str(),
+        "N1: out of memory; N2: the lane is full",
+    );
     Ok(())
 }

@@ -18,6 +18,8 @@ mod long_script;
 #[cfg(test)]
 mod rank_order;
 #[cfg(test)]
+mod same;
+#[cfg(test)]
 mod sweep;
 #[cfg(test)]
 mod versions;

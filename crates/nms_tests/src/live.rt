@@ -8,7 +8,7 @@ mod overlap;
 mod pace;
 mod worked;
 
-use nms_fees::read_setup;
+use nms_fees::{Setup, read_setup};
 use nms_live::{DeskOrder, Gate, Live, LiveFault, run_live};
 use nms_quote::{Order, OrderSide, Sym};
 use nms_units::{Price, Shares};
@@ -103,8 +103,39 @@ fn orders_of(alloc: Global, desks: u8, table: &[Wanted]) -> Option<Vec<DeskOrder
     Some(orders)
 }
 
+/// A run of these orders; `None` where there is no memory for what the feeds send.
+fn run_orders<R: Threads + Wait + Sync, G: Gate>(
+    rt: &R,
+    alloc: Global,
+    setup: &Setup,
+    feeds: (&[u8], &[u8]),
+    orders: Vec<DeskOrder>,
+    gate: &G,
+) -> Option<Result<Live, LiveFault>>
+    requires { All (λ order. order.desk < setup.now.desks) orders.items }
+{
+    let feed_a = Vec::from_slice(alloc, feeds.0).ok()?;
+    let feed_b = Vec::from_slice(alloc, feeds.1).ok()?;
+    Some(run_live(rt, alloc, setup, feed_a, feed_b, orders, gate))
+}
+
 /// One run; `None` where there is no memory to prepare it.
-pub(crate) fn run_once<R: Threads + Wait + Sync, G: Gate>(
+fn run_once<R: Threads + Wait + Sync, G: Gate>(
+    rt: &R,
+    alloc: Global,
+    setup: &Setup,
+    feeds: (&[u8], &[u8]),
+    table: &[Wanted],
+    gate: &G,
+) -> Option<Result<Live, LiveFault>> {
+    match orders_of(alloc, setup.desks(), table) {
+        Some(orders) => run_orders(rt, alloc, setup, feeds, orders, gate),
+        None => None,
+    }
+}
+
+/// A run over a setup's text.
+pub(crate) fn run<R: Threads + Wait + Sync, G: Gate>(
     rt: &R,
     alloc: Global,
     setup: &str,
@@ -112,19 +143,18 @@ pub(crate) fn run_once<R: Threads + Wait + Sync, G: Gate>(
     table: &[Wanted],
     gate: &G,
 ) -> Option<Result<Live, LiveFault>> {
-    let setup = read_setup(alloc, setup).ok()?;
-    let feed_a = Vec::from_slice(alloc, feeds.0).ok()?;
-    let feed_b = Vec::from_slice(alloc, feeds.1).ok()?;
-    let orders = orders_of(alloc, setup.desks(), table)?;
-    Some(run_live(rt, alloc, &setup, feed_a, feed_b, orders, gate))
+    match read_setup(alloc, setup) {
+        Ok(setup) => run_under(rt, alloc, &setup, feeds, table, gate),
+        Err(_) => None,
+    }
 }
 
 /// A run that is tried again where it could not be opened, up to 100 times: a reader's place may be wanting without
 /// a cause.
-pub(crate) fn run<R: Threads + Wait + Sync, G: Gate>(
+fn run_under<R: Threads + Wait + Sync, G: Gate>(
     rt: &R,
     alloc: Global,
-    setup: &str,
+    setup: &Setup,
     feeds: (&[u8], &[u8]),
     table: &[Wanted],
     gate: &G,

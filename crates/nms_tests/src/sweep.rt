@@ -2,6 +2,7 @@
 mod judge;
 
 use crate::chance::Chance;
+use crate::same::same;
 use judge::{Asked, Stand, best, is_lawful, sums_of, unit_cost, with};
 use nms_board::{Boards, View};
 use nms_cert::confirm;
@@ -9,6 +10,7 @@ use nms_fees::{FeeBook, read_setup};
 use nms_quote::{Change, Leg, Order, OrderSide, Part, Plan, QState, SideQuote, Sym};
 use nms_sweep::plan;
 use nms_units::{Price, Shares};
+use std::process::Abort;
 use std::test::Fail;
 
 /// Four participants, whose fees of a share are a few cents of a cent apart, so that unit costs tie across prices;
@@ -311,12 +313,17 @@ fn try_board(
 fn no_lawful_way_is_better(rt: HostRuntime) -> Result<(), Fail> {
     let setup = read_setup(rt.alloc(), four_participants())?;
     let mut boards = Boards::new(rt.alloc(), setup.roster())?;
+    try_boards(&rt, &mut boards, setup.fees());
+    Ok(())
+}
+
+/// Draws 2,500 boards of each symbol.
+fn try_boards<R: Abort>(rt: &R, boards: &mut Boards, fees: &FeeBook) {
     let mut chance = Chance { state: 242_600 };
     for number in 1..=2500u32 {
         for (place, lot) in [(0, 100), (1, 1)] {
-            let told = try_board(&mut chance, &mut boards, setup.fees(), place, lot);
-            assert_eq!(rt; told, Some(""), "on board {number} of symbol {place}");
+            let told = try_board(&mut chance, boards, fees, place, lot);
+            same(rt, (number, place, told), (number, place, Some("")));
         }
     }
-    Ok(())
 }

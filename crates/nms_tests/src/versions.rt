@@ -1,14 +1,17 @@
 //! Published versions: what no clause says, and the worked steps by values worked out by hand.
 ghost use Rattle.std.specs.Prelude.{◌≡◌, All, IfOk, IfSome};
 
+use crate::same::same;
+use nms_board::Row;
 use nms_fees::{Setup, read_setup};
 use nms_quote::{Change, Part, QState, Side, SideQuote, Sym};
 use nms_scripts::SETUP_K;
 use nms_units::{Price, Shares};
 use nms_versions::{
-    AppendFault, Desk, NoReading, OpenFault, Publisher, Settled, Unsettled, open_tape,
+    AppendFault, Desk, NoReading, OpenFault, Publisher, Receipt, Settled, Unsettled, open_tape,
 };
 use std::alloc::Global;
+use std::fmt::Display;
 use std::process::Abort;
 use std::sync::Wait;
 use std::test::Fail;
@@ -45,9 +48,12 @@ lot = 100
 "#
 }
 
-/// An offer of 100 shares of ABC at 10.00 by the participant at a place.
-fn offer_of(place: u8) -> Option<Change> {
-    let offer = SideQuote::new(Price::new(100_000)?, Shares::new(100)?);
+/// An offer of ABC: the participant's place, the price in 1/10,000 dollar and the shares.
+type Offer = (u8, u64, u32);
+
+/// The change that an offer is.
+fn change_of((place, price, shares): Offer) -> Option<Change> {
+    let offer = SideQuote::new(Price::new(price)?, Shares::new(shares)?);
     Some(Change::Quote {
         part: Part::new(place)?,
         sym: Sym::new(0)?,
@@ -120,11 +126,18 @@ fn open_on<R: Wait>(alloc: Global, rt: &R, text: &str) -> Result<(Publisher, Des
     open(alloc, rt, &setup)
 }
 
-/// Appends an offer by the participant at a place, and tells the code of its refusal, or "ok".
+/// Appends an offer of 100 shares at 10.00 by the participant at a place, and tells the code of its refusal, or "ok".
 fn append(rt: &impl Abort, publisher: &mut Publisher, place: u8) -> &'static str
     ensures { publisher.new.opening ≡ publisher.old.opening }
 {
-    let Some(change) = offer_of(place) else {
+    append_offer(rt, publisher, (place, 100_000, 100))
+}
+
+/// Appends an offer, and tells the code of its refusal, or "ok".
+fn append_offer(rt: &impl Abort, publisher: &mut Publisher, offer: Offer) -> &'static str
+    ensures { publisher.new.opening ≡ publisher.old.opening }
+{
+    let Some(change) = change_of(offer) else {
         return "no change";
     };
     assert!(rt; publisher.holds(&change));
@@ -187,25 +200,25 @@ fn go<R: Wait + Abort>(
             publisher.publish(rt);
             Ok(String::from_str(alloc, "published")?)
         }
-        "tell" => number(alloc, tell(publisher, one)),
-        "tape" => number(alloc, publisher.tape().len() as u64),
+        "tell" => printed(alloc, &tell(publisher, one)),
+        "tape" => printed(alloc, &publisher.tape().len()),
         "desk 0" => seen(alloc, looked(one)),
         "desk 1" => seen(alloc, looked(other)),
         _ => Ok(String::from_str(alloc, append(rt, publisher, place_of(word)))?),
     }
 }
 
-/// A number as a text.
-fn number(alloc: Global, number: u64) -> Result<String, Fail> {
-    Ok(format!(in alloc; "{number}")?)
+/// A number or a fault as a text.
+fn printed<V: Display>(alloc: Global, value: &V) -> Result<String, Fail> {
+    Ok(format!(in alloc; "{value}")?)
 }
 
 /// A look as a text: its version and how many offers it shows.
 fn seen(alloc: Global, look: Result<(u64, usize), NoReading>) -> Result<String, Fail> {
-    Ok(match look {
-        Ok((version, offers)) => format!(in alloc; "{version} {offers}")?,
-        Err(fault) => format!(in alloc; "{fault}")?,
-    })
+    match look {
+        Ok((version, offers)) => Ok(format!(in alloc; "{version} {offers}")?),
+        Err(fault) => printed(alloc, &fault),
+    }
 }
 
 /// Opens, makes each step and compares its answer.
@@ -215,12 +228,33 @@ fn run<R: Wait + Abort>(
     text: &str,
     steps: &[(&str, &str)],
 ) -> Result<(), Fail> {
-    let (mut publisher, mut one, mut other) = open_on(alloc, rt, text)?;
+    let (publisher, one, other) = open_on(alloc, rt, text)?;
+    run_on(rt, alloc, publisher, one, other, steps)
+}
+
+/// Makes each step and compares its answer. A desk sees nothing once the publisher is closed.
+fn run_on<R: Wait + Abort>(
+    rt: &R,
+    alloc: Global,
+    mut publisher: Publisher,
+    mut one: Desk,
+    mut other: Desk,
+    steps: &[(&str, &str)],
+) -> Result<(), Fail>
+    requires { one.opening ≡ publisher.opening }
+{
     let told = make_all(rt, alloc, &mut publisher, &mut one, &mut other, steps);
     publisher.close(rt);
-    told?;
-    let answer = seen(alloc, looked(&mut one))?;
-    assert_eq!(rt; answer.as_str(), "V5: no reading");
+    match told {
+        Ok(()) => see_nothing(rt, alloc, &mut one),
+        Err(fault) => Err(fault),
+    }
+}
+
+/// Looks once the publisher is closed.
+fn see_nothing<R: Abort>(rt: &R, alloc: Global, desk: &mut Desk) -> Result<(), Fail> {
+    let answer = seen(alloc, looked(desk))?;
+    same(rt, answer.as_str(), "V5: no reading");
     Ok(())
 }
 
@@ -237,7 +271,7 @@ fn make_all<R: Wait + Abort>(
 {
     for (word, answer) in steps {
         let told = go(rt, alloc, publisher, one, other, word)?;
-        assert_eq!(rt; told.as_str(), *answer, "at {word}");
+        same(rt, (*word, told.as_str()), (*word, *answer));
     }
     Ok(())
 }
@@ -286,15 +320,93 @@ fn a_desk_settles_on_no_receipt_older_than_what_it_knows(rt: HostRuntime) -> Res
     let early = publisher.receipt();
     publish_often(&rt, &mut publisher, 3);
     let late = publisher.receipt();
-    assert_eq!(rt; looked(&mut desk), Ok((3, 1)));
+    same(&rt, looked(&mut desk), Ok((3, 1)));
+    settle_twice(&rt, publisher, desk, early, late)
+}
+
+/// Settles a desk on an early receipt, which is refused, and then, with the publisher closed, on that of version 3.
+fn settle_twice<R: Wait + Abort>(
+    rt: &R,
+    publisher: Publisher,
+    desk: Desk,
+    early: Receipt,
+    late: Receipt,
+) -> Result<(), Fail>
+    requires { (early.opening ≡ desk.opening) × (late.opening ≡ desk.opening) }
+{
     let refused = desk.settle(early);
-    publisher.close(&rt);
+    publisher.close(rt);
     let Err(Unsettled::Newer { desk, version }) = refused else {
         return Err("a desk settled on an older receipt")?;
     };
-    assert_eq!(rt; version, 3);
-    assert_eq!(rt; desk.settle(late).ok(), Some(Settled { version: 3 }));
+    same(rt, version, 3);
+    same(rt, desk.settle(late).ok(), Some(Settled { version: 3 }));
     Ok(())
+}
+
+/// The worked offers: N's, P's and Y's.
+fn worked() -> [Offer; 3] {
+    [(0, 100_000, 300), (1, 100_000, 500), (2, 100_100, 200)]
+}
+
+/// Appends the worked offers.
+fn append_worked<R: Abort>(rt: &R, publisher: &mut Publisher)
+    ensures { publisher.new.opening ≡ publisher.old.opening }
+{
+    for offer in worked() {
+        same(rt, append_offer(rt, publisher, offer), "ok");
+    }
+}
+
+/// Whether rows are these offers.
+fn are_offers(rows: &[Row], offers: &[Offer]) -> bool {
+    for (row, (place, price, shares)) in rows.iter().zip(offers) {
+        if (row.part.get(), row.price.get(), row.size) != (*place, *price, *shares) {
+            return false;
+        }
+    }
+    rows.len() == offers.len()
+}
+
+/// Whether a look at ABC shows version 3 with the worked offers.
+fn sees_worked(desk: &mut Desk) -> bool
+    ensures { desk.new.opening ≡ desk.old.opening }
+{
+    let Some(sym) = Sym::new(0) else {
+        return false;
+    };
+    match desk.look(sym) {
+        Ok(view) => view.version() == 3 && are_offers(view.rows(Side::Offer), &worked()),
+        Err(_) => false,
+    }
+}
+
+/// Desk 0 is told of version 3, desk 1 of nothing. Both see it whole, and desk 0 still does with two changes more
+/// that are not published; it settles on no receipt of version 0, and on a second one of version 3.
+#[test]
+fn a_desk_settles_on_what_it_saw_and_was_told_of(rt: HostRuntime) -> Result<(), Fail> {
+    let (mut publisher, mut one, mut other) = open_on(rt.alloc(), &rt, SETUP_K)?;
+    let early = publisher.receipt();
+    append_worked(&rt, &mut publisher);
+    publisher.publish(&rt);
+    let (late, last) = (publisher.receipt(), publisher.receipt());
+    same(
+        &rt,
+        (early.version(), late.version(), last.version()),
+        (0, 3, 3),
+    );
+    one.learn(late);
+    same(
+        &rt,
+        (sees_worked(&mut one), sees_worked(&mut other)),
+        (true, true),
+    );
+    let more = (
+        append(&rt, &mut publisher, 3),
+        append(&rt, &mut publisher, 0),
+    );
+    same(&rt, (more, sees_worked(&mut one)), (("ok", "ok"), true));
+    settle_twice(&rt, publisher, one, early, last)
 }
 
 /// Appends an offer to a tape of so many changes. A refused one leaves the tape and what is shown, and is appended
@@ -302,13 +414,11 @@ fn a_desk_settles_on_no_receipt_older_than_what_it_knows(rt: HostRuntime) -> Res
 fn append_again<R: Abort>(rt: &R, publisher: &mut Publisher, desk: &mut Desk, count: u64) {
     let mut told = append(rt, publisher, 0);
     if told == "V3" {
-        assert_eq!(rt;
-            (publisher.tape().len() as u64, looked(desk)),
-            (count, Ok((0, 0)))
-        );
+        let left = (publisher.tape().len() as u64, looked(desk));
+        same(rt, left, (count, Ok((0, 0))));
         told = append(rt, publisher, 0);
     }
-    assert_eq!(rt; told, "ok", "after {count}");
+    same(rt, (count, told), (count, "ok"));
 }
 
 /// Run with each allocation refused in turn (`rt try --test --fail-alloc N`): the opening ends the test by V1, and
@@ -316,13 +426,18 @@ fn append_again<R: Abort>(rt: &R, publisher: &mut Publisher, desk: &mut Desk, co
 #[test]
 fn want_of_memory_leaves_the_tape_as_it_was(rt: HostRuntime) -> Result<(), Fail> {
     let (mut publisher, mut desk, _other) = open_on(rt.alloc(), &rt, SETUP_K)?;
-    for count in 0..70u64 {
-        append_again(&rt, &mut publisher, &mut desk, count);
-    }
+    append_70(&rt, &mut publisher, &mut desk);
     publisher.publish(&rt);
-    assert_eq!(rt; looked(&mut desk), Ok((70, 1)));
-    assert_eq!(rt; publisher.close(&rt).len(), 70);
+    same(&rt, looked(&mut desk), Ok((70, 1)));
+    same(&rt, publisher.close(&rt).len(), 70);
     Ok(())
+}
+
+/// Appends 70 offers.
+fn append_70<R: Abort>(rt: &R, publisher: &mut Publisher, desk: &mut Desk) {
+    for count in 0..70u64 {
+        append_again(rt, publisher, desk, count);
+    }
 }
 
 /// Looks at ABC so many times, and tells whether each look showed something and the versions never fell.
@@ -379,22 +494,27 @@ fn run_three<R: Threads + Wait + Abort + Sync>(
 fn a_thousand_publications_beside_two_desks_never_fall(rt: HostRuntime) -> Result<(), Fail> {
     let (mut publisher, mut one, mut other) = open_on(rt.alloc(), &rt, SETUP_K)?;
     let looks = run_three(&rt, &mut publisher, &mut one, &mut other);
-    assert_eq!(rt; looks, (true, true));
+    same(&rt, looks, (true, true));
     // The tape is full.
-    assert_eq!(rt; append(&rt, &mut publisher, 0), "V4");
-    assert_eq!(rt; looked(&mut one), Ok((1000, 1)));
-    assert_eq!(rt; publisher.close(&rt).len(), 1000);
+    same(&rt, append(&rt, &mut publisher, 0), "V4");
+    same(&rt, looked(&mut one), Ok((1000, 1)));
+    same(&rt, publisher.close(&rt).len(), 1000);
     Ok(())
 }
 
 #[test]
 fn faults_print_their_codes(rt: HostRuntime) -> Result<(), Fail> {
-    let opening = format!(in rt.alloc(); "{}; {}", OpenFault::NoMemory, OpenFault::NoPlace)?;
-    assert_eq!(rt;
-        opening.as_str(),
-        "V1: out of memory; V2: no place for a reader"
-    );
-    let append = format!(in rt.alloc(); "{}; {}", AppendFault::NoMemory, AppendFault::TapeFull)?;
-    assert_eq!(rt; append.as_str(), "V3: out of memory; V4: the tape is full");
+    for (fault, text) in [
+        (OpenFault::NoMemory, "V1: out of memory"),
+        (OpenFault::NoPlace, "V2: no place for a reader"),
+    ] {
+        same(&rt, printed(rt.alloc(), &fault)?.as_str(), text);
+    }
+    for (fault, text) in [
+        (AppendFault::NoMemory, "V3: out of memory"),
+        (AppendFault::TapeFull, "V4: the tape is full"),
+    ] {
+        same(&rt, printed(rt.alloc(), &fault)?.as_str(), text);
+    }
     Ok(())
 }

@@ -1,5 +1,6 @@
 //! How much a roster takes.
 use super::same;
+use nms_board::Boards;
 use nms_quote::{Feed, Roster, RosterFault};
 use nms_units::Lot;
 use std::alloc::Global;
@@ -15,19 +16,28 @@ fn add_participant_of(alloc: Global, roster: &mut Roster, place: u8) -> Result<(
     same(participant_added(roster, name.as_str()), Ok(place))
 }
 
+/// Adds N and 31 more, and compares what is answered before and behind them. A board of this roster is empty.
 fn try_participants(alloc: Global, roster: &mut Roster) -> Result<(), Fail> {
-    for place in 0..32u8 {
+    for (name, told) in [
+        ("ABCDE", Err(RosterFault::BadName)),
+        ("N", Ok(0)),
+        ("N", Err(RosterFault::Duplicate)),
+    ] {
+        same(participant_added(roster, name), told)?;
+    }
+    for place in 1..32u8 {
         add_participant_of(alloc, roster, place)?;
     }
     for (name, fault) in [
         ("32", RosterFault::TooMany),
         ("31", RosterFault::Duplicate),
+        ("N", RosterFault::Duplicate),
         ("n", RosterFault::BadName),
         ("ABCDE", RosterFault::BadName),
     ] {
         same(participant_added(roster, name), Err(fault))?;
     }
-    Ok(())
+    same(Boards::new(alloc, roster)?.applied(), 0)
 }
 
 pub(super) fn a_roster_takes_32_participants_and_tells_each_refusal<T: AllocGlobal>(

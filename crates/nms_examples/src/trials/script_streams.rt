@@ -142,3 +142,35 @@ pub(super) fn a_failed_write_or_flush_ends_the_script<T: AllocGlobal>(
     }
     Ok(())
 }
+
+/// The worked script: three offers and their publishing, and behind it an order.
+fn worked(fails: bool) -> Source<'static> {
+    Source {
+        text: b"Q,N,ABC,A,,,10.00,300\nQ,P,ABC,A,,,10.00,500\nQ,Y,ABC,A,,,10.01,200\nF\n",
+        times: 1,
+        fails,
+        behind: b"O,0,B,ABC,600,10.01\n",
+        rest: b"",
+    }
+}
+
+/// The read behind its fourth record fails, and the order is never answered.
+pub(super) fn the_worked_script_breaks_off_behind_its_publishing<T: AllocGlobal>(
+    rt: &T,
+    setup: &Setup,
+) -> Result<(), Fail> {
+    let mut text = Vec::new(rt.alloc());
+    let came_to = run_script(rt.alloc(), setup, worked(true), &mut text);
+    same(
+        (came_to.err(), text.as_slice()),
+        (Some(ScriptFault::ReadFault), b"PUB,3\n".as_slice()),
+    )
+}
+
+pub(super) fn the_worked_script_writes_nothing_where_its_first_write_fails<T: AllocGlobal>(
+    rt: &T,
+    setup: &Setup,
+) -> Result<(), Fail> {
+    let told = ended(rt.alloc(), setup, worked(false), 0, 9)?;
+    same(told, (Some(ScriptFault::WriteFault), 0))
+}

@@ -2,12 +2,12 @@
 use super::judge::finding;
 use super::{Wanted, run, setup_text};
 use crate::chance::Chance;
+use crate::same::same;
 use nms_lines::LineFault;
 use nms_live::{Gate, GatePoint, Live, LiveFault};
 use nms_quote::{Change, Feed, Part, QState, SideQuote, Sym};
 use nms_units::{Price, Shares};
 use std::alloc::Global;
-use std::process::Abort;
 use std::sync::Wait;
 use std::sync::atomic::{AtomicU64, Ordering};
 use std::thread;
@@ -107,12 +107,14 @@ fn record_text(alloc: Global, record: &Record) -> Option<String> {
     let part = part_name(record.part);
     let sym = if record.sym == 0 { "ABC" } else { "PNY" };
     let (_, state) = state_of(record.state);
-    let bid = side_text(alloc, record.bid)?;
-    let offer = side_text(alloc, record.offer)?;
     match record.kind {
         0 => format!(in alloc; "X,{part}").ok(),
         1 | 2 => format!(in alloc; "S,{part},{sym},{state}").ok(),
-        _ => format!(in alloc; "Q,{part},{sym},{state},{bid},{offer}").ok(),
+        _ => {
+            let bid = side_text(alloc, record.bid)?;
+            let offer = side_text(alloc, record.offer)?;
+            format!(in alloc; "Q,{part},{sym},{state},{bid},{offer}").ok()
+        }
     }
 }
 
@@ -305,7 +307,9 @@ fn all_of(a: &Sent, b: &Sent) -> u64 {
 }
 
 /// The limits of a setup: of the tape, the queue, the desks.
-fn drawn_limits(chance: &mut Chance) -> (u32, u32, u32) {
+type Limits = (u32, u32, u32);
+
+fn drawn_limits(chance: &mut Chance) -> Limits {
     let limit = if chance.draw() % 4 == 0 {
         (chance.draw() % 40).wrapping_add(1)
     } else {
@@ -345,20 +349,73 @@ fn try_run<R: Threads + Wait + Sync>(
     alloc: Global,
     chance: &mut Chance,
 ) -> Option<&'static str> {
-    let (limit, queue, desks) = drawn_limits(chance);
-    let setup = setup_text(alloc, limit, queue, desks)?;
+    let limits = drawn_limits(chance);
     let a = drawn_feed(alloc, chance, Feed::A)?;
+    try_beside(rt, alloc, chance, limits, &a)
+}
+
+/// Draws what feed B sends and all else beside what feed A sends, and makes the run.
+fn try_beside<R: Threads + Wait + Sync>(
+    rt: &R,
+    alloc: Global,
+    chance: &mut Chance,
+    limits: Limits,
+    a: &Sent,
+) -> Option<&'static str> {
     let b = drawn_feed(alloc, chance, Feed::B)?;
+    try_feeds(rt, alloc, chance, limits, a, &b)
+}
+
+/// Draws the orders and the gate, and makes the run.
+fn try_feeds<R: Threads + Wait + Sync>(
+    rt: &R,
+    alloc: Global,
+    chance: &mut Chance,
+    limits: Limits,
+    a: &Sent,
+    b: &Sent,
+) -> Option<&'static str> {
+    let (_, _, desks) = limits;
     let table = drawn_orders(alloc, chance, desks)?;
+    let pace = u64::from(chance.draw() % 12);
+    try_orders(rt, alloc, limits, a, b, &table, pace)
+}
+
+/// Makes the run over the text of such a setup.
+fn try_orders<R: Threads + Wait + Sync>(
+    rt: &R,
+    alloc: Global,
+    limits: Limits,
+    a: &Sent,
+    b: &Sent,
+    table: &[Wanted],
+    pace: u64,
+) -> Option<&'static str> {
+    let (limit, queue, desks) = limits;
+    let setup = setup_text(alloc, limit, queue, desks)?;
+    let due = due(a, b, u64::from(limit));
+    try_under(rt, alloc, setup.as_str(), a, b, table, pace, due)
+}
+
+/// Makes the run over a setup's text: what is wrong with what it came to, where this fault has to end it.
+fn try_under<R: Threads + Wait + Sync>(
+    rt: &R,
+    alloc: Global,
+    setup: &str,
+    a: &Sent,
+    b: &Sent,
+    table: &[Wanted],
+    pace: u64,
+    due: Option<LiveFault>,
+) -> Option<&'static str> {
     let gate = Paced {
         sent: AtomicU64::new(0),
-        pace: u64::from(chance.draw() % 12),
-        all: all_of(&a, &b),
+        pace,
+        all: all_of(a, b),
     };
     let feeds = (a.text.as_slice(), b.text.as_slice());
-    let came_to = run(rt, alloc, setup.as_str(), feeds, &table, &gate)?;
-    let due = due(&a, &b, u64::from(limit));
-    Some(judged(alloc, setup.as_str(), &a, &b, &table, &came_to, due))
+    let came_to = run(rt, alloc, setup, feeds, table, &gate)?;
+    Some(judged(alloc, setup, a, b, table, &came_to, due))
 }
 
 /// 200 runs: what each came to is what a plain slow program finds.
@@ -367,6 +424,6 @@ fn runs_drawn_by_chance_come_to_what_their_feeds_say(rt: HostRuntime) {
     let mut chance = Chance { state: 611 };
     for number in 1..=200u32 {
         let told = try_run(&rt, rt.alloc(), &mut chance);
-        assert_eq!(rt; told, Some(""), "in run {number}");
+        same(&rt, (number, told), (number, Some("")));
     }
 }

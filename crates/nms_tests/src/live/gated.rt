@@ -1,9 +1,11 @@
 //! What a gate is asked and told: each send, look and publishing of the run once, and told behind it.
-use super::worked::{FIVE, order, told};
+use super::worked::{FIVE, first_told, order};
 use super::{Wanted, run, setup_text};
-use nms_live::{Gate, GatePoint, Live};
+use crate::same::same;
+use nms_live::{Answer, Gate, GatePoint, Live};
 use nms_quote::Feed;
 use std::alloc::Global;
+use std::process::Abort;
 use std::sync::Wait;
 use std::sync::atomic::{AtomicBool, AtomicU64, Ordering};
 use std::test::Fail;
@@ -53,12 +55,19 @@ fn closing_looks_do_not_pass_the_gate(rt: HostRuntime) -> Result<(), Fail> {
     let mut other = order();
     other.desk = 1;
     let table = [order(), other, order()];
-    let live = run_small(&rt, rt.alloc(), (FIVE, b""), &table, &gate).ok_or("a run")?;
-    assert_eq!(rt; (live.answers.len(), live.closing.len()), (3, 3));
+    match run_small(&rt, rt.alloc(), (FIVE, b""), &table, &gate) {
+        Some(live) => compare_counts(&rt, &gate, &live),
+        None => return Err("a run")?,
+    }
+    Ok(())
+}
+
+/// Compares how many answers there are, and how many looks the gate was asked for and told of.
+fn compare_counts<R: Abort>(rt: &R, gate: &Counting, live: &Live) {
+    same(rt, (live.answers.len(), live.closing.len()), (3, 3));
     let asked = gate.asked.load(Ordering::SeqCst);
     let told = gate.told.load(Ordering::SeqCst);
-    assert_eq!(rt; (asked, told), (3, 3));
-    Ok(())
+    same(rt, (asked, told), (3, 3));
 }
 
 /// Is told of a send, a publishing and a look, and lets none of them go on before the next one was made: that one
@@ -134,11 +143,16 @@ impl Gate for Relay {
 #[test]
 fn a_gate_is_told_of_what_was_made(rt: HostRuntime) -> Result<(), Fail> {
     let gate = make_relay();
-    let live = run_small(&rt, rt.alloc(), (FIVE, b""), &[order()], &gate).ok_or("a run")?;
-    // The first send was taken and published while the feed waited; the look showed it, and not the second one, while
-    // the taker waited; the second one was published while the desk waited.
-    assert!(rt; !is_set(&gate.gave_up));
-    let answer = live.answers.first().ok_or("an answer")?;
-    assert_eq!(rt; told(answer), (0, 0, 1, 100));
+    match run_small(&rt, rt.alloc(), (FIVE, b""), &[order()], &gate) {
+        Some(live) => compare_relayed(&rt, &gate, &live.answers),
+        None => return Err("a run")?,
+    }
     Ok(())
+}
+
+/// The first send was taken and published while the feed waited; the look showed it, and not the second one, while
+/// the taker waited; the second one was published while the desk waited.
+fn compare_relayed<R: Abort>(rt: &R, gate: &Relay, answers: &[Answer]) {
+    same(rt, is_set(&gate.gave_up), false);
+    same(rt, first_told(answers), Some((0, 0, 1, 100)));
 }

@@ -2,7 +2,7 @@
 use super::{Wanted, order_of};
 use nms_board::Boards;
 use nms_cert::confirm;
-use nms_fees::read_setup;
+use nms_fees::{FeeBook, Setup, read_setup};
 use nms_live::{Answer, Live};
 use nms_quote::Change;
 use std::alloc::Global;
@@ -108,26 +108,36 @@ fn are_all_on(answers: &[Answer], all: u64) -> bool {
     true
 }
 
-/// Whether the checker confirms an answer on the board that the first changes of the tape leave, as many as the
-/// answer's version says.
-fn is_confirmed(alloc: Global, setup: &str, tape: &[Change], answer: &Answer) -> Option<bool> {
-    let setup = read_setup(alloc, setup).ok()?;
-    let mut boards = Boards::new(alloc, setup.roster()).ok()?;
-    let plan = &answer.plan;
-    for (change, _) in tape.iter().zip(0..plan.version) {
+/// Applies the first changes of a tape, so many.
+fn apply_first(boards: &mut Boards, tape: &[Change], count: u64) {
+    for (change, _) in tape.iter().zip(0..count) {
         if boards.takes(change) {
             boards.apply(*change);
         }
     }
+}
+
+/// Whether the checker confirms an answer on what an empty board shows behind the first changes of the tape, as many
+/// as the answer's version says.
+fn is_confirmed_on(mut boards: Boards, fees: &FeeBook, tape: &[Change], answer: &Answer) -> bool {
+    let plan = &answer.plan;
+    apply_first(&mut boards, tape, plan.version);
     let view = boards.view(plan.order.sym);
-    let doubt = confirm(&view, &plan.order, setup.fees(), plan, &answer.certificate);
-    Some(doubt.is_ok())
+    confirm(&view, &plan.order, fees, plan, &answer.certificate).is_ok()
+}
+
+/// Whether the checker confirms an answer, over a board of its own.
+fn is_confirmed(alloc: Global, setup: &Setup, tape: &[Change], answer: &Answer) -> bool {
+    match Boards::new(alloc, setup.roster()) {
+        Ok(boards) => is_confirmed_on(boards, setup.fees(), tape, answer),
+        Err(_) => false,
+    }
 }
 
 /// Whether the checker confirms each answer.
-fn are_confirmed(alloc: Global, setup: &str, tape: &[Change], answers: &[Answer]) -> bool {
+fn are_confirmed(alloc: Global, setup: &Setup, tape: &[Change], answers: &[Answer]) -> bool {
     for answer in answers {
-        if is_confirmed(alloc, setup, tape, answer) != Some(true) {
+        if !is_confirmed(alloc, setup, tape, answer) {
             return false;
         }
     }
@@ -171,10 +181,25 @@ fn answer_finding(
     }
 }
 
-/// What is wrong with a run, or nothing, where the feeds sent these changes.
+/// What is wrong with a run over a setup's text, or nothing, where the feeds sent these changes.
 pub(crate) fn finding(
     alloc: Global,
     setup: &str,
+    from_a: &[Change],
+    from_b: &[Change],
+    table: &[Wanted],
+    live: &Live,
+) -> &'static str {
+    match read_setup(alloc, setup) {
+        Ok(setup) => finding_under(alloc, &setup, from_a, from_b, table, live),
+        Err(_) => "no setup",
+    }
+}
+
+/// What is wrong with a run, or nothing.
+fn finding_under(
+    alloc: Global,
+    setup: &Setup,
     from_a: &[Change],
     from_b: &[Change],
     table: &[Wanted],

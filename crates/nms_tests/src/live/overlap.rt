@@ -1,6 +1,7 @@
 //! That the feeds and a desk work at the same time, each on what is published by then.
 use super::run;
-use super::worked::{feed_a, feed_b, has_four, order, says_closing, told};
+use super::worked::{compare_closing, feed_a, feed_b, has_four, order, told};
+use crate::same::same;
 use nms_live::{Answer, Gate, GatePoint, Live};
 use nms_quote::Feed;
 use nms_scripts::SETUP_K;
@@ -124,24 +125,28 @@ fn are_told(answers: &[Answer], wanted: [(u8, usize, u64, u32); 2]) -> bool {
     }
 }
 
-/// Compares what the run came to.
-fn check_overlap<R: Abort>(rt: &R, alloc: Global, live: &Live) {
-    assert!(rt; has_four(&live.tape, &live.published));
-    assert!(rt; are_told(&live.answers, [(0, 0, 1, 300), (0, 1, 2, 500)]));
-    assert!(rt; are_told(&live.closing, [(0, 0, 4, 600), (0, 1, 4, 600)]));
-    for closing in &live.closing {
-        assert_eq!(rt; says_closing(alloc, closing), Some(true));
-    }
+/// Compares who came to the gate, and what the run came to.
+fn compare_overlap<R: Abort>(rt: &R, alloc: Global, gate: &Overlap, live: &Live) {
+    let missed = (
+        missed(&gate.feed_a),
+        missed(&gate.feed_b),
+        missed(&gate.desk),
+    );
+    same(rt, missed, (false, false, false));
+    same(rt, has_four(&live.tape, &live.published), true);
+    let answers = are_told(&live.answers, [(0, 0, 1, 300), (0, 1, 2, 500)]);
+    let closing = are_told(&live.closing, [(0, 0, 4, 600), (0, 1, 4, 600)]);
+    same(rt, (answers, closing), (true, true));
+    compare_closing(rt, alloc, &live.closing);
 }
 
 #[test]
 fn feed_and_desk_overlap(rt: HostRuntime) -> Result<(), Fail> {
     let gate = make_gate();
     let feeds = (feed_a(), feed_b());
-    let Some(Ok(live)) = run(&rt, rt.alloc(), SETUP_K, feeds, &[order(), order()], &gate) else {
-        return Err("no run")?;
-    };
-    assert!(rt; !missed(&gate.feed_a) && !missed(&gate.feed_b) && !missed(&gate.desk));
-    check_overlap(&rt, rt.alloc(), &live);
+    match run(&rt, rt.alloc(), SETUP_K, feeds, &[order(), order()], &gate) {
+        Some(Ok(live)) => compare_overlap(&rt, rt.alloc(), &gate, &live),
+        _ => return Err("no run")?,
+    }
     Ok(())
 }

@@ -1,6 +1,7 @@
 //! How far the feeds get ahead: the room of the lane, and how much is appended between two publishings.
 use super::{run, setup_text};
-use nms_live::{Gate, GatePoint, Live};
+use crate::same::same;
+use nms_live::{Gate, GatePoint};
 use nms_quote::Feed;
 use std::alloc::Global;
 use std::sync::Wait;
@@ -66,11 +67,23 @@ fn published<R: Threads + Wait + Sync>(
     more: u64,
 ) -> Option<Vec<u64>> {
     let setup = setup_text(alloc, 2000, queue, 1)?;
+    published_under(rt, alloc, setup.as_str(), more)
+}
+
+/// The same over a setup's text.
+fn published_under<R: Threads + Wait + Sync>(
+    rt: &R,
+    alloc: Global,
+    setup: &str,
+    more: u64,
+) -> Option<Vec<u64>> {
     let text = changes(alloc, more.saturating_add(1))?;
     let gate = make_held(more);
     let feeds = (text.as_slice(), b"".as_slice());
-    let Live { published, .. } = run(rt, alloc, setup.as_str(), feeds, &[], &gate)?.ok()?;
-    Some(published)
+    match run(rt, alloc, setup, feeds, &[], &gate) {
+        Some(Ok(live)) => Some(live.published),
+        _ => None,
+    }
 }
 
 #[test]
@@ -80,7 +93,7 @@ fn the_taker_publishes_behind_64_changes_and_where_the_lane_is_empty(
     let lengths = published(&rt, rt.alloc(), 1024, 200).ok_or("a run")?;
     // The first change alone; 64 at a time of those that lay in the lane; the 8 that were left; the end.
     let due = [1u64, 65, 129, 193, 201, 201];
-    assert_eq!(rt; lengths.as_slice(), due.as_slice());
+    same(&rt, lengths.as_slice(), due.as_slice());
     Ok(())
 }
 
@@ -88,6 +101,6 @@ fn the_taker_publishes_behind_64_changes_and_where_the_lane_is_empty(
 fn the_lane_of_a_run_takes_as_many_as_its_setup_says(rt: HostRuntime) {
     for queue in [2u32, 3, 5, 64, 1024] {
         let told = published(&rt, rt.alloc(), queue, u64::from(queue));
-        assert!(rt; told.is_some(), "in a lane of {queue}");
+        same(&rt, (queue, told.is_some()), (queue, true));
     }
 }

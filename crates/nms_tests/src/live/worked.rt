@@ -1,9 +1,10 @@
 //! Runs of a few changes, by what was worked out by hand.
 use super::{Wanted, run, setup_text};
+use crate::same::same;
 use nms_fees::read_setup;
 use nms_lines::{LineFault, read_plan};
 use nms_live::{Answer, Gate, GatePoint, Live, LiveFault, OpenGate};
-use nms_quote::{Change, Feed, Leg, Plan};
+use nms_quote::{Certificate, Change, Feed, Leg, Plan, Roster};
 use nms_scripts::SETUP_K;
 use std::alloc::Global;
 use std::process::Abort;
@@ -37,6 +38,14 @@ pub(crate) fn order() -> Wanted {
 pub(crate) fn told(answer: &Answer) -> (u8, usize, u64, u32) {
     let plan = &answer.plan;
     (answer.desk, answer.number, plan.version, plan.filled)
+}
+
+/// What the first of the answers says.
+pub(crate) fn first_told(answers: &[Answer]) -> Option<(u8, usize, u64, u32)> {
+    match answers.first() {
+        Some(answer) => Some(told(answer)),
+        None => None,
+    }
 }
 
 /// The place in the tape of the first change of a participant.
@@ -73,9 +82,23 @@ const CLOSING: &[u8] =
 
 /// Whether an answer is that plan with that certificate.
 pub(crate) fn says_closing(alloc: Global, answer: &Answer) -> Option<bool> {
-    let setup = read_setup(alloc, SETUP_K).ok()?;
-    let (plan, certificate) = read_plan(alloc, CLOSING, setup.roster()).ok()?;
-    Some(is_plan(&answer.plan, &plan) && answer.certificate.as_slice() == certificate.as_slice())
+    match read_setup(alloc, SETUP_K) {
+        Ok(setup) => says_under(alloc, setup.roster(), answer),
+        Err(_) => None,
+    }
+}
+
+/// The same by the names of a roster.
+fn says_under(alloc: Global, roster: &Roster, answer: &Answer) -> Option<bool> {
+    match read_plan(alloc, CLOSING, roster) {
+        Ok((plan, certificate)) => Some(is_answered(answer, &plan, &certificate)),
+        Err(_) => None,
+    }
+}
+
+/// Whether an answer is this plan with this certificate.
+fn is_answered(answer: &Answer, plan: &Plan, certificate: &Certificate) -> bool {
+    is_plan(&answer.plan, plan) && answer.certificate.as_slice() == certificate.as_slice()
 }
 
 /// Whether legs are the same, in one order.
@@ -92,23 +115,29 @@ fn is_plan(one: &Plan, other: &Plan) -> bool {
         && one.cost == other.cost
 }
 
+/// Compares answers with that plan and that certificate, each.
+pub(crate) fn compare_closing<R: Abort>(rt: &R, alloc: Global, closing: &[Answer]) {
+    for answer in closing {
+        same(rt, says_closing(alloc, answer), Some(true));
+    }
+}
+
 /// Compares what the worked run came to.
-fn check_worked<R: Abort>(rt: &R, alloc: Global, live: &Live) -> Result<(), Fail> {
-    assert!(rt; has_four(&live.tape, &live.published));
-    assert_eq!(rt; (live.answers.len(), live.closing.len()), (1, 1));
-    let closing = live.closing.first().ok_or("a closing answer")?;
-    assert_eq!(rt; told(closing), (0, 0, 4, 600));
-    assert_eq!(rt; says_closing(alloc, closing), Some(true));
-    Ok(())
+fn compare_worked<R: Abort>(rt: &R, alloc: Global, live: &Live) {
+    same(rt, has_four(&live.tape, &live.published), true);
+    same(rt, (live.answers.len(), live.closing.len()), (1, 1));
+    same(rt, first_told(&live.closing), Some((0, 0, 4, 600)));
+    compare_closing(rt, alloc, &live.closing);
 }
 
 #[test]
 fn the_worked_run_answers_on_the_whole_tape(rt: HostRuntime) -> Result<(), Fail> {
     let feeds = (feed_a(), feed_b());
-    let Some(Ok(live)) = run(&rt, rt.alloc(), SETUP_K, feeds, &[order()], &OpenGate) else {
-        return Err("no run")?;
-    };
-    check_worked(&rt, rt.alloc(), &live)
+    match run(&rt, rt.alloc(), SETUP_K, feeds, &[order()], &OpenGate) {
+        Some(Ok(live)) => compare_worked(&rt, rt.alloc(), &live),
+        _ => return Err("no run")?,
+    }
+    Ok(())
 }
 
 /// The fault that ends a run over a setup of such limits, with the worked order.
@@ -140,7 +169,7 @@ fn the_first_refused_record_is_named_and_feed_a_goes_first(rt: HostRuntime) {
             number,
             fault: fault_told,
         };
-        assert_eq!(rt; told, Some(want));
+        same(&rt, told, Some(want));
     }
 }
 
@@ -171,16 +200,16 @@ fn lengths<R: Threads + Wait + Sync>(
 
 #[test]
 fn five_changes_go_through_a_lane_of_2_and_not_on_a_tape_of_4(rt: HostRuntime) {
-    let told = lengths(&rt, rt.alloc(), (FIVE, b""));
-    assert_eq!(rt; told, Some((5, 0, 0, Some(5))));
-    let told = lengths(&rt, rt.alloc(), (b"", b""));
-    assert_eq!(rt; told, Some((0, 0, 0, Some(0))));
+    for (text, all) in [(FIVE, 5), (b"", 0)] {
+        let told = lengths(&rt, rt.alloc(), (text, b""));
+        same(&rt, told, Some((all, 0, 0, Some(all as u64))));
+    }
     let told = fault(&rt, rt.alloc(), 4, (FIVE, b""), &OpenGate);
-    assert_eq!(rt; told, Some(LiveFault::Append));
+    same(&rt, told, Some(LiveFault::Append));
 }
 
 /// A gate that never opens at sends of feed A, at looks or at publishings, and else is open.
-#[derive(Clone, Copy, Debug)]
+#[derive(Clone, Copy, Debug, PartialEq)]
 enum Shut {
     Send,
     Look,
@@ -204,6 +233,6 @@ impl Gate for Shut {
 fn a_gate_that_never_opens_ends_the_run_and_nobody_hangs(rt: HostRuntime) {
     for gate in [Shut::Send, Shut::Look, Shut::Publish] {
         let told = fault(&rt, rt.alloc(), 1000, (FIVE, feed_b()), &gate);
-        assert_eq!(rt; told, Some(LiveFault::GateLimit), "at {gate:?}");
+        same(&rt, (gate, told), (gate, Some(LiveFault::GateLimit)));
     }
 }
