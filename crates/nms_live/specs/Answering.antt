@@ -1,5 +1,5 @@
 -- Answers of desks to orders: a plan on one version, with its certificate. This product's own rule.
-use Rattle.std.specs.Prelude.{ℕ, ◌≡◌, ◌==◌, ◌⊎◌, ◌++◌, List, length, map, filter, Option, None}
+use Rattle.std.specs.Prelude.{ℕ, ◌≡◌, ◌==◌, ◌⊎◌, ◌++◌, List, length, map, filter, None}
 use Rattle.std.specs.List.{AllByRecursion, AllZip, Contains, enumerate_from}
 use Rattle.nms_quote.specs.Roster.{sizes_of}
 use Rattle.nms_quote.specs.Tape.{Tape, version}
@@ -13,7 +13,7 @@ use Rattle.nms_versions.specs.Taped.{Knowing}
 use Rattle.nms_live.specs.Faults.{IsNoLineIfAny}
 use Rattle.nms_live.specs.Lists.{IsRising, SomeOf}
 use Rattle.nms_quote.specs.declared.answer.Answer.{Answer}
-use Rattle.nms_live.specs.declared.live_fault.LiveFault.{LiveFault}
+use Rattle.nms_live.specs.declared.desk_work.Desked.{Desked}
 use Rattle.nms_quote.specs.declared.desk_order.DeskOrder.{DeskOrder}
 
 -- the orders with their places, from 0
@@ -53,11 +53,11 @@ pub record IsWorked (settings : Settings) (desk : ℕ) (orders : List DeskOrder)
   pub rising : IsRising (versions answers)
 
 -- the desk came back as it went, and unless its worker stopped early, the work is done
-pub record IsDesked (settings : Settings) (desk : ℕ) (orders : List DeskOrder) (before after : Knowing) (answers : List Answer) (stop : Option LiveFault) : Type 0 where
-  pub opening : after.opening ≡ before.opening
-  pub sizes : after.sizes ≡ before.sizes
-  pub worked : stop ≡ None → IsWorked settings desk orders after.known answers
-  pub stopped : IsNoLineIfAny stop
+pub record IsDesked (settings : Settings) (orders : List DeskOrder) (place : ℕ) (before : Knowing) (back : Desked) : Type 0 where
+  pub opening : back.desk.opening ≡ before.opening
+  pub sizes : back.desk.sizes ≡ before.sizes
+  pub worked : back.stop ≡ None → IsWorked settings place orders back.desk.known back.answers.items
+  pub stopped : IsNoLineIfAny back.stop
 
 -- the answer's version was published, or is the empty one, and on it the answer is the best
 pub record IsSound (settings : Settings) (tape : Tape) (published : List ℕ) (answer : Answer) : Type 0 where
