@@ -13,6 +13,7 @@ use Rattle.nms_versions.specs.Taped.{Knowing}
 use Rattle.nms_live.specs.Faults.{IsNoLineIfAny}
 use Rattle.nms_live.specs.Lists.{IsRising, SomeOf}
 use Rattle.nms_quote.specs.declared.answer.Answer.{Answer}
+use Rattle.nms_live.specs.declared.closing.DeskRow.{DeskRow}
 use Rattle.nms_live.specs.declared.desk_work.Desked.{Desked}
 use Rattle.nms_quote.specs.declared.desk_order.DeskOrder.{DeskOrder}
 
@@ -65,13 +66,13 @@ pub record IsSound (settings : Settings) (tape : Tape) (published : List ℕ) (a
   pub best : IsBestOn settings (version answer.plan.version tape) answer
 
 -- a desk's answers once it has settled: those of the run and the closing ones
-pub record IsClosed (settings : Settings) (desk : ℕ) (orders : List DeskOrder) (tape : Tape) (published : List ℕ) (answers closing : List Answer) : Type 0 where
-  pub matched : AllZip IsFor (own desk (numbered orders)) answers
-  pub closing_matched : AllZip IsFor (own desk (numbered orders)) closing
-  pub sound : AllByRecursion (IsSound settings tape published) answers
-  pub closing_sound : AllByRecursion (IsSound settings tape published) closing
-  pub rising : IsRising (versions (answers ++ closing))
-  pub last : AllByRecursion (λ answer. answer.plan.version ≡ length tape) closing
+pub record IsClosed (settings : Settings) (desk : ℕ) (orders : List DeskOrder) (tape : Tape) (published : List ℕ) (row : DeskRow) : Type 0 where
+  pub matched : AllZip IsFor (own desk (numbered orders)) row.answers.items
+  pub closing_matched : AllZip IsFor (own desk (numbered orders)) row.closing.items
+  pub sound : AllByRecursion (IsSound settings tape published) row.answers.items
+  pub closing_sound : AllByRecursion (IsSound settings tape published) row.closing.items
+  pub rising : IsRising (versions (row.answers.items ++ row.closing.items))
+  pub last : AllByRecursion (λ answer. answer.plan.version ≡ length tape) row.closing.items
 
 -- the answers of a run to all its orders, in order: one to each, and one on the whole tape
 pub record IsAnswered (settings : Settings) (orders : List DeskOrder) (tape : Tape) (published : List ℕ) (answers closing : List Answer) : Type 0 where

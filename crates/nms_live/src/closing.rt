@@ -72,7 +72,7 @@ fn close_desk(
     requires back { IsBack given.now.setup.now given.now.orders.items keeper.old.taped.opening number desked }
     requires ended { desked.stop ≡ None }
     ensures unchanged { keeper.new ≡ keeper.old }
-    ensures row { IfOk result (λ row. IsClosed given.now.setup.now number given.now.orders.items (tape_of keeper.old.taped) keeper.old.listed row.answers.items row.closing.items) }
+    ensures row { IfOk result (IsClosed given.now.setup.now number given.now.orders.items (tape_of keeper.old.taped) keeper.old.listed) }
     ensures fault { IfErr result IsNoLine }
 {
     let Desked {

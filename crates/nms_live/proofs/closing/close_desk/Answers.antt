@@ -21,7 +21,7 @@ returns-in-Ok-settle-clause-row c =
     let learnt : c.learn.new.self.known ≡ tape ∷ before = ap (λ (d : Knowing). d.known) c.learn.ensures ∙ ap (λ (t : Tape). t ∷ before) whole in
     let again : c.receipt-2.result.published ≡ keeper.taped.published = c.receipt-2.ensures.published ∙ ap (λ (k : Keeping). k.taped.published) c.receipt.ensures.unchanged in
     let top : changes c.receipt-2.result.published ≡ tape = ap changes again ∙ c.requires.whole.published in
-    closed c.args.given.now.setup.now c.args.number c.args.given.now.orders.items keeper.taped.published keeper.listed tape before after knows.0 c.args.desked.answers.items closing
+    closed c.args.given.now.setup.now c.args.number c.args.given.now.orders.items keeper.taped.published keeper.listed tape before after knows.0 (record { answers = c.args.desked.answers; closing = c.in-Ok.closing })
     c.receipt.ensures.kept.published
     (record {
       begin = subst (λ (t : Tape). AllBegin t after) top c.in-Ok-settle.ensures.begins;
