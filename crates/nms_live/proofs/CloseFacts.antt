@@ -12,6 +12,7 @@ use Rattle.nms_live.specs.Answering.{IsBestOn, IsClosed, IsSound, IsWorked, vers
 use Rattle.nms_live.specs.Keeping.{AreListed}
 use Rattle.nms_live.specs.Lists.{IsRising, SomeOf}
 use Rattle.nms_quote.specs.declared.answer.Answer.{Answer}
+use Rattle.nms_live.specs.declared.closing.DeskRow.{DeskRow}
 use Rattle.nms_quote.specs.declared.desk_order.DeskOrder.{DeskOrder}
 use Rattle.nms_live.proofs.NumberFacts.{all_append, all_weaker}
 
@@ -67,12 +68,14 @@ all_equal [] m low high = tt
 all_equal (answer ∷ answers) m low high = (omega (arith, low.0, high.0), all_equal answers m low.1 high.1)
 
 -- a desk that learnt of the whole tape, answered its orders again, and settled
-pub closed : (settings : Settings) (desk : ℕ) (orders : List DeskOrder) (published : Batches) (listed : List ℕ) (tape : Tape) (before after more : List Tape) (answers closing : List Answer)
+pub closed : (settings : Settings) (desk : ℕ) (orders : List DeskOrder) (published : Batches) (listed : List ℕ) (tape : Tape) (before after more : List Tape) (row : DeskRow)
     → AreListed published listed → AreSettled published tape after → after ≡ more ++ tape ∷ before
-    → IsWorked settings desk orders before answers → IsWorked settings desk orders after closing
-    → AllByRecursion (λ n. longest_of (tape ∷ before) ≤ n) (versions closing)
-    → IsClosed settings desk orders tape listed answers closing
-closed settings desk orders published listed tape before after more answers closing listed_all settled is worked again later =
+    → IsWorked settings desk orders before row.answers.items → IsWorked settings desk orders after row.closing.items
+    → AllByRecursion (λ n. longest_of (tape ∷ before) ≤ n) (versions row.closing.items)
+    → IsClosed settings desk orders tape listed row
+closed settings desk orders published listed tape before after more row listed_all settled is worked again later =
+    let answers = row.answers.items in
+    let closing = row.closing.items in
     let known : AllByRecursion (λ answer. SomeOf (λ t. IsBestOn settings t answer) after) answers =
     all_weaker (λ (a : Answer). SomeOf (λ t. IsBestOn settings t a) before) (λ (a : Answer). SomeOf (λ t. IsBestOn settings t a) after) answers
     (λ a some. rw is (some_later (λ t. IsBestOn settings t a) more (tape ∷ before) (inr some))) worked.best in

@@ -148,8 +148,8 @@ pairs_of-rising [] rising = λ i j d less within. absurd (omega arith)
 pairs_of-rising (n ∷ ns) rising =
     AllPairs-cons (λ earlier later. earlier ≤ later) n ns (All-from_recursion (λ m. n ≤ m) ns rising.0) (pairs_of-rising ns rising.1)
 
-pub best_of_versions : (settings : Settings) (a b : List ℕ) (orders : List DeskOrder) (live : Live) → AreLaws → IsLive settings a b orders live → AreBestOfTheirVersions settings live
-best_of_versions settings a b orders live laws is =
+pub best_of_versions : (settings : Settings) (texts : List (List ℕ)) (orders : List DeskOrder) (live : Live) → AreLaws → IsLive settings texts orders live → AreBestOfTheirVersions settings live
+best_of_versions settings texts orders live laws is =
     let sound : Answer → Type 0 = IsSound settings live.tape.items live.published.items in
     record {
       each = recursion_from_All (IsBestOfItsVersion settings live) (live.answers.items ++ live.closing.items)

@@ -1,16 +1,14 @@
 -- How the desks' answers come into the order of the orders.
 use Rattle.std.proofs.Common.{ℕ, ◌≡◌, ◌≢◌, ◌==◌, ◌<◌, ◌≤◌, ◌+◌, ◌++◌, Bool, true, false, List, [], ◌∷◌, length, drop, get_or, nat_lt, suc, refl, ap, sym, subst, ◌∙◌, arith, append_assoc, if◌then◌else◌}
 use Rattle.std.specs.Prelude.{slice_index_or, All}
-use Rattle.std.specs.List.{AllByRecursion, AllZip, enumerate_from}
+use Rattle.std.specs.List.{AllZip, enumerate_from}
 use Rattle.std.proofs.Math.Seq.{drop-cons}
 use Rattle.std.proofs.lemmas.Bool.Decides.{nat_tests}
 use Rattle.std.proofs.lemmas.List.{append-nil}
 use Rattle.std.proofs.lemmas.List.Elements.{All-head, All-tail, filter-append}
-use Rattle.nms_quote.specs.Tape.{Tape}
-use Rattle.nms_fees.specs.Settings.{Settings}
-use Rattle.nms_live.specs.Answering.{IsClosed, IsFor, IsSound, numbered, of_desk, own, versions}
+use Rattle.nms_live.specs.Answering.{IsFor, numbered, of_desk, own, versions}
 use Rattle.nms_live.specs.Lists.{IsRising}
-use Rattle.nms_live.specs.Rows.{AreLeft, AreRows, IsLeft}
+use Rattle.nms_live.specs.Rows.{AreLeft, IsLeft}
 use Rattle.nms_quote.specs.declared.answer.Answer.{Answer}
 use Rattle.nms_live.specs.declared.closing.DeskRow.{DeskRow}
 use Rattle.nms_quote.specs.declared.desk_order.DeskOrder.{DeskOrder}
@@ -18,21 +16,6 @@ use Rattle.nms_quote.specs.declared.desk_order.DeskOrder.{DeskOrder}
 pub some_of : {X : Type 0} (xs : List X) → 0 < length xs → X
 some_of [] some = absurd (omega (arith, some))
 some_of (x ∷ xs) some = x
-
--- before anything was put
-pub left_start : (settings : Settings) (orders : List DeskOrder) (tape : Tape) (published : List ℕ) (rows : List DeskRow)
-    → AreRows settings orders tape published rows → AreLeft settings tape published (numbered orders) [] [] rows rows
-left_start settings orders tape published rows all = λ k d below.
-    let row = all k d below in
-    record {
-      parted = refl;
-      closing_parted = refl;
-      matched = row.matched;
-      closing_matched = row.closing_matched;
-      sound = row.sound;
-      closing_sound = row.closing_sound;
-      last = row.last;
-    }
 
 own_front : (desk : ℕ) (order : ℕ × DeskOrder) (rest : List (ℕ × DeskOrder)) → (order.1.desk == desk) ≡ true → own desk (order ∷ rest) ≡ order ∷ own desk rest
 own_front desk order rest is = ap (λ (b : Bool). if b then order ∷ own desk rest else own desk rest) is
@@ -44,35 +27,23 @@ zip_some : {A B : Type 0} (R : A → B → Type 0) (x : A) (xs : List A) (ys : L
 zip_some R x xs [] all = absurd all
 zip_some R x xs (y ∷ ys) all = omega arith
 
--- an order's desk has an answer left, and a closing one
-pub some_left : (settings : Settings) (tape : Tape) (published : List ℕ) (desk : ℕ) (order : ℕ × DeskOrder) (rest : List (ℕ × DeskOrder)) (put put_closing : List Answer) (first now : DeskRow)
-    → order.1.desk ≡ desk → IsLeft settings tape published desk (order ∷ rest) put put_closing first now → (0 < length now.answers.items) × (0 < length now.closing.items)
-some_left settings tape published desk order rest put put_closing first now mine left =
+-- an order's desk has an answer left
+pub some_left : (IsWanted : Answer → Type 0) (desk : ℕ) (order : ℕ × DeskOrder) (rest : List (ℕ × DeskOrder)) (put first now : List Answer)
+    → order.1.desk ≡ desk → IsLeft IsWanted desk (order ∷ rest) put first now → 0 < length now
+some_left IsWanted desk order rest put first now mine left =
     let test : (order.1.desk == desk) ≡ true = grind (arith, nat_tests, mine) in
-    let front = own_front desk order rest test in
-    (zip_some IsFor order (own desk rest) now.answers.items (rw (sym front) left.matched), zip_some IsFor order (own desk rest) now.closing.items (rw (sym front) left.closing_matched))
+    zip_some IsFor order (own desk rest) now (rw (sym (own_front desk order rest test)) left.matched)
 
--- what is known of an answer that is put next, and of the closing one
-pub record IsNext (settings : Settings) (tape : Tape) (published : List ℕ) (order : ℕ × DeskOrder) (answer closing : Answer) : Type 0 where
-  pub for : IsFor order answer
-  pub closing_for : IsFor order closing
-  pub sound : IsSound settings tape published answer
-  pub closing_sound : IsSound settings tape published closing
-  pub last : closing.plan.version ≡ length tape
+-- an order with those behind it, the answers that were put before it, and the one that is put now
+pub record Turn : Type 0 where
+  pub order : ℕ × DeskOrder
+  pub rest : List (ℕ × DeskOrder)
+  pub put : List Answer
+  pub answer : Answer
 
--- the next answers of the order's own desk
-pub next_left : (settings : Settings) (tape : Tape) (published : List ℕ) (desk : ℕ) (order : ℕ × DeskOrder) (rest : List (ℕ × DeskOrder)) (put put_closing : List Answer) (first old new : DeskRow) (answer closing : Answer)
-    → order.1.desk ≡ desk → old.answers.items ≡ answer ∷ new.answers.items → old.closing.items ≡ closing ∷ new.closing.items
-    → IsLeft settings tape published desk (order ∷ rest) put put_closing first old → IsNext settings tape published order answer closing
-next_left settings tape published desk order rest put put_closing first old new answer closing mine is closing_is left =
-    let test : (order.1.desk == desk) ≡ true = grind (arith, nat_tests, mine) in
-    let front = own_front desk order rest test in
-    let matched : AllZip IsFor (order ∷ own desk rest) (answer ∷ new.answers.items) = subst (λ (l : List (ℕ × DeskOrder)). AllZip IsFor l (answer ∷ new.answers.items)) front (subst (λ (l : List Answer). AllZip IsFor (own desk (order ∷ rest)) l) is left.matched) in
-    let again : AllZip IsFor (order ∷ own desk rest) (closing ∷ new.closing.items) = subst (λ (l : List (ℕ × DeskOrder)). AllZip IsFor l (closing ∷ new.closing.items)) front (subst (λ (l : List Answer). AllZip IsFor (own desk (order ∷ rest)) l) closing_is left.closing_matched) in
-    let sound : AllByRecursion (IsSound settings tape published) (answer ∷ new.answers.items) = subst (λ (l : List Answer). AllByRecursion (IsSound settings tape published) l) is left.sound in
-    let closing_sound : AllByRecursion (IsSound settings tape published) (closing ∷ new.closing.items) = subst (λ (l : List Answer). AllByRecursion (IsSound settings tape published) l) closing_is left.closing_sound in
-    let last : AllByRecursion (λ a. a.plan.version ≡ length tape) (closing ∷ new.closing.items) = subst (λ (l : List Answer). AllByRecursion (λ a. a.plan.version ≡ length tape) l) closing_is left.last in
-    record { for = matched.0; closing_for = again.0; sound = sound.0; closing_sound = closing_sound.0; last = last.0 }
+-- what was put once it is
+abbrev pub put_now : Turn → List Answer
+put_now turn = turn.put ++ turn.answer ∷ []
 
 put_mine : (desk : ℕ) (put more first : List Answer) (answer : Answer) → answer.desk ≡ desk → of_desk desk put ++ (answer ∷ more) ≡ first → of_desk desk (put ++ answer ∷ []) ++ more ≡ first
 put_mine desk put more first answer mine is =
@@ -85,45 +56,32 @@ put_other : (desk : ℕ) (put : List Answer) (answer : Answer) → (answer.desk 
 put_other desk put answer test =
     filter-append (λ (a : Answer). a.desk == desk) put (answer ∷ []) ∙ ap (λ (b : Bool). of_desk desk put ++ (if b then answer ∷ [] else [])) test ∙ append-nil (of_desk desk put)
 
--- they were taken from what is left of that desk
-pub left_mine : (settings : Settings) (tape : Tape) (published : List ℕ) (desk : ℕ) (order : ℕ × DeskOrder) (rest : List (ℕ × DeskOrder)) (put put_closing : List Answer) (first old new : DeskRow) (answer closing : Answer)
-    → order.1.desk ≡ desk → old.answers.items ≡ answer ∷ new.answers.items → old.closing.items ≡ closing ∷ new.closing.items
-    → IsLeft settings tape published desk (order ∷ rest) put put_closing first old → IsLeft settings tape published desk rest (put ++ answer ∷ []) (put_closing ++ closing ∷ []) first new
-left_mine settings tape published desk order rest put put_closing first old new answer closing mine is closing_is left =
-    let test : (order.1.desk == desk) ≡ true = grind (arith, nat_tests, mine) in
-    let front = own_front desk order rest test in
-    let matched : AllZip IsFor (order ∷ own desk rest) (answer ∷ new.answers.items) = subst (λ (l : List (ℕ × DeskOrder)). AllZip IsFor l (answer ∷ new.answers.items)) front (subst (λ (l : List Answer). AllZip IsFor (own desk (order ∷ rest)) l) is left.matched) in
-    let again : AllZip IsFor (order ∷ own desk rest) (closing ∷ new.closing.items) = subst (λ (l : List (ℕ × DeskOrder)). AllZip IsFor l (closing ∷ new.closing.items)) front (subst (λ (l : List Answer). AllZip IsFor (own desk (order ∷ rest)) l) closing_is left.closing_matched) in
-    let sound : AllByRecursion (IsSound settings tape published) (answer ∷ new.answers.items) = subst (λ (l : List Answer). AllByRecursion (IsSound settings tape published) l) is left.sound in
-    let closing_sound : AllByRecursion (IsSound settings tape published) (closing ∷ new.closing.items) = subst (λ (l : List Answer). AllByRecursion (IsSound settings tape published) l) closing_is left.closing_sound in
-    let last : AllByRecursion (λ a. a.plan.version ≡ length tape) (closing ∷ new.closing.items) = subst (λ (l : List Answer). AllByRecursion (λ a. a.plan.version ≡ length tape) l) closing_is left.last in
-    record {
-      parted = put_mine desk put new.answers.items first.answers.items answer (matched.0.0 ∙ mine) (subst (λ (l : List Answer). of_desk desk put ++ l ≡ first.answers.items) is left.parted);
-      closing_parted = put_mine desk put_closing new.closing.items first.closing.items closing (again.0.0 ∙ mine) (subst (λ (l : List Answer). of_desk desk put_closing ++ l ≡ first.closing.items) closing_is left.closing_parted);
-      matched = matched.1;
-      closing_matched = again.1;
-      sound = sound.1;
-      closing_sound = closing_sound.1;
-      last = last.1;
-    }
+-- the next of what is left of the order's own desk answers the order, and the others are left
+left_mine : (IsWanted : Answer → Type 0) (desk : ℕ) (turn : Turn) (first new : List Answer) → turn.order.1.desk ≡ desk
+    → IsLeft IsWanted desk (turn.order ∷ turn.rest) turn.put first (turn.answer ∷ new)
+    → IsFor turn.order turn.answer × IsWanted turn.answer × IsLeft IsWanted desk turn.rest (put_now turn) first new
+left_mine IsWanted desk turn first new mine left =
+    let test : (turn.order.1.desk == desk) ≡ true = grind (arith, nat_tests, mine) in
+    let matched : AllZip IsFor (turn.order ∷ own desk turn.rest) (turn.answer ∷ new) =
+    subst (λ (l : List (ℕ × DeskOrder)). AllZip IsFor l (turn.answer ∷ new)) (own_front desk turn.order turn.rest test) left.matched in (
+      matched.0,
+      left.wanted.0,
+      record {
+        parted = put_mine desk turn.put new first turn.answer (matched.0.0 ∙ mine) left.parted;
+        matched = matched.1;
+        wanted = left.wanted.1;
+      },
+    )
 
 -- another desk keeps what is left of its own
-pub left_other : (settings : Settings) (tape : Tape) (published : List ℕ) (desk : ℕ) (order : ℕ × DeskOrder) (rest : List (ℕ × DeskOrder)) (put put_closing : List Answer) (first now : DeskRow) (answer closing : Answer)
-    → (order.1.desk == desk) ≡ false → answer.desk ≡ order.1.desk → closing.desk ≡ order.1.desk
-    → IsLeft settings tape published desk (order ∷ rest) put put_closing first now → IsLeft settings tape published desk rest (put ++ answer ∷ []) (put_closing ++ closing ∷ []) first now
-left_other settings tape published desk order rest put put_closing first now answer closing test of closing_of left =
-    let later = own_later desk order rest test in
-    let one = put_other desk put answer (ap (λ (n : ℕ). n == desk) of ∙ test) in
-    let two = put_other desk put_closing closing (ap (λ (n : ℕ). n == desk) closing_of ∙ test) in
-    record {
-      parted = ap (λ (l : List Answer). l ++ now.answers.items) one ∙ left.parted;
-      closing_parted = ap (λ (l : List Answer). l ++ now.closing.items) two ∙ left.closing_parted;
-      matched = rw (sym later) left.matched;
-      closing_matched = rw (sym later) left.closing_matched;
-      sound = left.sound;
-      closing_sound = left.closing_sound;
-      last = left.last;
-    }
+left_other : (IsWanted : Answer → Type 0) (desk : ℕ) (turn : Turn) (first now : List Answer)
+    → (turn.order.1.desk == desk) ≡ false → turn.answer.desk ≡ turn.order.1.desk
+    → IsLeft IsWanted desk (turn.order ∷ turn.rest) turn.put first now → IsLeft IsWanted desk turn.rest (put_now turn) first now
+left_other IsWanted desk turn first now test of left = record {
+  parted = ap (λ (l : List Answer). l ++ now) (put_other desk turn.put turn.answer (ap (λ (n : ℕ). n == desk) of ∙ test)) ∙ left.parted;
+  matched = rw (sym (own_later desk turn.order turn.rest test)) left.matched;
+  wanted = left.wanted;
+}
 
 -- all orders from one on, with their numbers
 pub numbered_rest : (orders : List DeskOrder) (place : ℕ) (order : DeskOrder) → place < length orders → get_or orders place order ≡ order
@@ -137,18 +95,10 @@ zip_none : {A B : Type 0} (R : A → B → Type 0) (ys : List B) → AllZip R []
 zip_none R [] all = refl
 zip_none R (y ∷ ys) all = absurd all
 
--- where nothing is left of a desk's answers, they are all put
-rising_put : (settings : Settings) (orders : List DeskOrder) (tape : Tape) (published : List ℕ) (desk : ℕ) (put put_closing : List Answer) (first now : DeskRow)
-    → IsClosed settings desk orders tape published first.answers.items first.closing.items → IsLeft settings tape published desk [] put put_closing first now
-    → IsRising (versions (of_desk desk (put ++ put_closing)))
-rising_put settings orders tape published desk put put_closing first now row left =
-    let none : now.answers.items ≡ [] = zip_none IsFor now.answers.items left.matched in
-    let none_closing : now.closing.items ≡ [] = zip_none IsFor now.closing.items left.closing_matched in
-    let one : of_desk desk put ≡ first.answers.items = sym (append-nil (of_desk desk put)) ∙ ap (λ (l : List Answer). of_desk desk put ++ l) (sym none) ∙ left.parted in
-    let two : of_desk desk put_closing ≡ first.closing.items = sym (append-nil (of_desk desk put_closing)) ∙ ap (λ (l : List Answer). of_desk desk put_closing ++ l) (sym none_closing) ∙ left.closing_parted in
-    let all : of_desk desk (put ++ put_closing) ≡ first.answers.items ++ first.closing.items =
-    filter-append (λ (a : Answer). a.desk == desk) put put_closing ∙ ap (λ (l : List Answer). l ++ of_desk desk put_closing) one ∙ ap (λ (l : List Answer). first.answers.items ++ l) two in
-    rw all row.rising
+-- where no order is left, all answers of the desk are put
+pub all_put : (IsWanted : Answer → Type 0) (desk : ℕ) (put first now : List Answer) → IsLeft IsWanted desk [] put first now → of_desk desk put ≡ first
+all_put IsWanted desk put first now left =
+    sym (append-nil (of_desk desk put)) ∙ ap (λ (l : List Answer). of_desk desk put ++ l) (sym (zip_none IsFor now left.matched)) ∙ left.parted
 
 -- nobody answered for a desk that is not there
 none_of : (orders : List DeskOrder) (place desks desk : ℕ) (answers : List Answer) → All (λ order. order.desk < desks) orders → desks ≤ desk → AllZip IsFor (enumerate_from place orders) answers → of_desk desk answers ≡ []
@@ -162,55 +112,44 @@ none_of (order ∷ orders) place desks desk (answer ∷ answers) below le all =
     ap (λ (b : Bool). if b then answer ∷ of_desk desk answers else of_desk desk answers) test
     ∙ none_of orders (place + 1) desks desk answers (All-tail (λ (o : DeskOrder). o.desk < desks) order orders below) le all.1
 
--- so no desk goes back to an older version
-pub rising_all : (settings : Settings) (orders : List DeskOrder) (tape : Tape) (published : List ℕ) (put put_closing : List Answer) (first now : List DeskRow)
-    → AreRows settings orders tape published first → length now ≡ length first → All (λ order. order.desk < length first) orders
-    → AreLeft settings tape published [] put put_closing first now → AllZip IsFor (numbered orders) put → AllZip IsFor (numbered orders) put_closing
+-- so no desk goes back to an older version, where no desk that is there does
+pub rising_all : (orders : List DeskOrder) (desks : ℕ) (put put_closing : List Answer) → All (λ order. order.desk < desks) orders
+    → AllZip IsFor (numbered orders) put → AllZip IsFor (numbered orders) put_closing
+    → ((desk : ℕ) → desk < desks → IsRising (versions (of_desk desk put ++ of_desk desk put_closing)))
     → (desk : ℕ) → IsRising (versions (of_desk desk (put ++ put_closing)))
-rising_all settings orders tape published put put_closing first now rows same below left matched again desk = cases (nat_lt desk (length first)) refl
+rising_all orders desks put put_closing below matched again rising desk =
+    rw (filter-append (λ (a : Answer). a.desk == desk) put put_closing) (cases (nat_lt desk desks) refl)
   where
-    cases : (b : Bool) → nat_lt desk (length first) ≡ b → IsRising (versions (of_desk desk (put ++ put_closing)))
-    cases true is =
-        let lt : desk < length first = grind (arith, nat_tests, is) in
-        let lt_now : desk < length now = omega (arith, lt, same) in
-        let d = some_of first (omega (arith, lt)) in
-        rising_put settings orders tape published desk put put_closing (slice_index_or first desk d) (slice_index_or now desk d) (rows desk d lt) (left desk d lt_now)
+    cases : (b : Bool) → nat_lt desk desks ≡ b → IsRising (versions (of_desk desk put ++ of_desk desk put_closing))
+    cases true is = rising desk (grind (arith, nat_tests, is))
     cases false is =
-        let le : length first ≤ desk = grind (arith, nat_tests, is) in
-        let none : of_desk desk (put ++ put_closing) ≡ [] =
-        filter-append (λ (a : Answer). a.desk == desk) put put_closing
-        ∙ ap (λ (l : List Answer). l ++ of_desk desk put_closing) (none_of orders 0 (length first) desk put below le matched)
-        ∙ none_of orders 0 (length first) desk put_closing below le again in
-        rw none tt
+        let le : desks ≤ desk = grind (arith, nat_tests, is) in
+        rw (none_of orders 0 desks desk put below le matched, none_of orders 0 desks desk put_closing below le again) tt
 
--- what an order's desk gives next
-pub next_step : (settings : Settings) (tape : Tape) (published : List ℕ) (order : ℕ × DeskOrder) (rest : List (ℕ × DeskOrder)) (put put_closing : List Answer) (first old new : List DeskRow) (answer closing : Answer)
-    → order.1.desk < length old
-    → ((d : DeskRow) → (slice_index_or old order.1.desk d).answers.items ≡ answer ∷ (slice_index_or new order.1.desk d).answers.items)
-    → ((d : DeskRow) → (slice_index_or old order.1.desk d).closing.items ≡ closing ∷ (slice_index_or new order.1.desk d).closing.items)
-    → AreLeft settings tape published (order ∷ rest) put put_closing first old → IsNext settings tape published order answer closing
-next_step settings tape published order rest put put_closing first old new answer closing below one two left =
-    let d = some_of old (omega (arith, below)) in
-    let k = order.1.desk in
-    next_left settings tape published k order rest put put_closing (slice_index_or first k d) (slice_index_or old k d) (slice_index_or new k d) answer closing refl (one d) (two d) (left k d below)
-
--- what is left once it was put
-pub left_step : (settings : Settings) (tape : Tape) (published : List ℕ) (order : ℕ × DeskOrder) (rest : List (ℕ × DeskOrder)) (put put_closing : List Answer) (first old new : List DeskRow) (answer closing : Answer)
-    → length new ≡ length old → order.1.desk < length old
-    → ((k : ℕ) (d : DeskRow) → k < length old → k ≢ order.1.desk → slice_index_or new k d ≡ slice_index_or old k d)
-    → ((d : DeskRow) → (slice_index_or old order.1.desk d).answers.items ≡ answer ∷ (slice_index_or new order.1.desk d).answers.items)
-    → ((d : DeskRow) → (slice_index_or old order.1.desk d).closing.items ≡ closing ∷ (slice_index_or new order.1.desk d).closing.items)
-    → answer.desk ≡ order.1.desk → closing.desk ≡ order.1.desk
-    → AreLeft settings tape published (order ∷ rest) put put_closing first old → AreLeft settings tape published rest (put ++ answer ∷ []) (put_closing ++ closing ∷ []) first new
-left_step settings tape published order rest put put_closing first old new answer closing same below others one two of closing_of left k d k_below = cases (order.1.desk == k) refl
+-- of each desk, what is left once the next of the order's desk is put
+pub left_step : (part : DeskRow → List Answer) (IsWanted : Answer → Type 0) (turn : Turn) (first old new : List DeskRow)
+    → length new ≡ length old → turn.order.1.desk < length old
+    → ((k : ℕ) (d : DeskRow) → k < length old → k ≢ turn.order.1.desk → slice_index_or new k d ≡ slice_index_or old k d)
+    → ((d : DeskRow) → part (slice_index_or old turn.order.1.desk d) ≡ turn.answer ∷ part (slice_index_or new turn.order.1.desk d))
+    → AreLeft part IsWanted (turn.order ∷ turn.rest) turn.put first old
+    → IsFor turn.order turn.answer × IsWanted turn.answer × AreLeft part IsWanted turn.rest (put_now turn) first new
+left_step part IsWanted turn first old new same below others one left =
+    let here = mine (some_of old (omega (arith, below))) in
+    (here.0, here.1, λ k d k_below. cases k d k_below here.0.0 (turn.order.1.desk == k) refl)
   where
-    cases : (b : Bool) → (order.1.desk == k) ≡ b → IsLeft settings tape published k rest (put ++ answer ∷ []) (put_closing ++ closing ∷ []) (slice_index_or first k d) (slice_index_or new k d)
-    cases true is =
-        let e : order.1.desk ≡ k = grind (arith, nat_tests, is) in
-        let P : ℕ → Type 0 = λ j. IsLeft settings tape published j rest (put ++ answer ∷ []) (put_closing ++ closing ∷ []) (slice_index_or first j d) (slice_index_or new j d) in
-        let j = order.1.desk in
-        subst P e (left_mine settings tape published j order rest put put_closing (slice_index_or first j d) (slice_index_or old j d) (slice_index_or new j d) answer closing refl (one d) (two d) (left j d below))
-    cases false is =
+    mine : (d : DeskRow) → IsFor turn.order turn.answer × IsWanted turn.answer
+        × IsLeft IsWanted turn.order.1.desk turn.rest (put_now turn) (part (slice_index_or first turn.order.1.desk d)) (part (slice_index_or new turn.order.1.desk d))
+    mine d =
+        let desk = turn.order.1.desk in
+        let P : List Answer → Type 0 = λ l. IsLeft IsWanted desk (turn.order ∷ turn.rest) turn.put (part (slice_index_or first desk d)) l in
+        left_mine IsWanted desk turn (part (slice_index_or first desk d)) (part (slice_index_or new desk d)) refl (subst P (one d) (left desk d below))
+
+    cases : (k : ℕ) (d : DeskRow) → k < length new → turn.answer.desk ≡ turn.order.1.desk → (b : Bool) → (turn.order.1.desk == k) ≡ b
+        → IsLeft IsWanted k turn.rest (put_now turn) (part (slice_index_or first k d)) (part (slice_index_or new k d))
+    cases k d k_below of true is =
+        let P : ℕ → Type 0 = λ j. IsLeft IsWanted j turn.rest (put_now turn) (part (slice_index_or first j d)) (part (slice_index_or new j d)) in
+        subst P (grind (arith, nat_tests, is)) (mine d).2
+    cases k d k_below of false is =
         let k_old : k < length old = omega (arith, k_below, same) in
-        let apart : k ≢ order.1.desk = grind (arith, nat_tests, is) in
-        rw (others k d k_old apart) (left_other settings tape published k order rest put put_closing (slice_index_or first k d) (slice_index_or old k d) answer closing is of closing_of (left k d k_old))
+        let apart : k ≢ turn.order.1.desk = grind (arith, nat_tests, is) in
+        rw (others k d k_old apart) (left_other IsWanted k turn (part (slice_index_or first k d)) (part (slice_index_or old k d)) is of (left k d k_old))

@@ -2,6 +2,7 @@ pub mod AnswerFacts
 pub mod CloseFacts
 pub mod CrewFacts
 pub mod DeskFacts
+pub mod FaultFacts
 pub mod FeedFacts
 pub mod KeeperFacts
 pub mod LeftFacts

@@ -5,11 +5,10 @@ use Rattle.std.specs.List.{AllByRecursion, Contains, last_or}
 use Rattle.std.proofs.lemmas.List.{append-nil, map-id, take_all}
 use Rattle.std.proofs.lemmas.List.Elements.{All-append, All-contains, All-filter, All-from_recursion, All-weaker, filter-append, recursion_from_All}
 use Rattle.std.proofs.Math.Seq.{take-append_seam}
-use Rattle.nms_quote.specs.Merge.{changes_of}
+use Rattle.nms_quote.specs.Merge.{changes_of, of_feed}
 use Rattle.nms_quote.specs.Roster.{Listing}
 use Rattle.nms_quote.specs.Tape.{Tape, version}
 use Rattle.nms_quote.specs.declared.feed.Feed.{Feed}
-use Rattle.nms_quote.specs.declared.feed.Feed.TheVariants as feed
 use Rattle.nms_board.specs.View.{Seen, view_of}
 use Rattle.nms_fees.specs.Settings.{Settings}
 use Rattle.nms_flow.specs.Flow.{room_under}
@@ -19,7 +18,7 @@ use Rattle.nms_flow.proofs.ListFacts.{last_or-append}
 use Rattle.nms_live.specs.Answering.{IsSound, of_desk, versions}
 use Rattle.nms_live.specs.Lists.{IsRising}
 use Rattle.nms_live.specs.Living.{IsLive}
-use Rattle.nms_live.specs.Reading.{IsRead}
+use Rattle.nms_live.specs.Reading.{IsRead, text_of}
 use Rattle.nms_live.specs.RunOf.{IsSomeRun}
 use Rattle.nms_quote.specs.declared.answer.Answer.{Answer}
 use Rattle.nms_quote.specs.declared.desk_order.DeskOrder.{DeskOrder}
@@ -119,8 +118,8 @@ module _ (room : Room) (roster : Listing) (whole : Tape) (published : List ℕ) 
 abbrev pub TellFeeds : Type 0
 TellFeeds = (roster : Listing) (events : List Event) (feed : Feed) → All (IsOnOwnFeed roster) (sent_by events) → changes_of roster feed (changes_in (sent_by events)) ≡ fed_by feed events
 
-pub is_some_run : (settings : Settings) (a b : List ℕ) (orders : List DeskOrder) (live : Live) → 1 ≤ settings.queue → TellFeeds → IsLive settings a b orders live → IsSomeRun settings a b live
-is_some_run settings a b orders live queue feeds is =
+pub is_some_run : (settings : Settings) (texts : List (List ℕ)) (orders : List DeskOrder) (live : Live) → 1 ≤ settings.queue → TellFeeds → IsLive settings texts orders live → IsSomeRun settings texts live
+is_some_run settings texts orders live queue feeds is =
     let tape : Tape = live.tape.items in
     let published : List ℕ = live.published.items in
     let all : List Answer = live.answers.items ++ live.closing.items in
@@ -152,14 +151,14 @@ is_some_run settings a b orders live queue feeds is =
     let led = end.led.1 in
     let sent_is : sent_by events ≡ map (marked_by settings.roster) tape = ap (λ s. s.sent) led.stands in
     let sent : changes_in (sent_by events) ≡ tape = ap changes_in sent_is ∙ changes_in-marked settings.roster tape in
-    let own : All (IsOnOwnFeed settings.roster) (sent_by events) = subst (All (IsOnOwnFeed settings.roster)) (sym sent_is) (own_feeds settings.roster a b tape is.tape) in
-    let fed : (feed : Feed) → changes_of settings.roster feed tape ≡ fed_by feed events = λ feed. sym (ap (changes_of settings.roster feed) sent) ∙ feeds settings.roster events feed own in (
+    let own : All (IsOnOwnFeed settings.roster) (sent_by events) = subst (All (IsOnOwnFeed settings.roster)) (sym sent_is) (own_feeds settings.roster texts tape is.tape) in
+    let fed : (feed : Feed) → changes_of settings.roster feed tape ≡ fed_by feed events = λ feed. sym (ap (changes_of settings.roster feed) sent) ∙ feeds settings.roster events feed own in
+    let gave : (feed : Feed) → changes_of settings.roster feed tape ≡ of_feed feed is.tape.marked = λ feed. ap (changes_of settings.roster feed) is.tape.tape_is ∙ (is.tape.gave feed).own in (
       events,
       record {
         run = led.run;
         answered = led.answered;
-        sent_a = subst (IsRead settings.roster feed.A a) (sym is.tape.of_a ∙ fed feed.A) is.tape.reads_a;
-        sent_b = subst (IsRead settings.roster feed.B b) (sym is.tape.of_b ∙ fed feed.B) is.tape.reads_b;
+        fed = λ feed. subst (IsRead settings.roster feed (text_of feed texts)) (sym (gave feed) ∙ fed feed) (is.tape.gave feed).reads;
         own = own;
         sent = sent;
         tape = ap tape_at led.stands ∙ taken_is settings.roster tape (below itself (length tape + 1) published);

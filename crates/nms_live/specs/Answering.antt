@@ -1,5 +1,5 @@
 -- Answers of desks to orders: a plan on one version, with its certificate. This product's own rule.
-use Rattle.std.specs.Prelude.{ℕ, ◌≡◌, ◌==◌, ◌⊎◌, ◌++◌, List, length, map, filter, Option, None}
+use Rattle.std.specs.Prelude.{ℕ, ◌≡◌, ◌==◌, ◌⊎◌, ◌++◌, List, length, map, filter, None}
 use Rattle.std.specs.List.{AllByRecursion, AllZip, Contains, enumerate_from}
 use Rattle.nms_quote.specs.Roster.{sizes_of}
 use Rattle.nms_quote.specs.Tape.{Tape, version}
@@ -13,7 +13,8 @@ use Rattle.nms_versions.specs.Taped.{Knowing}
 use Rattle.nms_live.specs.Faults.{IsNoLineIfAny}
 use Rattle.nms_live.specs.Lists.{IsRising, SomeOf}
 use Rattle.nms_quote.specs.declared.answer.Answer.{Answer}
-use Rattle.nms_live.specs.declared.live_fault.LiveFault.{LiveFault}
+use Rattle.nms_live.specs.declared.closing.DeskRow.{DeskRow}
+use Rattle.nms_live.specs.declared.desk_work.Desked.{Desked}
 use Rattle.nms_quote.specs.declared.desk_order.DeskOrder.{DeskOrder}
 
 -- the orders with their places, from 0
@@ -53,11 +54,11 @@ pub record IsWorked (settings : Settings) (desk : ℕ) (orders : List DeskOrder)
   pub rising : IsRising (versions answers)
 
 -- the desk came back as it went, and unless its worker stopped early, the work is done
-pub record IsDesked (settings : Settings) (desk : ℕ) (orders : List DeskOrder) (before after : Knowing) (answers : List Answer) (stop : Option LiveFault) : Type 0 where
-  pub opening : after.opening ≡ before.opening
-  pub sizes : after.sizes ≡ before.sizes
-  pub worked : stop ≡ None → IsWorked settings desk orders after.known answers
-  pub stopped : IsNoLineIfAny stop
+pub record IsDesked (settings : Settings) (orders : List DeskOrder) (place : ℕ) (before : Knowing) (back : Desked) : Type 0 where
+  pub opening : back.desk.opening ≡ before.opening
+  pub sizes : back.desk.sizes ≡ before.sizes
+  pub worked : back.stop ≡ None → IsWorked settings place orders back.desk.known back.answers.items
+  pub stopped : IsNoLineIfAny back.stop
 
 -- the answer's version was published, or is the empty one, and on it the answer is the best
 pub record IsSound (settings : Settings) (tape : Tape) (published : List ℕ) (answer : Answer) : Type 0 where
@@ -65,13 +66,13 @@ pub record IsSound (settings : Settings) (tape : Tape) (published : List ℕ) (a
   pub best : IsBestOn settings (version answer.plan.version tape) answer
 
 -- a desk's answers once it has settled: those of the run and the closing ones
-pub record IsClosed (settings : Settings) (desk : ℕ) (orders : List DeskOrder) (tape : Tape) (published : List ℕ) (answers closing : List Answer) : Type 0 where
-  pub matched : AllZip IsFor (own desk (numbered orders)) answers
-  pub closing_matched : AllZip IsFor (own desk (numbered orders)) closing
-  pub sound : AllByRecursion (IsSound settings tape published) answers
-  pub closing_sound : AllByRecursion (IsSound settings tape published) closing
-  pub rising : IsRising (versions (answers ++ closing))
-  pub last : AllByRecursion (λ answer. answer.plan.version ≡ length tape) closing
+pub record IsClosed (settings : Settings) (desk : ℕ) (orders : List DeskOrder) (tape : Tape) (published : List ℕ) (row : DeskRow) : Type 0 where
+  pub matched : AllZip IsFor (own desk (numbered orders)) row.answers.items
+  pub closing_matched : AllZip IsFor (own desk (numbered orders)) row.closing.items
+  pub sound : AllByRecursion (IsSound settings tape published) row.answers.items
+  pub closing_sound : AllByRecursion (IsSound settings tape published) row.closing.items
+  pub rising : IsRising (versions (row.answers.items ++ row.closing.items))
+  pub last : AllByRecursion (λ answer. answer.plan.version ≡ length tape) row.closing.items
 
 -- the answers of a run to all its orders, in order: one to each, and one on the whole tape
 pub record IsAnswered (settings : Settings) (orders : List DeskOrder) (tape : Tape) (published : List ℕ) (answers closing : List Answer) : Type 0 where

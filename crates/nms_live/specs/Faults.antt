@@ -1,7 +1,9 @@
 -- The codes of a live run's faults, the exit status of a program that one of them ends, and which of several is answered.
 -- This product's own rule.
 use Rattle.std.specs.Prelude.{ℕ, ⊤, List, codes, nat_lt, Option, Some, None, if◌then◌else◌}
+use Rattle.nms_quote.specs.declared.feed.Feed.{Feed}
 use Rattle.nms_quote.specs.declared.feed.Feed.TheVariants as feed
+use Rattle.nms_lines.specs.declared.line_fault.LineFault.{LineFault}
 use Rattle.nms_live.specs.declared.live_fault.LiveFault.{LiveFault}
 use Rattle.nms_live.specs.declared.live_fault.LiveFault.TheVariants as fault
 
@@ -38,14 +40,18 @@ first_fault None other = other
 first_fault (Some one) None = Some one
 first_fault (Some one) (Some other) = if nat_lt (rank_of other) (rank_of one) then Some other else Some one
 
+-- where it is the fault of a record, this holds of the feed, the record's number and its fault
+abbrev pub IfLine : (Feed → ℕ → LineFault → Type 0) → LiveFault → Type 0
+IfLine Holds (fault.Line of number why) = Holds of number why
+IfLine Holds fault.Open = ⊤
+IfLine Holds fault.Append = ⊤
+IfLine Holds fault.Desk = ⊤
+IfLine Holds fault.GateLimit = ⊤
+IfLine Holds fault.NoMemory = ⊤
+
 -- it is not the fault of a record
 abbrev pub IsNoLine : LiveFault → Type 0
-IsNoLine (fault.Line of number why) = ⊥
-IsNoLine fault.Open = ⊤
-IsNoLine fault.Append = ⊤
-IsNoLine fault.Desk = ⊤
-IsNoLine fault.GateLimit = ⊤
-IsNoLine fault.NoMemory = ⊤
+IsNoLine why = IfLine (λ of number own. ⊥) why
 
 -- if there is a fault, it is not that of a record
 abbrev pub IsNoLineIfAny : Option LiveFault → Type 0

@@ -8,10 +8,10 @@ use Rattle.nms_live.specs.Reading.{IsTapeOf}
 use Rattle.nms_quote.specs.declared.desk_order.DeskOrder.{DeskOrder}
 use Rattle.nms_live.specs.declared.live.Live.{Live}
 
--- what a run over these texts and orders came to
-pub record IsLive (settings : Settings) (a b : List ℕ) (orders : List DeskOrder) (live : Live) : Type 0 where
-  -- every record of both feeds reads as a change of its feed, and the tape is a merge of these, within its limit
-  pub tape : IsTapeOf settings.roster a b live.tape.items
+-- what a run over the feeds' texts and these orders came to
+pub record IsLive (settings : Settings) (texts : List (List ℕ)) (orders : List DeskOrder) (live : Live) : Type 0 where
+  -- every record of each feed reads as a change of its feed, and the tape is a merge of these, within its limit
+  pub tape : IsTapeOf settings.roster texts live.tape.items
   pub limit : length live.tape.items ≤ settings.tape_limit
   -- the tape was published batch by batch: the lengths that were published are 0 and those that are listed, and no others
   pub published : WasPublished live.tape.items live.published.items

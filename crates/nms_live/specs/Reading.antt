@@ -1,12 +1,11 @@
 -- What the records of a feed say, and the first of them that is refused. This product's own rule.
-use Rattle.std.specs.Prelude.{ℕ, ⊤, ◌≡◌, ◌+◌, ◌++◌, ◌∷◌, List, [], length, map, Option, Some, None, Result, Ok, Err}
-use Rattle.nms_quote.specs.Merge.{IsMerge, changes_of}
+use Rattle.std.specs.Prelude.{ℕ, ◌≡◌, ◌+◌, ◌++◌, ◌∷◌, List, [], length, map, slice_index_or, Option, Some, None, Result, Ok, Err}
+use Rattle.nms_quote.specs.Merge.{changes_of, of_feed, place_of}
 use Rattle.std.specs.List.{AllByRecursion}
 use Rattle.nms_quote.specs.Roster.{Listing, feed_at}
 use Rattle.nms_quote.specs.Tape.{Tape, participant_of}
 use Rattle.nms_quote.specs.declared.change.Change.{Change}
 use Rattle.nms_quote.specs.declared.feed.Feed.{Feed}
-use Rattle.nms_quote.specs.declared.feed.Feed.TheVariants as feed
 use Rattle.nms_quote.specs.declared.marked.Marked.{Marked}
 use Rattle.nms_lines.specs.Layout.{Record}
 use Rattle.nms_lines.specs.Lines.{reading}
@@ -15,8 +14,8 @@ use Rattle.nms_lines.specs.declared.line.Line.{Line}
 use Rattle.nms_lines.specs.declared.line.Line.TheVariants as line
 use Rattle.nms_lines.specs.declared.line.Reading.TheVariants as source
 use Rattle.nms_lines.specs.declared.line_fault.LineFault.{LineFault}
+use Rattle.nms_live.specs.Faults.{IfLine}
 use Rattle.nms_live.specs.declared.live_fault.LiveFault.{LiveFault}
-use Rattle.nms_live.specs.declared.live_fault.LiveFault.TheVariants as fault
 use Rattle.nms_flow.specs.Run.{changes_in}
 
 -- what a record of a feed says
@@ -50,50 +49,34 @@ pub record IsFirstRefused (roster : Listing) (feed : Feed) (text : List ℕ) (nu
 
 -- why a feed's worker stopped, as far as its text is the cause
 abbrev pub IsFeedFault : Listing → Feed → List ℕ → LiveFault → Type 0
-IsFeedFault roster feed text (fault.Line of number why) = (of ≡ feed) × IsFirstRefused roster feed text number why
-IsFeedFault roster feed text fault.Open = ⊤
-IsFeedFault roster feed text fault.Append = ⊤
-IsFeedFault roster feed text fault.Desk = ⊤
-IsFeedFault roster feed text fault.GateLimit = ⊤
-IsFeedFault roster feed text fault.NoMemory = ⊤
+IsFeedFault roster feed text why = IfLine (λ of number own. (of ≡ feed) × IsFirstRefused roster feed text number own) why
 
 -- the refusal of one record
 abbrev pub IsRefusal : Feed → ℕ → Result Line LineFault → LiveFault → Type 0
-IsRefusal feed place said (fault.Line of number why) = (of ≡ feed) × (number ≡ place) × (said ≡ Err why)
-IsRefusal feed place said fault.Open = ⊤
-IsRefusal feed place said fault.Append = ⊤
-IsRefusal feed place said fault.Desk = ⊤
-IsRefusal feed place said fault.GateLimit = ⊤
-IsRefusal feed place said fault.NoMemory = ⊤
+IsRefusal feed place said why = IfLine (λ of number own. (of ≡ feed) × (number ≡ place) × (said ≡ Err own)) why
 
 -- what a feed's worker sent where it did not stop early, else why it did
 abbrev pub IsFed : Listing → Feed → List ℕ → List Change → Option LiveFault → Type 0
 IsFed roster feed text sent None = IsRead roster feed text sent
 IsFed roster feed text sent (Some why) = IsFeedFault roster feed text why
 
--- the text of a feed, of the two
-abbrev pub text_from : Feed → List ℕ → List ℕ → List ℕ
-text_from feed.A a b = a
-text_from feed.B a b = b
+-- the text of a feed: the texts stand in order of place
+abbrev pub text_of : Feed → List (List ℕ) → List ℕ
+text_of feed texts = slice_index_or texts (place_of feed) []
 
 -- why a run gave nothing, as far as the feeds' texts are the cause: the first refused record of a feed
-abbrev pub IsLiveFault : Listing → List ℕ → List ℕ → LiveFault → Type 0
-IsLiveFault roster a b (fault.Line of number why) = IsFirstRefused roster of (text_from of a b) number why
-IsLiveFault roster a b fault.Open = ⊤
-IsLiveFault roster a b fault.Append = ⊤
-IsLiveFault roster a b fault.Desk = ⊤
-IsLiveFault roster a b fault.GateLimit = ⊤
-IsLiveFault roster a b fault.NoMemory = ⊤
+abbrev pub IsLiveFault : Listing → List (List ℕ) → LiveFault → Type 0
+IsLiveFault roster texts why = IfLine (λ of number own. IsFirstRefused roster of (text_of of texts) number own) why
 
--- the texts of both feeds read as changes, and the tape is a merge of these. The mark of a change is the feed of
--- its participant: so the tape alone tells what each feed sent
-pub record IsTapeOf (roster : Listing) (a b : List ℕ) (tape : Tape) : Type 0 where
-  pub changes_a : List Change
-  pub changes_b : List Change
+-- what one feed gave: its text reads as changes, and of the changes that bear the marks of their feeds they are those
+-- that bear its own, in order. The mark of a change is the feed of its participant: so the tape alone tells what the
+-- feed gave
+pub record HasGiven (roster : Listing) (text : List ℕ) (marked : List Marked) (feed : Feed) : Type 0 where
+  pub reads : IsRead roster feed text (of_feed feed marked)
+  pub own : changes_of roster feed (changes_in marked) ≡ of_feed feed marked
+
+-- the tape is a merge of what the feeds gave
+pub record IsTapeOf (roster : Listing) (texts : List (List ℕ)) (tape : Tape) : Type 0 where
   pub marked : List Marked
-  pub reads_a : IsRead roster feed.A a changes_a
-  pub reads_b : IsRead roster feed.B b changes_b
-  pub merge : IsMerge changes_a changes_b marked
   pub tape_is : tape ≡ changes_in marked
-  pub of_a : changes_of roster feed.A tape ≡ changes_a
-  pub of_b : changes_of roster feed.B tape ≡ changes_b
+  pub gave : (feed : Feed) → HasGiven roster (text_of feed texts) marked feed

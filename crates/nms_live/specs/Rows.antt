@@ -12,19 +12,21 @@ use Rattle.nms_quote.specs.declared.desk_order.DeskOrder.{DeskOrder}
 -- each desk's answers, in order of its number
 abbrev pub AreRows : Settings → List DeskOrder → Tape → List ℕ → List DeskRow → Type 0
 AreRows settings orders tape published rows =
-    (k : ℕ) (d : DeskRow) → k < length rows → IsClosed settings k orders tape published (slice_index_or rows k d).answers.items (slice_index_or rows k d).closing.items
+    (k : ℕ) (d : DeskRow) → k < length rows → IsClosed settings k orders tape published (slice_index_or rows k d)
 
--- of a desk's answers some were put behind the others: what is left answers the desk's orders from there on
-pub record IsLeft (settings : Settings) (tape : Tape) (published : List ℕ) (desk : ℕ) (left : List (ℕ × DeskOrder)) (put put_closing : List Answer) (first now : DeskRow) : Type 0 where
-  pub parted : of_desk desk put ++ now.answers.items ≡ first.answers.items
-  pub closing_parted : of_desk desk put_closing ++ now.closing.items ≡ first.closing.items
-  pub matched : AllZip IsFor (own desk left) now.answers.items
-  pub closing_matched : AllZip IsFor (own desk left) now.closing.items
-  pub sound : AllByRecursion (IsSound settings tape published) now.answers.items
-  pub closing_sound : AllByRecursion (IsSound settings tape published) now.closing.items
-  pub last : AllByRecursion (λ answer. answer.plan.version ≡ length tape) now.closing.items
+-- a closing answer: it is sound, and on the whole tape
+abbrev pub IsLast : Settings → Tape → List ℕ → Answer → Type 0
+IsLast settings tape published answer = IsSound settings tape published answer × (answer.plan.version ≡ length tape)
 
--- so it is with each desk
-abbrev pub AreLeft : Settings → Tape → List ℕ → List (ℕ × DeskOrder) → List Answer → List Answer → List DeskRow → List DeskRow → Type 0
-AreLeft settings tape published left put put_closing first now =
-    (k : ℕ) (d : DeskRow) → k < length now → IsLeft settings tape published k left put put_closing (slice_index_or first k d) (slice_index_or now k d)
+-- of a desk's answers some were put behind the others: what is left answers the desk's orders from there on, and each is
+-- as wanted
+pub record IsLeft (IsWanted : Answer → Type 0) (desk : ℕ) (left : List (ℕ × DeskOrder)) (put first now : List Answer) : Type 0 where
+  pub parted : of_desk desk put ++ now ≡ first
+  pub matched : AllZip IsFor (own desk left) now
+  pub wanted : AllByRecursion IsWanted now
+
+-- so it is with each desk, of its answers or of its closing ones
+abbrev pub AreLeft : (DeskRow → List Answer) → (Answer → Type 0) → List (ℕ × DeskOrder) → List Answer → List DeskRow → List DeskRow → Type 0
+AreLeft part IsWanted left put first now =
+    (k : ℕ) (d : DeskRow) → k < length now
+    → IsLeft IsWanted k left put (part (slice_index_or first k d)) (part (slice_index_or now k d))

@@ -2,7 +2,7 @@
 use Rattle.std.specs.Prelude.{ℕ, ◌≡◌, ◌==◌, ◌++◌, true, All, List, map, Option, Some, None, Ok, if◌then◌else◌}
 use Rattle.std.specs.List.{filter_map}
 use Rattle.nms_quote.specs.Tape.{version}
-use Rattle.nms_quote.specs.declared.feed.Feed.TheVariants as feed
+use Rattle.nms_quote.specs.declared.feed.Feed.{Feed}
 use Rattle.nms_board.specs.View.{Seen}
 use Rattle.nms_fees.specs.Settings.{Settings}
 use Rattle.nms_flow.specs.Flow.{room_under}
@@ -11,7 +11,7 @@ use Rattle.nms_flow.specs.Run.{Event, IsRun, changes_in, is_answered, sent_by, s
 use Rattle.nms_flow.specs.declared.step.Step.TheVariants as step
 use Rattle.nms_flow.specs.declared.reply.Reply.TheVariants as reply
 use Rattle.nms_live.specs.Answering.{of_desk, seen_in, versions}
-use Rattle.nms_live.specs.Reading.{IsRead}
+use Rattle.nms_live.specs.Reading.{IsRead, text_of}
 use Rattle.nms_quote.specs.declared.answer.Answer.{Answer}
 use Rattle.nms_live.specs.declared.live.Live.{Live}
 
@@ -33,12 +33,11 @@ abbrev pub basis_of : Settings → Live → Answer → Seen
 basis_of settings live answer = seen_in settings (version answer.plan.version live.tape.items) answer
 
 -- the events are a run of the sequential machine that came to the same: no step of it was refused
-pub record IsRunOf (settings : Settings) (a b : List ℕ) (live : Live) (events : List Event) : Type 0 where
+pub record IsRunOf (settings : Settings) (texts : List (List ℕ)) (live : Live) (events : List Event) : Type 0 where
   pub run : IsRun (room_under settings) events
   pub answered : All (λ event. is_answered event.1 ≡ true) events
   -- the sends are what the feeds' texts say, each on the feed of its participant
-  pub sent_a : IsRead settings.roster feed.A a (fed_by feed.A events)
-  pub sent_b : IsRead settings.roster feed.B b (fed_by feed.B events)
+  pub fed : (feed : Feed) → IsRead settings.roster feed (text_of feed texts) (fed_by feed events)
   pub own : All (IsOnOwnFeed settings.roster) (sent_by events)
   -- all that was sent was taken, and is the tape
   pub sent : changes_in (sent_by events) ≡ live.tape.items
@@ -51,5 +50,5 @@ pub record IsRunOf (settings : Settings) (a b : List ℕ) (live : Live) (events 
   pub told : (desk : ℕ) → versions_of desk events ≡ versions (of_desk desk (live.answers.items ++ live.closing.items))
 
 -- there is such a run
-abbrev pub IsSomeRun : Settings → List ℕ → List ℕ → Live → Type 0
-IsSomeRun settings a b live = (events : List Event) × IsRunOf settings a b live events
+abbrev pub IsSomeRun : Settings → List (List ℕ) → Live → Type 0
+IsSomeRun settings texts live = (events : List Event) × IsRunOf settings texts live events

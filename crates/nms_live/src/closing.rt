@@ -10,10 +10,10 @@ ghost use Rattle.nms_live.specs.Keeping.{IsWhole};
 
 use crate::desk_work::{Desked, answer_orders};
 use crate::gate::OpenGate;
+use crate::given::Given;
 use crate::keeper::Keeper;
 use crate::live_fault::LiveFault;
-use nms_fees::Setup;
-use nms_quote::{Answer, DeskOrder};
+use nms_quote::Answer;
 use std::alloc::Global;
 use std::collections::VecDeque;
 
@@ -29,26 +29,25 @@ pub struct DeskRow {
 /// Lets each desk answer its orders again on the whole tape, and settles it.
 pub(crate) fn close_desks(
     alloc: Global,
-    setup: &Setup,
+    given: &Given<'_>,
     keeper: &mut Keeper,
     desks: Vec<Desked>,
-    orders: &[DeskOrder],
 ) -> Result<Vec<DeskRow>, LiveFault>
     requires whole { IsWhole keeper.old }
-    requires back { AreBack setup.now orders.now keeper.old.taped.opening desks.items }
+    requires back { AreBack given.now.setup.now given.now.orders.items keeper.old.taped.opening desks.items }
     requires ended { (k : ℕ) (d : Desked) → k < length desks.items → (slice_index_or desks.items k d).stop ≡ None }
-    requires all { length desks.items ≡ setup.now.desks }
+    requires all { length desks.items ≡ given.now.setup.now.desks }
     ensures unchanged { keeper.new ≡ keeper.old }
     ensures all { IfOk result (λ rows. length rows.items ≡ length desks.items) }
-    ensures rows { IfOk result (λ rows. AreRows setup.now orders.now (tape_of keeper.old.taped) keeper.old.listed rows.items) }
+    ensures rows { IfOk result (λ rows. AreRows given.now.setup.now given.now.orders.items (tape_of keeper.old.taped) keeper.old.listed rows.items) }
     ensures fault { IfErr result IsNoLine }
 {
     // They are few enough for their numbers.
-    let _most = setup.desks();
+    let _most = given.setup.desks();
     let mut rows = Vec::new(alloc);
     let mut number = 0u8;
     for desked in desks {
-        let row = match close_desk(alloc, setup, keeper, number, desked, orders) {
+        let row = match close_desk(alloc, given, keeper, number, desked) {
             Ok(row) => row,
             Err(fault) => return Err(fault),
         };
@@ -64,17 +63,16 @@ pub(crate) fn close_desks(
 /// Lets a desk answer its orders again on the whole tape, and settles it.
 fn close_desk(
     alloc: Global,
-    setup: &Setup,
+    given: &Given<'_>,
     keeper: &mut Keeper,
     number: u8,
     desked: Desked,
-    orders: &[DeskOrder],
 ) -> Result<DeskRow, LiveFault>
     requires whole { IsWhole keeper.old }
-    requires back { IsBack setup.now orders.now keeper.old.taped.opening number desked }
+    requires back { IsBack given.now.setup.now given.now.orders.items keeper.old.taped.opening number desked }
     requires ended { desked.stop ≡ None }
     ensures unchanged { keeper.new ≡ keeper.old }
-    ensures row { IfOk result (λ row. IsClosed setup.now number orders.now (tape_of keeper.old.taped) keeper.old.listed row.answers.items row.closing.items) }
+    ensures row { IfOk result (IsClosed given.now.setup.now number given.now.orders.items (tape_of keeper.old.taped) keeper.old.listed) }
     ensures fault { IfErr result IsNoLine }
 {
     let Desked {
@@ -83,7 +81,14 @@ fn close_desk(
         stop: _,
     } = desked;
     desk.learn(keeper.receipt());
-    let closing = match answer_orders(alloc, setup, &OpenGate, number, &mut desk, orders) {
+    let closing = match answer_orders(
+        alloc,
+        &OpenGate,
+        given.setup,
+        &given.orders,
+        number,
+        &mut desk,
+    ) {
         Ok(closing) => closing,
         Err(fault) => return Err(fault),
     };

@@ -36,24 +36,24 @@ pub struct DeskJob {
 }
 
 impl Promise<Desked> for DeskJob {
-    ghost use Rattle.nms_live.specs.Answering.{IsDesked};
+    ghost use Rattle.nms_live.specs.Crew.{KeepsJob};
 
-    ghost kept_by = { λ job worked. IsDesked job.setup.value job.number job.orders.value.items job.desk.value worked.desk worked.answers.items worked.stop };
+    ghost kept_by = { KeepsJob };
 }
 
 /// Answers a desk's orders.
 pub(crate) fn work<G: Gate>(
     alloc: Global,
-    setup: &Setup,
     gate: &G,
+    setup: &Setup,
+    orders: &Vec<DeskOrder>,
     number: u8,
     mut desk: Desk,
-    orders: &Vec<DeskOrder>,
 ) -> Desked
     requires sizes { desk.sizes ≡ sizes_of setup.now.roster }
-    ensures { IsDesked setup.now number orders.now.items desk result.desk result.answers.items result.stop }
+    ensures { IsDesked setup.now orders.now.items number desk result }
 {
-    match answer_orders(alloc, setup, gate, number, &mut desk, orders) {
+    match answer_orders(alloc, gate, setup, orders, number, &mut desk) {
         Ok(answers) => Desked {
             desk,
             answers,
@@ -70,11 +70,11 @@ pub(crate) fn work<G: Gate>(
 /// Answers a desk's orders in order, each once.
 pub(crate) fn answer_orders<G: Gate>(
     alloc: Global,
-    setup: &Setup,
     gate: &G,
+    setup: &Setup,
+    orders: &[DeskOrder],
     number: u8,
     desk: &mut Desk,
-    orders: &[DeskOrder],
 ) -> Result<VecDeque<Answer>, LiveFault>
     requires sizes { desk.old.sizes ≡ sizes_of setup.now.roster }
     ensures same { (desk.new.opening ≡ desk.old.opening) × (desk.new.sizes ≡ desk.old.sizes) }
@@ -93,7 +93,7 @@ pub(crate) fn answer_orders<G: Gate>(
             desk: number,
             k: looks,
         };
-        let answer = match answer_one(setup, gate, at, desk, wanted, place) {
+        let answer = match answer_one(gate, at, setup, desk, wanted, place) {
             Ok(answer) => answer,
             Err(fault) => return Err(fault),
         };
@@ -108,9 +108,9 @@ pub(crate) fn answer_orders<G: Gate>(
 
 /// Looks, and plans the order on what is seen.
 fn answer_one<G: Gate>(
-    setup: &Setup,
     gate: &G,
     at: GatePoint,
+    setup: &Setup,
     desk: &mut Desk,
     wanted: &DeskOrder,
     number: usize,

@@ -5,18 +5,18 @@ ghost use Rattle.nms_lines.specs.Rows.{fields_of};
 ghost use Rattle.nms_quote.specs.declared.change.Change.{Change};
 ghost use Rattle.nms_lines.specs.declared.line.Line.TheVariants as line;
 ghost use Rattle.nms_feed.specs.declared.TheConstants.{MOST_SENT};
-ghost use Rattle.nms_live.specs.Reading.{IsFed, IsFeedFault, IsOwn, IsRead, IsRefusal, feed_reading};
+ghost use Rattle.nms_live.specs.Crew.{IsFedBy};
+ghost use Rattle.nms_live.specs.Reading.{IsFeedFault, IsOwn, IsRead, IsRefusal, feed_reading};
 
 use crate::gate::{Gate, GatePoint, passes};
+use crate::given::{Means, Source};
 use crate::live_fault::LiveFault;
 use nms_feed::{MOST_SENT, Sender};
 use nms_fees::Setup;
 use nms_lines::{ByteRecord, Line, LineFault, Reader, Reading, open_records, read_line, read_next};
 use nms_quote::{Change, Feed, Roster, SideQuote};
-use std::alloc::Global;
 use std::snapshot::Snapshot;
 use std::sync::Wait;
-use std::sync::atomic::{AtomicBool, Ordering};
 use std::thread::Promise;
 
 /// What a feed's worker gives back: its end of the lane, and why it stopped early, if so.
@@ -36,44 +36,35 @@ pub struct FeedJob {
 }
 
 impl Promise<Fed> for FeedJob {
-    ghost use Rattle.std.specs.Prelude.{◌≡◌};
-    ghost use Rattle.nms_live.specs.Reading.{IsFed};
+    ghost use Rattle.nms_live.specs.Crew.{KeepsFeedJob};
 
-    ghost kept_by = { λ job fed. (fed.sender.lane ≡ job.sender.value.lane) × (fed.sender.feed ≡ job.sender.value.feed)
-        × IsFed job.setup.value.roster job.feed job.text.value.items fed.sender.sent fed.stop };
+    ghost kept_by = { KeepsFeedJob };
 }
 
 /// Reads the text of a feed, sends its changes in order, and says that it has ended.
 pub(crate) fn feed_all<R: Wait, G: Gate>(
-    rt: &R,
-    alloc: Global,
+    means: &Means<'_, R, G>,
     setup: &Setup,
-    gate: &G,
     feed: Feed,
-    text: &Vec<u8>,
+    source: &Source,
     mut sender: Sender,
-    has_ended: &AtomicBool,
 ) -> Fed
     requires fresh { sender.sent ≡ [] }
     requires feed { sender.feed ≡ feed }
-    ensures lane { result.sender.lane ≡ sender.lane }
-    ensures feed { result.sender.feed ≡ sender.feed }
-    ensures fed { IsFed setup.now.roster feed text.now.items result.sender.sent result.stop }
+    ensures fed { IsFedBy setup.now.roster feed source.now.text.items sender result }
 {
-    let stop = match send_all(rt, alloc, setup, gate, feed, text.as_slice(), &mut sender) {
+    let stop = match send_all(means, setup, feed, source.text.as_slice(), &mut sender) {
         Ok(()) => None,
         Err(fault) => Some(fault),
     };
-    has_ended.store(true, Ordering::SeqCst);
+    source.end();
     Fed { sender, stop }
 }
 
 /// Sends the changes of a text in order, up to the first record that is refused.
 fn send_all<R: Wait, G: Gate>(
-    rt: &R,
-    alloc: Global,
+    means: &Means<'_, R, G>,
     setup: &Setup,
-    gate: &G,
     feed: Feed,
     text: &[u8],
     sender: &mut Sender,
@@ -84,16 +75,15 @@ fn send_all<R: Wait, G: Gate>(
     ensures read { OnOk result (IsRead setup.now.roster feed text.now sender.new.sent) }
     ensures refused { IfErr result (IsFeedFault setup.now.roster feed text.now) }
 {
-    let mut reader = open_records(alloc, text);
-    let mut row = ByteRecord::new(alloc);
-    send_rows(rt, setup, gate, feed, &mut reader, &mut row, sender)
+    let mut reader = open_records(means.alloc, text);
+    let mut row = ByteRecord::new(means.alloc);
+    send_rows(means, setup, feed, &mut reader, &mut row, sender)
 }
 
 /// Sends the changes that a reader's records say, each read into the row, up to the first record that is refused.
 fn send_rows<R: Wait, G: Gate>(
-    rt: &R,
+    means: &Means<'_, R, G>,
     setup: &Setup,
-    gate: &G,
     feed: Feed,
     reader: &mut Reader<&[u8]>,
     row: &mut ByteRecord,
@@ -107,7 +97,7 @@ fn send_rows<R: Wait, G: Gate>(
 {
     for index in 0..MOST_SENT {
         match read_next(reader, row) {
-            Ok(true) => match send_record(rt, setup, gate, feed, index, row, sender) {
+            Ok(true) => match send_record(means, setup, feed, index, row, sender) {
                 Ok(()) => {}
                 Err(fault) => return Err(fault),
             },
@@ -121,9 +111,8 @@ fn send_rows<R: Wait, G: Gate>(
 
 /// Sends the change that a record says, with so many sent before it.
 fn send_record<R: Wait, G: Gate>(
-    rt: &R,
+    means: &Means<'_, R, G>,
     setup: &Setup,
-    gate: &G,
     feed: Feed,
     index: u64,
     row: &ByteRecord,
@@ -147,13 +136,13 @@ fn send_record<R: Wait, G: Gate>(
         }
     };
     let at = GatePoint::Send { feed, k: index };
-    if !passes(gate, at) {
+    if !passes(means.gate, at) {
         return Err(LiveFault::GateLimit);
     }
     // Moving a change takes a mention of the type in it: the prover has to have seen it.
     let _seen: Option<SideQuote> = None;
-    sender.send(rt, change);
-    gate.done(at);
+    sender.send(means.rt, change);
+    means.gate.done(at);
     Ok(())
 }
 

@@ -23,10 +23,10 @@ pub struct Gathered {
 pub(crate) fn gather(
     alloc: Global,
     setup: &Setup,
+    orders: &[DeskOrder],
     tape: &[Change],
     published: &[u64],
     mut rows: Vec<DeskRow>,
-    orders: &[DeskOrder],
 ) -> Result<Gathered, LiveFault>
     requires rows { AreRows setup.now orders.now tape.now published.now rows.items }
     requires desks { All (λ order. order.desk < length rows.items) orders.now }

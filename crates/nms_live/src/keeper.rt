@@ -10,6 +10,7 @@ ghost use Rattle.nms_live.specs.Lists.{IsRising};
 
 use crate::MOST_WAITING;
 use crate::gate::{Gate, GatePoint, passes};
+use crate::given::Means;
 use crate::live_fault::LiveFault;
 use nms_quote::{Change, SideQuote};
 use nms_versions::{Publisher, Receipt};
@@ -67,7 +68,7 @@ impl Keeper {
     }
 
     /// Takes a change in, and publishes after each 64.
-    pub(crate) fn take_in<R: Wait, G: Gate>(&mut self, rt: &R, gate: &G, change: &Change)
+    pub(crate) fn take_in<R: Wait, G: Gate>(&mut self, means: &Means<'_, R, G>, change: &Change)
         ensures same { IsSameKeeping self.old self.new }
         ensures taken { self.new.stop ≡ None → (self.old.stop ≡ None) × (tape_of self.new.taped ≡ tape_of self.old.taped ++ change.now ∷ []) }
     {
@@ -82,7 +83,7 @@ impl Keeper {
         if self.waiting + 1 < MOST_WAITING {
             self.waiting += 1;
         } else {
-            self.publish(rt, gate);
+            self.publish(means);
         }
     }
 
@@ -102,7 +103,7 @@ impl Keeper {
     }
 
     /// Publishes the whole tape.
-    pub(crate) fn publish<R: Wait, G: Gate>(&mut self, rt: &R, gate: &G)
+    pub(crate) fn publish<R: Wait, G: Gate>(&mut self, means: &Means<'_, R, G>)
         ensures same { IsSameKeeping self.old self.new }
         ensures tape { self.new.stop ≡ None → (self.old.stop ≡ None) × (tape_of self.new.taped ≡ tape_of self.old.taped) }
         ensures whole { self.new.stop ≡ None → IsWhole self.new }
@@ -118,12 +119,12 @@ impl Keeper {
         let at = GatePoint::Publish {
             k: self.listed.len() as u64,
         };
-        if !passes(gate, at) {
+        if !passes(means.gate, at) {
             self.stop = Some(LiveFault::GateLimit);
             return;
         }
-        publish_now(rt, &mut self.publisher, &mut self.listed);
-        gate.done(at);
+        publish_now(means.rt, &mut self.publisher, &mut self.listed);
+        means.gate.done(at);
     }
 
     /// Word of the published version.

@@ -1,4 +1,5 @@
 //! The laws above a live run. Each function does nothing: its contract is the law.
+ghost use Rattle.std.specs.Prelude.{◌∷◌, []};
 ghost use Rattle.nms_live.specs.Headline.{AreBestOfTheirVersions};
 ghost use Rattle.nms_live.specs.Living.{IsLive};
 ghost use Rattle.nms_live.specs.RunOf.{IsSomeRun};
@@ -22,7 +23,7 @@ pub fn each_answer_is_the_best_of_its_version(
     orders: &[DeskOrder],
     live: &Live,
 )
-    requires { IsLive setup.now feed_a.now feed_b.now orders.now live.now }
+    requires { IsLive setup.now (feed_a.now ∷ feed_b.now ∷ []) orders.now live.now }
     ensures { AreBestOfTheirVersions setup.now live.now }
 {
     one_best_row();
@@ -41,8 +42,8 @@ pub fn a_live_run_is_a_run_of_the_machine(
     orders: &[DeskOrder],
     live: &Live,
 )
-    requires { IsLive setup.now feed_a.now feed_b.now orders.now live.now }
-    ensures { IsSomeRun setup.now feed_a.now feed_b.now live.now }
+    requires { IsLive setup.now (feed_a.now ∷ feed_b.now ∷ []) orders.now live.now }
+    ensures { IsSomeRun setup.now (feed_a.now ∷ feed_b.now ∷ []) live.now }
 {
     let _room = setup.queue();
     tape_and_queue_are_a_merge();

@@ -4,10 +4,13 @@
 
 mod closing;
 mod desk_work;
+mod desk_workers;
 mod fed_feed;
+mod feed_workers;
 mod first_fault;
 mod gate;
 mod gathering;
+mod given;
 mod keeper;
 mod laws;
 mod live;

@@ -1,6 +1,6 @@
 //! The live run (specs/Living).
-ghost use Rattle.std.specs.Prelude.{◌≡◌, ◌<◌, All, IfErr, IfOk};
-ghost use Rattle.nms_live.specs.Crew.{IsDone};
+ghost use Rattle.std.specs.Prelude.{◌≡◌, ◌<◌, ◌∷◌, [], All, IfErr, IfOk};
+ghost use Rattle.nms_live.specs.Crew.{IsDone, texts_of};
 ghost use Rattle.nms_live.specs.Faults.{IsNoLine};
 ghost use Rattle.nms_live.specs.Living.{IsLive};
 ghost use Rattle.nms_live.specs.Reading.{IsLiveFault};
@@ -9,6 +9,7 @@ use crate::closing::close_desks;
 use crate::desk_work::Desked;
 use crate::gate::Gate;
 use crate::gathering::{Gathered, gather};
+use crate::given::{Given, Means, Source};
 use crate::keeper::Keeper;
 use crate::live::Live;
 use crate::live_fault::LiveFault;
@@ -37,75 +38,66 @@ pub fn run_live<R: Threads + Wait + Sync, G: Gate>(
     gate: &G,
 ) -> Result<Live, LiveFault>
     requires desks { All (λ order. order.desk < setup.now.desks) orders.items }
-    ensures live { IfOk result (IsLive setup.now feed_a.items feed_b.items orders.items) }
-    ensures refused { IfErr result (IsLiveFault setup.now.roster feed_a.items feed_b.items) }
+    ensures live { IfOk result (IsLive setup.now (feed_a.items ∷ feed_b.items ∷ []) orders.items) }
+    ensures refused { IfErr result (IsLiveFault setup.now.roster (feed_a.items ∷ feed_b.items ∷ [])) }
 {
-    run_over(rt, alloc, setup, gate, &feed_a, &feed_b, &orders)
+    let given = Given {
+        setup,
+        a: Source::new(feed_a),
+        b: Source::new(feed_b),
+        orders,
+    };
+    run_over(&Means { rt, alloc, gate }, &given)
 }
 
-/// The live run over texts and orders that are kept until its end.
+/// The live run over what it is given.
 fn run_over<R: Threads + Wait + Sync, G: Gate>(
-    rt: &R,
-    alloc: Global,
-    setup: &Setup,
-    gate: &G,
-    feed_a: &Vec<u8>,
-    feed_b: &Vec<u8>,
-    orders: &Vec<DeskOrder>,
+    means: &Means<'_, R, G>,
+    given: &Given<'_>,
 ) -> Result<Live, LiveFault>
-    requires desks { All (λ order. order.desk < setup.now.desks) orders.now.items }
-    ensures live { IfOk result (IsLive setup.now feed_a.now.items feed_b.now.items orders.now.items) }
-    ensures refused { IfErr result (IsLiveFault setup.now.roster feed_a.now.items feed_b.now.items) }
+    requires desks { All (λ order. order.desk < given.now.setup.now.desks) given.now.orders.items }
+    ensures live { IfOk result (IsLive given.now.setup.now (texts_of given.now) given.now.orders.items) }
+    ensures refused { IfErr result (IsLiveFault given.now.setup.now.roster (texts_of given.now)) }
 {
-    let Ok(ends) = open_lane(alloc, setup.queue()) else {
+    let Ok(ends) = open_lane(means.alloc, given.setup.queue()) else {
         return Err(LiveFault::Open);
     };
-    let Ok((publisher, desks)) = open_tape(alloc, rt, setup) else {
+    let Ok((publisher, desks)) = open_tape(means.alloc, means.rt, given.setup) else {
         return Err(LiveFault::Open);
     };
-    let mut keeper = Keeper::new(alloc, publisher);
-    match run_in_threads(
-        rt,
-        alloc,
-        setup,
-        gate,
-        feed_a,
-        feed_b,
-        orders,
-        &mut keeper,
-        ends,
-        desks,
-    ) {
-        Ok(desks) => close_all(rt, alloc, setup, feed_a, feed_b, keeper, desks, orders),
+    let mut keeper = Keeper::new(means.alloc, publisher);
+    match run_in_threads(means, given, &mut keeper, ends, desks) {
+        Ok(desks) => close_all(means, given, keeper, desks),
         Err(fault) => {
-            let _ended = keeper.end(rt);
+            let _ended = keeper.end(means.rt);
             Err(fault)
         }
     }
 }
 
 /// The closing answers, and all that the run came to.
-fn close_all<R: Wait>(
-    rt: &R,
-    alloc: Global,
-    setup: &Setup,
-    feed_a: &Vec<u8>,
-    feed_b: &Vec<u8>,
+fn close_all<R: Wait, G>(
+    means: &Means<'_, R, G>,
+    given: &Given<'_>,
     mut keeper: Keeper,
     desks: Vec<Desked>,
-    orders: &Vec<DeskOrder>,
 ) -> Result<Live, LiveFault>
-    requires limit { keeper.taped.limit ≡ setup.now.tape_limit }
-    requires desks { All (λ order. order.desk < setup.now.desks) orders.now.items }
-    requires done { IsDone setup.now feed_a.now.items feed_b.now.items orders.now.items keeper desks.items }
-    ensures live { IfOk result (IsLive setup.now feed_a.now.items feed_b.now.items orders.now.items) }
+    requires limit { keeper.taped.limit ≡ given.now.setup.now.tape_limit }
+    requires desks { All (λ order. order.desk < given.now.setup.now.desks) given.now.orders.items }
+    requires done { IsDone given.now keeper desks.items }
+    ensures live { IfOk result (IsLive given.now.setup.now (texts_of given.now) given.now.orders.items) }
     ensures fault { IfErr result IsNoLine }
 {
-    match close_desks(alloc, setup, &mut keeper, desks, orders) {
+    match close_desks(means.alloc, given, &mut keeper, desks) {
         Ok(rows) => {
-            let (tape, published) = keeper.end(rt);
+            let (tape, published) = keeper.end(means.rt);
             let Gathered { answers, closing } = gather(
-                alloc, setup, &tape, &published, rows, orders,
+                means.alloc,
+                given.setup,
+                &given.orders,
+                &tape,
+                &published,
+                rows,
             )?;
             Ok(Live {
                 tape,
@@ -115,7 +107,7 @@ fn close_all<R: Wait>(
             })
         }
         Err(fault) => {
-            let _ended = keeper.end(rt);
+            let _ended = keeper.end(means.rt);
             Err(fault)
         }
     }

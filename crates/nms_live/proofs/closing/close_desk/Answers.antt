@@ -3,8 +3,9 @@ use Rattle.std.specs.List.{AllByRecursion, Contains}
 use Rattle.nms_quote.specs.Tape.{Tape}
 use Rattle.nms_versions.specs.Published.{Batches, changes, publications}
 use Rattle.nms_versions.specs.Taped.{AllBegin, Knowing, longest_of, tape_of}
-use Rattle.nms_live.specs.Answering.{versions}
+use Rattle.nms_live.specs.Answering.{IsWorked, versions}
 use Rattle.nms_live.specs.Keeping.{Keeping}
+use Rattle.nms_quote.specs.declared.desk_order.DeskOrder.{DeskOrder}
 use Rattle.nms_live.proofs.CloseFacts.{closed}
 use Rattle.nms_live.proofs.closing.close_desk.Goals as goal
 
@@ -20,7 +21,7 @@ returns-in-Ok-settle-clause-row c =
     let learnt : c.learn.new.self.known ≡ tape ∷ before = ap (λ (d : Knowing). d.known) c.learn.ensures ∙ ap (λ (t : Tape). t ∷ before) whole in
     let again : c.receipt-2.result.published ≡ keeper.taped.published = c.receipt-2.ensures.published ∙ ap (λ (k : Keeping). k.taped.published) c.receipt.ensures.unchanged in
     let top : changes c.receipt-2.result.published ≡ tape = ap changes again ∙ c.requires.whole.published in
-    closed c.args.setup.now c.args.number c.args.orders.now keeper.taped.published keeper.listed tape before after knows.0 c.args.desked.answers.items closing
+    closed c.args.given.now.setup.now c.args.number c.args.given.now.orders.items keeper.taped.published keeper.listed tape before after knows.0 (record { answers = c.args.desked.answers; closing = c.in-Ok.closing })
     c.receipt.ensures.kept.published
     (record {
       begin = subst (λ (t : Tape). AllBegin t after) top c.in-Ok-settle.ensures.begins;
@@ -28,5 +29,5 @@ returns-in-Ok-settle-clause-row c =
     })
     (knows.1 ∙ ap (λ (k : List Tape). knows.0 ++ k) learnt)
     (c.requires.back.worked c.requires.ended)
-    c.in-Ok.ensures.worked
+    (subst (λ (o : List DeskOrder). IsWorked c.args.given.now.setup.now c.args.number o after closing) c.deref.ensures.value c.in-Ok.ensures.worked)
     (subst (λ (k : List Tape). AllByRecursion (λ n. longest_of k ≤ n) (versions closing)) learnt c.in-Ok.ensures.later)

@@ -11,5 +11,5 @@ invariant-loop-desked l = record {
   count : l.number ≡ length l.yielded;
   all : length l.rows.items ≡ l.number;
   keeper : l.keeper ≡ l.fn.keeper;
-  rows : AreRows l.setup l.orders (tape_of l.fn.keeper.taped) l.fn.keeper.listed l.rows.items;
+  rows : AreRows l.given.setup.now l.given.orders.items (tape_of l.fn.keeper.taped) l.fn.keeper.listed l.rows.items;
 }

@@ -2,7 +2,8 @@ use Rattle.std.proofs.Common.{ap, Ok, Bool, ◌∙◌, ◌+◌, ◌++◌, ◌∷
 use Rattle.nms_lines.specs.Rows.{fields_of}
 use Rattle.nms_live.specs.Reading.{IsOwn}
 use Rattle.nms_live.proofs.NumberFacts.{all_push}
-use Rattle.nms_live.proofs.FeedFacts.{says_more, first_refused}
+use Rattle.nms_live.proofs.FaultFacts.{first_refused}
+use Rattle.nms_live.proofs.FeedFacts.{says_more}
 use Rattle.nms_live.proofs.fed_feed.send_rows.Goals as goal
 
 pub loop-index-preserved : goal.loop-index-preserved

@@ -6,7 +6,7 @@ use Rattle.nms_live.specs.Crew.{KeepsJob}
 use Rattle.nms_live.specs.declared.desk_work.DeskJob.{DeskJob}
 use Rattle.nms_live.specs.declared.desk_work.Desked.{Desked}
 use Rattle.nms_live.proofs.PlaceFacts.{row_more, stands_at}
-use Rattle.nms_live.proofs.workers.join_desks.Goals as goal
+use Rattle.nms_live.proofs.desk_workers.join_desks.Goals as goal
 
 pub loop-handle-preserved : goal.loop-handle-preserved
 loop-handle-preserved g c =

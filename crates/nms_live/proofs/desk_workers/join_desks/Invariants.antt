@@ -6,7 +6,7 @@ use Rattle.std.specs.declared.thread.PromisedHandle.{PromisedHandle}
 use Rattle.nms_live.specs.Crew.{KeepsJob}
 use Rattle.nms_live.specs.declared.desk_work.DeskJob.{DeskJob}
 use Rattle.nms_live.specs.declared.desk_work.Desked.{Desked}
-use Rattle.nms_live.proofs.workers.join_desks.Given as goal
+use Rattle.nms_live.proofs.desk_workers.join_desks.Given as goal
 
 -- the workers so far are back, each with what its promise says
 abbrev pub invariant-loop-handle : goal.invariant-loop-handle

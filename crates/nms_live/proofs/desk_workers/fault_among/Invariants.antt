@@ -3,7 +3,7 @@ use Rattle.std.specs.Prelude.{slice_index_or}
 use Rattle.nms_live.specs.Crew.{first_among}
 use Rattle.nms_live.specs.Faults.{IsNoLineIfAny}
 use Rattle.nms_live.specs.declared.desk_work.Desked.{Desked}
-use Rattle.nms_live.proofs.workers.fault_among.Given as goal
+use Rattle.nms_live.proofs.desk_workers.fault_among.Given as goal
 
 abbrev pub invariant-loop-desk : goal.invariant-loop-desk
 invariant-loop-desk l = record {

@@ -1,0 +1,161 @@
+//! The desks' workers: how they are started, and what they gave back (specs/Crew).
+ghost use Rattle.std.specs.Prelude.{◌≡◌, ℕ, ◌<◌, ◌≤◌, ◌⊎◌, ◌++◌, ◌∷◌, [], length, slice_index_or, None, IfErr, IfOk, OnOk};
+ghost use Rattle.std.specs.Vec.{vec_len, vec_capacity};
+ghost use Rattle.std.specs.declared.thread.PromisedHandle.{PromisedHandle};
+ghost use Rattle.nms_quote.specs.Roster.{sizes_of};
+ghost use Rattle.nms_versions.specs.Taped.{Knowing};
+ghost use Rattle.nms_live.specs.Answering.{IsDesked};
+ghost use Rattle.nms_live.specs.Crew.{AreStarted, KeepsJob, WillBeDesked, first_among};
+ghost use Rattle.nms_live.specs.Faults.{IsNoLine, IsNoLineIfAny};
+ghost use Rattle.nms_live.specs.declared.desk_work.DeskJob.{DeskJob};
+ghost use Rattle.nms_live.specs.declared.desk_work.Desked.{Desked};
+
+use crate::desk_work::{DeskJob, Desked, work};
+use crate::first_fault::first_of;
+use crate::gate::Gate;
+use crate::given::{Given, Means};
+use crate::live_fault::LiveFault;
+use nms_versions::Desk;
+use std::snapshot::Snapshot;
+use std::thread::{PromisedHandle, Scope, Threads};
+
+/// Makes room for what the desks' workers give back, and starts them.
+pub(crate) fn start_crew<'s, E, R: Threads, G: Gate>(
+    scope: &'s Scope<'s, E>,
+    means: &'s Means<'s, R, G>,
+    given: &'s Given<'s>,
+    desks: Vec<Desk>,
+) -> Result<(Vec<PromisedHandle<Desked, DeskJob>>, Vec<Desked>), LiveFault>
+    requires all { length desks.items ≡ given.now.setup.now.desks }
+    requires sizes { (k : ℕ) (d : Knowing) → k < length desks.items → (slice_index_or desks.items k d).sizes ≡ sizes_of given.now.setup.now.roster }
+    ensures all { IfOk result (λ crew. length crew.0.items ≡ length desks.items) }
+    ensures started { IfOk result (λ crew. AreStarted given.now.setup.now given.now.orders.items desks.items crew.0.items) }
+    ensures empty { IfOk result (λ crew. crew.1.items ≡ []) }
+    ensures room { IfOk result (λ crew. vec_len crew.0 ≤ vec_capacity crew.1) }
+    ensures fault { IfErr result IsNoLine }
+{
+    let mut back = Vec::new(means.alloc);
+    if back.reserve(desks.len()).is_err() {
+        return Err(LiveFault::NoMemory);
+    }
+    match start_desks(scope, means, given, desks) {
+        Ok(handles) => Ok((handles, back)),
+        Err(fault) => Err(fault),
+    }
+}
+
+/// Starts a worker for each desk, in order of number. Where one can't be started, those before it are waited for.
+fn start_desks<'s, E, R: Threads, G: Gate>(
+    scope: &'s Scope<'s, E>,
+    means: &'s Means<'s, R, G>,
+    given: &'s Given<'s>,
+    desks: Vec<Desk>,
+) -> Result<Vec<PromisedHandle<Desked, DeskJob>>, LiveFault>
+    requires all { length desks.items ≡ given.now.setup.now.desks }
+    requires sizes { (k : ℕ) (d : Knowing) → k < length desks.items → (slice_index_or desks.items k d).sizes ≡ sizes_of given.now.setup.now.roster }
+    ensures all { IfOk result (λ handles. length handles.items ≡ length desks.items) }
+    ensures started { IfOk result (λ handles. AreStarted given.now.setup.now given.now.orders.items desks.items handles.items) }
+    ensures fault { IfErr result IsNoLine }
+{
+    // They are few enough for their numbers.
+    let _most = given.setup.desks();
+    let mut handles = Vec::new(means.alloc);
+    // A worker that was started must be heard out: so there is room for it before.
+    if handles.reserve(desks.len()).is_err() {
+        return Err(LiveFault::NoMemory);
+    }
+    let mut number = 0u8;
+    for desk in desks {
+        match start_desk(scope, means, given, number, desk, &mut handles) {
+            Ok(()) => {}
+            Err(fault) => {
+                join_started(means.rt, handles);
+                return Err(fault);
+            }
+        }
+        number += 1;
+    }
+    Ok(handles)
+}
+
+/// Starts the worker of a desk, and puts it behind those that were started before.
+fn start_desk<'s, E, R: Threads, G: Gate>(
+    scope: &'s Scope<'s, E>,
+    means: &'s Means<'s, R, G>,
+    given: &'s Given<'s>,
+    number: u8,
+    desk: Desk,
+    handles: &mut Vec<PromisedHandle<Desked, DeskJob>>,
+) -> Result<(), LiveFault>
+    requires sizes { desk.sizes ≡ sizes_of given.now.setup.now.roster }
+    ensures started { OnOk result ((handle : PromisedHandle Desked DeskJob) × (handles.new.items ≡ handles.old.items ++ handle ∷ [])
+        × WillBeDesked given.now.setup.now given.now.orders.items desk number handle) }
+    ensures fault { IfErr result IsNoLine }
+{
+    let (alloc, gate) = (means.alloc, means.gate);
+    let (setup, orders) = (given.setup, &given.orders);
+    let job = DeskJob {
+        setup: Snapshot::of(setup),
+        number,
+        desk: Snapshot::of(&desk),
+        orders: Snapshot::of(orders),
+    };
+    let Ok(handle) = scope.spawn_with(
+        job,
+        move || -> Desked
+            requires { desk.sizes ≡ sizes_of setup.now.roster }
+            ensures { IsDesked setup.entry.now orders.entry.now.items number desk result }
+        { work(alloc, gate, setup, orders, number, desk) },
+    ) else {
+        return Err(LiveFault::Open);
+    };
+    match handles.push(handle) {
+        Ok(()) => Ok(()),
+        Err(back) => {
+            let _worked = back.value.join(means.rt);
+            Err(LiveFault::NoMemory)
+        }
+    }
+}
+
+/// Waits for the desks' workers that were started where not all of them could be. What they give back is let go: a
+/// handle that is dropped would keep it for ever.
+fn join_started<R: Threads>(rt: &R, handles: Vec<PromisedHandle<Desked, DeskJob>>) {
+    for handle in handles {
+        let _worked = handle.join(rt);
+    }
+}
+
+/// Waits for the desks' workers. There is room for what they give back, so no fault of theirs is lost.
+pub(crate) fn join_desks<R: Threads>(
+    rt: &R,
+    handles: Vec<PromisedHandle<Desked, DeskJob>>,
+    mut back: Vec<Desked>,
+) -> Vec<Desked>
+    requires empty { back.items ≡ [] }
+    requires room { vec_len handles ≤ vec_capacity back }
+    ensures all { length result.items ≡ length handles.items }
+    ensures kept { (k : ℕ) (d : Desked) (h : PromisedHandle Desked DeskJob) → k < length result.items
+        → KeepsJob (slice_index_or handles.items k h).promise (slice_index_or result.items k d) }
+{
+    for handle in handles {
+        let Ok(()) = back.push(handle.join(rt)) else {
+            unreachable!()
+        };
+    }
+    back
+}
+
+/// The fault that is answered, of those that the desks' workers stopped with and one more.
+pub(crate) fn fault_among(fault: Option<LiveFault>, desks: &[Desked]) -> Option<LiveFault>
+    requires no_line { (k : ℕ) (d : Desked) → k < length desks.now → IsNoLineIfAny (slice_index_or desks.now k d).stop }
+    ensures first { result ≡ first_among fault desks.now }
+    ensures none { result ≡ None → (fault ≡ None) × ((k : ℕ) (d : Desked) → k < length desks.now → (slice_index_or desks.now k d).stop ≡ None) }
+    ensures some { (result ≡ fault) ⊎ IsNoLineIfAny result }
+{
+    let mut first = fault;
+    for desk in desks {
+        first = first_of(first, desk.stop);
+    }
+    first
+}
