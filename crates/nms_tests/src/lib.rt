@@ -1,10 +1,12 @@
 //! The tests of the crates below that take threads or long: the lane, published versions, live runs, the longest
-//! script, the cutoffs of an order, and the planner against a slow judge. What else no clause says stands in
+//! script, the cutoffs of an order, and the planner against two slow judges. What else no clause says stands in
 //! `nms_examples`.
 //!
 //! They stand here because the gate proves a crate once more for its own tests.
 #![tactic(auto)]
 
+#[cfg(test)]
+mod chance;
 #[cfg(test)]
 mod cutoffs;
 #[cfg(test)]
@@ -13,6 +15,8 @@ mod feed;
 mod live;
 #[cfg(test)]
 mod long_script;
+#[cfg(test)]
+mod plans;
 #[cfg(test)]
 mod sweep;
 #[cfg(test)]

@@ -1,6 +1,7 @@
 //! The planner against a plain slow program, on small boards drawn by chance.
 mod judge;
 
+use crate::chance::Chance;
 use judge::{Asked, Stand, best, is_lawful, sums_of, unit_cost, with};
 use nms_board::{Boards, View};
 use nms_cert::confirm;
@@ -12,7 +13,7 @@ use std::test::Fail;
 
 /// Four participants, whose fees of a share are a few cents of a cent apart, so that unit costs tie across prices;
 /// ABC in lots of 100, PNY in lots of 1.
-fn four_participants() -> &'static str {
+pub(crate) fn four_participants() -> &'static str {
     r#"tape_limit = 9
 queue = 9
 desks = 1
@@ -51,22 +52,6 @@ fn fees_of(place: u8) -> (i64, i64) {
         0 | 3 => (300_000, 30),
         1 => (200_000, 20),
         _ => (-100_000, -10),
-    }
-}
-
-/// Numbers by chance: a linear congruence, of which the high bits are taken.
-#[derive(Drop)]
-struct Chance {
-    state: u64,
-}
-
-impl Chance {
-    fn draw(&mut self) -> u32 {
-        self.state = self
-            .state
-            .wrapping_mul(6_364_136_223_846_793_005)
-            .wrapping_add(1_442_695_040_888_963_407);
-        u32::try_from(self.state >> 33).unwrap_or(0)
     }
 }
 

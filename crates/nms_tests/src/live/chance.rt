@@ -1,6 +1,7 @@
 //! Many short runs drawn by chance, each judged by a plain slow program.
 use super::judge::finding;
 use super::{Wanted, run, setup_text};
+use crate::chance::Chance;
 use nms_lines::LineFault;
 use nms_live::{Gate, GatePoint, Live, LiveFault};
 use nms_quote::{Change, Feed, Part, QState, SideQuote, Sym};
@@ -11,22 +12,6 @@ use std::sync::Wait;
 use std::sync::atomic::{AtomicU64, Ordering};
 use std::thread;
 use std::thread::Threads;
-
-/// Numbers by chance: a linear congruence, of which the high bits are taken.
-#[derive(Drop)]
-struct Chance {
-    state: u64,
-}
-
-impl Chance {
-    fn draw(&mut self) -> u32 {
-        self.state = self
-            .state
-            .wrapping_mul(6_364_136_223_846_793_005)
-            .wrapping_add(1_442_695_040_888_963_407);
-        u32::try_from(self.state >> 33).unwrap_or(0)
-    }
-}
 
 /// A record in numbers: of each side the cents over 10 dollars, below 10, and the shares.
 #[derive(Clone, Copy)]
