@@ -58,7 +58,7 @@ pub enum ReportFault {
     /// B1: no board was made. Nothing was written.
     #[error("{0}")]
     Board(BoardFault),
-    /// E2: the writer failed. Nothing is said of what was written.
+    /// E2: the writer failed. A first part of the report was written, and nothing else.
     #[error("E2: the output could not be written")]
     WriteFault,
     /// E4: out of memory. Nothing was written.

@@ -18,7 +18,7 @@ pub enum PlanFault {
     /// L12: there was no memory for the text. Nothing was written.
     #[error("L12: out of memory")]
     NoMemory,
-    /// L13: the writer failed. Nothing is said of what was written.
+    /// L13: the writer failed. A first part of the text was written, and nothing else.
     #[error("L13: a write failed")]
     WriteFault,
 }

@@ -1,4 +1,4 @@
-//! Numbers by chance, the same at each run.
+//! Numbers by chance, the same in each run.
 
 /// A linear congruence, of which the high bits are taken.
 #[derive(Drop)]
@@ -7,7 +7,7 @@ pub(crate) struct Chance {
 }
 
 impl Chance {
-    /// The next number.
+    /// The next number, below 2^31.
     pub(crate) fn draw(&mut self) -> u32 {
         self.state = self
             .state

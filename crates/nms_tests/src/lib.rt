@@ -1,5 +1,5 @@
 //! The tests of the crates below that take threads or long: the lane, published versions, live runs, the longest
-//! script, the cutoffs of an order, the rank order of a board, and the planner against a slow judge. What else no
+//! script, the cutoffs of an order, the rank order of a board, and the planner against two slow judges. What else no
 //! clause says stands in `nms_examples`.
 //!
 //! They stand here because the gate proves a crate once more for its own tests.
@@ -15,6 +15,8 @@ mod feed;
 mod live;
 #[cfg(test)]
 mod long_script;
+#[cfg(test)]
+mod plans;
 #[cfg(test)]
 mod rank_order;
 #[cfg(test)]

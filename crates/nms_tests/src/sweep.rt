@@ -15,7 +15,7 @@ use std::test::Fail;
 
 /// Four participants, whose fees of a share are a few cents of a cent apart, so that unit costs tie across prices;
 /// ABC in lots of 100, PNY in lots of 1.
-fn four_participants() -> &'static str {
+pub(crate) fn four_participants() -> &'static str {
     r#"tape_limit = 9
 queue = 9
 desks = 1

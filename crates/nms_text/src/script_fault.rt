@@ -10,7 +10,7 @@ pub enum ScriptFault {
     /// E1: the reader failed. The answers to the records read so far were written.
     #[error("E1: the input could not be read")]
     ReadFault,
-    /// E2: the writer failed. Nothing is said of what was written.
+    /// E2: the writer failed. A script wrote a first part of its answers, and nothing else; of a report something may be written.
     #[error("E2: the output could not be written")]
     WriteFault,
     /// E3: there are more than 10,000,000 records. The answers to the first 10,000,000 were written.

@@ -1,0 +1,411 @@
+//! The planner against a plain slow one: the same plan and the same certificate, both confirmed.
+ghost use Rattle.std.specs.Prelude.{◌≡◌, IfSome};
+
+mod plain;
+
+use crate::chance::Chance;
+use crate::sweep::four_participants;
+use nms_board::{Boards, View};
+use nms_cert::confirm;
+use nms_fees::{FeeBook, Setup, read_setup};
+use nms_quote::{
+    Certificate, Change, CutKind, Order, OrderSide, Part, Plan, QState, SideQuote, Sym,
+};
+use nms_scripts::SETUP_K;
+use nms_sweep::plan;
+use nms_units::{Price, Shares};
+use plain::plain_plan;
+use std::alloc::Global;
+use std::test::Fail;
+
+/// How many random plans are compared. `bench/plans.sh` compares more, up to 1,250,000: a board takes ten million
+/// changes, and each plan sends eight.
+const RANDOM_PLANS: u32 = 4000;
+
+/// What is asked for: shares, a limit in 1/10,000 dollar, and whether manual quotations may be used.
+#[derive(Clone, Copy)]
+struct Wanted {
+    side: OrderSide,
+    shares: u32,
+    limit: u64,
+    manual: bool,
+}
+
+/// The order for what is asked on a view.
+fn order_for(sym: Sym, wanted: &Wanted) -> Option<Order>
+    ensures { IfSome result (λ order. order.sym ≡ sym) }
+{
+    let (shares, limit) = (Shares::new(wanted.shares)?, Price::new(wanted.limit)?);
+    Order::new(wanted.side, sym, shares, limit, wanted.manual)
+}
+
+/// Whether a plan and its certificate are those of another planner.
+fn is_same(plan: &Plan, cuts: &Certificate, other: &Plan, other_cuts: &Certificate) -> bool {
+    plan.version == other.version
+        && plan.order == other.order
+        && plan.legs.as_slice() == other.legs.as_slice()
+        && plan.filled == other.filled
+        && plan.cost == other.cost
+        && cuts.as_slice() == other_cuts.as_slice()
+}
+
+/// What is wrong with the planner's answer, or nothing.
+fn finding(view: &View, fees: &FeeBook, wanted: &Wanted) -> Option<&'static str> {
+    let order = order_for(view.sym(), wanted)?;
+    let (plain, plain_cuts) = plain_plan(view, &order, fees)?;
+    if let Err(doubt) = confirm(view, &order, fees, &plain, &plain_cuts) {
+        return Some(doubt.code());
+    }
+    let (plan, cuts) = plan(view, &order, fees);
+    if !is_same(&plan, &cuts, &plain, &plain_cuts) {
+        return Some("another plan");
+    }
+    Some(match confirm(view, &order, fees, &plan, &cuts) {
+        Err(doubt) => doubt.code(),
+        Ok(()) => "",
+    })
+}
+
+/// A quotation on the side that an order trades with.
+#[derive(Clone, Copy)]
+struct Quoted {
+    state: QState,
+    price: u64,
+    shares: u32,
+}
+
+/// Sends quotations for orders of a side, the first by the participant at the first place.
+fn quote(boards: &mut Boards, sym: Sym, side: OrderSide, quotes: &[Quoted]) -> Option<()> {
+    let mut place = 0u8;
+    for quoted in quotes {
+        let shown = SideQuote::new(Price::new(quoted.price)?, Shares::new(quoted.shares)?);
+        let (bid, offer) = match side {
+            OrderSide::Buy => (None, shown),
+            OrderSide::Sell => (shown, None),
+        };
+        let change = Change::Quote {
+            part: Part::new(place)?,
+            sym,
+            state: quoted.state,
+            bid,
+            offer,
+        };
+        if boards.takes(&change) {
+            boards.apply(change);
+        }
+        place = place.wrapping_add(1);
+    }
+    Some(())
+}
+
+// ---- every small board
+
+/// The quotation of a number below 12: automated or manual, at 0.9999, 1.0000 or 1.0001, with 100 or 200 shares.
+fn quoted_as(number: u32) -> Quoted {
+    Quoted {
+        state: if number % 2 == 0 {
+            QState::Automated
+        } else {
+            QState::Manual
+        },
+        price: u64::from(number / 2 % 3).wrapping_add(9999),
+        shares: if number / 6 % 2 == 0 { 100 } else { 200 },
+    }
+}
+
+/// Plans an order of each size on a view, with manual quotations and without: how many plans were right, and what is
+/// wrong with the first that is not.
+fn plan_each(view: &View, fees: &FeeBook, side: OrderSide) -> (u32, &'static str) {
+    let limit = match side {
+        OrderSide::Buy => 10_001,
+        OrderSide::Sell => 9999,
+    };
+    let mut right = 0u32;
+    for shares in [100, 300, 600] {
+        for manual in [false, true] {
+            let wanted = Wanted {
+                side,
+                shares,
+                limit,
+                manual,
+            };
+            let found = finding(view, fees, &wanted).unwrap_or("no answer");
+            if !found.is_empty() {
+                return (right, found);
+            }
+            right = right.wrapping_add(1);
+        }
+    }
+    (right, "")
+}
+
+/// The same on each board of three quotations.
+fn plan_all(boards: &mut Boards, fees: &FeeBook, sym: Sym, side: OrderSide) -> (u32, &'static str) {
+    let mut right = 0u32;
+    for number in 0..1728u32 {
+        let quotes = [
+            quoted_as(number % 12),
+            quoted_as(number / 12 % 12),
+            quoted_as(number / 144 % 12),
+        ];
+        if quote(boards, sym, side, &quotes).is_none() {
+            return (right, "no quotation");
+        }
+        let (more, found) = plan_each(&boards.view(sym), fees, side);
+        right = right.wrapping_add(more);
+        if !found.is_empty() {
+            return (right, found);
+        }
+    }
+    (right, "")
+}
+
+/// N, P and Y quote each of the twelve quotations of one side, and orders of both sides are planned: 20,736 plans.
+#[test]
+fn same_plan(rt: HostRuntime) -> Result<(), Fail> {
+    let setup = read_setup(rt.alloc(), SETUP_K)?;
+    let sym = setup.roster().find_sym(b"ABC").ok_or("no ABC")?;
+    let mut boards = Boards::new(rt.alloc(), setup.roster())?;
+    let bought = plan_all(&mut boards, setup.fees(), sym, OrderSide::Buy);
+    let sold = plan_all(&mut boards, setup.fees(), sym, OrderSide::Sell);
+    assert_eq!(rt; (bought, sold), ((10_368, ""), (10_368, "")));
+    Ok(())
+}
+
+// ---- boards drawn by chance
+
+/// Eight participants, whose fees lie whole steps of price apart, so that unit costs tie at a price and across prices.
+fn eight_participants() -> &'static str {
+    r#"tape_limit = 9
+queue = 9
+desks = 1
+participant = [
+  { name = "A", feed = "A", fee = 300000, rate = 30 },
+  { name = "B", feed = "A", fee = 200000, rate = 20 },
+  { name = "C", feed = "A", fee = -100000, rate = -10 },
+  { name = "D", feed = "A", fee = 300000, rate = 30 },
+  { name = "E", feed = "B", fee = 0, rate = 0 },
+  { name = "F", feed = "B", fee = -200000, rate = -20 },
+  { name = "G", feed = "B", fee = 100000, rate = 10 },
+  { name = "H", feed = "B", fee = 0, rate = 0 },
+]
+symbol = [{ name = "ABC", lot = 100 }, { name = "PNY", lot = 1 }]
+"#
+}
+
+/// A quotation of at most three lots at one of five prices.
+fn drawn(chance: &mut Chance, base: u64, lot: u32) -> Quoted {
+    Quoted {
+        state: match chance.draw() % 8 {
+            0..=4 => QState::Automated,
+            5 | 6 => QState::Manual,
+            _ => QState::Halted,
+        },
+        price: base.wrapping_add(u64::from(chance.draw() % 5)),
+        shares: (chance.draw() % 4).wrapping_mul(lot),
+    }
+}
+
+/// An order of at most 24 lots; half of them may use manual quotations.
+fn asked(chance: &mut Chance, side: OrderSide, base: u64, lot: u32) -> Wanted {
+    Wanted {
+        side,
+        shares: (chance.draw() % 24).wrapping_add(1).wrapping_mul(lot),
+        limit: base.wrapping_add(u64::from(chance.draw() % 5)),
+        manual: chance.draw() % 2 == 0,
+    }
+}
+
+/// Each participant quotes anew, and an order is planned: what is wrong with the plan, or nothing.
+fn try_board(
+    chance: &mut Chance,
+    boards: &mut Boards,
+    fees: &FeeBook,
+    place: u16,
+    lot: u32,
+) -> Option<&'static str> {
+    let sym = Sym::new(place)?;
+    let (side, base) = match chance.draw() % 4 {
+        0 => (OrderSide::Buy, 9998),
+        1 => (OrderSide::Sell, 9998),
+        2 => (OrderSide::Buy, 100_000),
+        _ => (OrderSide::Sell, 100_000),
+    };
+    let quotes = [
+        drawn(chance, base, lot),
+        drawn(chance, base, lot),
+        drawn(chance, base, lot),
+        drawn(chance, base, lot),
+        drawn(chance, base, lot),
+        drawn(chance, base, lot),
+        drawn(chance, base, lot),
+        drawn(chance, base, lot),
+    ];
+    quote(boards, sym, side, &quotes)?;
+    let wanted = asked(chance, side, base, lot);
+    finding(&boards.view(sym), fees, &wanted)
+}
+
+/// Tries so many boards, those of ABC and of PNY in turn: how many plans were right, and what is wrong with the first
+/// that is not.
+fn try_boards(boards: &mut Boards, fees: &FeeBook, number: u32) -> (u32, &'static str) {
+    let mut chance = Chance { state: 600 };
+    for right in 0..number {
+        let (place, lot) = if right % 2 == 0 { (0, 100) } else { (1, 1) };
+        let found = try_board(&mut chance, boards, fees, place, lot).unwrap_or("no answer");
+        if !found.is_empty() {
+            return (right, found);
+        }
+    }
+    (number, "")
+}
+
+#[test]
+fn same_random_plans(rt: HostRuntime) -> Result<(), Fail> {
+    let setup = read_setup(rt.alloc(), eight_participants())?;
+    let mut boards = Boards::new(rt.alloc(), setup.roster())?;
+    let told = try_boards(&mut boards, setup.fees(), RANDOM_PLANS);
+    assert_eq!(rt; told, (RANDOM_PLANS, ""));
+    Ok(())
+}
+
+// ---- ties
+
+/// A leg: the participant's place, the price in 1/10,000 dollar, the shares.
+type ToldLeg = (u8, u64, u32);
+
+/// A cut: the price in 1/10,000 dollar, and its marginal in nanodollars, if it has one.
+type ToldCut = (u64, Option<i128>);
+
+/// Whether a plan has just those legs.
+fn has_legs(plan: &Plan, legs: &[ToldLeg]) -> bool {
+    let mut at = 0usize;
+    for &(place, price, shares) in legs {
+        let Some(leg) = plan.legs.as_slice().get(at) else {
+            return false;
+        };
+        if leg.part.get() != place || leg.price.get() != price || leg.shares.get() != shares {
+            return false;
+        }
+        at = at.wrapping_add(1);
+    }
+    plan.legs.len() == legs.len()
+}
+
+/// Whether a certificate has just those cuts.
+fn has_cuts(certificate: &Certificate, cuts: &[ToldCut]) -> bool {
+    let mut at = 0usize;
+    for &(price, wanted) in cuts {
+        let Some(cut) = certificate.as_slice().get(at) else {
+            return false;
+        };
+        let marginal = match cut.kind {
+            CutKind::Marginal(marginal) => Some(marginal.get()),
+            CutKind::TooMuch | CutKind::TooLittle => None,
+        };
+        if cut.price.get() != price || marginal != wanted {
+            return false;
+        }
+        at = at.wrapping_add(1);
+    }
+    certificate.len() == cuts.len()
+}
+
+/// Whether both planners buy so, with those legs and cuts.
+fn buys_so(
+    view: &View,
+    fees: &FeeBook,
+    shares: u32,
+    legs: &[ToldLeg],
+    cuts: &[ToldCut],
+) -> Option<bool> {
+    let wanted = Wanted {
+        side: OrderSide::Buy,
+        shares,
+        limit: 100_002,
+        manual: true,
+    };
+    let found = finding(view, fees, &wanted)?;
+    let order = order_for(view.sym(), &wanted)?;
+    let (plan, certificate) = plan(view, &order, fees);
+    Some(found == "" && has_legs(&plan, legs) && has_cuts(&certificate, cuts))
+}
+
+/// An offer of ABC.
+fn offered(state: QState, price: u64, shares: u32) -> Quoted {
+    Quoted {
+        state,
+        price,
+        shares,
+    }
+}
+
+/// A share costs 0.0003 more than the price at N and Z, 0.0002 more at P, 0.0001 less at Y.
+fn tied_boards(alloc: Global) -> Result<(Boards, Setup), Fail> {
+    let setup = read_setup(alloc, four_participants())?;
+    let boards = Boards::new(alloc, setup.roster())?;
+    Ok((boards, setup))
+}
+
+/// P's 200 shares cost 2,000.04 at 10.0000, and so do at 10.0002 the 100 of N, which has to be swept there, with 100
+/// of Y: the better price is chosen.
+#[test]
+fn of_two_prices_that_cost_alike_the_better_is_chosen(rt: HostRuntime) -> Result<(), Fail> {
+    let (mut boards, setup) = tied_boards(rt.alloc())?;
+    let sym = Sym::new(0).ok_or("a symbol")?;
+    let offers = [
+        offered(QState::Automated, 100_000, 100),
+        offered(QState::Manual, 100_000, 200),
+        offered(QState::Automated, 100_002, 100),
+    ];
+    quote(&mut boards, sym, OrderSide::Buy, &offers).ok_or("a quotation")?;
+    let legs = [(1, 100_000, 200)];
+    let cuts = [
+        (100_000, Some(10_000_200_000)),
+        (100_002, Some(10_000_100_000)),
+    ];
+    assert_eq!(rt;
+        buys_so(&boards.view(sym), setup.fees(), 200, &legs, &cuts),
+        Some(true)
+    );
+    Ok(())
+}
+
+/// At one price a share costs as much at N as at Z, and N's place is the lower.
+#[test]
+fn of_equal_costs_at_a_price_the_lower_place_is_first(rt: HostRuntime) -> Result<(), Fail> {
+    let (mut boards, setup) = tied_boards(rt.alloc())?;
+    let sym = Sym::new(0).ok_or("a symbol")?;
+    let none = offered(QState::Automated, 100_000, 0);
+    let tied = offered(QState::Automated, 100_000, 100);
+    quote(&mut boards, sym, OrderSide::Buy, &[tied, none, none, tied]).ok_or("a quotation")?;
+    let (legs, cuts) = (
+        [(0, 100_000, 100), (3, 100_000, 50)],
+        [(100_000, Some(10_000_300_000))],
+    );
+    assert_eq!(rt;
+        buys_so(&boards.view(sym), setup.fees(), 150, &legs, &cuts),
+        Some(true)
+    );
+    Ok(())
+}
+
+/// A share costs 10.0003 at Z and at P. Z's price is the better one, so that Z is filled first, though P's place is
+/// lower. At 10.0000 alone there is too little.
+#[test]
+fn of_equal_costs_at_two_prices_the_better_price_is_first(rt: HostRuntime) -> Result<(), Fail> {
+    let (mut boards, setup) = tied_boards(rt.alloc())?;
+    let sym = Sym::new(0).ok_or("a symbol")?;
+    let none = offered(QState::Automated, 100_000, 0);
+    let dearer = offered(QState::Automated, 100_001, 100);
+    let better = offered(QState::Manual, 100_000, 100);
+    let offers = [none, dearer, none, better];
+    quote(&mut boards, sym, OrderSide::Buy, &offers).ok_or("a quotation")?;
+    let legs = [(3, 100_000, 100), (1, 100_001, 50)];
+    let cuts = [(100_000, None), (100_001, Some(10_000_300_000))];
+    assert_eq!(rt;
+        buys_so(&boards.view(sym), setup.fees(), 150, &legs, &cuts),
+        Some(true)
+    );
+    Ok(())
+}
