@@ -342,6 +342,23 @@ def check_words():
         check(f"| `{crate.name}` |" in read(page), page, f"no row for {crate.name}")
 
 
+# Proofs.
+
+def check_imports():
+    """A proof cites a lower crate's lemmas through the file in which that crate offers them, which offers no others."""
+    cited = {}
+    for file in sorted(it for it in FILES if it.endswith(".antt")):
+        own, text = file.split("/")[1], source(file)
+        for crate, module in re.findall(r"\bRattle\.(nms_\w+)\.proofs\.(\w+)", text):
+            check(crate == own or module == "Offered", file, f"cites {module} of {crate}, which offers no lemmas")
+        for crate, names in re.findall(r"\bRattle\.(nms_\w+)\.proofs\.Offered(?:\.\{([^}]*)\}| as )", text):
+            cited.setdefault(crate, set()).update(re.findall(r"[^\s,]+", names or text))
+    for file in sorted(it for it in FILES if it.endswith("/proofs/Offered.antt")):
+        for name in re.findall(r"[^\s,]+", " ".join(re.findall(r"\{([^}]*)\}", source(file)))):
+            there = any(name in it or f"sums.{name}" in it for it in (cited.get(file.split("/")[1], set()),))
+            check(there, file, f"no crate above cites {name}")
+
+
 # What is said twice.
 
 def sentences(text):
@@ -397,8 +414,8 @@ def check_cases():
 
 
 def main():
-    for part in (check_names, check_codes, check_statuses, check_links, check_claims, check_table, check_words, check_front,
-                 check_twice, check_cases):
+    for part in (check_names, check_codes, check_statuses, check_links, check_claims, check_table, check_words, check_imports,
+                 check_front, check_twice, check_cases):
         part()
     print(f"{COUNT['passed']} passed, {COUNT['failed']} failed")
     return 1 if COUNT["failed"] else 0

@@ -7,3 +7,4 @@ mod RowLemmas
 pub mod OrderLemmas
 pub mod PartLemmas
 pub mod RankLemmas
+pub mod Offered

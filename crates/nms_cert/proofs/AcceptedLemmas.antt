@@ -26,7 +26,7 @@ use Rattle.nms_cert.specs.Doubts.{cuts_doubt, doubt_of, fails_bound, first_faili
 use Rattle.nms_cert.specs.declared.doubt.Doubt.{Doubt}
 use Rattle.nms_cert.specs.declared.doubt.Doubt.TheVariants as doubt
 use Rattle.nms_cert.proofs.FindLemmas.{all_fail, none_position, position_none}
-use Rattle.nms_rules.proofs.SignedLemmas.{lt-false, false-lt}
+use Rattle.nms_rules.proofs.Offered.{lt-false, false-lt}
 
 -- ---- prices
 

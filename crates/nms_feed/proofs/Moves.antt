@@ -13,7 +13,7 @@ use Rattle.nms_quote.specs.declared.change.Change.{Change}
 use Rattle.nms_quote.specs.declared.feed.Feed.{Feed}
 use Rattle.nms_quote.specs.declared.feed.Feed.TheVariants as feed
 use Rattle.nms_quote.specs.declared.marked.Marked.{Marked}
-use Rattle.nms_quote.proofs.MergeLemmas.{of_feed-both, of_feed-mine, of_feed-other, same_feed-one, same_feed-self}
+use Rattle.nms_quote.proofs.Offered.{of_feed-both, of_feed-mine, of_feed-other, same_feed-one, same_feed-self}
 use Rattle.nms_feed.specs.declared.TheConstants.{MOST_SENT}
 use Rattle.nms_feed.specs.declared.known.Known.{Known}
 use Rattle.nms_feed.specs.declared.known.Sent.{Sent}

@@ -15,7 +15,7 @@ use Rattle.nms_quote.specs.declared.certificate.CutKind.TheVariants as kind
 use Rattle.nms_quote.specs.declared.plan.Plan.{Plan}
 use Rattle.nms_lines.specs.PlanLaws.{FitsText, IsKindInRange, IsPriceInRange}
 use Rattle.nms_board.specs.View.{Seen, view_of}
-use Rattle.nms_board.proofs.PartLemmas.{view_parts}
+use Rattle.nms_board.proofs.Offered.{view_parts}
 use Rattle.nms_fee_book.specs.declared.fee_schedule.FeeSchedule.{FeeSchedule}
 use Rattle.nms_rules.specs.Accepted.{IsAccepted}
 use Rattle.nms_rules.specs.Usable.{contra}

@@ -11,7 +11,7 @@ use Rattle.nms_fee_book.specs.declared.fee_schedule.FeeSchedule.{FeeSchedule}
 use Rattle.nms_fees.specs.Settings.{Settings}
 use Rattle.nms_lines.specs.PlanText.{plan_text}
 use Rattle.nms_lines.specs.Written.{AppendsPart, WritesPart}
-use Rattle.nms_lines.proofs.WrittenFacts.{appended}
+use Rattle.nms_lines.proofs.Offered.{appended}
 use Rattle.nms_rules.specs.Accepted.{IsAccepted}
 use Rattle.nms_rules.specs.Assignment.{IsOptimal}
 use Rattle.nms_rules.specs.Faultless.{given_by}

@@ -2,3 +2,4 @@ mod LawLemmas
 pub mod ListFacts
 pub mod RunLemmas
 mod StepLemmas
+pub mod Offered

@@ -11,3 +11,4 @@ pub mod PlanTextFacts
 pub mod ReadFacts
 pub mod SideFacts
 pub mod WrittenFacts
+pub mod Offered

@@ -7,7 +7,7 @@ use Rattle.nms_quote.specs.Tape.{Tape, version}
 use Rattle.nms_fees.specs.Settings.{Settings}
 use Rattle.nms_versions.specs.Published.{Batches, publications}
 use Rattle.nms_versions.specs.Taped.{AllBegin, longest_of}
-use Rattle.nms_versions.proofs.Beginnings.{prefix_length}
+use Rattle.nms_versions.proofs.Offered.{prefix_length}
 use Rattle.nms_live.specs.Answering.{IsBestOn, IsClosed, IsSound, IsWorked, versions}
 use Rattle.nms_live.specs.Keeping.{AreListed}
 use Rattle.nms_live.specs.Lists.{IsRising, SomeOf}

@@ -7,7 +7,7 @@ use mathlib.Core.List.{map-append}
 use Rattle.nms_quote.specs.Tape.{Tape}
 use Rattle.nms_fees.specs.Settings.{Settings}
 use Rattle.nms_versions.specs.Taped.{AllBegin, longest_of}
-use Rattle.nms_versions.proofs.Beginnings.{prefix_length}
+use Rattle.nms_versions.proofs.Offered.{prefix_length}
 use Rattle.nms_live.specs.Answering.{IsBestOn, IsFor, IsWorked, numbered, own, versions}
 use Rattle.nms_live.specs.Lists.{IsRising, SomeOf}
 use Rattle.nms_quote.specs.declared.answer.Answer.{Answer}

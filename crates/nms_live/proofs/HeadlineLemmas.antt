@@ -14,7 +14,7 @@ use Rattle.nms_board.specs.declared.row.Row.{Row}
 use Rattle.nms_fees.specs.Settings.{Settings}
 use Rattle.nms_nbbo.specs.Best.{IsBest, IsBestOf}
 use Rattle.nms_rules.specs.Laws.{LawfulPlansNeverTradeThrough}
-use Rattle.nms_rules.proofs.LawfulLemmas.{none_of_faultless}
+use Rattle.nms_rules.proofs.Offered.{none_of_faultless}
 use Rattle.nms_live.specs.Answering.{IsSound, of_desk, versions}
 use Rattle.nms_live.specs.Headline.{AreBestOfTheirVersions, HasOneBest, IsBestOfItsVersion, IsQuotation}
 use Rattle.nms_live.specs.Lists.{IsRising}

@@ -14,7 +14,7 @@ use Rattle.nms_fees.specs.Settings.{Settings}
 use Rattle.nms_flow.specs.Flow.{room_under}
 use Rattle.nms_flow.specs.Laws.{IsOnOwnFeed, fed_by}
 use Rattle.nms_flow.specs.Run.{Event, Room, changes_in, sent_by, tape_at, version_at}
-use Rattle.nms_flow.proofs.ListFacts.{last_or-append}
+use Rattle.nms_flow.proofs.Offered.{last_or-append}
 use Rattle.nms_live.specs.Answering.{IsSound, of_desk, versions}
 use Rattle.nms_live.specs.Lists.{IsRising}
 use Rattle.nms_live.specs.Living.{IsLive}

@@ -17,8 +17,7 @@ use Rattle.nms_flow.specs.Laws.{version_for, versions_of}
 use Rattle.nms_flow.specs.Run.{Event, IsAnswered, IsRun, Room, Standing, after, answer_to, answer_to_send, answer_to_take, changes_in, is_answered, queue_at, standing_after, version_at, version_published}
 use Rattle.nms_flow.specs.declared.step.Step.TheVariants as step
 use Rattle.nms_flow.specs.declared.reply.Reply.TheVariants as reply
-use Rattle.nms_flow.proofs.ListFacts.{last_or-append}
-use Rattle.nms_flow.proofs.RunLemmas.{filter_map-push, is_run-push, standing_after-push}
+use Rattle.nms_flow.proofs.Offered.{last_or-append, filter_map-push, is_run-push, standing_after-push}
 use Rattle.nms_live.specs.Answering.{of_desk, versions}
 use Rattle.nms_live.specs.RunOf.{looks_of, publishings, shown_to}
 use Rattle.nms_quote.specs.declared.answer.Answer.{Answer}

@@ -10,7 +10,7 @@ use Rattle.nms_quote.specs.declared.change.Change.{Change}
 use Rattle.nms_quote.specs.declared.feed.Feed.{Feed}
 use Rattle.nms_quote.specs.declared.feed.Feed.TheVariants as feed
 use Rattle.nms_quote.specs.declared.marked.Marked.{Marked}
-use Rattle.nms_quote.proofs.MergeLemmas.{same_feed-self}
+use Rattle.nms_quote.proofs.Offered.{same_feed-self}
 use Rattle.nms_flow.specs.Run.{changes_in}
 use Rattle.nms_live.specs.Reading.{IsOwn, IsRead, IsTapeOf, text_of}
 

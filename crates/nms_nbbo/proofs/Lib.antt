@@ -2,3 +2,4 @@ mod ListLemmas
 mod PairLemmas
 mod WalkLemmas
 pub mod RankingLemmas
+pub mod Offered

@@ -4,7 +4,7 @@ use Rattle.std.specs.List.{count_by, find, filter_map, cons_option, range_with_l
 use Rattle.std.proofs.lemmas.Bool.{cases_Bool}
 use Rattle.std.proofs.lemmas.List.Elements.{All-nil, All-cons}
 use Rattle.std.proofs.lemmas.List.Sums.{sum_by-cons}
-use Rattle.nms_board.proofs.ListLemmas.{in_rest}
+use Rattle.nms_board.proofs.Offered.{in_rest}
 
 -- what is found stands in the list and passes
 pub found : {X : Type 0} (passes : X → Bool) (xs : List X) (x : X) → find passes xs ≡ Some x → Contains xs x × (passes x ≡ true)

@@ -12,7 +12,7 @@ use Rattle.nms_nbbo.specs.declared.pair.Pair.{Pair}
 use Rattle.nms_nbbo.specs.Laws.{IsOfRoster, IsPairIn, ListsPairs, LockOrCross}
 use Rattle.nms_nbbo.specs.Pairs.{pair_between, pair_of, place_of, pair_at, pairs_from}
 use Rattle.nms_nbbo.specs.Walk.{AreByPart, NoPair, IsFirstPair}
-use Rattle.nms_board.proofs.ListLemmas.{found_alone}
+use Rattle.nms_board.proofs.Offered.{found_alone}
 use Rattle.nms_nbbo.proofs.ListLemmas.{All-filter_map, Contains-filter_map, filter_map-past, found}
 use Rattle.nms_nbbo.proofs.WalkLemmas.{part_rises}
 

@@ -17,7 +17,7 @@ use Rattle.nms_nbbo.specs.declared.market_kind.Market.TheVariants as market
 use Rattle.nms_nbbo.specs.Laws.{RankAlike}
 use Rattle.nms_nbbo.specs.Market.{market_of}
 use Rattle.nms_board.specs.Ranking.{rank_among, ranked_at, ranks_above}
-use Rattle.nms_board.proofs.RankLemmas.{above_one_way}
+use Rattle.nms_board.proofs.Offered.{above_one_way}
 use Rattle.nms_nbbo.specs.Best.{IsBest, IsBestOf}
 use Rattle.nms_nbbo.proofs.ListLemmas.{found, none_counted}
 

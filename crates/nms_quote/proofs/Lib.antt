@@ -1,2 +1,3 @@
 pub mod MergeLemmas
 mod TableLemmas
+pub mod Offered

@@ -13,3 +13,4 @@ mod PaidLemmas
 pub mod SignedLemmas
 mod SoundLemmas
 pub mod SumLemmas
+pub mod Offered

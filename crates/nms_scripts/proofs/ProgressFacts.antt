@@ -15,8 +15,8 @@ use Rattle.nms_text.specs.declared.script_fault.ScriptFault.TheVariants as scrip
 use Rattle.nms_scripts.specs.declared.counts.Counts.{Counts}
 use Rattle.nms_lines.specs.Text.{record_text, text_of}
 use Rattle.nms_lines.specs.Written.{AppendsPart}
-use Rattle.nms_lines.proofs.WrittenFacts.{appended, part_more}
-use Rattle.nms_text.proofs.PairFacts.{appends-none}
+use Rattle.nms_lines.proofs.Offered.{appended, part_more}
+use Rattle.nms_text.proofs.Offered.{appends-none}
 use Rattle.nms_flow.specs.Flow.{State, IsAfter, room_of, room_under}
 use Rattle.nms_flow.specs.Run.{Event, IsRun, published_by, taken_by}
 use Rattle.nms_fees.specs.Settings.{Settings}

@@ -28,7 +28,7 @@ use Rattle.nms_flow.specs.declared.step_fault.StepFault.{StepFault}
 use Rattle.nms_flow.specs.declared.step_fault.StepFault.TheVariants as fault
 use Rattle.nms_flow.specs.declared.reply.Reply.{Reply}
 use Rattle.nms_flow.specs.declared.reply.Reply.TheVariants as reply
-use Rattle.nms_flow.proofs.RunLemmas.{goes_on}
+use Rattle.nms_flow.proofs.Offered.{goes_on}
 use Rattle.nms_text.specs.Answers.{best_record, through_head, through_records}
 use Rattle.nms_scripts.specs.Told.{told_by}
 use Rattle.nms_scripts.specs.Progress.{TakesSome, TakesUntil}

@@ -20,8 +20,7 @@ use Rattle.nms_rules.specs.Cutoff.{KindHolds}
 use Rattle.nms_rules.specs.Faultless.{cost_of, sum_of}
 use Rattle.nms_rules.specs.Usable.{Usable, rank_of, usable}
 use Rattle.nms_rules.specs.Assignment.{fillable}
-use Rattle.nms_rules.proofs.LegLemmas.{cost_of-none, cost_of-push}
-use Rattle.nms_rules.proofs.SignedLemmas.{times-more}
+use Rattle.nms_rules.proofs.Offered.{cost_of-none, cost_of-push, times-more}
 use Rattle.nms_sweep.specs.Bounds.{IsWithinBounds, most_unit}
 use Rattle.nms_sweep.specs.Choice.{IsInRange}
 

@@ -8,8 +8,7 @@ use Rattle.std.proofs.lemmas.Int.{ints}
 use Rattle.nms_quote.specs.declared.certificate.Cut.{Cut}
 use Rattle.nms_quote.specs.declared.order.OrderSide.{OrderSide}
 use Rattle.nms_rules.specs.Usable.{Usable, rank_of}
-use Rattle.nms_rules.proofs.MemberLemmas.{In}
-use Rattle.nms_rules.proofs.SignedLemmas.{lt-false, lt-true}
+use Rattle.nms_rules.proofs.Offered.{In, lt-false, lt-true}
 use Rattle.nms_sweep.specs.Choice.{candidate, cheaper, chosen}
 use Rattle.nms_sweep.specs.declared.choice.Choice.{Choice}
 

@@ -10,8 +10,7 @@ use Rattle.nms_quote.specs.declared.order.OrderSide.{OrderSide}
 use Rattle.nms_quote.specs.declared.order.OrderSide.TheVariants.{Buy, Sell}
 use Rattle.nms_rules.specs.Cutoff.{pool, swept}
 use Rattle.nms_rules.specs.Usable.{Usable, is_better, rank_of}
-use Rattle.nms_rules.proofs.MemberLemmas.{All-In, In}
-use Rattle.nms_rules.proofs.OrderLemmas.{better-from-rank}
+use Rattle.nms_rules.proofs.Offered.{All-In, In, better-from-rank}
 use Rattle.nms_sweep.specs.Choice.{kind_by, per_price, starts_at}
 use Rattle.nms_sweep.specs.declared.row_order.Key.TheVariants.{Price}
 use Rattle.nms_sweep.proofs.OrderLemmas.{NoLess, Ordered}

@@ -8,7 +8,7 @@ use Rattle.nms_board.specs.View.{Seen}
 use Rattle.nms_fee_book.specs.declared.fee_schedule.FeeSchedule.{FeeSchedule}
 use Rattle.nms_rules.specs.Cutoff.{pool, pool_part, swept, swept_cost, swept_cost_part, swept_part}
 use Rattle.nms_rules.specs.Usable.{Usable, rank_of, usable}
-use Rattle.nms_rules.proofs.MemberLemmas.{All-In, Any-In, In}
+use Rattle.nms_rules.proofs.Offered.{All-In, Any-In, In}
 use Rattle.nms_sweep.specs.Cutoffs.{AreCutoffs, IsCutoffOf, cutoff_at, cutoffs_of}
 use Rattle.nms_sweep.specs.Order.{IsOrdered}
 use Rattle.nms_sweep.specs.declared.cutoffs.Cutoff.{Cutoff}

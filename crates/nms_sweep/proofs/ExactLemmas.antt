@@ -12,9 +12,7 @@ use Rattle.nms_fee_book.specs.declared.fee_schedule.FeeSchedule.{FeeSchedule}
 use Rattle.nms_rules.specs.Assignment.{total}
 use Rattle.nms_rules.specs.Cutoff.{is_pooled, pool, pool_part, swept}
 use Rattle.nms_rules.specs.Usable.{Usable, rank_of}
-use Rattle.nms_rules.proofs.CutoffLemmas.{Passes, Pools, Sweeps, places, pool-is, pool-not}
-use Rattle.nms_rules.proofs.MemberLemmas.{All-In, Any-In, In}
-use Rattle.nms_rules.proofs.SignedLemmas.{lt-true}
+use Rattle.nms_rules.proofs.Offered.{Passes, Pools, Sweeps, places, pool-is, pool-not, All-In, Any-In, In, lt-true}
 use Rattle.nms_sweep.specs.Choice.{below, below_part, is_below, share_cost}
 use Rattle.nms_sweep.specs.Filling.{AreExact, IsMarginalAt, KindIs, up_to, up_to_part}
 use Rattle.nms_sweep.specs.declared.row_order.Key.TheVariants.{Cost}

@@ -11,10 +11,7 @@ use Rattle.nms_fee_book.specs.declared.fee_schedule.FeeSchedule.{FeeSchedule}
 use Rattle.nms_rules.specs.Cutoff.{is_pooled, is_swept}
 use Rattle.nms_rules.specs.Faultless.{given_by, sum_of}
 use Rattle.nms_rules.specs.Usable.{Usable}
-use Rattle.nms_rules.proofs.ApartLemmas.{Apart}
-use Rattle.nms_rules.proofs.GivenLemmas.{filled-given, gives-other, gives-own, row_part}
-use Rattle.nms_rules.proofs.MemberLemmas.{All-In, Any-In, In, In-Any}
-use Rattle.nms_rules.proofs.SignedLemmas.{true-lt}
+use Rattle.nms_rules.proofs.Offered.{Apart, filled-given, gives-other, gives-own, row_part, All-In, Any-In, In, In-Any, true-lt}
 use Rattle.nms_sweep.specs.Choice.{is_below, is_level, left_after, legs_of, share_of}
 use Rattle.nms_sweep.specs.Filling.{FillsAt, FillsInOrder, TakesEarlier}
 use Rattle.nms_sweep.specs.Order.{comes_before, is_placed_before}

@@ -7,7 +7,7 @@ use Rattle.std.proofs.lemmas.Int.{ints}
 use Rattle.nms_rules.specs.Assignment.{total}
 use Rattle.nms_rules.specs.Cutoff.{pool, pool_part, swept, swept_part}
 use Rattle.nms_rules.specs.Usable.{Usable}
-use Rattle.nms_rules.proofs.MemberLemmas.{In}
+use Rattle.nms_rules.proofs.Offered.{In}
 use Rattle.nms_sweep.specs.declared.row_order.Key.TheVariants.{Price}
 use Rattle.nms_sweep.proofs.OrderLemmas.{NoLess, Ordered}
 use Rattle.nms_sweep.proofs.TierLemmas.{swept_far, within_parts}

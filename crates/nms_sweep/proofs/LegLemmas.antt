@@ -13,10 +13,7 @@ use Rattle.nms_rules.specs.Assignment.{amount, total}
 use Rattle.nms_rules.specs.Cutoff.{savings, swept, swept_cost, swept_part}
 use Rattle.nms_rules.specs.Faultless.{cost_of, given_by, sum_of}
 use Rattle.nms_rules.specs.Usable.{Usable}
-use Rattle.nms_rules.proofs.ApartLemmas.{Apart}
-use Rattle.nms_rules.proofs.GivenLemmas.{given-cons, given-none, gives, gives-other, gives-own, leg_part, row_part}
-use Rattle.nms_rules.proofs.MemberLemmas.{In}
-use Rattle.nms_rules.proofs.SignedLemmas.{times-plus}
+use Rattle.nms_rules.proofs.Offered.{Apart, given-cons, given-none, gives, gives-other, gives-own, leg_part, row_part, In, times-plus}
 use Rattle.nms_sweep.specs.Choice.{below, is_level, left_after, legs_of, share_of, with_leg}
 use Rattle.nms_sweep.proofs.TierLemmas.{Gets, gets, level_part, share_costs, share_counts, tier}
 

@@ -8,7 +8,7 @@ use Rattle.std.proofs.lemmas.Int.{ints}
 use Rattle.nms_rules.specs.Assignment.{total}
 use Rattle.nms_rules.specs.Cutoff.{is_pooled, pool, pool_part}
 use Rattle.nms_rules.specs.Usable.{Usable}
-use Rattle.nms_rules.proofs.CutoffLemmas.{pool-is, pool-not}
+use Rattle.nms_rules.proofs.Offered.{pool-is, pool-not}
 use Rattle.nms_sweep.specs.Choice.{below, share_cost}
 use Rattle.nms_sweep.specs.declared.row_order.Key.TheVariants.{Cost}
 use Rattle.nms_sweep.proofs.LegLemmas.{level}

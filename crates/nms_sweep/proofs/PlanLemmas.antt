@@ -26,10 +26,7 @@ use Rattle.nms_rules.specs.Assignment.{IsLawful, SweepsBetter, fillable, total}
 use Rattle.nms_rules.specs.Cutoff.{IsBounded, KindHolds, least_cost, pool, pool_part, savings_part, swept, swept_cost_part, swept_part}
 use Rattle.nms_rules.specs.Faultless.{IsFaultless, cost_of, given_by, sum_of}
 use Rattle.nms_rules.specs.Usable.{Usable, contra_rows, is_better, is_usable, rank_of, usable, usable_row}
-use Rattle.nms_rules.proofs.ApartLemmas.{Apart, Apart-IsDistinct, Apart-filter, Apart-map, Apart-rising, IsDistinct-Apart}
-use Rattle.nms_rules.proofs.GivenLemmas.{filled-given, given-by, leg_part, row_part}
-use Rattle.nms_rules.proofs.MemberLemmas.{All-In, Any-In, In, In-All, filter-In, map-In}
-use Rattle.nms_rules.proofs.SignedLemmas.{times-plus, true-lt}
+use Rattle.nms_rules.proofs.Offered.{Apart, Apart-IsDistinct, Apart-filter, Apart-map, Apart-rising, IsDistinct-Apart, filled-given, given-by, leg_part, row_part, All-In, Any-In, In, In-All, filter-In, map-In, times-plus, true-lt}
 use Rattle.nms_sweep.specs.Choice.{IsInRange, below, below_part, candidate, chosen, cost_chosen, cut_by, kind_by, legs_chosen, legs_of, share_cost}
 use Rattle.nms_sweep.specs.Cutoffs.{cutoff_at, cutoffs_of}
 use Rattle.nms_sweep.specs.Order.{IsByPrice, IsOrdered}

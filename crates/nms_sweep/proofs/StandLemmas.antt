@@ -12,10 +12,7 @@ use Rattle.nms_quote.specs.declared.plan.Leg.{Leg}
 use Rattle.nms_board.specs.View.{Seen}
 use Rattle.nms_fee_book.specs.declared.fee_schedule.FeeSchedule.{FeeSchedule}
 use Rattle.nms_rules.specs.Usable.{Usable, contra_rows, rank_of, usable}
-use Rattle.nms_rules.proofs.ApartLemmas.{Apart}
-use Rattle.nms_rules.proofs.GivenLemmas.{row_part}
-use Rattle.nms_rules.proofs.MemberLemmas.{All-In, In}
-use Rattle.nms_rules.proofs.OrderLemmas.{better-from-rank}
+use Rattle.nms_rules.proofs.Offered.{Apart, row_part, All-In, In, better-from-rank}
 use Rattle.nms_sweep.specs.Choice.{left_after, legs_chosen, legs_of, share_of, with_leg}
 use Rattle.nms_sweep.specs.Order.{AreInOrder, IsOrdered, StandsBefore, comes_before, has_lower_place}
 use Rattle.nms_sweep.specs.declared.choice.Choice.{Choice}

@@ -2,7 +2,7 @@
 use Rattle.std.proofs.Common.{ℕ, ◌≡◌, ◌<◌, ◌+◌, List, [], length, take, get_or}
 use Rattle.nms_rules.specs.Assignment.{total}
 use Rattle.nms_rules.specs.Usable.{Usable}
-use Rattle.nms_rules.proofs.SumLemmas as sums
+use Rattle.nms_rules.proofs.Offered as sums
 
 pub total_none : (part : Usable → ℕ) → total part [] ≡ 0
 total_none = sums.total_none

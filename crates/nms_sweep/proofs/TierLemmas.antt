@@ -9,8 +9,7 @@ use Rattle.std.proofs.lemmas.Int.{ints, clamps, by_lt_z}
 use Rattle.std.proofs.Math.IntN.{*ℤ-zero}
 use Rattle.nms_rules.specs.Cutoff.{is_pooled, is_swept, pool_part, savings_part, swept_cost_part, swept_part}
 use Rattle.nms_rules.specs.Usable.{Usable}
-use Rattle.nms_rules.proofs.CutoffLemmas.{Passes, Pools, Sweeps, places, pool-is, pool-not, swept-is, swept-not}
-use Rattle.nms_rules.proofs.SignedLemmas.{le-true, lt-false, lt-true, plus-times, zero-times}
+use Rattle.nms_rules.proofs.Offered.{Passes, Pools, Sweeps, places, pool-is, pool-not, swept-is, swept-not, le-true, lt-false, lt-true, plus-times, zero-times}
 use Rattle.nms_sweep.specs.Choice.{below_part, is_below, is_level, left_after, share_of}
 
 -- a row at the marginal

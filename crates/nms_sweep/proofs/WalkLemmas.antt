@@ -9,9 +9,7 @@ use Rattle.nms_quote.specs.declared.order.OrderSide.{OrderSide}
 use Rattle.nms_rules.specs.Assignment.{amount, total}
 use Rattle.nms_rules.specs.Cutoff.{pool, pool_part, swept, swept_cost, swept_cost_part, swept_part}
 use Rattle.nms_rules.specs.Usable.{Usable, rank_of}
-use Rattle.nms_rules.proofs.CutoffLemmas.{Passes, Pools, Sweeps, cost-not, places, pool-not}
-use Rattle.nms_rules.proofs.MemberLemmas.{In, In-All}
-use Rattle.nms_rules.proofs.SignedLemmas.{false-lt, le-true, true-lt}
+use Rattle.nms_rules.proofs.Offered.{Passes, Pools, Sweeps, cost-not, places, pool-not, In, In-All, false-lt, le-true, true-lt}
 use Rattle.nms_sweep.specs.Choice.{per_price, starts_at}
 use Rattle.nms_sweep.specs.Cutoffs.{GivesNext, cutoff_at, cutoffs_of}
 use Rattle.nms_sweep.specs.Passed.{AreByPrice, IsCounted, IsPassed, IsSweptNext, protected_cost_part, protected_part}

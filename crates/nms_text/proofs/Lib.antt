@@ -2,3 +2,4 @@ mod Texts
 mod ColumnFacts
 pub mod PairFacts
 mod ReportFacts
+pub mod Offered

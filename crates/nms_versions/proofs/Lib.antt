@@ -4,3 +4,4 @@ mod HistoryLemmas
 mod LawLemmas
 pub mod PublishLemmas
 mod RuleLemmas
+pub mod Offered

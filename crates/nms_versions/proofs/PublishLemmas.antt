@@ -8,7 +8,7 @@ use Rattle.nms_quote.specs.Tape.{Tape}
 use Rattle.nms_quote.specs.declared.TheConstants.{MOST_CHANGES}
 use Rattle.nms_quote.specs.declared.change.Change.{Change}
 use Rattle.nms_board.specs.Cells.{Board, StandsFor, after, takes}
-use Rattle.nms_board.proofs.BoardLemmas.{sizes_after, stands_after, takes_by}
+use Rattle.nms_board.proofs.Offered.{sizes_after, stands_after, takes_by}
 use Rattle.nms_versions.specs.History.{Chronicle}
 use Rattle.nms_versions.specs.Published.{Batches, NoneEmpty, changes, committed, lengths_from, publications}
 use Rattle.nms_versions.specs.Publishing.{Follows, IsSound, IsTaped}

@@ -8,7 +8,7 @@ use Rattle.nms_rules.specs.declared.breach_kind.Breach.{Breach}
 use Rattle.nms_cert.specs.Doubts.{doubt_of}
 use Rattle.nms_cert.specs.declared.doubt.Doubt.{Doubt}
 use Rattle.nms_cert.proofs.AcceptedLemmas.{accepted_of_none, none_of_accepted}
-use Rattle.nms_rules.proofs.OptimalLemmas.{optimal}
+use Rattle.nms_rules.proofs.Offered.{optimal}
 use Rattle.nms_cert.proofs.confirming.confirm.Goals as goal
 
 none-is : (found : Option Breach) → IsNone found → found ≡ None

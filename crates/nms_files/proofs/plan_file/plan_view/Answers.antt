@@ -3,7 +3,7 @@ use Rattle.nms_quote.specs.declared.side_quote.Side.{Side}
 use Rattle.nms_board.specs.View.{rows_on}
 use Rattle.nms_board.specs.declared.row.Row.{Row}
 use Rattle.nms_rules.specs.Usable.{contra}
-use Rattle.nms_lines.proofs.WrittenFacts.{whole_kept}
+use Rattle.nms_lines.proofs.Offered.{whole_kept}
 use Rattle.nms_files.proofs.LegFacts.{legs_parts}
 use Rattle.nms_files.proofs.PartFacts.{plan_cut}
 use Rattle.nms_files.proofs.plan_file.plan_view.Goals as goal

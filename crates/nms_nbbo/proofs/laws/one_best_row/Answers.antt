@@ -1,4 +1,4 @@
-use Rattle.nms_board.proofs.LawLemmas.{rows_differ}
+use Rattle.nms_board.proofs.Offered.{rows_differ}
 use Rattle.nms_board.specs.Quotation.{quotations}
 use Rattle.nms_nbbo.proofs.RankingLemmas.{one_best}
 use Rattle.nms_nbbo.proofs.laws.one_best_row.Goals as goal

@@ -5,8 +5,8 @@ use Rattle.nms_quote.specs.declared.side_quote.Side.TheVariants.{Bid, Offer}
 use Rattle.nms_board.specs.View.{rows_on}
 use Rattle.nms_board.specs.Shown.{seen_on}
 use Rattle.nms_board.specs.declared.row.Row.{Row}
-use Rattle.nms_board.proofs.PartLemmas.{shown_parts}
-use Rattle.nms_nbbo.proofs.RankingLemmas.{best_part}
+use Rattle.nms_board.proofs.Offered.{shown_parts}
+use Rattle.nms_nbbo.proofs.Offered.{best_part}
 use Rattle.nms_scripts.proofs.ScriptFacts.{shows_best}
 use Rattle.nms_scripts.proofs.script_record.serve_best.Goals as goal
 

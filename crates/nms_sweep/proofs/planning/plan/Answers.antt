@@ -8,8 +8,7 @@ use Rattle.nms_rules.specs.Accepted.{IsAccepted}
 use Rattle.nms_rules.specs.Assignment.{fillable}
 use Rattle.nms_rules.specs.Faultless.{sum_of}
 use Rattle.nms_rules.specs.Usable.{Usable, usable}
-use Rattle.nms_rules.proofs.LawfulLemmas.{none_of_faultless}
-use Rattle.nms_rules.proofs.OptimalLemmas.{accepted_optimal}
+use Rattle.nms_rules.proofs.Offered.{none_of_faultless, accepted_optimal}
 use Rattle.nms_sweep.specs.Choice.{cost_chosen, legs_chosen}
 use Rattle.nms_sweep.specs.Filling.{AreExact}
 use Rattle.nms_sweep.specs.Order.{AreInOrder}

@@ -1,4 +1,4 @@
-use Rattle.nms_board.proofs.BoardLemmas.{seen_stands}
+use Rattle.nms_board.proofs.Offered.{seen_stands}
 use Rattle.nms_board.specs.Shown.{seen_on}
 use Rattle.nms_flow.proofs.StepLemmas.{went_looked}
 use Rattle.nms_flow.proofs.flow.Flow.best.Goals as goal
