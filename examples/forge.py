@@ -143,10 +143,10 @@ def judged(examples, plans):
     cases = zip(plans, wanted)
     text = "".join(f"== check {at}\n{it.changes()}-- plan\n{it.text()}-- gives\n{want}\n" for at, (it, want) in enumerate(cases))
     ran = subprocess.run([examples], input=f"== setup\n{text}".encode(), capture_output=True)
-    heads = [it.split("\n") for it in ran.stdout.decode().split("== check ")[1:]]
-    found = {int(it[0]): it[1] for it in heads}
+    heads = [it.split("\n", 1) for it in ran.stdout.decode().split("== check ")[1:]]
+    found = {int(at): it.strip() for at, it in heads}
     cases = enumerate(zip(plans, wanted))
-    differing = [f"{it.changes()}{it.text()}{found.get(at)}, not {want}" for at, (it, want) in cases if found.get(at) != want]
+    differing = [f"{it.changes()}{it.text()}{want}: {found.get(at)}" for at, (it, want) in cases if found.get(at) != "as it must"]
     return differing or ([] if ran.returncode == 0 else [f"status {ran.returncode}"])
 
 
