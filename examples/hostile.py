@@ -117,8 +117,6 @@ def calls():
     yield Call("a plan", plan, "E4 B1 L12", files=changes, unwritten="L13")
     yield Call("a check", check, "E4 A3 L12", files={**SETUP, "given.changes": OFFERS, "given.plan": PLAN})
     yield Caller("nms_examples", "a plan read and written", f"== setup\n== rewrite a plan\n{PLAN}")
-    for run in ("lane 4 10\n", "looks 2 10\n", "machine 0 32\n", "sweep 0 16\n", "threads 0 10\n"):
-        yield Caller("nms_bench", run.split()[0], run)
     yield Call("a live run", live, "E4 E6", "E7 E10 L12", files={**SETUP, **FEEDS}, unwritten="L13")
 
 
