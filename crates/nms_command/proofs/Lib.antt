@@ -1,3 +1,4 @@
 mod CheckFacts
+mod PartFacts
 mod ServedFacts
 mod StatusFacts

@@ -1,7 +1,7 @@
 -- The exit status of each fault of the program, and the code that its line on standard error names: those that the crate of
 -- the fault gives it. This product's own rule: 1 for streams and files, 2 for words, 3 for the setup, 5 for memory, 6 for
 -- lines, plans and lengths, 7 for a live run.
-use Rattle.std.specs.Prelude.{ℕ, ◌++◌, ◌∷◌, List, [], codes}
+use Rattle.std.specs.Prelude.{ℕ, ◌≡◌, ◌++◌, ◌∷◌, List, [], Option, codes}
 use Rattle.std.specs.String.{string_bytes}
 use Rattle.nms_command.specs.declared.ending.Ending.{Ending}
 use Rattle.nms_command.specs.declared.ending.Ending.TheVariants as ending
@@ -10,6 +10,7 @@ use Rattle.nms_command.specs.declared.tool_fault.ToolFault.TheVariants as tool
 use Rattle.nms_fees.specs.Faults as setup_faults
 use Rattle.nms_files.specs.Faults as file_faults
 use Rattle.nms_lines.specs.PlanFaults as plan_faults
+use Rattle.nms_lines.specs.Written.{AppendsPart}
 use Rattle.nms_live.specs.Faults as live_faults
 use Rattle.nms_text.specs.Faults as text_faults
 use Rattle.nms_words.specs.Faults as words_faults
@@ -57,3 +58,9 @@ code_of (tool.LiveText fault) = text_faults.code_of_live_text fault
 abbrev pub fault_text : ToolFault → List ℕ
 fault_text (tool.Words (words.Parser text help)) = string_bytes text
 fault_text fault = codes "nms_tool: " ++ (code_of fault ++ 10 ∷ [])
+
+-- a fault of this status was told: a first part of its text was written, and nothing else
+pub record TellsFault (status : ℕ) (old new : Option (List ℕ)) : Type 0 where
+  pub fault : ToolFault
+  pub status_is : status_of fault ≡ status
+  pub told : AppendsPart old new (fault_text fault)

@@ -1,14 +1,20 @@
 //! One line, written and flushed.
-ghost use Rattle.std.specs.Prelude.{◌++◌, ◌∷◌, [], OnOk};
+ghost use Rattle.std.specs.Prelude.{◌++◌, ◌∷◌, [], OnErr, OnOk};
 ghost use Rattle.std.specs.Io.KnownBytes.{Appends};
+ghost use Rattle.nms_lines.specs.Written.{AppendsPart};
 
+use nms_lines::write_text;
 use std::io;
 use std::io::Write;
 
-/// Writes two texts, one behind the other, and the end of a line, and flushes them.
+/// Writes two texts, one behind the other, and the end of a line, and flushes them. At its failure a first part of that was
+/// written, and nothing else.
 pub(crate) fn write_line<W: Write>(writer: &mut W, head: &str, code: &str) -> io::Result<()>
-    ensures { OnOk result (Appends (W.contents writer.old) (W.contents writer.new) (head.now ++ (code.now ++ 10 ∷ []))) }
+    ensures written { OnOk result (Appends (W.contents writer.old) (W.contents writer.new) (head.now ++ (code.now ++ 10 ∷ []))) }
+    ensures part { OnErr result (AppendsPart (W.contents writer.old) (W.contents writer.new) (head.now ++ (code.now ++ 10 ∷ []))) }
 {
-    writeln!(writer, "{head}{code}")?;
+    write_text(writer, head.as_bytes())?;
+    write_text(writer, code.as_bytes())?;
+    write_text(writer, b"\n")?;
     writer.flush()
 }

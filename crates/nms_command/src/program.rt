@@ -1,10 +1,11 @@
 //! What the program does with its words, its streams and its files (specs/Served).
-ghost use Rattle.std.specs.Prelude.{◌≡◌, ◌⊎◌, ◌<◌, IfOk, OnOk, map};
+ghost use Rattle.std.specs.Prelude.{◌≡◌, ◌≢◌, ◌⊎◌, ◌<◌, IfOk, OnErr, OnOk, map};
 ghost use Rattle.std.specs.Io.KnownBytes.{Appends};
 ghost use Rattle.std.specs.String.{string_bytes};
 ghost use Rattle.nms_words.specs.CommandLine.{shown};
 ghost use Rattle.nms_command.specs.Served.{AreServed, IsServed, IsSetup, Reports, Scripts, Serves};
-ghost use Rattle.nms_command.specs.Statuses.{fault_text, status_of};
+ghost use Rattle.nms_lines.specs.Written.{AppendsPart};
+ghost use Rattle.nms_command.specs.Statuses.{TellsFault, fault_text, status_of};
 
 use crate::check::serve_check;
 use crate::ending::Ending;
@@ -15,6 +16,7 @@ use crate::planning::serve_plan;
 use crate::tool_fault::ToolFault;
 use nms_fees::{Setup, SetupFault, read_setup};
 use nms_files::report_changes;
+use nms_lines::write_text;
 use nms_scripts::{SETUP_K, run_script};
 use nms_text::ScriptFault;
 use nms_words::{Request, Sub, WordsFault, read_words};
@@ -40,6 +42,7 @@ pub fn run_tool<T, R: Read + Drop, W: Write, E: Write>(
 where
     T: Files + AllocGlobal + Threads + Wait + Sync,
     ensures known { result < 8 }
+    ensures told { result ≢ 0 → result ≢ 4 → TellsFault result (E.contents errors.old) (E.contents errors.new) }
     ensures quiet { (result ≡ 0) ⊎ (result ≡ 4) → E.contents errors.new ≡ E.contents errors.old }
     ensures done { result ≡ 0 → AreServed (map (λ word. word.now) words.entry.now) (R.remaining input) (W.contents answers.old) (W.contents answers.new) Ending.Done }
     ensures not_confirmed { result ≡ 4 → AreServed (map (λ word. word.now) words.entry.now) (R.remaining input) (W.contents answers.old) (W.contents answers.new) Ending.NotConfirmed }
@@ -50,9 +53,11 @@ where
     }
 }
 
-/// Tells a fault, and gives its exit status. What standard error does not take changes no status.
+/// Tells a fault, and gives its exit status. What standard error does not take changes no status; what it takes is a
+/// first part of the parser's text, or of the one line with the code, and nothing else.
 pub fn tell_fault<E: Write>(fault: &ToolFault, errors: &mut E) -> u8
-    ensures { result ≡ status_of fault.now }
+    ensures status { result ≡ status_of fault.now }
+    ensures told { AppendsPart (E.contents errors.old) (E.contents errors.new) (fault_text fault.now) }
 {
     let _ = write_fault(fault, errors);
     fault.status()
@@ -60,7 +65,8 @@ pub fn tell_fault<E: Write>(fault: &ToolFault, errors: &mut E) -> u8
 
 /// Writes what is told of a fault: the parser's text, or one line with the code.
 fn write_fault<E: Write>(fault: &ToolFault, errors: &mut E) -> io::Result<()>
-    ensures { OnOk result (Appends (E.contents errors.old) (E.contents errors.new) (fault_text fault.now)) }
+    ensures written { OnOk result (Appends (E.contents errors.old) (E.contents errors.new) (fault_text fault.now)) }
+    ensures part { OnErr result (AppendsPart (E.contents errors.old) (E.contents errors.new) (fault_text fault.now)) }
 {
     match fault {
         ToolFault::Words(WordsFault::Parser { text, .. }) => tell(errors, text.as_str()),
@@ -68,11 +74,12 @@ fn write_fault<E: Write>(fault: &ToolFault, errors: &mut E) -> io::Result<()>
     }
 }
 
-/// Writes a text, and flushes it.
+/// Writes a text, and flushes it. At its failure a first part of it was written, and nothing else.
 fn tell<W: Write>(writer: &mut W, text: &str) -> io::Result<()>
-    ensures { OnOk result (Appends (W.contents writer.old) (W.contents writer.new) text.now) }
+    ensures written { OnOk result (Appends (W.contents writer.old) (W.contents writer.new) text.now) }
+    ensures part { OnErr result (AppendsPart (W.contents writer.old) (W.contents writer.new) text.now) }
 {
-    writer.write_all(text.as_bytes())?;
+    write_text(writer, text.as_bytes())?;
     writer.flush()
 }
 
