@@ -1,12 +1,9 @@
 //! The words of an order (specs/OrderWords).
 ghost use Rattle.std.specs.Prelude.{◌≡◌, ◌<◌, IfSome, length};
-ghost use Rattle.nms_lines.specs.Fields.{side_named};
-ghost use Rattle.nms_lines.specs.Numbers.{above_zero, shares_number};
-ghost use Rattle.nms_units.specs.Price.{price_number};
 ghost use Rattle.nms_files.specs.OrderWords.{order_asked};
 
-use nms_quote::{Order, OrderSide, Roster};
-use nms_units::{Price, Shares};
+use nms_lines::{price_of, side_of, some_shares_of};
+use nms_quote::{Order, Roster};
 
 /// The order that words say: a side (`B` or `S`), a symbol, shares and a limit, as a script's record `O` has them.
 /// None where such a record is refused.
@@ -22,36 +19,8 @@ pub fn order_of(
     ensures there { IfSome result (λ order. order.sym < length roster.now.syms) }
 {
     let sym = roster.find_sym(sym.as_bytes())?;
-    let side = side_of(side)?;
-    let limit = limit_of(limit)?;
-    let shares = shares_of(shares)?;
+    let side = side_of(side.as_bytes())?;
+    let limit = price_of(limit.as_bytes())?;
+    let shares = some_shares_of(shares.as_bytes())?;
     Order::new(side, sym, shares, limit, manual)
-}
-
-/// The side that a letter names.
-fn side_of(text: &str) -> Option<OrderSide>
-    ensures { result ≡ side_named text.now }
-{
-    match text {
-        "B" => Some(OrderSide::Buy),
-        "S" => Some(OrderSide::Sell),
-        _ => None,
-    }
-}
-
-/// The price that a text is.
-fn limit_of(text: &str) -> Option<Price>
-    ensures { result ≡ above_zero (price_number text.now) }
-{
-    Price::parse(text.as_bytes()).ok()
-}
-
-/// The shares that a text is, at least one.
-fn shares_of(text: &str) -> Option<Shares>
-    ensures { result ≡ above_zero (shares_number text.now) }
-{
-    match Shares::parse(text.as_bytes()) {
-        Ok(shares) if shares.get() > 0 => Some(shares),
-        _ => None,
-    }
 }

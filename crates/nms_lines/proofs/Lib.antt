@@ -7,8 +7,8 @@ pub mod OneReading
 pub mod OneText
 pub mod PlanFacts
 pub mod PlanRoundTrip
-pub mod PlanTextFacts
 pub mod ReadFacts
 pub mod SideFacts
+pub mod TextFacts
 pub mod WrittenFacts
 pub mod Offered

@@ -19,9 +19,9 @@ use Rattle.nms_quote.specs.declared.certificate.Cut.{Cut}
 use Rattle.nms_quote.specs.declared.certificate.CutKind.{CutKind}
 use Rattle.nms_quote.specs.declared.certificate.CutKind.TheVariants as kind
 use Rattle.nms_lines.specs.Layout.{Record}
-use Rattle.nms_lines.specs.PlanText.{csv_text, cut_record, end_record, flag_text, kind_fields, leg_record, plan_record, side_letter}
+use Rattle.nms_lines.specs.PlanText.{cut_record, end_record, flag_text, kind_fields, leg_record, plan_record, side_letter}
 use Rattle.nms_lines.specs.Text.{record_text, text_of}
-use Rattle.nms_lines.specs.TextLaws.{HasOneText}
+use Rattle.nms_lines.specs.TextLaws.{NeedsNoQuote, csv_text}
 
 -- ---- bytes and texts that need no quote
 
@@ -220,7 +220,7 @@ both_same front back first second =
     ∙ ap (λ (text : List ℕ). csv_text front ++ text) second
     ∙ sym (flat_map-append (row_text default_writer) front back)
 
-pub one_text : (roster : Listing) → IsNamed roster → HasOneText roster
+pub one_text : (roster : Listing) → IsNamed roster → NeedsNoQuote roster
 one_text roster named = λ plan certificate.
     let legs : List Record = map (leg_record roster) plan.legs.items in
     let cuts : List Record = map cut_record certificate in

@@ -1,5 +1,5 @@
 -- What is written of a plan is read as that plan.
-use Rattle.std.proofs.Common.{arith, ℕ, ℤ, pos, ◌≡◌, ◌<◌, ◌≤◌, ◌^◌, ◌==◌, ◌<ℤ◌, neg_ℤ, Bool, true, false, List, All, [], ◌∷◌, ◌++◌, refl, sym, Option, Some, None, inl, inr, map, length, lit<}
+use Rattle.std.proofs.Common.{arith, ℕ, ℤ, pos, ◌≡◌, ◌<◌, ◌≤◌, ◌^◌, ◌==◌, ◌<ℤ◌, neg_ℤ, Bool, true, false, List, All, [], ◌∷◌, ◌++◌, refl, subst, sym, Option, Some, None, inl, inr, map, length, lit<}
 use Rattle.std.specs.Prelude.{Ok}
 use Rattle.std.specs.Fmt.{decimal}
 use Rattle.std.proofs.lemmas.Bool.{cases_Bool, le-leb, ne_eqb}
@@ -27,7 +27,9 @@ use Rattle.nms_lines.specs.Layout.{Record}
 use Rattle.nms_lines.specs.Numbers.{above_zero, shares_number}
 use Rattle.nms_lines.specs.PlanLaws.{FitsText, IsCutInRange, IsKindInRange, IsLegInRange, IsMoneyInRange, IsPriceInRange, ReadsAsWritten}
 use Rattle.nms_lines.specs.PlanReading.{behind_legs, cut_in, cuts_in, flag_named, head_in, is_end, leg_in, legs_of, plan_in, said_by}
-use Rattle.nms_lines.specs.PlanText.{csv_text, cut_record, end_record, flag_text, leg_record, plan_record, plan_records, side_letter}
+use Rattle.nms_lines.specs.PlanText.{cut_record, end_record, flag_text, leg_record, plan_record, plan_records, side_letter}
+use Rattle.nms_lines.specs.Records.{AreAllRecords}
+use Rattle.nms_lines.specs.TextLaws.{NeedsNoQuote, csv_text}
 
 -- ---- the text has its records
 
@@ -177,7 +179,9 @@ whole roster plan certificate =
     (All-append IsWhole (map (leg_record roster) plan.legs.items) (map cut_record certificate ++ end_record ∷ []) legs
     (All-append IsWhole (map cut_record certificate) (end_record ∷ []) cuts end))
 
-pub reads_as_written : (roster : Listing) → Reads roster → ReadsAsWritten roster
+pub reads_as_written : (roster : Listing) → NeedsNoQuote roster → Reads roster → ReadsAsWritten roster
 unfolding next_record strip_bom
-reads_as_written roster reads = λ plan certificate fits.
-    ((state.StartRecord, [], reached (plan_records roster plan certificate) (whole roster plan certificate), refl), plan_back roster reads plan certificate fits)
+reads_as_written roster plain reads = λ plan certificate fits.
+    let records : List Record = plan_records roster plan certificate in
+    let written : AreAllRecords (Some (csv_text records)) records = (state.StartRecord, [], reached records (whole roster plan certificate), refl) in
+    (subst (λ (text : List ℕ). AreAllRecords (Some text) records) (sym (plain plan certificate)) written, plan_back roster reads plan certificate fits)

@@ -14,7 +14,6 @@ pub mod PlanFaults
 pub mod PlanLaws
 pub mod PlanReading
 pub mod PlanText
-pub mod PlanWriter
 pub mod Records
 pub mod Sides
 pub mod Sources

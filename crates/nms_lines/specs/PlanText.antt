@@ -1,11 +1,10 @@
 -- A plan and its certificate as records: the plan, its legs, its cuts, and an end. This product's own rule.
 use Rattle.std.specs.Prelude.{ℕ, Bool, true, false, List, [], ◌∷◌, ◌++◌, codes, map}
-use Rattle.std.specs.List.{flat_map}
 use Rattle.std.specs.Fmt.{decimal}
-use Rattle.csv.specs.Writing.{default_writer, row_text}
 use Rattle.nms_units.specs.Price.{price_text}
 use Rattle.nms_units.specs.Money.{money_text}
 use Rattle.nms_quote.specs.Roster.{Listing, part_text, symbol_text}
+use Rattle.nms_quote.specs.Terms.{Terms}
 use Rattle.nms_quote.specs.declared.order.OrderSide.{OrderSide}
 use Rattle.nms_quote.specs.declared.order.OrderSide.TheVariants.{Buy, Sell}
 use Rattle.nms_quote.specs.declared.plan.Leg.{Leg}
@@ -14,6 +13,7 @@ use Rattle.nms_quote.specs.declared.certificate.Cut.{Cut}
 use Rattle.nms_quote.specs.declared.certificate.CutKind.{CutKind}
 use Rattle.nms_quote.specs.declared.certificate.CutKind.TheVariants as kind
 use Rattle.nms_lines.specs.Layout.{Record}
+use Rattle.nms_lines.specs.Text.{text_of}
 
 -- the letter of an order's side
 abbrev pub side_letter : OrderSide → List ℕ
@@ -25,11 +25,15 @@ abbrev pub flag_text : Bool → List ℕ
 flag_text true = codes "M"
 flag_text false = []
 
+-- side,sym,shares,limit,flag: what an order asks for, within the record of its plan
+abbrev pub order_fields : Listing → Terms → Record
+order_fields roster order =
+    side_letter order.side ∷ symbol_text roster order.sym ∷ decimal order.shares ∷ price_text order.limit ∷ flag_text order.manual ∷ []
+
 -- PLAN,version,side,sym,shares,limit,flag,filled,cost
 abbrev pub plan_record : Listing → Plan → Record
 plan_record roster plan =
-    codes "PLAN" ∷ decimal plan.version ∷ side_letter plan.order.side ∷ symbol_text roster plan.order.sym ∷ decimal plan.order.shares
-    ∷ price_text plan.order.limit ∷ flag_text plan.order.manual ∷ decimal plan.filled ∷ money_text plan.cost ∷ []
+    codes "PLAN" ∷ decimal plan.version ∷ (order_fields roster plan.order ++ (decimal plan.filled ∷ money_text plan.cost ∷ []))
 
 -- LEG,part,price,shares
 abbrev pub leg_record : Listing → Leg → Record
@@ -53,10 +57,6 @@ end_record = codes "END" ∷ []
 abbrev pub plan_records : Listing → Plan → List Cut → List Record
 plan_records roster plan cuts = plan_record roster plan ∷ (map (leg_record roster) plan.legs.items ++ (map cut_record cuts ++ (end_record ∷ [])))
 
--- records as `csv` writes them: commas, a line feed behind each, quotes where a field needs them
-abbrev pub csv_text : List Record → List ℕ
-csv_text records = flat_map (row_text default_writer) records
-
 -- the text of a plan and its certificate
 abbrev pub plan_text : Listing → Plan → List Cut → List ℕ
-plan_text roster plan cuts = csv_text (plan_records roster plan cuts)
+plan_text roster plan cuts = text_of (plan_records roster plan cuts)

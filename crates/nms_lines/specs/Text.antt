@@ -10,3 +10,7 @@ record_text fields = join_with_byte 44 fields ++ 10 ∷ []
 -- the records as text, one after another
 abbrev pub text_of : List Record → List ℕ
 text_of records = flat_map record_text records
+
+-- fields, each after a comma
+abbrev pub later_fields : Record → List ℕ
+later_fields fields = flat_map (λ field. 44 ∷ field) fields

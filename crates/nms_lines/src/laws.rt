@@ -4,7 +4,7 @@ ghost use Rattle.std.specs.Prelude.{◌≡◌, ◌<◌, ℕ, List, length, true}
 ghost use Rattle.nms_quote.specs.Roster.{is_part_name, is_symbol_name, part_text, symbol_text};
 ghost use Rattle.nms_lines.specs.Laws.{ReadsLeastFault};
 ghost use Rattle.nms_lines.specs.PlanLaws.{ReadsAsWritten};
-ghost use Rattle.nms_lines.specs.TextLaws.{HasOneList, HasOneText};
+ghost use Rattle.nms_lines.specs.TextLaws.{HasOneList, NeedsNoQuote};
 
 use nms_quote::{Part, Roster, Sym};
 use nms_units::{Money, Price, digits_read_as_printed};
@@ -21,6 +21,7 @@ pub fn the_least_fault_is_read()
 pub fn a_plan_reads_as_written(roster: &Roster)
     ensures { ReadsAsWritten roster.now }
 {
+    no_field_of_a_plan_needs_a_quote(roster);
     digits_read_as_printed();
     Price::reads_what_it_prints();
     Money::reads_what_it_prints();
@@ -32,10 +33,9 @@ pub fn a_text_has_one_list_of_records()
     ensures { (bytes : List ℕ) → HasOneList bytes }
 {}
 
-/// A plan has one text: its records as they stand, with which scripts and live runs answer, are what `write_plan` writes,
-/// since no field of theirs needs a quote. So these answers too are read as the plan.
-pub fn a_plan_has_one_text(roster: &Roster)
-    ensures { HasOneText roster.now }
+/// The text of a plan, its records as they stand, is what `csv` writes of them, since no field of theirs needs a quote.
+pub fn no_field_of_a_plan_needs_a_quote(roster: &Roster)
+    ensures { NeedsNoQuote roster.now }
 {
     part_names_are_formed(roster);
     symbol_names_are_formed(roster);

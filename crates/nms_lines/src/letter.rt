@@ -30,10 +30,11 @@ fn state_named(text: &[u8]) -> Option<QState>
 pub(crate) fn side_in(text: &[u8]) -> Result<OrderSide, LineFault>
     ensures { result ≡ side_in text.now }
 {
-    side_named(text).ok_or(LineFault::BadState)
+    side_of(text).ok_or(LineFault::BadState)
 }
 
-pub(crate) fn side_named(text: &[u8]) -> Option<OrderSide>
+/// The side of an order that a letter names: `B` or `S`.
+pub fn side_of(text: &[u8]) -> Option<OrderSide>
     ensures { result ≡ side_named text.now }
 {
     match text {

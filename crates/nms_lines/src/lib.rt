@@ -4,6 +4,7 @@
 mod change_line;
 mod desk_line;
 mod field;
+mod field_writing;
 mod kind;
 mod laws;
 mod letter;
@@ -22,16 +23,19 @@ mod side;
 mod text_writing;
 
 pub use csv::{ByteRecord, Reader};
+pub use field_writing::{end_record, push_money, push_number, push_price, push_text};
 pub use laws::{
-    a_plan_has_one_text, a_plan_reads_as_written, a_text_has_one_list_of_records,
+    a_plan_reads_as_written, a_text_has_one_list_of_records, no_field_of_a_plan_needs_a_quote,
     the_least_fault_is_read,
 };
+pub use letter::side_of;
 pub use line::{Kind, Line, Reading};
 pub use line_fault::LineFault;
 pub use line_reading::read_line;
+pub use number::{price_of, some_shares_of};
 pub use plan_reading::read_plan;
 pub use plan_text_fault::PlanTextFault;
-pub use plan_writing::write_plan;
+pub use plan_writing::{append_plan, write_plan};
 pub use record_fault::RecordFault;
 pub use record_reading::{open_records, read_next};
 pub use text_writing::write_text;

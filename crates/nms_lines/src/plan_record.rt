@@ -1,17 +1,17 @@
 //! The records of a plan's text, one by one: `specs/PlanReading`.
-ghost use Rattle.std.specs.Prelude.{◌≡◌, ◌<◌, ◌≤◌, IfSome, codes, length};
+ghost use Rattle.std.specs.Prelude.{◌≡◌, ◌<◌, IfSome, codes, length};
 ghost use Rattle.csv.specs.Records.{fields_of};
 ghost use Rattle.nms_lines.specs.Layout.{is_text};
-ghost use Rattle.nms_lines.specs.Numbers.{above_zero, shares_number};
+ghost use Rattle.nms_lines.specs.Numbers.{shares_number};
 ghost use Rattle.nms_lines.specs.PlanReading.{cut_in, flag_named, head_by_order, is_record, kind_in, leg_in, order_in, without_value};
-ghost use Rattle.nms_units.specs.Price.{price_number};
 ghost use Rattle.nms_units.specs.Money.{money_number};
 
 use crate::field::field;
-use crate::letter::side_named;
+use crate::letter::side_of;
+use crate::number::{price_of, some_shares_of};
 use csv::ByteRecord;
 use nms_quote::{Cut, CutKind, Leg, Order, Roster};
-use nms_units::{Money, Price, Shares, parse_digits};
+use nms_units::{Money, Shares, parse_digits};
 use std::marker::Model;
 
 /// What the record of a plan says.
@@ -56,10 +56,10 @@ fn order_in(row: &ByteRecord, roster: &Roster) -> Option<Order>
     ensures order { result ≡ order_in roster.now (fields_of row.now) }
     ensures there { IfSome result (λ order. order.sym < length roster.now.syms) }
 {
-    let side = side_named(field(row, 2))?;
+    let side = side_of(field(row, 2))?;
     let sym = roster.find_sym(field(row, 3))?;
-    let shares = some_shares_in(field(row, 4))?;
-    let limit = price_in(field(row, 5))?;
+    let shares = some_shares_of(field(row, 4))?;
+    let limit = price_of(field(row, 5))?;
     let manual = flag_named(field(row, 6))?;
     Order::new(side, sym, shares, limit, manual)
 }
@@ -73,7 +73,7 @@ pub(crate) fn leg_in(row: &ByteRecord, roster: &Roster) -> Option<Leg>
         return None;
     }
     let part = roster.find_part(field(row, 1))?;
-    let price = price_in(field(row, 2))?;
+    let price = price_of(field(row, 2))?;
     let shares = shares_in(field(row, 3))?;
     Some(Leg {
         part,
@@ -89,7 +89,7 @@ pub(crate) fn cut_in(row: &ByteRecord) -> Option<Cut>
     if !is_record(row, b"CUT", 4) {
         return None;
     }
-    let price = price_in(field(row, 1))?;
+    let price = price_of(field(row, 1))?;
     let kind = kind_in(field(row, 2), field(row, 3))?;
     Some(Cut { price, kind })
 }
@@ -152,27 +152,11 @@ fn flag_named(text: &[u8]) -> Option<bool>
     }
 }
 
-/// A price above zero.
-fn price_in(text: &[u8]) -> Option<Price>
-    ensures { result ≡ above_zero (price_number text.now) }
-{
-    Price::parse(text).ok()
-}
-
 /// Shares, 0 among them.
 fn shares_in(text: &[u8]) -> Option<Shares>
     ensures { result ≡ shares_number text.now }
 {
     Shares::parse(text).ok()
-}
-
-/// At least one share.
-fn some_shares_in(text: &[u8]) -> Option<Shares>
-    ensures shares { result ≡ above_zero (shares_number text.now) }
-    ensures some { IfSome result (λ shares. 1 ≤ shares) }
-{
-    let shares = shares_in(text)?;
-    if shares.get() > 0 { Some(shares) } else { None }
 }
 
 /// Money.

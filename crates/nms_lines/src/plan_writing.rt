@@ -1,18 +1,20 @@
 //! A plan and its certificate as text: `specs/PlanText`.
-ghost use Rattle.std.specs.Prelude.{◌≡◌, ◌≢◌, ◌<◌, ◌++◌, ◌∷◌, [], ℕ, List, All, IfOk, IfSome, OnOk, Err, codes, length, map};
+ghost use Rattle.std.specs.Prelude.{◌≡◌, ◌≢◌, ◌<◌, ◌++◌, ◌∷◌, [], All, codes, length, map, IfOk, OnOk, Err};
+ghost use Rattle.std.specs.Fmt.{decimal};
 ghost use Rattle.std.specs.Io.KnownBytes.{Appends};
-ghost use Rattle.csv.specs.Records.{fields_of, partial_of};
-ghost use Rattle.csv.specs.Writing.{row_text, default_writer};
-ghost use Rattle.nms_lines.specs.PlanText.{csv_text, cut_record, end_record, flag_text, kind_fields, leg_record, plan_record, plan_text, side_letter};
-ghost use Rattle.nms_lines.specs.PlanWriter.{HasWritten, order_fields};
+ghost use Rattle.std.specs.List.{join_with_byte};
+ghost use Rattle.nms_units.specs.Money.{money_text};
+ghost use Rattle.nms_quote.specs.Roster.{part_text, symbol_text};
+ghost use Rattle.nms_lines.specs.PlanText.{cut_record, end_record, flag_text, kind_fields, leg_record, order_fields, plan_record, plan_text, side_letter};
+ghost use Rattle.nms_lines.specs.Text.{later_fields, text_of};
 ghost use Rattle.nms_lines.specs.Written.{AppendsPart};
 
+use crate::field_writing::{end_record, push_money, push_number, push_price, push_text};
 use crate::plan_text_fault::PlanTextFault;
 use crate::text_writing::write_text;
-use csv::{ByteRecord, Writer, WriterBuilder};
-use nms_quote::{Certificate, Cut, CutKind, Leg, Order, OrderSide, Plan, Roster};
+use nms_quote::{Certificate, Cut, CutKind, Leg, Order, OrderSide, Part, Plan, Roster, Sym};
+use nms_units::Money;
 use std::alloc::{AllocError, Global};
-use std::fmt::Display;
 use std::io::Write;
 
 /// Writes a plan and its certificate as text: a record of the plan, one for each leg, one for each cut, and an
@@ -50,226 +52,149 @@ fn text_of_plan(
     certificate: &Certificate,
     roster: &Roster,
 ) -> Result<Vec<u8>, AllocError>
-    requires parts { All (λ leg. leg.part < length roster.now.parts) plan.now.legs.items }
-    requires sym { plan.now.order.sym < length roster.now.syms }
-    ensures text { IfOk result (λ text. text.items ≡ plan_text roster.now plan.now certificate.now.items) }
+    ensures { IfOk result (λ text. text.items ≡ plan_text roster.now plan.now certificate.now.items) }
 {
-    let mut writer = WriterBuilder::new()
-        .flexible(true)
-        .from_writer(Vec::new(alloc));
-    let mut row = ByteRecord::new(alloc);
-    write_records(alloc, &mut writer, &mut row, plan, certificate, roster)?;
-    match writer.into_inner() {
-        Ok(text) => Ok(text),
-        Err(_) => Err(AllocError),
-    }
+    let mut text = Vec::new(alloc);
+    append_plan(&mut text, roster, plan, certificate)?;
+    Ok(text)
 }
 
-/// Writes the records of a plan and its certificate.
-fn write_records<W: Write + Drop>(
-    alloc: Global,
-    writer: &mut Writer<W>,
-    row: &mut ByteRecord,
+/// Appends a plan and its certificate. A symbol or a participant that is not of the roster has no name, and its field
+/// is empty.
+pub fn append_plan(
+    out: &mut Vec<u8>,
+    roster: &Roster,
     plan: &Plan,
     certificate: &Certificate,
-    roster: &Roster,
 ) -> Result<(), AllocError>
-    requires parts { All (λ leg. leg.part < length roster.now.parts) plan.now.legs.items }
-    requires sym { plan.now.order.sym < length roster.now.syms }
-    ensures { HasWritten W.contents writer.old [] → OnOk result (HasWritten W.contents writer.new (plan_text roster.now plan.now certificate.now.items)) }
+    ensures { OnOk result (out.new.items ≡ out.old.items ++ plan_text roster.now plan.now certificate.now.items) }
 {
-    write_head(alloc, writer, row, plan, roster)?;
-    write_legs(alloc, writer, row, plan.legs.as_slice(), roster)?;
-    write_cuts(alloc, writer, row, certificate.as_slice())?;
-    write_end(writer, row)
+    append_head(out, roster, plan)?;
+    append_legs(out, roster, plan.legs.as_slice())?;
+    append_cuts(out, certificate.as_slice())?;
+    append_end(out)
 }
 
-/// Writes the record of a plan.
-fn write_head<W: Write + Drop>(
-    alloc: Global,
-    writer: &mut Writer<W>,
-    row: &mut ByteRecord,
-    plan: &Plan,
-    roster: &Roster,
-) -> Result<(), AllocError>
-    requires { plan.now.order.sym < length roster.now.syms }
-    ensures { (text : List ℕ) → HasWritten W.contents writer.old text
-        → OnOk result (HasWritten W.contents writer.new (text ++ row_text default_writer (plan_record roster.now plan.now))) }
+/// Appends the record of a plan.
+fn append_head(out: &mut Vec<u8>, roster: &Roster, plan: &Plan) -> Result<(), AllocError>
+    ensures { OnOk result (out.new.items ≡ out.old.items ++ text_of (plan_record roster.now plan.now ∷ [])) }
 {
-    fill_plan(alloc, row, plan, roster)?;
-    write_row(writer, row)
+    begin_plan(out, plan.version)?;
+    push_order(out, roster, &plan.order)?;
+    push_sums(out, plan.filled, plan.cost)
 }
 
-/// Writes the records of legs.
-fn write_legs<W: Write + Drop>(
-    alloc: Global,
-    writer: &mut Writer<W>,
-    row: &mut ByteRecord,
-    legs: &[Leg],
-    roster: &Roster,
-) -> Result<(), AllocError>
-    requires { All (λ leg. leg.part < length roster.now.parts) legs.now }
-    ensures { (text : List ℕ) → HasWritten W.contents writer.old text
-        → OnOk result (HasWritten W.contents writer.new (text ++ csv_text (map (leg_record roster.now) legs.now))) }
+/// Appends the first fields of a plan.
+fn begin_plan(out: &mut Vec<u8>, version: u64) -> Result<(), AllocError>
+    ensures { OnOk result (out.new.items ≡ out.old.items ++ join_with_byte 44 (codes "PLAN" ∷ decimal version ∷ [])) }
+{
+    out.extend_from_slice(b"PLAN")?;
+    push_number(out, version)
+}
+
+/// Appends what a plan fills and what that costs, and ends the record.
+fn push_sums(out: &mut Vec<u8>, filled: u32, cost: Money) -> Result<(), AllocError>
+    ensures { OnOk result (out.new.items ≡ out.old.items ++ (later_fields (decimal filled ∷ money_text cost ∷ []) ++ 10 ∷ [])) }
+{
+    push_number(out, u64::from(filled))?;
+    push_money(out, cost)?;
+    end_record(out)
+}
+
+/// Appends the fields of an order.
+fn push_order(out: &mut Vec<u8>, roster: &Roster, order: &Order) -> Result<(), AllocError>
+    ensures { OnOk result (out.new.items ≡ out.old.items ++ later_fields (order_fields roster.now order.now)) }
+{
+    push_text(out, letter_of(order.side))?;
+    push_text(out, name_of_sym(roster, order.sym))?;
+    push_number(out, u64::from(order.shares.get()))?;
+    push_price(out, order.limit)?;
+    push_text(out, flag_of(order.manual))
+}
+
+/// Appends a record for each leg.
+fn append_legs(out: &mut Vec<u8>, roster: &Roster, legs: &[Leg]) -> Result<(), AllocError>
+    ensures { OnOk result (out.new.items ≡ out.old.items ++ text_of (map (leg_record roster.now) legs.now)) }
 {
     for leg in legs {
-        fill_leg(alloc, row, leg, roster)?;
-        write_row(writer, row)?;
+        append_leg(out, roster, leg)?;
     }
     Ok(())
 }
 
-/// Writes the records of cuts.
-fn write_cuts<W: Write + Drop>(
-    alloc: Global,
-    writer: &mut Writer<W>,
-    row: &mut ByteRecord,
-    cuts: &[Cut],
-) -> Result<(), AllocError>
-    ensures { (text : List ℕ) → HasWritten W.contents writer.old text
-        → OnOk result (HasWritten W.contents writer.new (text ++ csv_text (map cut_record cuts.now))) }
+/// Appends the record of a leg.
+fn append_leg(out: &mut Vec<u8>, roster: &Roster, leg: &Leg) -> Result<(), AllocError>
+    ensures { OnOk result (out.new.items ≡ out.old.items ++ text_of (leg_record roster.now leg.now ∷ [])) }
+{
+    out.extend_from_slice(b"LEG")?;
+    push_text(out, name_of_part(roster, leg.part))?;
+    push_price(out, leg.price)?;
+    push_number(out, u64::from(leg.shares.get()))?;
+    end_record(out)
+}
+
+/// Appends a record for each cut.
+fn append_cuts(out: &mut Vec<u8>, cuts: &[Cut]) -> Result<(), AllocError>
+    ensures { OnOk result (out.new.items ≡ out.old.items ++ text_of (map cut_record cuts.now)) }
 {
     for cut in cuts {
-        fill_cut(alloc, row, cut)?;
-        write_row(writer, row)?;
+        append_cut(out, cut)?;
     }
     Ok(())
 }
 
-/// Writes the end.
-fn write_end<W: Write + Drop>(
-    writer: &mut Writer<W>,
-    row: &mut ByteRecord,
-) -> Result<(), AllocError>
-    ensures { (text : List ℕ) → HasWritten W.contents writer.old text
-        → OnOk result (HasWritten W.contents writer.new (text ++ row_text default_writer end_record)) }
+/// Appends the record of a cut.
+fn append_cut(out: &mut Vec<u8>, cut: &Cut) -> Result<(), AllocError>
+    ensures { OnOk result (out.new.items ≡ out.old.items ++ text_of (cut_record cut.now ∷ [])) }
 {
-    fill_end(row)?;
-    write_row(writer, row)
+    out.extend_from_slice(b"CUT")?;
+    push_price(out, cut.price)?;
+    push_kind(out, cut.kind)?;
+    end_record(out)
 }
 
-/// Makes the row the record of a plan.
-fn fill_plan(
-    alloc: Global,
-    row: &mut ByteRecord,
-    plan: &Plan,
-    roster: &Roster,
-) -> Result<(), AllocError>
-    requires { plan.now.order.sym < length roster.now.syms }
-    ensures { OnOk result (fields_of row.new ≡ plan_record roster.now plan.now) }
-{
-    row.clear();
-    push_text(row, "PLAN")?;
-    push_shown(alloc, row, &plan.version)?;
-    push_order(alloc, row, &plan.order, roster)?;
-    push_shown(alloc, row, &plan.filled)?;
-    push_shown(alloc, row, &plan.cost)
-}
-
-/// Makes the row the record of a leg.
-fn fill_leg(
-    alloc: Global,
-    row: &mut ByteRecord,
-    leg: &Leg,
-    roster: &Roster,
-) -> Result<(), AllocError>
-    requires { leg.now.part < length roster.now.parts }
-    ensures { OnOk result (fields_of row.new ≡ leg_record roster.now leg.now) }
-{
-    row.clear();
-    push_text(row, "LEG")?;
-    push_text(row, roster.part_name(leg.part))?;
-    push_shown(alloc, row, &leg.price)?;
-    push_shown(alloc, row, &leg.shares.get())
-}
-
-/// Makes the row the record of a cut.
-fn fill_cut(alloc: Global, row: &mut ByteRecord, cut: &Cut) -> Result<(), AllocError>
-    ensures { OnOk result (fields_of row.new ≡ cut_record cut.now) }
-{
-    row.clear();
-    push_text(row, "CUT")?;
-    push_shown(alloc, row, &cut.price)?;
-    push_kind(alloc, row, cut.kind)
-}
-
-/// Makes the row the end.
-fn fill_end(row: &mut ByteRecord) -> Result<(), AllocError>
-    ensures { OnOk result (fields_of row.new ≡ end_record) }
-{
-    row.clear();
-    push_text(row, "END")
-}
-
-/// Adds what an order asks for, in five fields.
-fn push_order(
-    alloc: Global,
-    row: &mut ByteRecord,
-    order: &Order,
-    roster: &Roster,
-) -> Result<(), AllocError>
-    requires whole { partial_of row.old ≡ [] }
-    requires sym { order.now.sym < length roster.now.syms }
-    ensures fields { OnOk result (fields_of row.new ≡ fields_of row.old ++ order_fields roster.now order.now) }
-    ensures whole { OnOk result (partial_of row.new ≡ []) }
-{
-    push_text(row, letter_of(order.side))?;
-    push_text(row, roster.sym_name(order.sym))?;
-    push_shown(alloc, row, &order.shares.get())?;
-    push_shown(alloc, row, &order.limit)?;
-    push_text(row, flag_of(order.manual))
-}
-
-/// Adds what a cut says, in two fields.
-fn push_kind(alloc: Global, row: &mut ByteRecord, kind: CutKind) -> Result<(), AllocError>
-    requires { partial_of row.old ≡ [] }
-    ensures fields { OnOk result (fields_of row.new ≡ fields_of row.old ++ kind_fields kind) }
-    ensures whole { OnOk result (partial_of row.new ≡ []) }
+/// Appends what a cut says, in two fields.
+fn push_kind(out: &mut Vec<u8>, kind: CutKind) -> Result<(), AllocError>
+    ensures { OnOk result (out.new.items ≡ out.old.items ++ later_fields (kind_fields kind)) }
 {
     match kind {
-        CutKind::TooMuch => {
-            push_text(row, "TOOMUCH")?;
-            push_text(row, "")
-        }
-        CutKind::TooLittle => {
-            push_text(row, "TOOLITTLE")?;
-            push_text(row, "")
-        }
+        CutKind::TooMuch => push_text(out, "TOOMUCH,"),
+        CutKind::TooLittle => push_text(out, "TOOLITTLE,"),
         CutKind::Marginal(money) => {
-            push_text(row, "MARGINAL")?;
-            push_shown(alloc, row, &money)
+            push_text(out, "MARGINAL")?;
+            push_money(out, money)
         }
     }
 }
 
-/// Writes a record.
-#[tactic(auto, using(crate::proofs::PlanTextFacts::row_same))]
-fn write_row<W: Write + Drop>(writer: &mut Writer<W>, row: &ByteRecord) -> Result<(), AllocError>
-    ensures { (text : List ℕ) → HasWritten W.contents writer.old text
-        → OnOk result (HasWritten W.contents writer.new (text ++ row_text default_writer (fields_of row.now))) }
+/// Appends the end of a plan.
+fn append_end(out: &mut Vec<u8>) -> Result<(), AllocError>
+    ensures { OnOk result (out.new.items ≡ out.old.items ++ text_of (end_record ∷ [])) }
 {
-    match writer.write_byte_record(row) {
-        Ok(()) => Ok(()),
-        Err(_) => Err(AllocError),
+    out.extend_from_slice(b"END")?;
+    end_record(out)
+}
+
+/// The name of a symbol, which is nothing where it is not of the roster.
+fn name_of_sym(roster: &Roster, sym: Sym) -> &str
+    ensures { result.now ≡ symbol_text roster.now sym }
+{
+    if roster.has_sym(sym) {
+        roster.sym_name(sym)
+    } else {
+        ""
     }
 }
 
-/// Adds a value as it is shown, in a field.
-fn push_shown<T: Display>(alloc: Global, row: &mut ByteRecord, value: &T) -> Result<(), AllocError>
-    requires { partial_of row.old ≡ [] }
-    ensures fields { OnOk result (IfSome (T.output value.now) (λ bytes. fields_of row.new ≡ fields_of row.old ++ bytes ∷ [])) }
-    ensures whole { OnOk result (partial_of row.new ≡ []) }
+/// The name of a participant, which is nothing where it is not of the roster.
+fn name_of_part(roster: &Roster, part: Part) -> &str
+    ensures { result.now ≡ part_text roster.now part }
 {
-    push_text(row, &value.to_string(alloc)?)
-}
-
-/// Adds a field to a record.
-fn push_text(row: &mut ByteRecord, text: &str) -> Result<(), AllocError>
-    requires { partial_of row.old ≡ [] }
-    ensures fields { OnOk result (fields_of row.new ≡ fields_of row.old ++ text.now ∷ []) }
-    ensures whole { OnOk result (partial_of row.new ≡ []) }
-{
-    row.push_field(text.as_bytes())
+    if usize::from(part.get()) < roster.parts() {
+        roster.part_name(part)
+    } else {
+        ""
+    }
 }
 
 /// The letter of an order's side.

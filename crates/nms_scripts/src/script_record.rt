@@ -14,11 +14,11 @@ ghost use Rattle.nms_scripts.specs.Script.{AnswersLine, AnswersRecord, AsksAll, 
 use crate::through::{is_beyond, tell_through};
 use nms_fees::Setup;
 use nms_flow::{Flow, StepFault};
-use nms_lines::{ByteRecord, Line, LineFault, Reading, read_line};
+use nms_lines::{ByteRecord, Line, LineFault, Reading, append_plan, read_line};
 use nms_quote::{Change, Order, Roster, Sym};
 use nms_sweep::plan;
 use nms_text::{
-    tell_best, tell_plan, tell_published, tell_refusal, tell_taken, tell_through_head, tell_told,
+    tell_best, tell_published, tell_refusal, tell_taken, tell_through_head, tell_told,
 };
 use nms_units::Price;
 use std::alloc::AllocError;
@@ -258,6 +258,6 @@ fn serve_sweep(
     let _ = desk;
     let view = flow.look(order.sym);
     let (plan, certificate) = plan(&view, order, setup.fees());
-    tell_plan(out, setup.roster(), &plan, &certificate)?;
+    append_plan(out, setup.roster(), &plan, &certificate)?;
     Ok(false)
 }

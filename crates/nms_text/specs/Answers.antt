@@ -1,10 +1,8 @@
 -- What a desk is told: records of text. This product's own rule.
 use Rattle.std.specs.Prelude.{ℕ, List, [], ◌∷◌, ◌++◌, codes, length, map, Option, Some, None}
-use Rattle.std.specs.List.{flat_map, join_with_byte}
+use Rattle.std.specs.List.{join_with_byte}
 use Rattle.std.specs.Fmt.{decimal}
 use Rattle.nms_units.specs.Price.{price_text}
-use Rattle.nms_quote.specs.Terms.{Terms}
-use Rattle.nms_lines.specs.PlanText.{flag_text, side_letter}
 use Rattle.nms_quote.specs.Roster.{Listing, part_text, symbol_text}
 use Rattle.nms_quote.specs.declared.side_quote.Side.{Side}
 use Rattle.nms_quote.specs.declared.side_quote.Side.TheVariants.{Bid, Offer}
@@ -14,10 +12,7 @@ use Rattle.nms_nbbo.specs.Market.{market_of}
 use Rattle.nms_nbbo.specs.declared.market_kind.Market.{Market}
 use Rattle.nms_nbbo.specs.declared.market_kind.Market.TheVariants as market
 use Rattle.nms_lines.specs.Layout.{Record}
-
--- fields, each after a comma
-abbrev pub later_fields : List (List ℕ) → List ℕ
-later_fields fields = flat_map (λ field. 44 ∷ field) fields
+use Rattle.nms_lines.specs.Text.{later_fields}
 
 -- a refused record is named by its number and the code
 abbrev pub refusal : ℕ → List ℕ → Record
@@ -78,7 +73,3 @@ through_row roster quotation =
 -- their number, then each of them
 abbrev pub through_records : Listing → ℕ → Seen → ℕ → List (Side × Row) → List Record
 through_records roster desk seen price quotations = through_head roster desk seen price (length quotations) ∷ map (through_row roster) quotations
-
--- an order as fields: side, symbol, shares, limit, flag
-abbrev pub order_fields : Listing → Terms → Record
-order_fields roster order = side_letter order.side ∷ symbol_text roster order.sym ∷ decimal order.shares ∷ price_text order.limit ∷ flag_text order.manual ∷ []

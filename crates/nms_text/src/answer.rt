@@ -1,11 +1,11 @@
 //! What a desk is told, a record at a time (specs/Answers).
 ghost use Rattle.std.specs.Prelude.{◌≡◌, ◌<◌, ◌++◌, ◌∷◌, [], All, length, map, false, OnOk, IfSome, Ok, Err};
-ghost use Rattle.nms_lines.specs.Text.{text_of};
+ghost use Rattle.nms_lines.specs.Text.{later_fields, text_of};
 ghost use Rattle.nms_board.specs.View.{Seen};
-ghost use Rattle.nms_text.specs.Answers.{best_fields, best_record, later_fields, look_text, market_word, published_record, refusal, rows_text, side_word, taken_record, through_head, through_row, told_record};
+ghost use Rattle.nms_text.specs.Answers.{best_fields, best_record, look_text, market_word, published_record, refusal, rows_text, side_word, taken_record, through_head, through_row, told_record};
 
-use crate::fields::{push_number, push_price, push_text};
 use nms_board::Row;
+use nms_lines::{end_record, push_number, push_price, push_text};
 use nms_nbbo::{Market, market_between};
 use nms_quote::{Roster, Side, Sym};
 use nms_units::Price;
@@ -18,7 +18,7 @@ pub fn tell_refusal(out: &mut Vec<u8>, number: u64, code: &str) -> Result<(), Al
     out.extend_from_slice(b"ERR")?;
     push_number(out, number)?;
     push_text(out, code)?;
-    end(out)
+    end_record(out)
 }
 
 /// Appends that a change was taken, which made the tape so long.
@@ -27,7 +27,7 @@ pub fn tell_taken(out: &mut Vec<u8>, version: u64) -> Result<(), AllocError>
 {
     out.extend_from_slice(b"TAKEN")?;
     push_number(out, version)?;
-    end(out)
+    end_record(out)
 }
 
 /// Appends that a version was published.
@@ -36,7 +36,7 @@ pub fn tell_published(out: &mut Vec<u8>, version: u64) -> Result<(), AllocError>
 {
     out.extend_from_slice(b"PUB")?;
     push_number(out, version)?;
-    end(out)
+    end_record(out)
 }
 
 /// Appends that a desk was told of a version.
@@ -46,15 +46,7 @@ pub fn tell_told(out: &mut Vec<u8>, desk: u8, version: u64) -> Result<(), AllocE
     out.extend_from_slice(b"TOLD")?;
     push_number(out, u64::from(desk))?;
     push_number(out, version)?;
-    end(out)
-}
-
-/// Ends a record.
-pub(crate) fn end(out: &mut Vec<u8>) -> Result<(), AllocError>
-    ensures { OnOk result (out.new.items ≡ out.old.items ++ 10 ∷ []) }
-{
-    out.push(b'\n')?;
-    Ok(())
+    end_record(out)
 }
 
 /// The word for a market.
@@ -131,7 +123,7 @@ fn tell_rows(
 {
     tell_row(out, roster, bid)?;
     tell_row(out, roster, offer)?;
-    end(out)
+    end_record(out)
 }
 
 /// Appends a best row's four fields.
@@ -173,7 +165,7 @@ pub fn tell_through_head(
     push_number(out, version)?;
     push_price(out, price)?;
     push_number(out, count as u64)?;
-    end(out)
+    end_record(out)
 }
 
 /// Appends quotations that are traded through, a record each.
@@ -206,5 +198,5 @@ fn tell_through_row(
     push_text(out, roster.part_name(row.part))?;
     push_price(out, row.price)?;
     push_number(out, u64::from(row.size))?;
-    end(out)
+    end_record(out)
 }

@@ -3,10 +3,8 @@
 #![tactic(auto)]
 
 mod answer;
-mod fields;
 mod live_text;
 mod live_text_fault;
-mod plan_answer;
 mod report_text;
 mod script_fault;
 mod writing;
@@ -17,7 +15,6 @@ pub use answer::{
 };
 pub use live_text::write_live;
 pub use live_text_fault::LiveTextFault;
-pub use plan_answer::tell_plan;
 pub use report_text::report;
 pub use script_fault::ScriptFault;
 pub use writing::tell;

@@ -6,11 +6,9 @@ ghost use Rattle.nms_lines.specs.Text.{text_of};
 ghost use Rattle.nms_lines.specs.Written.{AppendsPart};
 ghost use Rattle.nms_text.specs.LiveText.{answer_head, answer_records, live_records, tape_record};
 
-use crate::answer::end;
-use crate::fields::push_number;
 use crate::live_text_fault::LiveTextFault;
-use crate::plan_answer::tell_plan;
 use crate::writing::tell;
+use nms_lines::{append_plan, end_record, push_number};
 use nms_quote::{Answer, Roster};
 use std::alloc::{AllocError, Global};
 use std::io::Write;
@@ -59,7 +57,7 @@ fn tell_tape(out: &mut Vec<u8>, taken: u64) -> Result<(), AllocError>
 {
     out.extend_from_slice(b"TAPE")?;
     push_number(out, taken)?;
-    end(out)
+    end_record(out)
 }
 
 /// Appends answers, one after another.
@@ -77,7 +75,7 @@ fn tell_answer(out: &mut Vec<u8>, roster: &Roster, answer: &Answer) -> Result<()
     ensures { OnOk result (out.new.items ≡ out.old.items ++ text_of (answer_records roster.now answer.now)) }
 {
     tell_number(out, answer)?;
-    tell_plan(out, roster, &answer.plan, &answer.certificate)
+    append_plan(out, roster, &answer.plan, &answer.certificate)
 }
 
 /// Appends the desk of an answer and the number of its order.
@@ -87,5 +85,5 @@ fn tell_number(out: &mut Vec<u8>, answer: &Answer) -> Result<(), AllocError>
     out.extend_from_slice(b"ANSWER")?;
     push_number(out, u64::from(answer.desk))?;
     push_number(out, answer.number as u64)?;
-    end(out)
+    end_record(out)
 }

@@ -1,6 +1,6 @@
 use Rattle.std.proofs.lemmas.Result.{on_ok_weaker}
-use Rattle.nms_text.proofs.Texts.{plan_head_written}
-use Rattle.nms_text.proofs.plan_answer.tell_head.Goals as goal
+use Rattle.nms_lines.proofs.TextFacts.{plan_head_written}
+use Rattle.nms_lines.proofs.plan_writing.append_head.Goals as goal
 
 pub returns : goal.returns
 returns c = on_ok_weaker c.push_sums.result

@@ -1,4 +1,4 @@
-//! Fields of a record, each written behind a comma (`later_fields` of specs/Answers).
+//! Fields of a record, each written after a comma (`later_fields` of `specs/Text`).
 ghost use Rattle.std.specs.Prelude.{◌≡◌, ◌+◌, ◌<◌, ◌++◌, ◌∷◌, [], OnOk};
 ghost use Rattle.std.specs.Fmt.{decimal};
 ghost use Rattle.nms_units.specs.Money.{amount_text, money_text, three_digits};
@@ -10,7 +10,7 @@ use std::alloc::AllocError;
 use std::io::Write;
 
 /// Appends a comma and a text.
-pub(crate) fn push_text(out: &mut Vec<u8>, text: &str) -> Result<(), AllocError>
+pub fn push_text(out: &mut Vec<u8>, text: &str) -> Result<(), AllocError>
     ensures { OnOk result (out.new.items ≡ out.old.items ++ 44 ∷ text.now) }
 {
     out.push(b',')?;
@@ -19,14 +19,14 @@ pub(crate) fn push_text(out: &mut Vec<u8>, text: &str) -> Result<(), AllocError>
 }
 
 /// Appends a comma and a number.
-pub(crate) fn push_number(out: &mut Vec<u8>, number: u64) -> Result<(), AllocError>
+pub fn push_number(out: &mut Vec<u8>, number: u64) -> Result<(), AllocError>
     ensures { OnOk result (out.new.items ≡ out.old.items ++ 44 ∷ decimal number) }
 {
     push_text(out, Buffer::new().format(number))
 }
 
 /// Appends a comma and a price.
-pub(crate) fn push_price(out: &mut Vec<u8>, price: Price) -> Result<(), AllocError>
+pub fn push_price(out: &mut Vec<u8>, price: Price) -> Result<(), AllocError>
     ensures { OnOk result (out.new.items ≡ out.old.items ++ 44 ∷ price_text price) }
 {
     let number = price.get();
@@ -43,7 +43,7 @@ pub(crate) fn push_price(out: &mut Vec<u8>, price: Price) -> Result<(), AllocErr
 }
 
 /// Appends a comma and an amount of money. Amounts of up to 18 billion dollars are written without 128 bits.
-pub(crate) fn push_money(out: &mut Vec<u8>, money: Money) -> Result<(), AllocError>
+pub fn push_money(out: &mut Vec<u8>, money: Money) -> Result<(), AllocError>
     ensures { OnOk result (out.new.items ≡ out.old.items ++ 44 ∷ money_text money) }
 {
     out.push(b',')?;
@@ -55,6 +55,14 @@ pub(crate) fn push_money(out: &mut Vec<u8>, money: Money) -> Result<(), AllocErr
         out.push(b'-')?;
     }
     push_amount(out, amount)
+}
+
+/// Ends a record.
+pub fn end_record(out: &mut Vec<u8>) -> Result<(), AllocError>
+    ensures { OnOk result (out.new.items ≡ out.old.items ++ 10 ∷ []) }
+{
+    out.push(b'\n')?;
+    Ok(())
 }
 
 /// Appends nanodollars as dollars, with nine decimals.

@@ -1,7 +1,7 @@
 use Rattle.std.proofs.Common.{◌≡◌, ◌++◌, map, take}
 use Rattle.nms_lines.specs.PlanText.{leg_record}
 use Rattle.nms_lines.specs.Text.{text_of}
-use Rattle.nms_text.proofs.plan_answer.tell_legs.Given as goal
+use Rattle.nms_lines.proofs.plan_writing.append_legs.Given as goal
 
 -- the records so far were appended
 abbrev pub invariant-loop-leg : goal.invariant-loop-leg
