@@ -11,6 +11,7 @@ mod letter;
 mod line;
 mod line_fault;
 mod line_reading;
+mod lot_field;
 mod name;
 mod number;
 mod plan_reading;
