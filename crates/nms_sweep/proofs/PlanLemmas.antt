@@ -465,11 +465,11 @@ cuts-made side fees rows by_price by_cost table' most =
     ∙ ap (kind_by by_cost most row.rank (swept row.rank rows)) (total_same (pool_part row.rank) rows by_price same)))
 
 -- of slices that show the rows
-pub found_from : (seen : Seen) (asked : Terms) (fees : List FeeSchedule) (terms : Terms) (first again last costs : List Usable) (coming : List Cutoff) (by_price by_cost : List Usable) (cuts : List Cut) (most : ℕ) (found : Option Choice)
+pub found_from : (seen : Seen) (asked : Terms) (fees : List FeeSchedule) (terms : Terms) (first again costs : List Usable) (coming : List Cutoff) (by_price by_cost : List Usable) (cuts : List Cut) (most : ℕ) (found : Option Choice)
     → terms ≡ asked → AreRows seen.bids → AreRows seen.offers → IsPermutation (usable seen asked fees) by_price → IsByPrice by_price → coming ≡ cutoffs_of by_price by_price
-    → first ≡ by_price → again ≡ by_price → last ≡ by_price → costs ≡ by_cost → IsPermutation again by_cost → IsOrdered Cost by_cost
-    → most ≡ fillable first terms.shares → cuts ≡ map (cut_by terms.side costs most) coming → found ≡ chosen terms.side last most None cuts → Found seen asked fees by_price by_cost cuts most found
-found_from seen asked fees terms first again last costs coming by_price by_cost cuts most found same bids offers rows_same ordered comes one two three cheap cost_same cheapest count made choice =
+    → first ≡ by_price → again ≡ by_price → costs ≡ by_cost → IsPermutation again by_cost → IsOrdered Cost by_cost
+    → most ≡ fillable first terms.shares → cuts ≡ map (cut_by terms.side costs most) coming → found ≡ chosen terms.side costs most None (map (cut_by terms.side costs most) coming) → Found seen asked fees by_price by_cost cuts most found
+found_from seen asked fees terms first again costs coming by_price by_cost cuts most found same bids offers rows_same ordered comes one two cheap cost_same cheapest count made choice =
     let usables : List Usable = usable seen asked fees in
     let rows = table seen asked fees by_price by_cost (rising asked.side seen bids offers) rows_same ordered (subst (λ (some : List Usable). IsPermutation some by_cost) two cost_same) cheapest in
     let count' : most ≡ fillable usables asked.shares =
@@ -480,8 +480,8 @@ found_from seen asked fees terms first again last costs coming by_price by_cost 
       cuts_are = made ∙ ap (map (cut_by terms.side costs most)) comes ∙ ap (λ (some : List Usable). map (cut_by terms.side some most) (cutoffs_of by_price by_price)) cheap
           ∙ ap (λ (some : Terms). map (cut_by some.side by_cost most) (cutoffs_of by_price by_price)) same ∙ cuts-made asked.side fees usables by_price by_cost rows most
           ∙ ap (λ n. cuts_of (kind_at usables by_cost n) by_price) count';
-      found_is = choice ∙ ap (λ (some : List Usable). chosen terms.side some most None cuts) three ∙ ap (λ (some : Terms). chosen some.side by_price most None cuts) same
-          ∙ chosen_same asked.side usables by_price rows_same most None cuts ∙ ap (λ n. chosen asked.side usables n None cuts) count';
+      found_is = choice ∙ ap (chosen terms.side costs most None) (sym made) ∙ ap (λ (some : List Usable). chosen terms.side some most None cuts) cheap ∙ ap (λ (some : Terms). chosen some.side by_cost most None cuts) same
+          ∙ chosen_same asked.side usables by_cost rows.same_cost most None cuts ∙ ap (λ n. chosen asked.side usables n None cuts) count';
     }
 
 pub legs_found : (seen : Seen) (asked : Terms) (fees : List FeeSchedule) (by_price by_cost : List Usable) (cuts : List Cut) (most : ℕ) (found : Option Choice) → Found seen asked fees by_price by_cost cuts most found

@@ -8,7 +8,7 @@ ghost use Rattle.nms_rules.specs.Usable.{usable};
 ghost use Rattle.nms_sweep.specs.Filling.{AreExact, FillsInOrder};
 ghost use Rattle.nms_sweep.specs.Order.{AreInOrder};
 
-use crate::choice::{chosen, cost_chosen};
+use crate::choice::cost_chosen;
 use crate::cutoffs::Cutoffs;
 use crate::cutting::cuts_of;
 use crate::legs::legs_chosen;
@@ -23,9 +23,9 @@ use nms_rules::fillable;
 ///
 /// It always answers, and takes no memory. Legs stand by price, best first, then by participant place. Among equally
 /// good plans the choice is fixed: the cutoff at the best price; there the protected quotations that are better in
-/// full, then the others by unit cost, then better price, then place. The cuts are made in
-/// one walk over the prices; for each that can be filled at, what filling there costs takes a pass over the usable
-/// quotations, of which there are at most 32.
+/// full, then the others by unit cost, then better price, then place. The cuts are made in one walk over the prices;
+/// for each that can be filled at, one pass over the usable quotations, of which there are at most 32, gives the
+/// marginal and the cost.
 pub fn plan(view: &View, order: &Order, fees: &FeeBook) -> (Plan, Certificate)
     requires { order.now.sym ≡ view.now.sym }
     ensures lawful { breach_of view.now order.now fees.now result.0 ≡ None }
@@ -40,10 +40,8 @@ pub fn plan(view: &View, order: &Order, fees: &FeeBook) -> (Plan, Certificate)
     let mut cutoffs = Cutoffs::new(view, order, fees);
     let most = fillable(cutoffs.rows(), order.shares);
     let cheapest_first = in_order(Key::Cost, cutoffs.rows());
-    let cuts = cuts_of(order.side, &mut cutoffs, cheapest_first.as_slice(), most);
-    let rows = cutoffs.rows();
-    let choice = chosen(order.side, rows, most, &cuts);
-    let legs = legs_chosen(rows, most, &choice);
+    let (cuts, choice) = cuts_of(order.side, &mut cutoffs, cheapest_first.as_slice(), most);
+    let legs = legs_chosen(cutoffs.rows(), most, &choice);
     let plan = Plan {
         version,
         order: *order,
