@@ -5,7 +5,7 @@ use Rattle.std.proofs.lemmas.List.Sorted.{IsPermutation-sym, IsPermutation-trans
 use Rattle.nms_quote.specs.Terms.{Terms}
 use Rattle.nms_quote.specs.declared.order.OrderSide.{OrderSide}
 use Rattle.nms_board.specs.View.{Seen}
-use Rattle.nms_fee_book.specs.declared.fee_schedule.FeeSchedule.{FeeSchedule}
+use Rattle.nms_fee_book.specs.Fees.{Charges}
 use Rattle.nms_rules.specs.Cutoff.{pool, pool_part, swept, swept_cost, swept_cost_part, swept_part}
 use Rattle.nms_rules.specs.Usable.{Usable, rank_of, usable}
 use Rattle.nms_rules.proofs.Offered.{All-In, Any-In, In, In-All}
@@ -43,12 +43,12 @@ are_cutoffs side rows by_price same ordered ranks =
     }
 
 -- the usable rows have the ranks of their prices, in any order
-pub usable_ranks : (seen : Seen) (asked : Terms) (fees : List FeeSchedule) (rows by_price : List Usable) → rows ≡ usable seen asked fees → IsPermutation rows by_price → (row : Usable) → In row by_price → row.rank ≡ rank_of asked.side row.price
+pub usable_ranks : (seen : Seen) (asked : Terms) (fees : Charges) (rows by_price : List Usable) → rows ≡ usable seen asked fees → IsPermutation rows by_price → (row : Usable) → In row by_price → row.rank ≡ rank_of asked.side row.price
 usable_ranks seen asked fees rows by_price are same row within =
     let at = usable_is seen asked fees row (subst (In row) are (in_other by_price rows (IsPermutation-sym rows by_price same) row within)) in
     rw at.1.is refl
 
-pub usable_cutoffs : (seen : Seen) (asked : Terms) (fees : List FeeSchedule) (rows by_price : List Usable) → rows ≡ usable seen asked fees → IsPermutation rows by_price → IsOrdered Price by_price
+pub usable_cutoffs : (seen : Seen) (asked : Terms) (fees : Charges) (rows by_price : List Usable) → rows ≡ usable seen asked fees → IsPermutation rows by_price → IsOrdered Price by_price
     → AreCutoffs asked.side (usable seen asked fees) (cutoffs_of by_price by_price)
 usable_cutoffs seen asked fees rows by_price are same ordered =
     are_cutoffs asked.side (usable seen asked fees) by_price (subst (λ (one : List Usable). IsPermutation one by_price) are same) ordered (usable_ranks seen asked fees rows by_price are same)
