@@ -9,7 +9,7 @@ use Rattle.nms_quote.specs.Roster.{Sizes}
 use Rattle.nms_quote.specs.Tape.{Tape}
 use Rattle.nms_quote.specs.declared.side_quote.Side.{Side}
 use Rattle.nms_quote.specs.declared.side_quote.QState.{QState}
-use Rattle.nms_board.specs.History.{content_at, receipt_of, state_at}
+use Rattle.nms_board.specs.History.{content_at, lot_at, receipt_of, state_at}
 use Rattle.nms_board.specs.Quotation.{is_halted, is_automated, quotation, quotation_of, quotations}
 use Rattle.nms_board.specs.View.{AreRows}
 use Rattle.nms_board.specs.Cells.{Board, IsBoard, IsInShape, place_of}
@@ -67,7 +67,7 @@ pub quotations_are_rows : (sizes : Sizes) (tape : Tape) (sym : ℕ) (side : Side
 quotations_are_rows sizes tape symbol side =
     let from : IsFrom 0 (quotations sizes tape symbol side) =
     IsFrom-range (quotation_of sizes tape symbol side)
-    (λ part. quotation_is_row (slice_index sizes.lots symbol) part (state_at part symbol tape) (receipt_of part symbol side tape) (content_at part symbol side tape))
+    (λ part. quotation_is_row (lot_at sizes tape symbol) part (state_at part symbol tape) (receipt_of part symbol side tape) (content_at part symbol side tape))
     0 sizes.parts in
     record {
       rising = λ k below. rw add-one (rising 0 (quotations sizes tape symbol side) from k (omega arith));
@@ -89,13 +89,13 @@ length-filter_map-range f place zero = omega arith
 length-filter_map-range f place (suc n) = omega (arith, length-cons_option (f place) (filter_map f (range_with_len (place + 1) n)), length-filter_map-range f (place + 1) n)
 
 -- the rows of one more participant, whose cell was read
-pub rows_more : (board : Board) (sym : ℕ) (side : Side) (part lot i : ℕ) (cell : Cell) → IsInShape board → slice_get board.sizes.lots sym ≡ Some lot → part < board.sizes.parts
+pub rows_more : (board : Board) (sym : ℕ) (side : Side) (part lot i : ℕ) (cell : Cell) → IsInShape board → slice_get board.lots sym ≡ Some lot → part < board.sizes.parts
     → i ≡ place_of part sym → cell ≡ get_or board.cells i cell
     → filter_map (row_held board sym side) (range_with_len 0 (part + 1)) ≡ filter_map (row_held board sym side) (range_with_len 0 part) ++ cons_option (row_of_cell lot part side cell) []
 rows_more board symbol side part lot i cell shape listed in_parts at read =
-    let in_syms = slice_get_within board.sizes.lots symbol lot listed in
-    let lot_is : slice_index board.sizes.lots symbol ≡ lot = get_or_from_slice_get board.sizes.lots symbol lot 0 listed in
+    let in_syms = slice_get_within board.lots symbol lot listed in
+    let lot_is : slice_index board.lots symbol ≡ lot = get_or_from_slice_get board.lots symbol lot 0 listed in
     let there : slice_get board.cells (place_of part symbol) ≡ Some cell =
-    rw (← at) (slice_get_read board.cells (length board.cells) i cell refl (omega (arith, shape.parts, shape.cells)) read) in
+    rw (← at) (slice_get_read board.cells (length board.cells) i cell refl (omega (arith, shape.parts, shape.cells, shape.lots)) read) in
     let row : row_held board symbol side part ≡ row_of_cell lot part side cell = rw (lot_is, there) refl in
     filter_map_more (row_held board symbol side) part ∙ ap (λ row. filter_map (row_held board symbol side) (range_with_len 0 part) ++ cons_option row []) row

@@ -1,5 +1,5 @@
 //! Every participant's quotations in every symbol, and the changes that alter them: `specs/Cells`.
-ghost use Rattle.std.specs.Prelude.{◌≡◌, ℕ, ◌+◌, ◌*◌, ◌<◌, ◌≤◌, All, List, [], ◌∷◌, ◌++◌, length, map, vec_len, true, fold, IfOk, IfSome, MatchOption, Some, nat_lt, slice_get};
+ghost use Rattle.std.specs.Prelude.{◌≡◌, ℕ, ◌+◌, ◌*◌, ◌<◌, ◌≤◌, All, List, [], ◌∷◌, ◌++◌, length, map, vec_len, true, fold, IfOk, IfSome, MatchOption, Some, nat_lt, slice_get, slice_set};
 ghost use Rattle.std.specs.List.{cons_option};
 ghost use Rattle.std.specs.Option.{option_and_then};
 ghost use Rattle.nms_quote.specs.Roster.{holds, sizes_of};
@@ -28,6 +28,9 @@ use std::marker::Model;
 #[derive(Drop)]
 pub struct Boards {
     parts: u8,
+    /// The round lot that each symbol opened with.
+    opening: Vec<Lot>,
+    /// The round lot that each symbol has now.
     lots: Vec<Lot>,
     /// `MOST_ROWS` cells for each symbol, by participant place.
     cells: Vec<Cell>,
@@ -43,13 +46,15 @@ impl Model for Boards {
     ghost Value = { Board };
 
     ghost view = { λ b. record {
-      sizes = record { parts = b.parts; lots = b.lots.items };
+      sizes = record { parts = b.parts; lots = b.opening.items };
+      lots = b.lots.items;
       cells = b.cells.items;
       applied = b.applied;
     } };
 
     ghost invariant = { λ b. IsBoard (record {
-      sizes = record { parts = b.parts; lots = b.lots.items };
+      sizes = record { parts = b.parts; lots = b.opening.items };
+      lots = b.lots.items;
       cells = b.cells.items;
       applied = b.applied;
     }) × AreRanks (record { parts = b.parts; lots = b.lots.items }) b.cells.items b.ranks.items };
@@ -67,6 +72,9 @@ impl Boards {
         ensures narrow { length roster.now.parts ≤ MOST_ROWS }
     {
         let parts = roster.parts() as u8;
+        let Ok(opening) = lots_of(alloc, roster) else {
+            return Err(BoardFault::NoMemory);
+        };
         let Ok(lots) = lots_of(alloc, roster) else {
             return Err(BoardFault::NoMemory);
         };
@@ -78,6 +86,7 @@ impl Boards {
         };
         Ok(Boards {
             parts,
+            opening,
             lots,
             cells,
             ranks,
@@ -100,6 +109,7 @@ impl Boards {
             Change::Quote { part, sym, .. } => self.has_part(part) && self.has_sym(sym),
             Change::State { part, sym, .. } => self.has_part(part) && self.has_sym(sym),
             Change::Withdraw { part } => self.has_part(part),
+            Change::Lot { sym, .. } => self.has_sym(sym),
         }
     }
 
@@ -113,7 +123,7 @@ impl Boards {
     pub fn has_sym(&self, sym: Sym) -> bool
         ensures { result ≡ nat_lt sym (length self.now.sizes.lots) }
     {
-        usize::from(sym.get()) < self.lots.len()
+        usize::from(sym.get()) < self.opening.len()
     }
 
     /// How many participants the roster has.
@@ -167,14 +177,15 @@ impl Boards {
         }
     }
 
+    /// The present round lot of a symbol of the roster.
     fn lot_of(&self, sym: Sym) -> Option<Lot>
-        ensures { result ≡ slice_get self.now.sizes.lots sym }
+        ensures { result ≡ slice_get self.now.lots sym }
     {
         self.lots.get(usize::from(sym.get())).copied()
     }
 
     /// Applies one more change. Constant work for a quote or a state; a withdrawal goes over the
-    /// symbols.
+    /// symbols, and a new round lot over the participants of its symbol.
     pub fn apply(&mut self, change: Change)
         requires { takes self.old change ≡ true }
         ensures after { self.new ≡ after self.old change }
@@ -210,6 +221,14 @@ impl Boards {
                 self.parts,
                 &self.lots,
                 &mut self.cells,
+                &mut self.ranks,
+            ),
+            Change::Lot { sym, lot } => set_lot(
+                usize::from(sym.get()),
+                lot,
+                self.parts,
+                &mut self.lots,
+                &self.cells,
                 &mut self.ranks,
             ),
         }
@@ -266,7 +285,7 @@ impl Boards {
         bids: &mut ArrayVec<Row, MOST_ROWS>,
         offers: &mut ArrayVec<Row, MOST_ROWS>,
     )
-        requires lot { slice_get self.now.sizes.lots sym ≡ Some lot }
+        requires lot { slice_get self.now.lots sym ≡ Some lot }
         requires bids { bids.old.items ≡ [] }
         requires offers { offers.old.items ≡ [] }
         ensures bids { bids.new.items ≡ rows_held self.now sym Bid }
@@ -370,6 +389,29 @@ fn alter(
     cell.alter(number, change);
     let orders = &mut ranks[sym];
     orders.settle(part, lot, bid, offer, symbol_cells(cells, sym, parts));
+}
+
+/// Gives a symbol another round lot, in which both its sides rank anew.
+fn set_lot(
+    sym: usize,
+    lot: Lot,
+    parts: u8,
+    lots: &mut [Lot],
+    cells: &[Cell],
+    ranks: &mut [SymbolRanks],
+)
+    requires parts { parts ≤ MOST_ROWS }
+    requires sym { sym < length lots.old }
+    requires room { MOST_ROWS * length lots.old ≤ length cells.now }
+    requires ranks { AreRanks (record { parts = parts; lots = lots.old }) cells.now ranks.old }
+    requires own { (side : Side) → AreOwn (row_shown (record { parts = parts; lots = slice_set lots.old sym lot })
+        cells.now sym side) }
+    ensures lots { lots.new ≡ slice_set lots.old sym lot }
+    ensures ranks { AreRanks (record { parts = parts; lots = lots.new }) cells.now ranks.new }
+{
+    let orders = &mut ranks[sym];
+    orders.rank_anew(lot, symbol_cells(cells, sym, parts));
+    lots[sym] = lot;
 }
 
 /// The cells of a symbol's participants.

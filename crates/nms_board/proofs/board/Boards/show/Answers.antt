@@ -18,7 +18,7 @@ push_some-requires-in-loop-place c = rw c.loop-place.invariant.offers (omega (ar
 one_more : (c : goal.After-push_some-in-loop-place) (side : Side) → filter_map (row_held c.args.self.now c.args.sym side) (range_with_len 0 (c.loop-place.place + 1)) ≡ filter_map (row_held c.args.self.now c.args.sym side) (range_with_len 0 c.loop-place.place) ++ cons_option (row_of_cell c.args.lot c.unwrap-part.result side c.index-cell.result.now) []
 one_more c side =
     let part : c.unwrap-part.result ≡ c.loop-place.place = grind (arith, common_steps) in
-    let listed = subst (λ (board : Board). slice_get board.sizes.lots c.args.sym ≡ Some c.args.lot) (sym c.self.view_is) c.requires.lot in
+    let listed = subst (λ (board : Board). slice_get board.lots c.args.sym ≡ Some c.args.lot) (sym c.self.view_is) c.requires.lot in
     let place : c.place_of.result ≡ place_of c.loop-place.place c.args.sym = c.place_of.ensures.place ∙ ap (λ part. place_of part c.args.sym) part in
     rw (← c.self.view_is, part) (rows_more _ c.args.sym side c.loop-place.place c.args.lot c.place_of.result c.index-cell.result.now c.self.invariant.0.shape listed (omega arith) place c.index-cell.ensures)
 

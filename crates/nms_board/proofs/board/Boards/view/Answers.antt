@@ -22,7 +22,7 @@ returns-clause-parts c = seen_parts c.args.self.now c.args.sym _ (returns-clause
 
 pub returns-in_default-clause-cells : goal.returns-in_default-clause-cells
 returns-in_default-clause-cells c =
-    let unlisted : slice_get c.args.self.now.sizes.lots c.args.sym ≡ None = sym c.lot_of.ensures ∙ c.in_default.is in
+    let unlisted : slice_get c.args.self.now.lots c.args.sym ≡ None = sym c.lot_of.ensures ∙ c.in_default.is in
     let version : c.self.inside.applied ≡ c.args.self.now.applied = ap (λ (board : Board). board.applied) c.self.view_is in
     rw (version, c.new_in.ensures, c.new_in-2.ensures, rows_held_unlisted c.args.self.now c.args.sym Bid unlisted, rows_held_unlisted c.args.self.now c.args.sym Offer unlisted) refl
 
