@@ -9,6 +9,7 @@ use Rattle.nms_quote.specs.declared.side_quote.QState.TheVariants.{Automated, Ma
 use Rattle.nms_quote.specs.declared.change.Change.{Change}
 use Rattle.nms_quote.specs.declared.change.Change.TheVariants as change
 use Rattle.nms_board.specs.Quotation.{quotations}
+use Rattle.nms_board.specs.Ranking.{ranked}
 use Rattle.nms_board.specs.declared.row.Row.{Row}
 
 abbrev pub four : Sizes
@@ -91,6 +92,10 @@ bids tape = quotations four tape abc Bid
 abbrev pub offers : Tape → List Row
 offers tape = quotations four tape abc Offer
 
+-- the offers in rank order
+abbrev pub ranked_offers : Tape → List Row
+ranked_offers tape = ranked Offer (offers tape)
+
 -- what each of the tapes shows
 pub record ExamplesHold : Type 0 where
   pub part_of_a_lot_is_no_offer : offers odd_lot ≡ []
@@ -106,7 +111,7 @@ pub record ExamplesHold : Type 0 where
   pub a_bid_after_a_withdrawal_is_new : bids requoted ≡ row n 99900 100 3 ∷ []
   pub an_offer_after_a_withdrawal_is_new : offers requoted ≡ row n 100000 300 3 ∷ []
   pub less_than_a_lot_is_hidden : offers hidden ≡ []
-  pub a_smaller_lot_brings_to_light : offers smaller_lot ≡ row n 100000 40 1 ∷ row p 100000 40 2 ∷ []
-  pub a_lot_of_one_shows_all : offers lot_of_one ≡ row n 100000 50 1 ∷ row p 100000 60 2 ∷ []
+  pub a_smaller_lot_brings_to_light : ranked_offers smaller_lot ≡ row n 100000 40 1 ∷ row p 100000 40 2 ∷ []
+  pub a_lot_of_one_shows_all : ranked_offers lot_of_one ≡ row p 100000 60 2 ∷ row n 100000 50 1 ∷ []
   pub a_halt_hides_in_another_lot : offers halted_over ≡ row p 100000 40 2 ∷ []
-  pub a_halt_lifted_shows_in_the_lot_of_then : offers lifted_over ≡ row n 100000 40 1 ∷ row p 100000 40 2 ∷ []
+  pub a_halt_lifted_shows_in_the_lot_of_then : ranked_offers lifted_over ≡ row n 100000 40 1 ∷ row p 100000 40 2 ∷ []
