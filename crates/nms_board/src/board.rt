@@ -6,6 +6,7 @@ ghost use Rattle.nms_quote.specs.Roster.{holds, sizes_of};
 ghost use Rattle.nms_quote.specs.Tape.{Tape};
 ghost use Rattle.nms_quote.specs.declared.side_quote.Side.{Side};
 ghost use Rattle.nms_quote.specs.declared.side_quote.Side.TheVariants.{Bid, Offer};
+ghost use Rattle.nms_board.specs.Carried.{AreCarried};
 ghost use Rattle.nms_board.specs.Cells.{altered, change_cell, place_of, withdraw_from};
 ghost use Rattle.nms_board.specs.Kept.{AreRanks, row_shown, symbol_cells};
 ghost use Rattle.nms_board.specs.Ranks.{AreOwn};
@@ -264,17 +265,26 @@ impl Boards {
             → result ≡ view_of self.now.sizes tape sym }
         ensures parts { (side : Side) → All (λ row. row.part < self.now.sizes.parts) (rows_on side result) }
     {
+        let Some(lot) = self.lot_of(sym) else {
+            return View::of_nothing(self.applied, sym);
+        };
         let mut view = View {
             version: self.applied,
             sym,
             bids: ArrayVec::new_in(()),
             offers: ArrayVec::new_in(()),
-        };
-        let Some(lot) = self.lot_of(sym) else {
-            return view;
+            orders: self.orders_of(sym),
         };
         self.show(sym, lot, &mut view.bids, &mut view.offers);
         view
+    }
+
+    /// The rank orders of a symbol of the roster, for a view to carry.
+    fn orders_of(&self, sym: Sym) -> SymbolRanks
+        requires { sym < length self.now.lots }
+        ensures { AreCarried (rows_held self.now sym Bid) (rows_held self.now sym Offer) result }
+    {
+        self.ranks[usize::from(sym.get())].copied()
     }
 
     /// Appends the quotations of a symbol in lots of that size to the rows of the sides.
@@ -291,11 +301,12 @@ impl Boards {
         ensures bids { bids.new.items ≡ rows_held self.now sym Bid }
         ensures offers { offers.new.items ≡ rows_held self.now sym Offer }
     {
-        for place in 0..self.parts {
+        let mut place = 0;
+        for cell in symbol_cells(&self.cells, usize::from(sym.get()), self.parts) {
             let part = Part::new(place).unwrap();
-            let cell = &self.cells[place_of(part, sym)];
             push_some(bids, cell.row(Side::Bid, part, lot));
             push_some(offers, cell.row(Side::Offer, part, lot));
+            place += 1;
         }
     }
 }
