@@ -21,5 +21,5 @@ pub use laws::{
     others_keep_their_receipts, quotations_stand_by_participant, receipt_is_least, receipts_differ,
     repeated_side_keeps_its_receipt, rows_have_one_rank_order, worked_examples,
 };
-pub use row::Row;
+pub use row::{Row, is_better_price};
 pub use view::View;
