@@ -16,9 +16,9 @@ use nms_rules::{Rank, UsableRow};
 /// price: `None` where none can be filled at. The rows come in the order of their costs.
 pub(crate) fn cuts_of(
     side: OrderSide,
-    cutoffs: &mut Cutoffs,
     by_cost: &[UsableRow],
     most: u64,
+    cutoffs: &mut Cutoffs,
 ) -> (Certificate, Option<Choice>)
     requires few { length cutoffs.old.to_come ≤ 32 }
     requires rows { length by_cost.now ≤ 32 }

@@ -39,8 +39,13 @@ pub fn plan(view: &View, order: &Order, fees: &FeeBook) -> (Plan, Certificate)
     let version = view.version();
     let mut cutoffs = Cutoffs::new(view, order, fees);
     let most = fillable(cutoffs.rows(), order.shares);
-    let cheapest_first = in_order(Key::Cost, cutoffs.rows());
-    let (cuts, choice) = cuts_of(order.side, &mut cutoffs, cheapest_first.as_slice(), most);
+    // The rows by cost have no name of their own, so that they are not moved to it.
+    let (cuts, choice) = cuts_of(
+        order.side,
+        in_order(Key::Cost, cutoffs.rows()).as_slice(),
+        most,
+        &mut cutoffs,
+    );
     let legs = legs_chosen(cutoffs.rows(), most, &choice);
     let plan = Plan {
         version,
