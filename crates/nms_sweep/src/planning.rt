@@ -12,7 +12,8 @@ use crate::choice::cost_chosen;
 use crate::cutoffs::Cutoffs;
 use crate::cutting::cuts_of;
 use crate::legs::legs_chosen;
-use crate::row_order::{Key, in_order};
+use crate::row_order::{Key, put_in_order};
+use arrayvec::ArrayVec;
 use nms_board::View;
 use nms_fee_book::FeeBook;
 use nms_quote::{Certificate, Order, Plan};
@@ -39,13 +40,9 @@ pub fn plan(view: &View, order: &Order, fees: &FeeBook) -> (Plan, Certificate)
     let version = view.version();
     let mut cutoffs = Cutoffs::new(view, order, fees);
     let most = fillable(cutoffs.rows(), order.shares);
-    // The rows by cost have no name of their own, so that they are not moved to it.
-    let (cuts, choice) = cuts_of(
-        order.side,
-        in_order(Key::Cost, cutoffs.rows()).as_slice(),
-        most,
-        &mut cutoffs,
-    );
+    let mut by_cost = ArrayVec::new_in(());
+    put_in_order(Key::Cost, cutoffs.rows(), &mut by_cost);
+    let (cuts, choice) = cuts_of(order.side, by_cost.as_slice(), most, &mut cutoffs);
     let legs = legs_chosen(cutoffs.rows(), most, &choice);
     let plan = Plan {
         version,

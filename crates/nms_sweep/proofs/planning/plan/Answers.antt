@@ -31,7 +31,7 @@ legs_chosen-legs-requires-clause-few c =
     let fees = c.args.fees.now in
     let rows : List Usable = usable seen asked fees in
     let by_price : List Usable = c.new-cutoffs.result.rows in
-    let by_cost : List Usable = c.in_order.result.items in
+    let by_cost : List Usable = c.put_in_order.new.ordered.items in
     let cuts : List Cut = c.cuts_of-cuts.result.0.items in
     let most = c.fillable-most.result in
     let found : Option Choice = c.cuts_of-cuts.result.1 in
@@ -40,7 +40,7 @@ legs_chosen-legs-requires-clause-few c =
     let all : Found seen asked fees by_price by_cost cuts most found =
     found_from seen asked fees (the_view c.order.inside) c.rows.result.now c.rows-2.result.now c.as_slice.result.now c.new-cutoffs.result.to_come by_price by_cost cuts most found
     c.order.view_is c.version-version.ensures.bids c.version-version.ensures.offers walk.rows walk.ordered walk.all c.rows.ensures.rows c.rows-2.ensures.rows c.as_slice.ensures.value
-    c.in_order.ensures.same c.in_order.ensures.ordered c.fillable-most.ensures.most c.cuts_of-cuts.ensures.cuts c.cuts_of-cuts.ensures.best in
+    c.put_in_order.ensures.same c.put_in_order.ensures.ordered c.fillable-most.ensures.most c.cuts_of-cuts.ensures.cuts c.cuts_of-cuts.ensures.best in
     let fills = legs_found seen asked fees by_price by_cost cuts most found all in
     let same : legs_chosen c.rows-3.result.now most found c.rows-3.result.now ≡ legs_chosen rows most found by_price =
     ap (λ (some : List Usable). legs_chosen some most found some) last ∙ legs_same rows by_price walk.rows most found in
@@ -50,10 +50,10 @@ pub cuts_of-cuts-requires-clause-sums : goal.cuts_of-cuts-requires-clause-sums
 cuts_of-cuts-requires-clause-sums c =
     let walk = c.new-cutoffs.ensures in
     let by_price : List Usable = c.new-cutoffs.result.rows in
-    let same = subst (λ (some : List Usable). IsPermutation some c.in_order.result.items) c.rows-2.ensures.rows c.in_order.ensures.same in
+    let same = subst (λ (some : List Usable). IsPermutation some c.put_in_order.new.ordered.items) c.rows-2.ensures.rows c.put_in_order.ensures.same in
     let asked = ap (λ (some : Terms). some.side) c.order.view_is in
     subst (λ side. All (λ (cutoff : Cutoff). IsCutoffOf side c.as_slice.result.now cutoff) c.new-cutoffs.result.to_come) (sym asked)
-    (sums_by_cost c.args.order.now.side (usable c.args.view.now c.args.order.now c.args.fees.now) by_price c.in_order.result.items c.as_slice.result.now c.new-cutoffs.result.to_come walk.rows same c.as_slice.ensures.value walk.cutoffs)
+    (sums_by_cost c.args.order.now.side (usable c.args.view.now c.args.order.now c.args.fees.now) by_price c.put_in_order.new.ordered.items c.as_slice.result.now c.new-cutoffs.result.to_come walk.rows same c.as_slice.ensures.value walk.cutoffs)
 
 pub returns : goal.returns
 returns c =
@@ -62,7 +62,7 @@ returns c =
     let fees = c.args.fees.now in
     let rows : List Usable = usable seen asked fees in
     let by_price : List Usable = c.new-cutoffs.result.rows in
-    let by_cost : List Usable = c.in_order.result.items in
+    let by_cost : List Usable = c.put_in_order.new.ordered.items in
     let cuts : List Cut = c.cuts_of-cuts.result.0.items in
     let most = c.fillable-most.result in
     let found : Option Choice = c.cuts_of-cuts.result.1 in
@@ -71,7 +71,7 @@ returns c =
     let all : Found seen asked fees by_price by_cost cuts most found =
     found_from seen asked fees (the_view c.order.inside) c.rows.result.now c.rows-2.result.now c.as_slice.result.now c.new-cutoffs.result.to_come by_price by_cost cuts most found
     c.order.view_is c.version-version.ensures.bids c.version-version.ensures.offers walk.rows walk.ordered walk.all c.rows.ensures.rows c.rows-2.ensures.rows c.as_slice.ensures.value
-    c.in_order.ensures.same c.in_order.ensures.ordered c.fillable-most.ensures.most c.cuts_of-cuts.ensures.cuts c.cuts_of-cuts.ensures.best in
+    c.put_in_order.ensures.same c.put_in_order.ensures.ordered c.fillable-most.ensures.most c.cuts_of-cuts.ensures.cuts c.cuts_of-cuts.ensures.best in
     let fills = legs_found seen asked fees by_price by_cost cuts most found all in
     let same : legs_chosen c.rows-3.result.now most found c.rows-3.result.now ≡ legs_chosen rows most found by_price =
     ap (λ (some : List Usable). legs_chosen some most found some) last ∙ legs_same rows by_price walk.rows most found in
