@@ -1,5 +1,5 @@
 -- What the cheapest shares of a pool cost is what the marginal says of them, less what it saves.
-use Rattle.std.proofs.Common.{ℕ, zero, suc, ◌≡◌, ◌≤◌, ◌+◌, ◌-◌, true, false, ◌&&◌, List, [], ◌∷◌, map, Option, Some, None, ◌⊎◌, inl, inr, refl, ap, sym, ◌∙◌, subst, arith, min, nat_le}
+use Rattle.std.proofs.Common.{ℕ, ◌≡◌, ◌≤◌, ◌+◌, ◌-◌, true, false, ◌&&◌, List, [], ◌∷◌, Some, None, ◌⊎◌, inl, inr, refl, ap, sym, ◌∙◌, subst, arith, min, nat_le}
 use Rattle.std.specs.Prelude.{ℤ, pos, ◌+ℤ◌, ◌-ℤ◌, ◌*ℤ◌, ◌≤ℤ◌}
 use Rattle.std.specs.Int.{int_max}
 use Rattle.std.specs.Option.{is_some, unwrap_or}
@@ -10,10 +10,10 @@ use Rattle.nms_quote.specs.declared.certificate.Cut.{Cut}
 use Rattle.nms_quote.specs.declared.certificate.CutKind.{CutKind}
 use Rattle.nms_quote.specs.declared.order.OrderSide.{OrderSide}
 use Rattle.nms_rules.specs.Assignment.{amount, total}
-use Rattle.nms_rules.specs.Cutoff.{is_pooled, least_cost, pool, pool_part, savings, savings_part, swept}
+use Rattle.nms_rules.specs.Cutoff.{is_pooled, least_cost, pool, pool_part, savings, savings_part}
 use Rattle.nms_rules.specs.Usable.{Usable, rank_of}
 use Rattle.nms_rules.proofs.Offered.{plus-times, pool-is, times-plus, zero-times}
-use Rattle.nms_sweep.specs.Choice.{candidate, chosen, cut_by, has_last, share_cost}
+use Rattle.nms_sweep.specs.Choice.{has_last, share_cost}
 use Rattle.nms_sweep.specs.Cutoffs.{GivesNext, IsCutoffOf}
 use Rattle.nms_sweep.specs.Order.{IsByCost}
 use Rattle.nms_sweep.specs.Taken.{taken_cost}
