@@ -108,4 +108,7 @@ while [ "$left" -gt 0 ]; do
     some=$((left < 100000 ? left : 100000))
     echo "$some $seed"
     left=$((left - some)) seed=$((seed + 1))
-done | out/nms_plans | awk '{ print } $1 != $3 || NF > 3 { wrong = 1 } { all += $3 } END { print all + 0 " plans are the same"; exit wrong }'
+done | out/nms_plans | awk '
+    { print; all += $3 }
+    $1 != $3 || NF > 3 { wrong = 1 }
+    END { print all + 0 " plans are the same"; exit wrong }'
