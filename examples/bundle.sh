@@ -113,6 +113,8 @@ bundle() {
     script through.script
     report ABC first.changes
     report ABC pairs.changes
+    script new_lot.script
+    report ABC new_lot.changes
     setup builtin.toml
     script first.script
     setup small.toml

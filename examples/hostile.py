@@ -32,6 +32,7 @@ class Call:
 
     def __init__(self, name, words, must, may="", files=None, given="", unwritten="E2"):
         self.name, self.words, self.files, self.given, self.unwritten = name, words, files or {}, given, unwritten
+        self.over = 0
         self.must, self.may = set(must.split()), {*must.split(), *may.split(), *ALWAYS}
 
     def run(self, program, room, plan=traced.Plan(), given=None):
@@ -53,6 +54,8 @@ class Call:
             rans = list(pool.map(self.run, *zip(*((program, room, it) for it in plans)), chunksize=8))
             answers = self.answers(program, room)
             found += [f"{plan}: {ran}"[:400] for plan, ran in zip(plans, rans) if not self.is_right(plan, ran, ample, answers)]
+            over = sum(ran[:3] == ample[:3] for ran in rans)
+            found += [f"got over {over} refusals, and not {self.over}"] if over < self.over else []
             seen = {code_of(ran) for plan, ran in zip(plans, rans) if plan.memory}
             print(f"{self.name}: {ample.memory} requests for memory, {ample.reads} reads, {ample.writes} writes")
             self.points = 1 + len(plans)
@@ -84,11 +87,11 @@ class Call:
 
 class Caller(Call):
     """A run of another program of this repository, which makes calls of the crates: with memory refused it gives its
-    answers, or a first part of them and status 1."""
+    answers, or a first part of them and status 1. It gets over so many refusals at least, with all its answers."""
 
-    def __init__(self, crate, name, given):
+    def __init__(self, crate, name, given, over=0):
         super().__init__(f"{crate}: {name}", [], "", given=given)
-        self.program = f"{TOP}/crates/{crate}/out/{crate}"
+        self.program, self.over = f"{TOP}/crates/{crate}/out/{crate}", over
 
     def run(self, program, room, plan=traced.Plan(), given=None):
         return super().run(self.program, room, plan, given)
@@ -117,6 +120,7 @@ def calls():
     yield Call("a plan", plan, "E4 B1 L12", files=changes, unwritten="L13")
     yield Call("a check", check, "E4 A3 L12", files={**SETUP, "given.changes": OFFERS, "given.plan": PLAN})
     yield Caller("nms_examples", "a plan read and written", f"== setup\n== rewrite a plan\n{PLAN}")
+    yield Caller("nms_bench", "changes appended again", "again 0 700\n", over=10)
     yield Call("a live run", live, "E4 E6", "E7 E10 L12", files={**SETUP, **FEEDS}, unwritten="L13")
 
 

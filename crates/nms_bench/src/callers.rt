@@ -1,4 +1,6 @@
-//! Callers of these crates as another repository writes them; `docs/CALLING.md` shows them. Here each is called once.
+//! Callers of these crates as another repository writes them; `docs/CALLING.md` shows all but `again`, which
+//! `examples/hostile.py` runs with memory refused. Here each is called once.
+mod again;
 mod machine;
 mod sweeping;
 mod threads;
@@ -21,6 +23,9 @@ pub(crate) fn make<R: AllocGlobal + Threads + Wait + Sync>(
     changes: u32,
 ) -> Result<String, Failed> {
     let sym = Sym::new(sym).ok_or(Failed)?;
+    if kind == "again" {
+        return make_over(rt, again::SMALL, kind, sym, changes);
+    }
     let text = setup_text(rt.alloc(), 1).map_err(|_| Failed)?;
     make_over(rt, text.as_str(), kind, sym, changes)
 }
@@ -52,6 +57,7 @@ fn make_under<R: AllocGlobal + Threads + Wait + Sync>(
         "machine" => tell_machine(alloc, setup, sym, changes),
         "sweep" => tell_sweep(alloc, setup, sym, changes),
         "threads" => tell_threads(rt, alloc, setup, sym, changes),
+        "again" => tell_again(rt, alloc, setup, sym, changes),
         _ => Err(Failed),
     }
 }
@@ -129,4 +135,22 @@ fn tell_threads<R: Threads + Wait + Sync>(
         came.delivered.taken,
     );
     format!(in alloc; "{} {} {taken} {}", sent.0, sent.1, came.settled).map_err(|_| Failed)
+}
+
+/// How many changes were appended where they belong, how many the tape has, the version and the shares that a desk was
+/// shown, and whether no change was left out.
+fn tell_again<R: Wait>(
+    rt: &R,
+    alloc: Global,
+    setup: &Setup,
+    sym: Sym,
+    changes: u32,
+) -> Result<String, Failed> {
+    let came = again::append_all(rt, alloc, setup, sym, changes)?;
+    let (version, shares) = came.shown;
+    format!(in alloc;
+        "{} {} {version} {shares} {}",
+        came.in_place, came.tape, came.is_whole
+    )
+    .map_err(|_| Failed)
 }

@@ -1,7 +1,7 @@
 //! Measures the lane and the looks, and makes the calls of `docs/CALLING.md`. Each line of standard input is a run:
 //! `lane CAPACITY CHANGES` through a lane of that capacity with so many changes from each of two threads, or
-//! `looks DESKS LOOKS` with so many looks by each of so many desks, or `machine`, `sweep` or `threads` with the place of
-//! a symbol and a number of changes.
+//! `looks DESKS LOOKS` with so many looks by each of so many desks, or `machine`, `sweep`, `threads` or `again` with the
+//! place of a symbol and a number of changes.
 #![tactic(auto)]
 
 mod callers;

@@ -1,7 +1,7 @@
 -- The cells hold what the tape says: at the opening, and after each change that the board takes.
-use Rattle.std.proofs.Common.{◌≡◌, ◌≢◌, ℕ, zero, suc, ◌+◌, ◌*◌, ◌/◌, ◌<◌, ◌≤◌, ◌&&◌, ◌==◌, Bool, true, false, List, [], ◌∷◌, ◌++◌, length, Option, Some, None, unwrap_or, get_or, slice_get, slice_set, slice_index, option_and_then, if◌then◌else◌, nat_lt, refl, sym, ap, subst, ◌∙◌, inl, inr, arith, add-one, eqb, eq-eqb, ne_eqb, lt-ltb, ltb-true, mul-zero}
-use Rattle.std.proofs.lemmas.List.{length-append, length-set, get_or_past}
-use Rattle.std.proofs.lemmas.Option.{slice_get_read, unwrap_or-slice_get}
+use Rattle.std.proofs.Common.{◌≡◌, ◌≢◌, ℕ, zero, suc, ◌+◌, ◌*◌, ◌/◌, ◌<◌, ◌≤◌, ◌&&◌, ◌==◌, Bool, true, false, List, [], ◌∷◌, ◌++◌, length, Option, Some, None, option_map, unwrap_or, get_or, slice_get, slice_set, slice_index, option_and_then, if◌then◌else◌, nat_lt, refl, sym, ap, subst, ◌∙◌, inl, inr, arith, add-one, eqb, eq-eqb, ne_eqb, lt-ltb, ltb-true, mul-zero}
+use Rattle.std.proofs.lemmas.List.{get_or-set_other, length-append, length-set}
+use Rattle.std.proofs.lemmas.Option.{slice_get-get_or, slice_get_past, slice_get_read, unwrap_or-slice_get}
 use Rattle.std.proofs.lemmas.Bool.{and_parts, and_from, and_left, and_right, cases_Bool, cases_eq, cases_lt, false≢true}
 use Rattle.nms_quote.specs.Content.{Content}
 use Rattle.nms_quote.specs.Roster.{Sizes, holds}
@@ -10,11 +10,11 @@ use Rattle.nms_quote.specs.declared.side_quote.Side.{Side}
 use Rattle.nms_quote.specs.declared.side_quote.Side.TheVariants.{Bid, Offer}
 use Rattle.nms_quote.specs.declared.side_quote.QState.{QState}
 use Rattle.nms_quote.specs.declared.change.Change.{Change}
-use Rattle.nms_quote.specs.declared.change.Change.TheVariants.{Quote, State, Withdraw}
+use Rattle.nms_quote.specs.declared.change.Change.TheVariants.{Lot, Quote, State, Withdraw}
 use Rattle.nms_board.specs.declared.TheConstants.{MOST_ROWS}
 use Rattle.nms_quote.specs.declared.TheConstants.{MOST_CHANGES}
-use Rattle.nms_board.specs.History.{before_equal_end, concerns, on_side, said_of, content_at, state_said, state_at, receipt_of, same_content}
-use Rattle.nms_board.specs.Cells.{Board, IsBoard, StandsFor, after, cells_after, cell_of, change_cell, empty_cell, held_after, held_of, opening, place_of, quoted, restated, set_if_some, takes, withdraw_from, withdrawn}
+use Rattle.nms_board.specs.History.{before_equal_end, concerns, lot_at, lot_listed, lot_said, lot_since, on_side, said_of, content_at, state_said, state_at, receipt_of, same_content}
+use Rattle.nms_board.specs.Cells.{Board, IsBoard, StandsFor, after, cells_after, lots_after, cell_of, change_cell, empty_cell, held_after, held_of, opening, place_of, quoted, restated, set_if_some, takes, withdraw_from, withdrawn}
 use Rattle.nms_board.specs.Quotation.{is_halted, quotation, quotation_of, quotations}
 use Rattle.nms_board.specs.Shown.{row_held, row_of_cell, rows_held, seen_on}
 use Rattle.nms_board.specs.View.{view_of}
@@ -22,7 +22,7 @@ use Rattle.nms_board.specs.declared.row.Row.{Row}
 use Rattle.nms_board.specs.declared.cell.Held.{Held}
 use Rattle.nms_board.specs.declared.cell.Cell.{Cell}
 use Rattle.nms_board.proofs.ListLemmas.{slice_get-set_same, slice_get-set_other, slice_get-replicate_below, filter_map_none, filter_map_same}
-use Rattle.nms_board.proofs.HistoryLemmas.{content_at-push, receipt_of-push, same_content-refl, same_content-true, state_at-push}
+use Rattle.nms_board.proofs.HistoryLemmas.{content_at-push, lot_listed-push, lot_listed_unsaid, receipt_of-push, same_content-refl, same_content-true, state_at-push}
 
 -- the roster stays
 pub sizes_after : (board : Board) (change : Change) → (after board change).sizes ≡ board.sizes
@@ -37,8 +37,13 @@ unfolding before_equal_end
 stands_opening sizes narrow = record {
   applied = refl;
   narrow = narrow;
+  lots = λ symbol. as_opened (slice_get sizes.lots symbol) symbol;
   cells = λ part symbol in_parts in_syms. slice_get-replicate_below (32 * length sizes.lots) (place_of part symbol) empty_cell (omega arith);
 }
+  where
+    as_opened : (lot : Option ℕ) (symbol : ℕ) → lot ≡ option_map (lot_since symbol []) lot
+    as_opened None symbol = refl
+    as_opened (Some lot) symbol = refl
 
 -- a side whose receipt follows its content is the side after the change
 held_step : (n receipt receipt' : ℕ) (old new : Option Content) → receipt' ≡ (if same_content old new then receipt else n)
@@ -228,6 +233,37 @@ cell_after board tape (Withdraw p) part symbol at held =
           withdraw_from_elsewhere n p syms board.cells (place_of part symbol) (λ s below together. differ (omega (arith, stands.narrow, at.in_parts)))
           ∙ there ∙ ap (λ cell. Some cell) (sym (cell_untouched part symbol tape (Withdraw p) (λ side. rw (ne_eqb p part differ) refl) refl))
     ]
+cell_after board tape (Lot s lot) part symbol at held =
+    at.stands.cells part symbol at.in_parts at.in_syms ∙ ap (λ cell. Some cell) (sym (cell_untouched part symbol tape (Lot s lot) (λ side. refl) refl))
+
+-- each symbol's lot after a change, by the kind of change
+lots_stand : (board : Board) (tape : Tape) (change : Change) → StandsFor board tape → holds board.sizes change ≡ true → (sym : ℕ)
+    → slice_get (lots_after board.lots change) sym ≡ lot_listed board.sizes (tape ++ change ∷ []) sym
+lots_stand board tape (Quote p s state bid offer) stands held symbol = stands.lots symbol ∙ sym (lot_listed_unsaid board.sizes symbol tape (Quote p s state bid offer) refl)
+lots_stand board tape (State p s state) stands held symbol = stands.lots symbol ∙ sym (lot_listed_unsaid board.sizes symbol tape (State p s state) refl)
+lots_stand board tape (Withdraw p) stands held symbol = stands.lots symbol ∙ sym (lot_listed_unsaid board.sizes symbol tape (Withdraw p) refl)
+lots_stand board tape (Lot s lot) stands held symbol =
+    let change = Lot s lot in
+    elim (cases_eq s symbol) [
+      | inl here ↦
+          let below : symbol < length board.sizes.lots = omega (arith, here, ltb-true s (length board.sizes.lots) held) in
+          let opened = slice_get-get_or board.sizes.lots symbol 0 below in
+          let listed : (t : Tape) → lot_listed board.sizes t symbol ≡ Some (lot_since symbol t (get_or board.sizes.lots symbol 0)) = λ t. ap (option_map (lot_since symbol t)) opened in
+          let was = stands.lots symbol ∙ listed tape in
+          let said : lot_said symbol change ≡ Some lot = rw (eq-eqb s symbol here) refl in
+          let set : slice_get (slice_set board.lots s lot) symbol ≡ Some lot = rw here (slice_get-set_same board.lots symbol _ lot was) in
+          let now : lot_listed board.sizes (tape ++ change ∷ []) symbol ≡ Some lot = lot_listed-push board.sizes symbol tape change ∙ rw (said, listed tape) refl in
+          set ∙ sym now
+      | inr differ ↦
+          let unsaid : lot_said symbol change ≡ None = rw (ne_eqb s symbol differ) refl in
+          slice_get-set_other board.lots s symbol lot differ ∙ stands.lots symbol ∙ sym (lot_listed_unsaid board.sizes symbol tape change unsaid)
+    ]
+
+length-lots_after : (lots : List ℕ) (change : Change) → length (lots_after lots change) ≡ length lots
+length-lots_after lots (Quote p s state bid offer) = refl
+length-lots_after lots (State p s state) = refl
+length-lots_after lots (Withdraw p) = refl
+length-lots_after lots (Lot s lot) = length-set lots s lot
 
 pub stands_after : (board : Board) (tape : Tape) (change : Change) → StandsFor board tape → takes board change ≡ true → StandsFor (after board change) (tape ++ change ∷ [])
 stands_after board tape change stands taken =
@@ -235,6 +271,7 @@ stands_after board tape change stands taken =
     record {
       applied = ap (λ n. n + 1) stands.applied ∙ sym (length-append tape (change ∷ []));
       narrow = stands.narrow;
+      lots = lots_stand board tape change stands held;
       cells = λ part symbol in_parts in_syms. cell_after board tape change part symbol (record { stands = stands; in_parts = in_parts; in_syms = in_syms }) held;
     }
 
@@ -243,6 +280,7 @@ length-cells_after : (n syms : ℕ) (cells : List Cell) (change : Change) → le
 length-cells_after n syms cells (Quote part symbol state bid offer) = length-change_cell cells (place_of part symbol) (quoted n state bid offer)
 length-cells_after n syms cells (State part symbol state) = length-change_cell cells (place_of part symbol) (restated state)
 length-cells_after n syms cells (Withdraw part) = length-withdraw_from n part syms cells
+length-cells_after n syms cells (Lot symbol lot) = refl
 
 -- a board stays one
 pub board_after : (board : Board) (change : Change) → IsBoard board → takes board change ≡ true → IsBoard (after board change)
@@ -252,6 +290,7 @@ board_after board change is taken =
       shape = record {
         parts = is.shape.parts;
         syms = is.shape.syms;
+        lots = length-lots_after board.lots change ∙ is.shape.lots;
         cells = length-cells_after (board.applied + 1) (length board.sizes.lots) board.cells change ∙ is.shape.cells;
         applied = omega arith;
       };
@@ -270,6 +309,10 @@ restated_below board part symbol state taken =
     let held = (and_parts (holds board.sizes (State part symbol state)) (nat_lt board.applied MOST_CHANGES) taken).0 in
     ltb-true symbol (length board.sizes.lots) (and_parts (nat_lt part board.sizes.parts) (nat_lt symbol (length board.sizes.lots)) held).1
 
+pub relotted_below : (board : Board) (sym lot : ℕ) → takes board (Lot sym lot) ≡ true → sym < length board.sizes.lots
+relotted_below board symbol lot taken =
+    ltb-true symbol (length board.sizes.lots) (and_parts (holds board.sizes (Lot symbol lot)) (nat_lt board.applied MOST_CHANGES) taken).0
+
 -- a symbol out of the roster has lot 0, which shows nothing
 quotation_no_lot : (lot part : ℕ) (state : Option QState) (receipt : ℕ) (content : Option Content) → lot ≡ 0 → quotation lot part state receipt content ≡ None
 quotation_no_lot lot part state receipt None no_lot = refl
@@ -280,17 +323,17 @@ quotation_no_lot lot part state receipt (Some content) no_lot =
     hidden true = refl
     hidden false = refl
 
-row_held_no_lot : (board : Board) (sym : ℕ) (side : Side) (part : ℕ) → slice_index board.sizes.lots sym ≡ 0 → row_held board sym side part ≡ None
+row_held_no_lot : (board : Board) (sym : ℕ) (side : Side) (part : ℕ) → slice_index board.lots sym ≡ 0 → row_held board sym side part ≡ None
 row_held_no_lot board symbol side part no_lot = by_read (slice_get board.cells (place_of part symbol))
   where
-    by_read : (read : Option Cell) → option_and_then (row_of_cell (slice_index board.sizes.lots symbol) part side) read ≡ None
+    by_read : (read : Option Cell) → option_and_then (row_of_cell (slice_index board.lots symbol) part side) read ≡ None
     by_read None = refl
-    by_read (Some cell) = quotation_no_lot (slice_index board.sizes.lots symbol) part cell.state (on_side side cell.bid cell.offer).receipt (on_side side cell.bid cell.offer).quote no_lot
+    by_read (Some cell) = quotation_no_lot (slice_index board.lots symbol) part cell.state (on_side side cell.bid cell.offer).receipt (on_side side cell.bid cell.offer).quote no_lot
 
 -- no rows of a symbol out of the roster
-pub rows_held_unlisted : (board : Board) (sym : ℕ) (side : Side) → slice_get board.sizes.lots sym ≡ None → rows_held board sym side ≡ []
+pub rows_held_unlisted : (board : Board) (sym : ℕ) (side : Side) → slice_get board.lots sym ≡ None → rows_held board sym side ≡ []
 rows_held_unlisted board symbol side unlisted =
-    let no_lot : slice_index board.sizes.lots symbol ≡ 0 = sym (unwrap_or-slice_get board.sizes.lots symbol 0) ∙ rw unlisted refl in
+    let no_lot : slice_index board.lots symbol ≡ 0 = sym (unwrap_or-slice_get board.lots symbol 0) ∙ rw unlisted refl in
     filter_map_none (row_held board symbol side) 0 board.sizes.parts (λ part. row_held_no_lot board symbol side part no_lot)
 
 row_of_cell_of : (lot part sym : ℕ) (side : Side) (tape : Tape) → row_of_cell lot part side (cell_of part sym tape) ≡ quotation lot part (state_at part sym tape) (receipt_of part sym side tape) (content_at part sym side tape)
@@ -300,12 +343,13 @@ row_of_cell_of lot part symbol Offer tape = refl
 -- what the cells show is what the tape says
 pub row_stands : (board : Board) (tape : Tape) (sym : ℕ) (side : Side) (part : ℕ) → StandsFor board tape → part < board.sizes.parts → row_held board sym side part ≡ quotation_of board.sizes tape sym side part
 row_stands board tape symbol side part stands in_parts =
-    let lot = slice_index board.sizes.lots symbol in
+    let lot = lot_at board.sizes tape symbol in
+    let lot_is : slice_index board.lots symbol ≡ lot = sym (unwrap_or-slice_get board.lots symbol 0) ∙ ap (λ (l : Option ℕ). unwrap_or l 0) (stands.lots symbol) in
     elim (cases_lt symbol (length board.sizes.lots)) [
-      | inl in_syms ↦ rw (stands.cells part symbol in_parts in_syms) (row_of_cell_of lot part symbol side tape)
+      | inl in_syms ↦ rw (stands.cells part symbol in_parts in_syms, lot_is) (row_of_cell_of lot part symbol side tape)
       | inr past ↦
-          let no_lot : lot ≡ 0 = get_or_past board.sizes.lots symbol 0 past in
-          row_held_no_lot board symbol side part no_lot
+          let no_lot : lot ≡ 0 = ap (λ (l : Option ℕ). unwrap_or (option_map (lot_since symbol tape) l) 0) (slice_get_past board.sizes.lots symbol past) in
+          row_held_no_lot board symbol side part (lot_is ∙ no_lot)
           ∙ sym (quotation_no_lot lot part (state_at part symbol tape) (receipt_of part symbol side tape) (content_at part symbol side tape) no_lot)
     ]
 
@@ -333,10 +377,21 @@ cell_stays board (State p s state) symbol part narrow held unconcerned part_in =
     let p_in : p < board.sizes.parts = ltb-true p board.sizes.parts (and_parts (nat_lt p board.sizes.parts) (nat_lt s (length board.sizes.lots)) held).0 in
     change_cell_elsewhere board.cells (place_of p s) (place_of part symbol) (restated state) (other_symbol p s part symbol (omega arith) part_in unconcerned)
 cell_stays board (Withdraw p) symbol part narrow held unconcerned part_in = absurd (cc)
+cell_stays board (Lot s lot) symbol part narrow held unconcerned part_in = refl
+
+-- and so does its lot
+lot_stays : (lots : List ℕ) (change : Change) (sym : ℕ) → concerns sym change ≡ false → slice_index (lots_after lots change) sym ≡ slice_index lots sym
+lot_stays lots (Quote p s state bid offer) symbol unconcerned = refl
+lot_stays lots (State p s state) symbol unconcerned = refl
+lot_stays lots (Withdraw p) symbol unconcerned = refl
+lot_stays lots (Lot s lot) symbol unconcerned =
+    get_or-set_other lots s symbol lot 0 (λ same. false≢true (sym unconcerned ∙ eq-eqb s symbol (sym same)))
 
 -- and so do its quotations
 pub rows_stay : (board : Board) (change : Change) (sym : ℕ) (side : Side) → board.sizes.parts ≤ MOST_ROWS → holds board.sizes change ≡ true → concerns sym change ≡ false
     → rows_held (after board change) sym side ≡ rows_held board sym side
 rows_stay board change symbol side narrow held unconcerned =
     filter_map_same (row_held (after board change) symbol side) (row_held board symbol side) 0 board.sizes.parts
-    (λ part low high. ap (λ (cell : Option Cell). option_and_then (row_of_cell (slice_index board.sizes.lots symbol) part side) cell) (cell_stays board change symbol part narrow held unconcerned (omega arith)))
+    (λ part low high.
+    ap (λ (lot : ℕ). option_and_then (row_of_cell lot part side) (slice_get (after board change).cells (place_of part symbol))) (lot_stays board.lots change symbol unconcerned)
+    ∙ ap (λ (cell : Option Cell). option_and_then (row_of_cell (slice_index board.lots symbol) part side) cell) (cell_stays board change symbol part narrow held unconcerned (omega arith)))

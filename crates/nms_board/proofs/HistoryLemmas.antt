@@ -1,15 +1,16 @@
 -- What one more change does to the history of a side: its content, its receipt and the state.
-use Rattle.std.proofs.Common.{◌≡◌, ℕ, ◌+◌, ◌&&◌, Bool, true, false, List, [], ◌∷◌, ◌++◌, map, length, Option, Some, None, unwrap_or, if◌then◌else◌, refl, sym, ap, ap₂, ◌∙◌, inl, inr, suc, arith, eqb, eq-eqb}
+use Rattle.std.proofs.Common.{◌≡◌, ℕ, ◌+◌, ◌&&◌, Bool, true, false, List, [], ◌∷◌, ◌++◌, map, length, Option, Some, None, option_map, slice_get, unwrap_or, if◌then◌else◌, refl, sym, ap, ap₂, ◌∙◌, inl, inr, suc, arith, eqb, eq-eqb}
 use Rattle.std.specs.List.{filter_map, last_or, list_all}
 use Rattle.std.specs.Option.{option_or}
 use Rattle.std.proofs.lemmas.List.{map_push, length-append, length-map}
 use Rattle.std.proofs.lemmas.List.Folds.{list_all-append}
 use Rattle.std.proofs.lemmas.Bool.{eqb-true, and_parts, cases_Bool, both_ways, false_from_ne_true}
 use Rattle.nms_quote.specs.Content.{Content}
+use Rattle.nms_quote.specs.Roster.{Sizes}
 use Rattle.nms_quote.specs.Tape.{Tape, versions}
 use Rattle.nms_quote.specs.declared.side_quote.Side.{Side}
 use Rattle.nms_quote.specs.declared.change.Change.{Change}
-use Rattle.nms_board.specs.History.{said_of, content_at, state_said, state_at, same_content, before_equal_end, contents_over, receipt_of}
+use Rattle.nms_board.specs.History.{said_of, content_at, lot_listed, lot_said, lot_since, state_said, state_at, same_content, before_equal_end, contents_over, receipt_of}
 use Rattle.nms_board.proofs.ListLemmas.{last_answer_push}
 
 pub same_content-refl : (x : Option Content) → same_content x x ≡ true
@@ -110,3 +111,28 @@ receipt_of-push part symbol side tape change =
     let all : contents_over part symbol side (tape ++ change ∷ []) ≡ contents_over part symbol side tape ++ last ∷ [] = ap (map content) (versions_push tape change) ∙ map_push content (versions tape) (tape ++ change ∷ []) in
     let count : length (map content end.before ++ content tape ∷ []) ≡ length tape + 1 = length-append (map content end.before) (content tape ∷ []) ∙ ap (λ n. n + 1) (length-map end.before content ∙ end.count) in
     ap before_equal_end (all ∙ ap (λ xs. xs ++ last ∷ []) so_far) ∙ before_equal_end_push (map content end.before) (content tape) last ∙ rw (← so_far, ap length so_far ∙ count) refl
+
+-- the lot after one more change: what it says of the symbol's, or the lot there was
+pub lot_since-push : (sym : ℕ) (tape : Tape) (change : Change) (opening : ℕ) → lot_since sym (tape ++ change ∷ []) opening ≡ unwrap_or (lot_said sym change) (lot_since sym tape opening)
+lot_since-push symbol tape change opening =
+    ap (λ said. unwrap_or said opening) (last_answer_push (lot_said symbol) tape change) ∙ newer (lot_said symbol change) (last_or None (filter_map (lot_said symbol) tape))
+  where
+    newer : (new old : Option ℕ) → unwrap_or (option_or new old) opening ≡ unwrap_or new (unwrap_or old opening)
+    newer None old = refl
+    newer (Some lot) old = refl
+
+pub lot_listed-push : (sizes : Sizes) (sym : ℕ) (tape : Tape) (change : Change) → lot_listed sizes (tape ++ change ∷ []) sym ≡ option_map (unwrap_or (lot_said sym change)) (lot_listed sizes tape sym)
+lot_listed-push sizes symbol tape change = by_opening (slice_get sizes.lots symbol)
+  where
+    by_opening : (opening : Option ℕ) → option_map (lot_since symbol (tape ++ change ∷ [])) opening ≡ option_map (unwrap_or (lot_said symbol change)) (option_map (lot_since symbol tape) opening)
+    by_opening None = refl
+    by_opening (Some opening) = ap Some (lot_since-push symbol tape change opening)
+
+-- a change that says nothing of a symbol's lot leaves it
+pub lot_listed_unsaid : (sizes : Sizes) (sym : ℕ) (tape : Tape) (change : Change) → lot_said sym change ≡ None → lot_listed sizes (tape ++ change ∷ []) sym ≡ lot_listed sizes tape sym
+lot_listed_unsaid sizes symbol tape change unsaid =
+    lot_listed-push sizes symbol tape change ∙ ap (λ said. option_map (unwrap_or said) (lot_listed sizes tape symbol)) unsaid ∙ as_was (lot_listed sizes tape symbol)
+  where
+    as_was : (lot : Option ℕ) → option_map (λ (n : ℕ). unwrap_or None n) lot ≡ lot
+    as_was None = refl
+    as_was (Some lot) = refl

@@ -1,9 +1,10 @@
 -- The laws above the definitions.
-use Rattle.std.proofs.Common.{◌≡◌, ◌≢◌, ℕ, zero, suc, ◌+◌, ◌<◌, ◌≤◌, ◌&&◌, ◌==◌, ◌⊎◌, Bool, true, false, All, AllPairs, [], ◌∷◌, ◌++◌, append_assoc, append-nil, length, Option, Some, None, unwrap_or, slice_index, if◌then◌else◌, refl, sym, ap, subst, ◌∙◌, inl, inr, arith, eqb, eq-eqb, ne_eqb}
+use Rattle.std.proofs.Common.{◌≡◌, ◌≢◌, ℕ, zero, suc, ◌+◌, ◌<◌, ◌≤◌, ◌&&◌, ◌==◌, ◌⊎◌, Bool, true, false, All, AllPairs, [], ◌∷◌, ◌++◌, append_assoc, append-nil, length, Option, Some, None, unwrap_or, if◌then◌else◌, refl, sym, ap, subst, ◌∙◌, inl, inr, arith, eqb, eq-eqb, ne_eqb}
 use Rattle.std.specs.List.{filter_map, range_with_len, cons_option}
 use Rattle.std.proofs.lemmas.List.{length-append, take_all, take-append-le}
 use Rattle.std.proofs.lemmas.List.Elements.{All-nil, All-cons, All-head, All-tail}
 use Rattle.std.proofs.lemmas.List.Kept.{AllPairs-cons}
+use Rattle.std.proofs.lemmas.Option.{none-some, same_Some, slice_get-get_or}
 use Rattle.std.proofs.lemmas.Bool.{and_from, and_left, cases_Bool, cases_eq, cases_lt, both_ways}
 use Rattle.nms_quote.specs.Content.{Content}
 use Rattle.nms_quote.specs.Roster.{Sizes}
@@ -12,13 +13,14 @@ use Rattle.nms_quote.specs.declared.side_quote.Side.{Side}
 use Rattle.nms_quote.specs.declared.side_quote.QState.{QState}
 use Rattle.nms_quote.specs.declared.side_quote.QState.TheVariants.{Automated, Halted}
 use Rattle.nms_quote.specs.declared.change.Change.{Change}
-use Rattle.nms_quote.specs.declared.change.Change.TheVariants.{Quote, State, Withdraw}
-use Rattle.nms_board.specs.History.{before_equal_end, on_side, said_of, content_at, state_at, receipt_of, same_content}
+use Rattle.nms_quote.specs.declared.change.Change.TheVariants.{Lot, Quote, State, Withdraw}
+use Rattle.nms_board.specs.History.{before_equal_end, on_side, said_of, content_at, lot_at, lot_said, state_at, receipt_of, same_content, lot_listed}
 use Rattle.nms_board.specs.Quotation.{is_automated, is_halted, quotation, quotation_of, quotations}
 use Rattle.nms_units.specs.Lot.{displayed_size}
-use Rattle.nms_board.specs.Laws.{IsReceipt, KeepsSide, HidesAndKeeps}
+use Rattle.nms_board.specs.Laws.{IsReceipt, KeepsReceipts, KeepsSide, HidesAndKeeps}
 use Rattle.nms_board.specs.declared.row.Row.{Row}
-use Rattle.nms_board.proofs.HistoryLemmas.{content_at-push, receipt_of-push, state_at-push, same_content-refl, same_content-true}
+use Rattle.nms_board.proofs.HistoryLemmas.{content_at-push, lot_listed-push, lot_listed_unsaid, receipt_of-push, state_at-push, same_content-refl, same_content-true}
+use Rattle.nms_board.proofs.ListLemmas.{filter_map_same}
 
 -- what holds of the empty tape and of each tape with one more change holds of each
 by_last_change : (P : Tape → Type 0) → P [] → ((tape : Tape) (change : Change) → P tape → P (tape ++ change ∷ [])) → (tape : Tape) → P tape
@@ -110,12 +112,13 @@ unsaid_keeps part symbol side tape change unsaid =
     receipt_stays part symbol side tape change (content_at-push part symbol side tape change ∙ ap (λ said. unwrap_or said (content_at part symbol side tape)) unsaid)
 
 -- a change of another participant says nothing of a side
-others_say_nothing : (part sym : ℕ) (side : Side) (change : Change) → participant_of change ≢ part → said_of part sym side change ≡ None
-others_say_nothing part symbol side (Quote p s state bid offer) other = rw (and_left (eqb p part) (eqb s symbol) (ne_eqb p part other)) refl
+others_say_nothing : (part sym : ℕ) (side : Side) (change : Change) → participant_of change ≢ Some part → said_of part sym side change ≡ None
+others_say_nothing part symbol side (Quote p s state bid offer) other = rw (and_left (eqb p part) (eqb s symbol) (ne_eqb p part (λ e. other (ap Some e)))) refl
 others_say_nothing part symbol side (State p s state) other = refl
-others_say_nothing part symbol side (Withdraw p) other = rw (ne_eqb p part other) refl
+others_say_nothing part symbol side (Withdraw p) other = rw (ne_eqb p part (λ e. other (ap Some e))) refl
+others_say_nothing part symbol side (Lot s lot) other = refl
 
-pub others_keep : (part sym : ℕ) (side : Side) (tape : Tape) (change : Change) → participant_of change ≢ part → KeepsSide part sym side tape change
+pub others_keep : (part sym : ℕ) (side : Side) (tape : Tape) (change : Change) → participant_of change ≢ Some part → KeepsSide part sym side tape change
 others_keep part symbol side tape change other = unsaid_keeps part symbol side tape change (others_say_nothing part symbol side change other)
 
 -- a quote that gives a side what it has leaves it
@@ -127,12 +130,12 @@ repeat_keeps part symbol side tape state bid offer same =
     receipt_stays part symbol side tape change (content_at-push part symbol side tape change ∙ ap (λ said. unwrap_or said (content_at part symbol side tape)) said ∙ sym same)
 
 -- changes of others leave a side
-keeps_along : (part sym : ℕ) (side : Side) (tape others : Tape) → All (λ change. participant_of change ≢ part) others
+keeps_along : (part sym : ℕ) (side : Side) (tape others : Tape) → All (λ change. participant_of change ≢ Some part) others
     → (content_at part sym side (tape ++ others) ≡ content_at part sym side tape) × (receipt_of part sym side (tape ++ others) ≡ receipt_of part sym side tape)
 keeps_along part symbol side tape [] all = (ap (content_at part symbol side) (append-nil tape), ap (receipt_of part symbol side) (append-nil tape))
 keeps_along part symbol side tape (change ∷ others) all =
-    let first = others_keep part symbol side tape change (All-head (λ change. participant_of change ≢ part) change others all) in
-    let rest = keeps_along part symbol side (tape ++ change ∷ []) others (All-tail (λ change. participant_of change ≢ part) change others all) in
+    let first = others_keep part symbol side tape change (All-head (λ change. participant_of change ≢ Some part) change others all) in
+    let rest = keeps_along part symbol side (tape ++ change ∷ []) others (All-tail (λ change. participant_of change ≢ Some part) change others all) in
     let regroup : tape ++ change ∷ others ≡ (tape ++ change ∷ []) ++ others = sym (append_assoc tape (change ∷ []) others) in
     (ap (content_at part symbol side) regroup ∙ rest.0 ∙ first.content, ap (receipt_of part symbol side) regroup ∙ rest.1 ∙ first.receipt)
 
@@ -148,11 +151,10 @@ halted_shows_nothing lot part receipt (Some content) = refl
 
 pub halting_hides_and_keeps : (sizes : Sizes) (part sym : ℕ) (tape : Tape) → HidesAndKeeps sizes part sym tape
 halting_hides_and_keeps sizes part symbol tape =
-    let lot = slice_index sizes.lots symbol in
     let halted = tape ++ State part symbol Halted ∷ [] in
     record {
       keeps = λ p s side. unsaid_keeps p s side tape (State part symbol Halted) refl;
-      hides = λ side. rw (state_given part symbol tape Halted) (halted_shows_nothing lot part (receipt_of part symbol side halted) (content_at part symbol side halted));
+      hides = λ side. rw (state_given part symbol tape Halted) (halted_shows_nothing (lot_at sizes halted symbol) part (receipt_of part symbol side halted) (content_at part symbol side halted));
       shows_again = λ side others all.
           let first = unsaid_keeps part symbol side tape (State part symbol Halted) refl in
           let between = keeps_along part symbol side halted others all in
@@ -184,6 +186,17 @@ one_altered p q symbol one other tape change kept apart p_quotes q_quotes equal 
           absurd (omega (arith, altered p symbol one tape change differ, (receipt_is_least q symbol other tape).within, kept.receipt))
     ]
 
+-- a change is a participant's, or not
+sent_by : (change : Change) (part : ℕ) → (participant_of change ≡ Some part) ⊎ (participant_of change ≢ Some part)
+sent_by change part = by (participant_of change)
+  where
+    by : (sender : Option ℕ) → (sender ≡ Some part) ⊎ (sender ≢ Some part)
+    by None = inr (λ e. none-some part e)
+    by (Some p) = elim (cases_eq p part) [
+      | inl same ↦ inl (ap Some same)
+      | inr differ ↦ inr (λ e. differ (same_Some p part e))
+    ]
+
 -- quoted sides of different participants have different receipts
 abbrev Apart : ℕ → Tape → Type 0
 Apart symbol tape = (p q : ℕ) (one other : Side) → p ≢ q → content_at p symbol one tape ≢ None → content_at q symbol other tape ≢ None → receipt_of p symbol one tape ≢ receipt_of q symbol other tape
@@ -193,9 +206,9 @@ receipts_differ symbol tape = by_last_change (Apart symbol) (λ p q one other ne
   where
     step : (tape : Tape) (change : Change) → Apart symbol tape → Apart symbol (tape ++ change ∷ [])
     step tape change apart p q one other ne p_quotes q_quotes equal =
-        elim (cases_eq (participant_of change) q) [
+        elim (sent_by change q) [
           | inr not_q ↦ one_altered p q symbol one other tape change (others_keep q symbol other tape change not_q) (apart p q one other ne) p_quotes q_quotes equal
-          | inl is_q ↦ one_altered q p symbol other one tape change (others_keep p symbol one tape change (λ is_p. ne (sym is_p ∙ is_q))) (apart q p other one (λ e. ne (sym e))) q_quotes p_quotes (sym equal)
+          | inl is_q ↦ one_altered q p symbol other one tape change (others_keep p symbol one tape change (λ is_p. ne (same_Some p q (sym is_p ∙ is_q)))) (apart q p other one (λ e. ne (sym e))) q_quotes p_quotes (sym equal)
         ]
 
 -- what a quotation is made of
@@ -216,7 +229,7 @@ quotation_parts lot part state receipt (Some content) row is = record {
     by_tests false false is = cc
 
 quotation_of_parts : (sizes : Sizes) (tape : Tape) (sym : ℕ) (side : Side) (part : ℕ) (row : Row) → quotation_of sizes tape sym side part ≡ Some row → IsQuotationOf (content_at part sym side tape) (receipt_of part sym side tape) row
-quotation_of_parts sizes tape symbol side part row is = quotation_parts (slice_index sizes.lots symbol) part (state_at part symbol tape) (receipt_of part symbol side tape) (content_at part symbol side tape) row is
+quotation_of_parts sizes tape symbol side part row is = quotation_parts (lot_at sizes tape symbol) part (state_at part symbol tape) (receipt_of part symbol side tape) (content_at part symbol side tape) row is
 
 pub quotations_differ : (sizes : Sizes) (tape : Tape) (sym : ℕ) (one other : Side) (p q : ℕ) (row second : Row) → p ≢ q → quotation_of sizes tape sym one p ≡ Some row → quotation_of sizes tape sym other q ≡ Some second → row.receipt ≢ second.receipt
 quotations_differ sizes tape symbol one other p q row second ne row_is second_is equal =
@@ -256,3 +269,38 @@ pub rows_count : (sizes : Sizes) (tape : Tape) (sym : ℕ) (side : Side) → All
 rows_count sizes tape symbol side =
     all_answers (λ (row : Row). (1 ≤ row.receipt) × (row.receipt ≤ length tape)) (quotation_of sizes tape symbol side) 0 sizes.parts
     (λ part row low is. quotation_counts sizes tape symbol side part row is)
+
+-- the lot that a change of it gives a symbol of the roster
+lot_given : (sizes : Sizes) (sym lot : ℕ) (tape : Tape) → sym < length sizes.lots → lot_at sizes (tape ++ Lot sym lot ∷ []) sym ≡ lot
+lot_given sizes symbol lot tape below =
+    let opened = slice_get-get_or sizes.lots symbol 0 below in
+    let said : lot_said symbol (Lot symbol lot) ≡ Some lot = rw (eq-eqb symbol symbol refl) refl in
+    let listed : lot_listed sizes (tape ++ Lot symbol lot ∷ []) symbol ≡ Some lot = lot_listed-push sizes symbol tape (Lot symbol lot) ∙ rw (said, opened) refl in
+    ap (λ (l : Option ℕ). unwrap_or l 0) listed
+
+-- a change that says nothing of a symbol's sides, states and lot leaves its quotations
+quotation_stays : (sizes : Sizes) (sym : ℕ) (side : Side) (part : ℕ) (tape : Tape) (change : Change) → KeepsSide part sym side tape change
+    → state_at part sym (tape ++ change ∷ []) ≡ state_at part sym tape → lot_at sizes (tape ++ change ∷ []) sym ≡ lot_at sizes tape sym
+    → quotation_of sizes (tape ++ change ∷ []) sym side part ≡ quotation_of sizes tape sym side part
+quotation_stays sizes symbol side part tape change keeps state lot = rw (keeps.content, keeps.receipt, state, lot) refl
+
+pub new_lot_keeps : (sizes : Sizes) (sym lot : ℕ) (tape : Tape) → sym < length sizes.lots → KeepsReceipts sizes sym lot tape
+new_lot_keeps sizes symbol lot tape below =
+    let change = Lot symbol lot in
+    let after = tape ++ change ∷ [] in
+    let keeps : (part s : ℕ) (side : Side) → KeepsSide part s side tape change = λ part s side. unsaid_keeps part s side tape change refl in
+    let state : (part s : ℕ) → state_at part s after ≡ state_at part s tape = λ part s. state_at-push part s tape change in
+    let ranks : (part : ℕ) (side : Side) → quotation_of sizes after symbol side part ≡ quotation lot part (state_at part symbol tape) (receipt_of part symbol side tape) (content_at part symbol side tape) =
+    λ part side. rw ((keeps part symbol side).content, (keeps part symbol side).receipt, state part symbol, lot_given sizes symbol lot tape below) refl in
+    let comes : (part : ℕ) (side : Side) (row : Row) → quotation_of sizes after symbol side part ≡ Some row → row.receipt ≡ receipt_of part symbol side tape =
+    λ part side row is. (quotation_of_parts sizes after symbol side part row is).receipt_is ∙ (keeps part symbol side).receipt in
+    record {
+      keeps = keeps;
+      ranks = ranks;
+      comes = comes;
+      stays = λ part side row was is was_is. comes part side row is ∙ sym (quotation_of_parts sizes tape symbol side part was was_is).receipt_is;
+      elsewhere = λ s side ne.
+          let listed = lot_listed_unsaid sizes s tape change (rw (ne_eqb symbol s ne) refl) in
+          filter_map_same (quotation_of sizes after s side) (quotation_of sizes tape s side) 0 sizes.parts
+          (λ part low high. quotation_stays sizes s side part tape change (keeps part s side) (state part s) (ap (λ (l : Option ℕ). unwrap_or l 0) listed));
+    }

@@ -1,4 +1,5 @@
 pub mod BoardLemmas
+pub mod CarriedLemmas
 pub mod HistoryLemmas
 pub mod KeptLemmas
 pub mod LawLemmas

@@ -14,7 +14,7 @@ use Rattle.nms_quote.specs.declared.side_quote.QState.{QState}
 use Rattle.nms_board.specs.Quotation.{quotation, quotation_of, quotations, is_halted}
 use Rattle.nms_board.specs.Cells.{Board, place_of}
 use Rattle.nms_board.specs.Shown.{row_of_cell, row_held, rows_held, seen_on}
-use Rattle.nms_board.specs.History.{content_at, on_side, receipt_of, state_at}
+use Rattle.nms_board.specs.History.{content_at, lot_at, on_side, receipt_of, state_at}
 use Rattle.nms_board.specs.View.{Seen, rows_on, view_of}
 use Rattle.nms_board.specs.declared.cell.Cell.{Cell}
 use Rattle.nms_board.specs.declared.row.Row.{Row}
@@ -32,9 +32,9 @@ quotation_part lot part state receipt (Some content) row e = by (is_halted state
 pub held_part : (board : Board) (sym : ℕ) (side : Side) (part : ℕ) (row : Row) → row_held board sym side part ≡ Some row → row.part ≡ part
 held_part board sym side part row e = by (slice_get board.cells (place_of part sym)) e
   where
-    by : (cell : Option Cell) → option_and_then (row_of_cell (slice_index board.sizes.lots sym) part side) cell ≡ Some row → row.part ≡ part
+    by : (cell : Option Cell) → option_and_then (row_of_cell (slice_index board.lots sym) part side) cell ≡ Some row → row.part ≡ part
     by None h = absurd (cc)
-    by (Some cell) h = quotation_part (slice_index board.sizes.lots sym) part cell.state (on_side side cell.bid cell.offer).receipt (on_side side cell.bid cell.offer).quote row h
+    by (Some cell) h = quotation_part (slice_index board.lots sym) part cell.state (on_side side cell.bid cell.offer).receipt (on_side side cell.bid cell.offer).quote row h
 
 rows_below : (f : ℕ → Option Row) → ((part : ℕ) (row : Row) → f part ≡ Some row → row.part ≡ part) → (from n : ℕ) → AllByRecursion (λ (row : Row). row.part < from + n) (filter_map f (range_with_len from n))
 rows_below f own from zero = tt
@@ -81,7 +81,7 @@ quoted_parts : (sizes : Sizes) (tape : Tape) (sym : ℕ) (side : Side) → All (
 quoted_parts sizes tape symbol side =
     all_below (quotations sizes tape symbol side) sizes.parts
     (rows_below (quotation_of sizes tape symbol side)
-    (λ part row e. quotation_part (slice_index sizes.lots symbol) part (state_at part symbol tape) (receipt_of part symbol side tape) (content_at part symbol side tape) row e) 0 sizes.parts)
+    (λ part row e. quotation_part (lot_at sizes tape symbol) part (state_at part symbol tape) (receipt_of part symbol side tape) (content_at part symbol side tape) row e) 0 sizes.parts)
 
 -- and so is each row of a view of it
 pub view_parts : (sizes : Sizes) (tape : Tape) (sym : ℕ) (side : Side) → All (λ (row : Row). row.part < sizes.parts) (rows_on side (view_of sizes tape sym))

@@ -1,7 +1,8 @@
 -- What a board's rows are like: each of its participant and of a size, in order of place.
-use Rattle.std.proofs.Common.{◌≡◌, ℕ, zero, suc, ◌+◌, ◌<◌, ◌≤◌, ◌==◌, Bool, true, false, All, List, [], ◌∷◌, ◌++◌, length, map, Option, Some, None, IfSome, get_or, slice_get, slice_index, if◌then◌else◌, refl, ap, ◌∙◌, arith, add-one}
+use Rattle.std.proofs.Common.{◌≡◌, ℕ, zero, suc, ◌+◌, ◌*◌, ◌<◌, ◌≤◌, ◌==◌, Bool, true, false, All, List, [], ◌∷◌, ◌++◌, length, map, Option, Some, None, IfSome, get_or, slice_get, slice_index, if◌then◌else◌, refl, ap, subst, sym, ◌∙◌, arith, add-one}
 use Rattle.std.specs.List.{filter_map, cons_option, range_with_len}
 use Rattle.std.proofs.lemmas.Bool.{eqb-false}
+use Rattle.std.proofs.lemmas.List.Edits.{get_or-between, length-between}
 use Rattle.std.proofs.lemmas.Option.{get_or_from_slice_get, slice_get_read, slice_get_within}
 use Rattle.nms_units.specs.Lot.{displayed_size}
 use Rattle.nms_quote.specs.Content.{Content}
@@ -9,7 +10,8 @@ use Rattle.nms_quote.specs.Roster.{Sizes}
 use Rattle.nms_quote.specs.Tape.{Tape}
 use Rattle.nms_quote.specs.declared.side_quote.Side.{Side}
 use Rattle.nms_quote.specs.declared.side_quote.QState.{QState}
-use Rattle.nms_board.specs.History.{content_at, receipt_of, state_at}
+use Rattle.nms_board.specs.History.{content_at, lot_at, receipt_of, state_at}
+use Rattle.nms_board.specs.Kept.{symbol_cells}
 use Rattle.nms_board.specs.Quotation.{is_halted, is_automated, quotation, quotation_of, quotations}
 use Rattle.nms_board.specs.View.{AreRows}
 use Rattle.nms_board.specs.Cells.{Board, IsBoard, IsInShape, place_of}
@@ -67,7 +69,7 @@ pub quotations_are_rows : (sizes : Sizes) (tape : Tape) (sym : ℕ) (side : Side
 quotations_are_rows sizes tape symbol side =
     let from : IsFrom 0 (quotations sizes tape symbol side) =
     IsFrom-range (quotation_of sizes tape symbol side)
-    (λ part. quotation_is_row (slice_index sizes.lots symbol) part (state_at part symbol tape) (receipt_of part symbol side tape) (content_at part symbol side tape))
+    (λ part. quotation_is_row (lot_at sizes tape symbol) part (state_at part symbol tape) (receipt_of part symbol side tape) (content_at part symbol side tape))
     0 sizes.parts in
     record {
       rising = λ k below. rw add-one (rising 0 (quotations sizes tape symbol side) from k (omega arith));
@@ -89,13 +91,59 @@ length-filter_map-range f place zero = omega arith
 length-filter_map-range f place (suc n) = omega (arith, length-cons_option (f place) (filter_map f (range_with_len (place + 1) n)), length-filter_map-range f (place + 1) n)
 
 -- the rows of one more participant, whose cell was read
-pub rows_more : (board : Board) (sym : ℕ) (side : Side) (part lot i : ℕ) (cell : Cell) → IsInShape board → slice_get board.sizes.lots sym ≡ Some lot → part < board.sizes.parts
+pub rows_more : (board : Board) (sym : ℕ) (side : Side) (part lot i : ℕ) (cell : Cell) → IsInShape board → slice_get board.lots sym ≡ Some lot → part < board.sizes.parts
     → i ≡ place_of part sym → cell ≡ get_or board.cells i cell
     → filter_map (row_held board sym side) (range_with_len 0 (part + 1)) ≡ filter_map (row_held board sym side) (range_with_len 0 part) ++ cons_option (row_of_cell lot part side cell) []
 rows_more board symbol side part lot i cell shape listed in_parts at read =
-    let in_syms = slice_get_within board.sizes.lots symbol lot listed in
-    let lot_is : slice_index board.sizes.lots symbol ≡ lot = get_or_from_slice_get board.sizes.lots symbol lot 0 listed in
+    let in_syms = slice_get_within board.lots symbol lot listed in
+    let lot_is : slice_index board.lots symbol ≡ lot = get_or_from_slice_get board.lots symbol lot 0 listed in
     let there : slice_get board.cells (place_of part symbol) ≡ Some cell =
-    rw (← at) (slice_get_read board.cells (length board.cells) i cell refl (omega (arith, shape.parts, shape.cells)) read) in
+    rw (← at) (slice_get_read board.cells (length board.cells) i cell refl (omega (arith, shape.parts, shape.cells, shape.lots)) read) in
     let row : row_held board symbol side part ≡ row_of_cell lot part side cell = rw (lot_is, there) refl in
     filter_map_more (row_held board symbol side) part ∙ ap (λ row. filter_map (row_held board symbol side) (range_with_len 0 part) ++ cons_option row []) row
+
+-- a symbol's cells, that are walked over
+pub record IsWalk (board : Board) (sym lot : ℕ) (cells : List Cell) : Type 0 where
+  pub shape : IsInShape board
+  pub listed : slice_get board.lots sym ≡ Some lot
+  pub cells_are : cells ≡ symbol_cells board.sizes.parts sym board.cells
+
+pub walk_of : (inside board : Board) (sym lot at : ℕ) (all cells : List Cell) → inside ≡ board → IsInShape inside → slice_get board.lots sym ≡ Some lot
+    → at ≡ sym → all ≡ inside.cells → cells ≡ symbol_cells inside.sizes.parts at all → IsWalk board sym lot cells
+walk_of inside board symbol lot at all cells same shape listed at_is all_is cells_is =
+    record {
+      shape = subst IsInShape same shape;
+      listed = listed;
+      cells_are = cells_is ∙ rw (at_is, all_is) (ap (λ (b : Board). symbol_cells b.sizes.parts symbol b.cells) same);
+    }
+
+-- they are as many as participants
+pub walk_long : (board : Board) (sym lot : ℕ) (cells : List Cell) → IsWalk board sym lot cells → length cells ≡ board.sizes.parts
+walk_long board symbol lot cells walk =
+    let in_syms = slice_get_within board.lots symbol lot walk.listed in
+    ap length walk.cells_are
+    ∙ omega (arith, length-between board.cells (32 * symbol) (32 * symbol + board.sizes.parts) (omega (arith, walk.shape.parts, walk.shape.cells, walk.shape.lots)))
+
+-- so there is room for the row of each
+pub walk_room : (board : Board) (sym lot part : ℕ) (cells : List Cell) (side : Side) (rows : List Row) → IsWalk board sym lot cells → part < length cells
+    → rows ≡ filter_map (row_held board sym side) (range_with_len 0 part) → length rows < 32
+walk_room board symbol lot part cells side rows walk below is =
+    omega (arith, ap length is, length-filter_map-range (row_held board symbol side) 0 part, walk_long board symbol lot cells walk, walk.shape.parts)
+
+-- the rows of one more participant
+pub walk_more : (board : Board) (sym lot part : ℕ) (cells : List Cell) (side : Side) (cell : Cell) (rows : List Row) → IsWalk board sym lot cells → part < length cells
+    → cell ≡ get_or cells part cell → rows ≡ filter_map (row_held board sym side) (range_with_len 0 part)
+    → rows ++ cons_option (row_of_cell lot part side cell) [] ≡ filter_map (row_held board sym side) (range_with_len 0 (part + 1))
+walk_more board symbol lot part cells side cell rows walk below read is =
+    let in_parts : part < board.sizes.parts = omega (arith, walk_long board symbol lot cells walk) in
+    rw is
+    (sym (rows_more board symbol side part lot (place_of part symbol) cell walk.shape walk.listed in_parts refl
+    (read ∙ ap (λ (all : List Cell). get_or all part cell) walk.cells_are
+    ∙ get_or-between board.cells (32 * symbol) (32 * symbol + board.sizes.parts) part cell (omega arith))))
+
+-- the rows of all
+pub walk_all : (board : Board) (sym lot part : ℕ) (cells : List Cell) (side : Side) (rows : List Row) → IsWalk board sym lot cells → length cells ≤ part → part ≤ length cells
+    → rows ≡ filter_map (row_held board sym side) (range_with_len 0 part) → rows ≡ rows_held board sym side
+walk_all board symbol lot part cells side rows walk past within is =
+    let all : part ≡ board.sizes.parts = omega (arith, walk_long board symbol lot cells walk) in
+    is ∙ ap (λ n. filter_map (row_held board symbol side) (range_with_len 0 n)) all

@@ -10,20 +10,27 @@ use Rattle.nms_quote.specs.declared.side_quote.Side.TheVariants.{Bid, Offer}
 use Rattle.nms_quote.specs.declared.side_quote.QState.{QState}
 use Rattle.nms_quote.specs.declared.change.Change.{Change}
 use Rattle.nms_quote.specs.declared.change.Change.TheVariants as change
-use Rattle.nms_board.specs.History.{content_at, state_at, receipt_of, same_content}
+use Rattle.nms_board.specs.History.{content_at, lot_listed, state_at, receipt_of, same_content}
 use Rattle.nms_board.specs.declared.cell.Held.{Held}
 use Rattle.nms_board.specs.declared.cell.Cell.{Cell}
 
--- the roster's sizes, a cell for each participant in each symbol, and how many changes were applied
+-- the roster's sizes, each symbol's present round lot, a cell for each participant in each symbol, and how many
+-- changes were applied
 pub record Board : Type 0 where
   pub sizes : Sizes
+  pub lots : List ℕ
   pub cells : List Cell
   pub applied : ℕ
 
--- a board holds no more than a roster has, and a cell for each place of it
+-- the sizes with the present lots in place of the opening ones
+abbrev pub present : Board → Sizes
+present board = record { parts = board.sizes.parts; lots = board.lots }
+
+-- a board holds no more than a roster has, and a lot and a cell for each place of it
 pub record IsInShape (board : Board) : Type 0 where
   pub parts : board.sizes.parts ≤ MOST_ROWS
   pub syms : length board.sizes.lots ≤ MOST_SYMBOLS
+  pub lots : length board.lots ≡ length board.sizes.lots
   pub cells : length board.cells ≡ MOST_ROWS * length board.sizes.lots
   pub applied : board.applied ≤ MOST_CHANGES
 
@@ -49,6 +56,7 @@ cell_of part sym tape = record {
 pub record StandsFor (board : Board) (tape : Tape) : Type 0 where
   pub applied : board.applied ≡ length tape
   pub narrow : board.sizes.parts ≤ MOST_ROWS
+  pub lots : (sym : ℕ) → slice_get board.lots sym ≡ lot_listed board.sizes tape sym
   pub cells : (part sym : ℕ) → part < board.sizes.parts → sym < length board.sizes.lots
       → slice_get board.cells (place_of part sym) ≡ Some (cell_of part sym tape)
 
@@ -68,6 +76,7 @@ empty_cell = record { state = None; bid = nothing_held; offer = nothing_held }
 abbrev pub opening : Sizes → Board
 opening sizes = record {
   sizes = sizes;
+  lots = sizes.lots;
   cells = replicate (MOST_ROWS * length sizes.lots) empty_cell;
   applied = 0;
 }
@@ -98,6 +107,7 @@ abbrev pub altered : ℕ → Change → Cell → Cell
 altered n (change.Quote part sym state bid offer) = quoted n state bid offer
 altered n (change.State part sym state) = restated state
 altered n (change.Withdraw part) = withdrawn n
+altered n (change.Lot sym lot) = λ cell. cell
 
 abbrev pub set_if_some : List Cell → ℕ → (Cell → Cell) → Option Cell → List Cell
 set_if_some cells i f None = cells
@@ -116,11 +126,19 @@ abbrev pub cells_after : ℕ → ℕ → List Cell → Change → List Cell
 cells_after n syms cells (change.Quote part sym state bid offer) = change_cell cells (place_of part sym) (quoted n state bid offer)
 cells_after n syms cells (change.State part sym state) = change_cell cells (place_of part sym) (restated state)
 cells_after n syms cells (change.Withdraw part) = withdraw_from n part syms cells
+cells_after n syms cells (change.Lot sym lot) = cells
+
+abbrev pub lots_after : List ℕ → Change → List ℕ
+lots_after lots (change.Quote part sym state bid offer) = lots
+lots_after lots (change.State part sym state) = lots
+lots_after lots (change.Withdraw part) = lots
+lots_after lots (change.Lot sym lot) = slice_set lots sym lot
 
 -- the board after one more change
 abbrev pub after : Board → Change → Board
 after board change = record {
   sizes = board.sizes;
+  lots = lots_after board.lots change;
   cells = cells_after (board.applied + 1) (length board.sizes.lots) board.cells change;
   applied = board.applied + 1;
 }

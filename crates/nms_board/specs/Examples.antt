@@ -1,4 +1,5 @@
--- Worked examples of the definitions: four participants N, P, Y and Z, one symbol, round lots of 100.
+-- Worked examples of the definitions: four participants N, P, Y and Z, one symbol that opens with round lots of
+-- 100.
 use Rattle.std.specs.Prelude.{ℕ, ◌≡◌, true, false, List, [], ◌∷◌, ◌++◌, Option, Some, None}
 use Rattle.nms_quote.specs.Content.{Content}
 use Rattle.nms_quote.specs.Roster.{Sizes}
@@ -8,6 +9,7 @@ use Rattle.nms_quote.specs.declared.side_quote.QState.TheVariants.{Automated, Ma
 use Rattle.nms_quote.specs.declared.change.Change.{Change}
 use Rattle.nms_quote.specs.declared.change.Change.TheVariants as change
 use Rattle.nms_board.specs.Quotation.{quotations}
+use Rattle.nms_board.specs.Ranking.{ranked}
 use Rattle.nms_board.specs.declared.row.Row.{Row}
 
 abbrev pub four : Sizes
@@ -67,11 +69,32 @@ withdrawn = quote n (at 99900 100) (at 100000 300) ∷ change.Withdraw n ∷ []
 abbrev pub requoted : Tape
 requoted = withdrawn ++ quote n (at 99900 100) (at 100000 300) ∷ []
 
+-- fewer shares than a lot, of N and then of P
+abbrev pub hidden : Tape
+hidden = quote n None (at 100000 50) ∷ quote p None (at 100000 60) ∷ []
+
+abbrev pub smaller_lot : Tape
+smaller_lot = hidden ++ change.Lot abc 40 ∷ []
+
+abbrev pub lot_of_one : Tape
+lot_of_one = smaller_lot ++ change.Lot abc 1 ∷ []
+
+-- N halts, the lot changes, and N quotes on
+abbrev pub halted_over : Tape
+halted_over = hidden ++ change.State n abc Halted ∷ change.Lot abc 40 ∷ []
+
+abbrev pub lifted_over : Tape
+lifted_over = halted_over ++ change.State n abc Automated ∷ []
+
 abbrev pub bids : Tape → List Row
 bids tape = quotations four tape abc Bid
 
 abbrev pub offers : Tape → List Row
 offers tape = quotations four tape abc Offer
+
+-- the offers in rank order
+abbrev pub ranked_offers : Tape → List Row
+ranked_offers tape = ranked Offer (offers tape)
 
 -- what each of the tapes shows
 pub record ExamplesHold : Type 0 where
@@ -87,3 +110,8 @@ pub record ExamplesHold : Type 0 where
   pub a_withdrawal_leaves_no_offer : offers withdrawn ≡ []
   pub a_bid_after_a_withdrawal_is_new : bids requoted ≡ row n 99900 100 3 ∷ []
   pub an_offer_after_a_withdrawal_is_new : offers requoted ≡ row n 100000 300 3 ∷ []
+  pub less_than_a_lot_is_hidden : offers hidden ≡ []
+  pub a_smaller_lot_brings_to_light : ranked_offers smaller_lot ≡ row n 100000 40 1 ∷ row p 100000 40 2 ∷ []
+  pub a_lot_of_one_shows_all : ranked_offers lot_of_one ≡ row p 100000 60 2 ∷ row n 100000 50 1 ∷ []
+  pub a_halt_hides_in_another_lot : offers halted_over ≡ row p 100000 40 2 ∷ []
+  pub a_halt_lifted_shows_in_the_lot_of_then : ranked_offers lifted_over ≡ row n 100000 40 1 ∷ row p 100000 40 2 ∷ []

@@ -1,8 +1,10 @@
--- What a tape says of one side of one participant in one symbol, looking back over the whole of it.
+-- What a tape says of one side of one participant in one symbol, and of the symbol's round lot, looking back
+-- over the whole of it.
 -- This product's own rule, after the tape's order of changes.
-use Rattle.std.specs.Prelude.{ℕ, ◌+◌, ◌==◌, ◌&&◌, Bool, true, false, List, [], ◌∷◌, map, Option, Some, None, unwrap_or, if◌then◌else◌}
+use Rattle.std.specs.Prelude.{ℕ, ◌+◌, ◌==◌, ◌&&◌, Bool, true, false, List, [], ◌∷◌, map, Option, Some, None, option_map, slice_get, unwrap_or, if◌then◌else◌}
 use Rattle.std.specs.List.{filter_map, last_or, list_all}
 use Rattle.nms_quote.specs.Content.{Content}
+use Rattle.nms_quote.specs.Roster.{Sizes}
 use Rattle.nms_quote.specs.Tape.{Tape, versions}
 use Rattle.nms_quote.specs.declared.side_quote.Side.{Side}
 use Rattle.nms_quote.specs.declared.side_quote.Side.TheVariants.{Bid, Offer}
@@ -19,12 +21,14 @@ abbrev pub concerns : ℕ → Change → Bool
 concerns sym (change.Quote p s state bid offer) = s == sym
 concerns sym (change.State p s state) = s == sym
 concerns sym (change.Withdraw p) = true
+concerns sym (change.Lot s lot) = s == sym
 
 -- what a change says of the side: nothing, or its content from then on. A withdrawal concerns every symbol
 abbrev pub said_of : ℕ → ℕ → Side → Change → Option (Option Content)
 said_of part sym side (change.Quote p s state bid offer) = if p == part && s == sym then Some (on_side side bid offer) else None
 said_of part sym side (change.State p s state) = None
 said_of part sym side (change.Withdraw p) = if p == part then Some None else None
+said_of part sym side (change.Lot s lot) = None
 
 -- the side's content: what the last change that concerns it says, and nothing where there is none
 abbrev pub content_at : ℕ → ℕ → Side → Tape → Option Content
@@ -35,10 +39,30 @@ abbrev pub state_said : ℕ → ℕ → Change → Option QState
 state_said part sym (change.Quote p s state bid offer) = if p == part && s == sym then Some state else None
 state_said part sym (change.State p s state) = if p == part && s == sym then Some state else None
 state_said part sym (change.Withdraw p) = None
+state_said part sym (change.Lot s lot) = None
 
 -- the state: that of the last quote or change of state that concerns the participant in the symbol
 abbrev pub state_at : ℕ → ℕ → Tape → Option QState
 state_at part sym tape = last_or None (filter_map (state_said part sym) tape)
+
+-- what a change says of the symbol's round lot
+abbrev pub lot_said : ℕ → Change → Option ℕ
+lot_said sym (change.Quote p s state bid offer) = None
+lot_said sym (change.State p s state) = None
+lot_said sym (change.Withdraw p) = None
+lot_said sym (change.Lot s lot) = if s == sym then Some lot else None
+
+-- the round lot of a symbol that opened with one: that of its last lot change, else the opening one
+abbrev pub lot_since : ℕ → Tape → ℕ → ℕ
+lot_since sym tape opening = unwrap_or (last_or None (filter_map (lot_said sym) tape)) opening
+
+-- the round lot of a symbol of the roster
+abbrev pub lot_listed : Sizes → Tape → ℕ → Option ℕ
+lot_listed sizes tape sym = option_map (lot_since sym tape) (slice_get sizes.lots sym)
+
+-- that lot; a symbol out of the roster has lot 0, which shows nothing
+abbrev pub lot_at : Sizes → Tape → ℕ → ℕ
+lot_at sizes tape sym = unwrap_or (lot_listed sizes tape sym) 0
 
 -- the same price and shares, or nothing twice
 abbrev pub same_content : Option Content → Option Content → Bool

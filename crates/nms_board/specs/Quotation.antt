@@ -1,7 +1,7 @@
 -- The quotations of a symbol (17 CFR 242.600, "bid or offer", "automated quotation", "manual
 -- quotation", "protected bid or protected offer"; that a halted participant's are none is this
 -- product's own rule).
-use Rattle.std.specs.Prelude.{ℕ, ◌==◌, Bool, true, false, List, slice_index, Option, Some, None, if◌then◌else◌}
+use Rattle.std.specs.Prelude.{ℕ, ◌==◌, Bool, true, false, List, Option, Some, None, if◌then◌else◌}
 use Rattle.std.specs.List.{filter_map, range_with_len}
 use Rattle.nms_units.specs.Lot.{displayed_size}
 use Rattle.nms_quote.specs.Content.{Content}
@@ -10,7 +10,7 @@ use Rattle.nms_quote.specs.Tape.{Tape}
 use Rattle.nms_quote.specs.declared.side_quote.Side.{Side}
 use Rattle.nms_quote.specs.declared.side_quote.QState.{QState}
 use Rattle.nms_quote.specs.declared.side_quote.QState.TheVariants.{Automated, Manual, Halted}
-use Rattle.nms_board.specs.History.{content_at, state_at, receipt_of}
+use Rattle.nms_board.specs.History.{content_at, lot_at, state_at, receipt_of}
 use Rattle.nms_board.specs.declared.row.Row.{Row}
 
 abbrev pub is_halted : Option QState → Bool
@@ -34,10 +34,10 @@ quotation lot part state receipt (Some content) =
     else Some (record { part = part; price = content.price; size = displayed_size lot content.shares; receipt = receipt; protected = is_automated state }))
 
 -- the participant's quotation on a side of the symbol: something is there, a whole round lot of it
--- shows, and the participant is not halted. (A symbol out of the roster has lot 0, which shows nothing.)
+-- shows, and the participant is not halted. The lot is the symbol's present one.
 abbrev pub quotation_of : Sizes → Tape → ℕ → Side → ℕ → Option Row
 quotation_of sizes tape sym side part =
-    quotation (slice_index sizes.lots sym) part (state_at part sym tape) (receipt_of part sym side tape) (content_at part sym side tape)
+    quotation (lot_at sizes tape sym) part (state_at part sym tape) (receipt_of part sym side tape) (content_at part sym side tape)
 
 -- the quotations on a side of the symbol, by participant place
 abbrev pub quotations : Sizes → Tape → ℕ → Side → List Row

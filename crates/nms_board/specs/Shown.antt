@@ -18,7 +18,7 @@ row_of_cell lot part side cell = quotation lot part cell.state (on_side side cel
 -- the quotation of a participant's cell; no cell has none
 abbrev pub row_held : Board → ℕ → Side → ℕ → Option Row
 row_held board sym side part =
-    option_and_then (row_of_cell (slice_index board.sizes.lots sym) part side) (slice_get board.cells (place_of part sym))
+    option_and_then (row_of_cell (slice_index board.lots sym) part side) (slice_get board.cells (place_of part sym))
 
 -- the quotations on a side of the symbol, by participant place
 abbrev pub rows_held : Board → ℕ → Side → List Row

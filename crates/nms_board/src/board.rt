@@ -1,11 +1,12 @@
 //! Every participant's quotations in every symbol, and the changes that alter them: `specs/Cells`.
-ghost use Rattle.std.specs.Prelude.{◌≡◌, ℕ, ◌+◌, ◌*◌, ◌<◌, ◌≤◌, All, List, [], ◌∷◌, ◌++◌, length, map, vec_len, true, fold, IfOk, IfSome, MatchOption, Some, nat_lt, slice_get};
+ghost use Rattle.std.specs.Prelude.{◌≡◌, ℕ, ◌+◌, ◌*◌, ◌<◌, ◌≤◌, All, List, [], ◌∷◌, ◌++◌, length, map, vec_len, true, fold, IfOk, IfSome, MatchOption, Some, nat_lt, slice_get, slice_set};
 ghost use Rattle.std.specs.List.{cons_option};
 ghost use Rattle.std.specs.Option.{option_and_then};
 ghost use Rattle.nms_quote.specs.Roster.{holds, sizes_of};
 ghost use Rattle.nms_quote.specs.Tape.{Tape};
 ghost use Rattle.nms_quote.specs.declared.side_quote.Side.{Side};
 ghost use Rattle.nms_quote.specs.declared.side_quote.Side.TheVariants.{Bid, Offer};
+ghost use Rattle.nms_board.specs.Carried.{AreCarried};
 ghost use Rattle.nms_board.specs.Cells.{altered, change_cell, place_of, withdraw_from};
 ghost use Rattle.nms_board.specs.Kept.{AreRanks, row_shown, symbol_cells};
 ghost use Rattle.nms_board.specs.Ranks.{AreOwn};
@@ -28,6 +29,9 @@ use std::marker::Model;
 #[derive(Drop)]
 pub struct Boards {
     parts: u8,
+    /// The round lot that each symbol opened with.
+    opening: Vec<Lot>,
+    /// The round lot that each symbol has now.
     lots: Vec<Lot>,
     /// `MOST_ROWS` cells for each symbol, by participant place.
     cells: Vec<Cell>,
@@ -43,13 +47,15 @@ impl Model for Boards {
     ghost Value = { Board };
 
     ghost view = { λ b. record {
-      sizes = record { parts = b.parts; lots = b.lots.items };
+      sizes = record { parts = b.parts; lots = b.opening.items };
+      lots = b.lots.items;
       cells = b.cells.items;
       applied = b.applied;
     } };
 
     ghost invariant = { λ b. IsBoard (record {
-      sizes = record { parts = b.parts; lots = b.lots.items };
+      sizes = record { parts = b.parts; lots = b.opening.items };
+      lots = b.lots.items;
       cells = b.cells.items;
       applied = b.applied;
     }) × AreRanks (record { parts = b.parts; lots = b.lots.items }) b.cells.items b.ranks.items };
@@ -67,6 +73,9 @@ impl Boards {
         ensures narrow { length roster.now.parts ≤ MOST_ROWS }
     {
         let parts = roster.parts() as u8;
+        let Ok(opening) = lots_of(alloc, roster) else {
+            return Err(BoardFault::NoMemory);
+        };
         let Ok(lots) = lots_of(alloc, roster) else {
             return Err(BoardFault::NoMemory);
         };
@@ -78,6 +87,7 @@ impl Boards {
         };
         Ok(Boards {
             parts,
+            opening,
             lots,
             cells,
             ranks,
@@ -100,6 +110,7 @@ impl Boards {
             Change::Quote { part, sym, .. } => self.has_part(part) && self.has_sym(sym),
             Change::State { part, sym, .. } => self.has_part(part) && self.has_sym(sym),
             Change::Withdraw { part } => self.has_part(part),
+            Change::Lot { sym, .. } => self.has_sym(sym),
         }
     }
 
@@ -113,7 +124,7 @@ impl Boards {
     pub fn has_sym(&self, sym: Sym) -> bool
         ensures { result ≡ nat_lt sym (length self.now.sizes.lots) }
     {
-        usize::from(sym.get()) < self.lots.len()
+        usize::from(sym.get()) < self.opening.len()
     }
 
     /// How many participants the roster has.
@@ -167,14 +178,15 @@ impl Boards {
         }
     }
 
+    /// The present round lot of a symbol of the roster.
     fn lot_of(&self, sym: Sym) -> Option<Lot>
-        ensures { result ≡ slice_get self.now.sizes.lots sym }
+        ensures { result ≡ slice_get self.now.lots sym }
     {
         self.lots.get(usize::from(sym.get())).copied()
     }
 
     /// Applies one more change. Constant work for a quote or a state; a withdrawal goes over the
-    /// symbols.
+    /// symbols, and a new round lot over the participants of its symbol.
     pub fn apply(&mut self, change: Change)
         requires { takes self.old change ≡ true }
         ensures after { self.new ≡ after self.old change }
@@ -212,6 +224,14 @@ impl Boards {
                 &mut self.cells,
                 &mut self.ranks,
             ),
+            Change::Lot { sym, lot } => set_lot(
+                usize::from(sym.get()),
+                lot,
+                self.parts,
+                &mut self.lots,
+                &self.cells,
+                &mut self.ranks,
+            ),
         }
     }
 
@@ -245,17 +265,26 @@ impl Boards {
             → result ≡ view_of self.now.sizes tape sym }
         ensures parts { (side : Side) → All (λ row. row.part < self.now.sizes.parts) (rows_on side result) }
     {
+        let Some(lot) = self.lot_of(sym) else {
+            return View::of_nothing(self.applied, sym);
+        };
         let mut view = View {
             version: self.applied,
             sym,
             bids: ArrayVec::new_in(()),
             offers: ArrayVec::new_in(()),
-        };
-        let Some(lot) = self.lot_of(sym) else {
-            return view;
+            orders: self.orders_of(sym),
         };
         self.show(sym, lot, &mut view.bids, &mut view.offers);
         view
+    }
+
+    /// The rank orders of a symbol of the roster, for a view to carry.
+    fn orders_of(&self, sym: Sym) -> SymbolRanks
+        requires { sym < length self.now.lots }
+        ensures { AreCarried (rows_held self.now sym Bid) (rows_held self.now sym Offer) result }
+    {
+        self.ranks[usize::from(sym.get())].copied()
     }
 
     /// Appends the quotations of a symbol in lots of that size to the rows of the sides.
@@ -266,17 +295,18 @@ impl Boards {
         bids: &mut ArrayVec<Row, MOST_ROWS>,
         offers: &mut ArrayVec<Row, MOST_ROWS>,
     )
-        requires lot { slice_get self.now.sizes.lots sym ≡ Some lot }
+        requires lot { slice_get self.now.lots sym ≡ Some lot }
         requires bids { bids.old.items ≡ [] }
         requires offers { offers.old.items ≡ [] }
         ensures bids { bids.new.items ≡ rows_held self.now sym Bid }
         ensures offers { offers.new.items ≡ rows_held self.now sym Offer }
     {
-        for place in 0..self.parts {
+        let mut place = 0;
+        for cell in symbol_cells(&self.cells, usize::from(sym.get()), self.parts) {
             let part = Part::new(place).unwrap();
-            let cell = &self.cells[place_of(part, sym)];
             push_some(bids, cell.row(Side::Bid, part, lot));
             push_some(offers, cell.row(Side::Offer, part, lot));
+            place += 1;
         }
     }
 }
@@ -370,6 +400,29 @@ fn alter(
     cell.alter(number, change);
     let orders = &mut ranks[sym];
     orders.settle(part, lot, bid, offer, symbol_cells(cells, sym, parts));
+}
+
+/// Gives a symbol another round lot, in which both its sides rank anew.
+fn set_lot(
+    sym: usize,
+    lot: Lot,
+    parts: u8,
+    lots: &mut [Lot],
+    cells: &[Cell],
+    ranks: &mut [SymbolRanks],
+)
+    requires parts { parts ≤ MOST_ROWS }
+    requires sym { sym < length lots.old }
+    requires room { MOST_ROWS * length lots.old ≤ length cells.now }
+    requires ranks { AreRanks (record { parts = parts; lots = lots.old }) cells.now ranks.old }
+    requires own { (side : Side) → AreOwn (row_shown (record { parts = parts; lots = slice_set lots.old sym lot })
+        cells.now sym side) }
+    ensures lots { lots.new ≡ slice_set lots.old sym lot }
+    ensures ranks { AreRanks (record { parts = parts; lots = lots.new }) cells.now ranks.new }
+{
+    let orders = &mut ranks[sym];
+    orders.rank_anew(lot, symbol_cells(cells, sym, parts));
+    lots[sym] = lot;
 }
 
 /// The cells of a symbol's participants.

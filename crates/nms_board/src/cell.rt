@@ -101,7 +101,8 @@ impl Cell {
         self.state = Some(state);
     }
 
-    /// Takes a change that speaks of the participant in the symbol, as the change of that number.
+    /// Takes a change that speaks of the participant in the symbol, as the change of that number. A new
+    /// round lot leaves the cell.
     pub(crate) fn alter(&mut self, number: u64, change: Change)
         ensures { self.new ≡ altered number change self.old }
     {
@@ -114,6 +115,7 @@ impl Cell {
             } => self.quote(number, state, bid, offer),
             Change::State { state, .. } => self.restate(state),
             Change::Withdraw { .. } => self.withdraw(number),
+            Change::Lot { .. } => {}
         }
     }
 

@@ -1,5 +1,5 @@
 //! Laws above the definitions of the board. Each function does nothing: its contract is the law.
-ghost use Rattle.std.specs.Prelude.{◌≡◌, ◌≢◌, ℕ, ◌≤◌, All, List, AllPairs, [], ◌∷◌, ◌++◌, length, true, false, Option, Some, None};
+ghost use Rattle.std.specs.Prelude.{◌≡◌, ◌≢◌, ℕ, ◌<◌, ◌≤◌, All, List, AllPairs, [], ◌∷◌, ◌++◌, length, true, false, Option, Some, None};
 ghost use Rattle.nms_quote.specs.Content.{Content};
 ghost use Rattle.nms_quote.specs.Roster.{Sizes, holds};
 ghost use Rattle.nms_quote.specs.Tape.{Tape, participant_of};
@@ -10,7 +10,7 @@ ghost use Rattle.nms_quote.specs.declared.side_quote.Side.{Side};
 ghost use Rattle.nms_board.specs.Cells.{Board, after};
 ghost use Rattle.nms_board.specs.Examples.{ExamplesHold};
 ghost use Rattle.nms_board.specs.History.{concerns, content_at, on_side, receipt_of, said_of};
-ghost use Rattle.nms_board.specs.Laws.{HidesAndKeeps, IsReceipt, KeepsSide};
+ghost use Rattle.nms_board.specs.Laws.{HidesAndKeeps, IsReceipt, KeepsReceipts, KeepsSide};
 ghost use Rattle.nms_board.specs.Quotation.{quotation_of, quotations};
 ghost use Rattle.nms_board.specs.Ranking.{IsRankOrder, ranked};
 ghost use Rattle.nms_board.specs.Shown.{rows_held};
@@ -31,7 +31,7 @@ pub fn others_keep_their_receipts()
     ensures unsaid { (part sym : ℕ) (side : Side) (tape : Tape) (change : Change)
         → said_of part sym side change ≡ None → KeepsSide part sym side tape change }
     ensures others { (part sym : ℕ) (side : Side) (tape : Tape) (change : Change)
-        → participant_of change ≢ part → KeepsSide part sym side tape change }
+        → participant_of change ≢ Some part → KeepsSide part sym side tape change }
 {}
 
 /// A quote that gives a side the price and shares that it has leaves its receipt.
@@ -43,9 +43,16 @@ pub fn repeated_side_keeps_its_receipt()
 {}
 
 /// A halt hides the participant's quotations in the symbol and alters nothing; when it is lifted
-/// they stand again with the receipts that they had.
+/// they stand again with the receipts that they had, in the lot of then.
 pub fn halting_hides_and_keeps()
     ensures { (sizes : Sizes) (part sym : ℕ) (tape : Tape) → HidesAndKeeps sizes part sym tape }
+{}
+
+/// A new round lot of a symbol alters no side: its quotations rank in the new lot, and each row that comes to
+/// light or stays has the receipt that it had. Other symbols show what they did.
+pub fn new_lot_keeps_receipts()
+    ensures { (sizes : Sizes) (sym lot : ℕ) (tape : Tape) → sym < length sizes.lots
+        → KeepsReceipts sizes sym lot tape }
 {}
 
 /// Two participants' quotations in a symbol never have one receipt, be they on one side or a bid and an
@@ -81,7 +88,8 @@ pub fn rows_have_one_rank_order()
         → in_order ≡ ranked side rows }
 {}
 
-/// A change leaves the quotations of every symbol that it does not concern.
+/// A change leaves the quotations of every symbol that it does not concern, as a new round lot of another symbol
+/// does.
 pub fn other_symbols_stay()
     ensures { (board : Board) (change : Change) (sym : ℕ) (side : Side)
         → board.sizes.parts ≤ MOST_ROWS → holds board.sizes change ≡ true

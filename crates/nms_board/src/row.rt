@@ -40,7 +40,7 @@ impl Row {
         ensures { result ≡ ranks_above side self.now other.now }
     {
         if self.price != other.price {
-            return is_better(side, self.price, other.price);
+            return is_better_price(side, self.price, other.price);
         }
         if self.size != other.size {
             return self.size > other.size;
@@ -49,8 +49,8 @@ impl Row {
     }
 }
 
-/// Whether a bid is higher than another one, or an offer lower.
-fn is_better(side: Side, price: Price, other: Price) -> bool
+/// Whether a price is better than another one: a higher bid, or a lower offer.
+pub fn is_better_price(side: Side, price: Price, other: Price) -> bool
     ensures { result ≡ better_price side price other }
 {
     match side {

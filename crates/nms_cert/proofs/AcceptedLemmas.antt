@@ -14,7 +14,7 @@ use Rattle.nms_quote.specs.declared.certificate.CutKind.TheVariants.{TooMuch, To
 use Rattle.nms_quote.specs.declared.order.OrderSide.{OrderSide}
 use Rattle.nms_quote.specs.declared.plan.Plan.{Plan}
 use Rattle.nms_board.specs.View.{Seen}
-use Rattle.nms_fee_book.specs.declared.fee_schedule.FeeSchedule.{FeeSchedule}
+use Rattle.nms_fee_book.specs.Fees.{Charges}
 use Rattle.nms_rules.specs.Accepted.{IsAccepted}
 use Rattle.nms_rules.specs.Assignment.{fillable}
 use Rattle.nms_rules.specs.Breach.{breach_of}
@@ -162,7 +162,7 @@ right_cuts side rows most cost cuts right =
 
 -- ---- accepted
 
-pub accepted_of_none : (seen : Seen) (asked : Terms) (fees : List FeeSchedule) (plan : Plan) (cuts : List Cut) → (breach_of seen asked fees plan ≡ None → IsFaultless seen asked fees plan) → doubt_of seen asked fees plan cuts ≡ None → IsAccepted seen asked fees plan cuts
+pub accepted_of_none : (seen : Seen) (asked : Terms) (fees : Charges) (plan : Plan) (cuts : List Cut) → (breach_of seen asked fees plan ≡ None → IsFaultless seen asked fees plan) → doubt_of seen asked fees plan cuts ≡ None → IsAccepted seen asked fees plan cuts
 accepted_of_none seen asked fees plan cuts faultless none =
     let rows : List Usable = usable seen asked fees in
     let full = not (plan.filled == fillable rows asked.shares) in
@@ -179,7 +179,7 @@ accepted_of_none seen asked fees plan cuts faultless none =
       holds = right.holds;
     }
 
-pub none_of_accepted : (seen : Seen) (asked : Terms) (fees : List FeeSchedule) (plan : Plan) (cuts : List Cut) → (IsFaultless seen asked fees plan → breach_of seen asked fees plan ≡ None) → IsAccepted seen asked fees plan cuts → doubt_of seen asked fees plan cuts ≡ None
+pub none_of_accepted : (seen : Seen) (asked : Terms) (fees : Charges) (plan : Plan) (cuts : List Cut) → (IsFaultless seen asked fees plan → breach_of seen asked fees plan ≡ None) → IsAccepted seen asked fees plan cuts → doubt_of seen asked fees plan cuts ≡ None
 none_of_accepted seen asked fees plan cuts faultless is =
     let rows : List Usable = usable seen asked fees in
     let full = not (plan.filled == fillable rows asked.shares) in

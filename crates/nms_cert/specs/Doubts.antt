@@ -10,7 +10,7 @@ use Rattle.nms_quote.specs.declared.certificate.CutKind.TheVariants.{TooMuch, To
 use Rattle.nms_quote.specs.declared.order.OrderSide.{OrderSide}
 use Rattle.nms_quote.specs.declared.plan.Plan.{Plan}
 use Rattle.nms_board.specs.View.{Seen}
-use Rattle.nms_fee_book.specs.declared.fee_schedule.FeeSchedule.{FeeSchedule}
+use Rattle.nms_fee_book.specs.Fees.{Charges}
 use Rattle.nms_rules.specs.Assignment.{fillable}
 use Rattle.nms_rules.specs.Breach.{breach_of}
 use Rattle.nms_rules.specs.Cutoff.{least_cost, pool, swept}
@@ -91,7 +91,7 @@ abbrev pub breach_doubt : Option Breach → Option Doubt
 breach_doubt found = option_map (λ breach. doubt.Breach breach) found
 
 -- the first doubt of a plan and its cuts, and none where nothing is doubtful
-abbrev pub doubt_of : Seen → Terms → List FeeSchedule → Plan → List Cut → Option Doubt
+abbrev pub doubt_of : Seen → Terms → Charges → Plan → List Cut → Option Doubt
 doubt_of seen order fees plan cuts =
     breach_doubt (breach_of seen order fees plan)
     or_else when (not (plan.filled == fillable (usable seen order fees) order.shares)) doubt.NotMost

@@ -16,18 +16,18 @@ use crate::cuts::{
     some_lacks_cut,
 };
 use crate::doubt::Doubt;
-use nms_board::View;
+use nms_board::{MOST_ROWS, View};
 use nms_fee_book::FeeBook;
 use nms_quote::{Certificate, Cut, Order, OrderSide, Plan};
 use nms_rules::{Breach, UsableRow, breach, fillable, usable_rows};
-use nms_units::Money;
+use nms_units::{MOST_SHARES, Money};
 
 /// Confirms that a plan for an order on a view is optimal: it is lawful, no lawful plan fills more, and none that
 /// fills as much costs less with fees. Shares may be spread in any way that is lawful.
 ///
 /// `Ok` comes exactly where the certificate is accepted, else the doubt of least number that holds. Takes no memory,
-/// and looks at each pair of a cut and a row a few times, at most 1,024 pairs. Costs are in nanodollars, with the
-/// fees of the book.
+/// and looks at each pair of a cut and a row a few times, with at most `MOST_ROWS` (32) of each. Costs are in
+/// nanodollars, with the fees of the book.
 pub fn confirm(
     view: &View,
     order: &Order,
@@ -50,7 +50,7 @@ fn find_doubt(
     plan: &Plan,
     cuts: &[Cut],
 ) -> Result<(), Doubt>
-    requires { length cuts.now ≤ 32 }
+    requires { length cuts.now ≤ MOST_ROWS }
     ensures first { result_err result ≡ doubt_of view.now order.now fees.now plan.now cuts.now }
     ensures lawful { IsNone (breach_of view.now order.now fees.now plan.now) ↔ IsFaultless view.now order.now fees.now plan.now }
     ensures rising { OnOk result (IsStrictlyIncreasing (map (λ row. row.part) (contra_rows order.now.side view.now))) }
@@ -80,9 +80,9 @@ fn check_cuts(
     cost: Money,
     cuts: &[Cut],
 ) -> Result<(), Doubt>
-    requires rows { length rows.now ≤ 32 }
-    requires cuts { length cuts.now ≤ 32 }
-    requires most { most ≤ 999999999 }
+    requires rows { length rows.now ≤ MOST_ROWS }
+    requires cuts { length cuts.now ≤ MOST_ROWS }
+    requires most { most ≤ MOST_SHARES }
     ensures { result_err result ≡ cuts_doubt side rows.now most cost cuts.now }
 {
     refuse_if(some_lacks_cut(rows, cuts), Doubt::CutMissing)?;

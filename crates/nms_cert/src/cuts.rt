@@ -3,9 +3,10 @@ ghost use Rattle.std.specs.Prelude.{◌≡◌, ◌≤◌, false, length};
 ghost use Rattle.nms_cert.specs.Doubts.{fails_bound, first_failing, has_cut, has_row, is_not_better, is_out_of_order, is_out_of_range, is_wrong_kind, some_is_extra, some_is_out_of_range, some_is_wrong_kind, some_lacks_cut};
 ghost use Rattle.nms_rules.specs.Usable.{rank_of};
 
+use nms_board::MOST_ROWS;
 use nms_quote::{Cut, CutKind, OrderSide};
 use nms_rules::{Rank, UsableRow, is_better, least_cost, pool, swept};
-use nms_units::{Money, Price};
+use nms_units::{MOST_SHARES, Money, Price};
 
 /// The most that a marginal may be, in nanodollars, and the least with a minus.
 const MOST_MARGINAL: i128 = 1_000_000_000_000_000_000;
@@ -64,7 +65,7 @@ pub(crate) fn is_out_of_order(side: OrderSide, cuts: &[Cut]) -> bool
 
 /// Whether a cut says what the sums at its cutoff deny.
 fn is_wrong_kind(rows: &[UsableRow], most: u64, cutoff: Rank, kind: CutKind) -> bool
-    requires { length rows.now ≤ 32 }
+    requires { length rows.now ≤ MOST_ROWS }
     ensures { result ≡ is_wrong_kind rows.now most cutoff kind }
 {
     let swept = swept(rows, cutoff);
@@ -83,7 +84,7 @@ pub(crate) fn some_is_wrong_kind(
     most: u64,
     cuts: &[Cut],
 ) -> bool
-    requires { length rows.now ≤ 32 }
+    requires { length rows.now ≤ MOST_ROWS }
     ensures { result ≡ some_is_wrong_kind side rows.now most cuts.now }
 {
     cuts.iter().any(|cut| is_wrong_kind(rows, most, Rank::of(side, cut.price), cut.kind))
@@ -111,8 +112,8 @@ pub(crate) fn some_is_out_of_range(cuts: &[Cut]) -> bool
 
 /// Whether a plan might cost less by a cut's marginal.
 fn fails_bound(rows: &[UsableRow], most: u64, cost: Money, cutoff: Rank, kind: CutKind) -> bool
-    requires rows { length rows.now ≤ 32 }
-    requires most { most ≤ 999999999 }
+    requires rows { length rows.now ≤ MOST_ROWS }
+    requires most { most ≤ MOST_SHARES }
     requires range { is_out_of_range kind ≡ false }
     ensures { result ≡ fails_bound rows.now most cost cutoff kind }
 {
@@ -130,9 +131,9 @@ pub(crate) fn first_failing(
     cost: Money,
     cuts: &[Cut],
 ) -> Option<u8>
-    requires rows { length rows.now ≤ 32 }
-    requires cuts { length cuts.now ≤ 32 }
-    requires most { most ≤ 999999999 }
+    requires rows { length rows.now ≤ MOST_ROWS }
+    requires cuts { length cuts.now ≤ MOST_ROWS }
+    requires most { most ≤ MOST_SHARES }
     requires range { some_is_out_of_range cuts.now ≡ false }
     ensures { result ≡ first_failing side rows.now most cost cuts.now }
 {

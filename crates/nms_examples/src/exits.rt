@@ -55,6 +55,7 @@ fn tell_change_exits(given: &mut Vec<u8>) -> Result<(), Failed> {
         LineFault::HalfSide,
         LineFault::WrongFeed,
         LineFault::BadDesk,
+        LineFault::BadLot,
     ] {
         let fault = ChangesFault::Line(fault);
         tell(given, fault.code(), fault.status())?;

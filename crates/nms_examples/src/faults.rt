@@ -65,6 +65,7 @@ fn tell_record_faults(given: &mut Vec<u8>) -> Result<(), Failed> {
         LineFault::HalfSide,
         LineFault::WrongFeed,
         LineFault::BadDesk,
+        LineFault::BadLot,
     ] {
         tell(given, fault)?;
     }

@@ -47,6 +47,7 @@ fn reading_named(place: &str) -> Option<Reading> {
     match place {
         "script" => Some(Reading::Script { desks: 2 }),
         "feed" => Some(Reading::FromFeed(Feed::A)),
+        "feed_b" => Some(Reading::FromFeed(Feed::B)),
         "changes" => Some(Reading::Changes),
         "orders" => Some(Reading::Orders { desks: 2 }),
         _ => None,

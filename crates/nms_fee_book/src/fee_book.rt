@@ -1,11 +1,11 @@
 //! What a share costs with the access fees of all participants: `specs/Fees`.
-ghost use Rattle.std.specs.Prelude.{◌≡◌, [], ◌∷◌, ◌++◌, OnOk, OnErr, pos, negsuc, ◌≤ℤ◌};
+ghost use Rattle.std.specs.Prelude.{◌≡◌, pos, negsuc, ◌≤ℤ◌};
 ghost use Rattle.nms_fee_book.specs.Fees.{fee_at, schedule_at, price_on, unit_cost_of, IsCapped, AreCapped};
 
+use crate::caps::Caps;
 use crate::fee_schedule::FeeSchedule;
 use nms_quote::{OrderSide, Part};
 use nms_units::{Money, Price};
-use std::alloc::{AllocError, Global};
 use std::marker::Model;
 
 /// One dollar, in 1/10,000 dollar.
@@ -13,22 +13,21 @@ const ONE_DOLLAR: u64 = 10_000;
 /// The nanodollars in 1/10,000 dollar.
 const NANODOLLARS: u64 = 100_000;
 
-/// The access fees of all participants, by place.
+/// The access fees of all participants, by place, none over the caps that the book keeps.
 #[derive(Drop)]
 pub struct FeeBook {
+    caps: Caps,
     schedules: Vec<FeeSchedule>,
 }
 
 impl Model for FeeBook {
-    ghost use Rattle.std.specs.Prelude.{List};
-    ghost use Rattle.nms_fee_book.specs.declared.fee_schedule.FeeSchedule.{FeeSchedule};
-    ghost use Rattle.nms_fee_book.specs.Fees.{AreCapped};
+    ghost use Rattle.nms_fee_book.specs.Fees.{Charges, AreCapped};
 
-    ghost Value = { List FeeSchedule };
+    ghost Value = { Charges };
 
-    ghost view = { λ b. b.schedules.items };
+    ghost view = { λ b. record { caps = b.caps; schedules = b.schedules.items } };
 
-    ghost invariant = { λ b. AreCapped b.schedules.items };
+    ghost invariant = { λ b. AreCapped b.caps b.schedules.items };
 }
 
 impl FeeBook {
@@ -41,52 +40,48 @@ impl FeeBook {
         ensures low { negsuc 10000000009999999 ≤ℤ result }
         ensures high { result ≤ℤ pos 10000000010000000 }
     {
-        let fee = fee_for(self.schedule(part), price).get();
+        let fee = self.fee(part, price).get();
         Money::new(price_for(side, price).get() + fee)
     }
 
-    /// A book without fees.
-    pub fn new(alloc: Global) -> Self
-        ensures { result ≡ [] }
+    /// A book of each participant's fees, by place, which keep the caps. It takes no memory.
+    pub fn new(caps: Caps, schedules: Vec<FeeSchedule>) -> Self
+        requires { AreCapped caps schedules.items }
+        ensures { result ≡ record { caps = caps; schedules = schedules.items } }
     {
-        FeeBook {
-            schedules: Vec::new(alloc),
-        }
+        FeeBook { caps, schedules }
     }
 
-    /// Adds the fees of the participant at the next place. Where memory is short, nothing changes.
-    pub fn push(&mut self, schedule: FeeSchedule) -> Result<(), AllocError>
-        requires { IsCapped schedule }
-        ensures added { OnOk result (self.new ≡ self.old ++ schedule ∷ []) }
-        ensures unchanged { OnErr result (self.new ≡ self.old) }
+    /// The caps that each fee keeps.
+    pub fn caps(&self) -> Caps
+        ensures { result ≡ self.now.caps }
     {
-        self.schedules.push(schedule)?;
-        Ok(())
+        self.caps
+    }
+
+    /// The fee for a share at a participant's quotation, in nanodollars.
+    fn fee(&self, part: Part, price: Price) -> Money
+        ensures fee { result ≡ fee_at (schedule_at self.now part) price }
+        ensures low { negsuc 9999999 ≤ℤ result }
+        ensures high { result ≤ℤ pos 10000000 }
+    {
+        let schedule = self.schedule(part);
+        if price.get() >= ONE_DOLLAR {
+            Money::new(i128::from(schedule.fee))
+        } else {
+            Money::new(i128::from(price.get()) * i128::from(schedule.rate))
+        }
     }
 
     /// The fees of a participant.
     fn schedule(&self, part: Part) -> FeeSchedule
         ensures value { result ≡ schedule_at self.now part }
-        ensures capped { IsCapped result }
+        ensures capped { IsCapped self.now.caps result }
     {
         match self.schedules.get(usize::from(part.get())) {
             Some(schedule) => *schedule,
             None => FeeSchedule { fee: 0, rate: 0 },
         }
-    }
-}
-
-/// The fee for a share at a price, in nanodollars.
-fn fee_for(schedule: FeeSchedule, price: Price) -> Money
-    requires { IsCapped schedule }
-    ensures fee { result ≡ fee_at schedule price }
-    ensures low { negsuc 9999999 ≤ℤ result }
-    ensures high { result ≤ℤ pos 10000000 }
-{
-    if price.get() >= ONE_DOLLAR {
-        Money::new(i128::from(schedule.fee))
-    } else {
-        Money::new(i128::from(price.get()) * i128::from(schedule.rate))
     }
 }
 

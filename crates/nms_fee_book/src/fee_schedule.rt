@@ -1,10 +1,11 @@
 //! The access fees of one participant.
 
-/// The access fees of a participant (17 CFR 242.610(c) as adopted in 2005); a negative number is a rebate.
+/// The access fees of a participant (17 CFR 242.610(c)); a negative number is a rebate. The caps are those that its
+/// book keeps.
 #[derive(Clone, Copy, Debug, PartialEq, Eq)]
 pub struct FeeSchedule {
-    /// Nanodollars for a share, at a price of one dollar or more: -`MOST_FEE` to `FEE_CAP`.
+    /// Nanodollars for a share, at a price of one dollar or more: -`MOST_FEE` to `Caps::fee`.
     pub fee: i64,
-    /// Hundred-thousandths of the price for a share, at a lower price: -`MOST_RATE` to `RATE_CAP`.
+    /// Hundred-thousandths of the price for a share, at a lower price: -`MOST_RATE` to `Caps::rate`.
     pub rate: i64,
 }

@@ -9,11 +9,13 @@ use Rattle.toml.specs.Data.{Data, Members, table, array, get_member, as_str, as_
 use Rattle.nms_units.specs.declared.TheConstants.{MOST_LOT}
 use Rattle.nms_quote.specs.Roster.{Name}
 use Rattle.nms_quote.specs.declared.TheConstants.{MOST_CHANGES}
-use Rattle.nms_fee_book.specs.declared.TheConstants.{FEE_CAP, MOST_FEE, MOST_RATE, RATE_CAP}
+use Rattle.nms_fee_book.specs.Fees.{fee_cap, rate_cap}
+use Rattle.nms_fee_book.specs.declared.TheConstants.{MOST_FEE, MOST_RATE}
+use Rattle.nms_fee_book.specs.declared.caps.Caps.{Caps}
 use Rattle.nms_fees.specs.declared.TheConstants.{LEAST_QUEUE, MOST_DESKS, MOST_QUEUE}
-use Rattle.nms_fees.specs.FaultTable.{are_no_tables, document_has, has_more, has_other_key, has_twice, is_empty, is_no_number, is_no_table, is_no_text, is_outside, is_over, table_has, tables_at}
+use Rattle.nms_fees.specs.FaultTable.{are_no_tables, document_has, has_more, has_other_key, has_twice, is_empty, is_no_number, is_no_table, is_no_text, is_no_year, is_outside, is_over, table_has, tables_at}
 use Rattle.nms_fees.specs.Faults.{least, lesser}
-use Rattle.nms_fees.specs.Places.{array_fault, cap_fault, count_fault, document_fault, feed_fault, has_repeat, is_feed, is_name_in, listed, most_of, name_fault, name_in, range_fault, row_fault, rows_in, table_findings}
+use Rattle.nms_fees.specs.Places.{array_fault, cap_fault, caps_in, caps_of, count_fault, document_fault, feed_fault, has_repeat, is_feed, is_name_in, listed, most_of, name_fault, name_in, range_fault, row_fault, rows_in, table_findings, year_fault}
 use Rattle.nms_fees.specs.declared.level.Level.{Level}
 use Rattle.nms_fees.specs.declared.level.Level.TheVariants as level
 use Rattle.nms_fees.specs.declared.section.Section.{Section}
@@ -60,6 +62,24 @@ number_found low high (Some value) = of_number (as_integer value)
     of_number None = refl
     of_number (Some k) = of_test (int_le low k && int_le k high)
 
+-- the one key that may be absent
+abbrev year_on : Option Data → Conditions
+year_on found = (fault.WrongType, at is_no_number found) ∷ (fault.OutOfRange, at is_no_year found) ∷ []
+
+year_found : (found : Option Data) → first_on (year_on found) ≡ option_map_or year_fault found None
+year_found None = refl
+year_found (Some value) = of_number (as_integer value)
+  where
+    of_caps : (known : Option Caps) → lesser None (lesser (when (is_none known) fault.OutOfRange) None) ≡ option_map_or (λ _. None) known (Some fault.OutOfRange)
+    of_caps None = refl
+    of_caps (Some caps) = refl
+
+    of_number : (n : Option ℤ)
+        → lesser (when (is_none n) fault.WrongType) (lesser (when (option_map_or (λ year. is_none (caps_of year)) n false) fault.OutOfRange) None)
+        ≡ option_map_or (λ year. option_map_or (λ _. None) (caps_of year) (Some fault.OutOfRange)) n (Some fault.WrongType)
+    of_number None = refl
+    of_number (Some year) = of_caps (caps_of year)
+
 abbrev charge_on : ℕ → ℕ → Option Data → Conditions
 charge_on most cap found =
     (fault.Missing, is_none found) ∷ (fault.WrongType, at is_no_number found) ∷ (fault.OutOfRange, at (is_outside (neg_ℤ (pos most)) (pos most)) found) ∷ (fault.OverCap, at (is_over cap) found) ∷ []
@@ -105,6 +125,9 @@ module _ (f : SetupFault) where
   number_agrees : (low high : ℤ) (found : Option Data) → Agrees f (any_on f (number_on low high found)) (option_map_or (range_fault low high) found (Some fault.Missing))
   number_agrees low high found = as_found f (number_on low high found) (number_found low high found)
 
+  year_agrees : (found : Option Data) → Agrees f (any_on f (year_on found)) (option_map_or year_fault found None)
+  year_agrees found = as_found f (year_on found) (year_found found)
+
   charge_agrees : (most cap : ℕ) (found : Option Data) → Agrees f (any_on f (charge_on most cap found)) (option_map_or (cap_fault most cap) found (Some fault.Missing))
   charge_agrees most cap found = as_found f (charge_on most cap found) (charge_found most cap found)
 
@@ -120,16 +143,16 @@ abbrev level_of : Section → Level
 level_of section.Participant = level.Participant
 level_of section.Symbol = level.Symbol
 
-module _ (row : Members) where
+module _ (keeps : Caps) (row : Members) where
   abbrev participant_on : SetupFault → Bool
   participant_on f =
       (((gate f fault.UnknownKey (has_other_key level.Participant row)
       || any_on f (text_on fault.BadName (is_name_in section.Participant) (get_member (codes "name") row)))
       || any_on f (text_on fault.OutOfRange is_feed (get_member (codes "feed") row)))
-      || any_on f (charge_on MOST_FEE FEE_CAP (get_member (codes "fee") row)))
-      || any_on f (charge_on MOST_RATE RATE_CAP (get_member (codes "rate") row))
+      || any_on f (charge_on MOST_FEE (fee_cap keeps) (get_member (codes "fee") row)))
+      || any_on f (charge_on MOST_RATE (rate_cap keeps) (get_member (codes "rate") row))
 
-  participant_table : (f : SetupFault) → participant_on f ≡ table_has f level.Participant row
+  participant_table : (f : SetupFault) → participant_on f ≡ table_has keeps f level.Participant row
   participant_table fault.NotToml = refl
   participant_table fault.Missing = simp (or_end, or_assoc) refl
   participant_table fault.UnknownKey = simp (or_end, or_assoc) refl
@@ -146,7 +169,7 @@ module _ (row : Members) where
       || any_on f (text_on fault.BadName (is_name_in section.Symbol) (get_member (codes "name") row)))
       || any_on f (number_on (pos 1) (pos MOST_LOT) (get_member (codes "lot") row))
 
-  symbol_table : (f : SetupFault) → symbol_on f ≡ table_has f level.Symbol row
+  symbol_table : (f : SetupFault) → symbol_on f ≡ table_has keeps f level.Symbol row
   symbol_table fault.NotToml = refl
   symbol_table fault.Missing = simp or_end refl
   symbol_table fault.UnknownKey = simp or_end refl
@@ -157,15 +180,15 @@ module _ (row : Members) where
   symbol_table fault.TooMany = refl
   symbol_table fault.NoMemory = refl
 
-  table_agrees : (f : SetupFault) (s : Section) → Agrees f (table_has f (level_of s) row) (least (table_findings s row))
+  table_agrees : (f : SetupFault) (s : Section) → Agrees f (table_has keeps f (level_of s) row) (least (table_findings keeps s row))
   table_agrees f section.Participant =
       same_agrees (participant_table f)
       (join (join (join (join
       (on f fault.UnknownKey (has_other_key level.Participant row))
       (name_agrees f section.Participant (get_member (codes "name") row)))
       (feed_agrees f (get_member (codes "feed") row)))
-      (charge_agrees f MOST_FEE FEE_CAP (get_member (codes "fee") row)))
-      (charge_agrees f MOST_RATE RATE_CAP (get_member (codes "rate") row)))
+      (charge_agrees f MOST_FEE (fee_cap keeps) (get_member (codes "fee") row)))
+      (charge_agrees f MOST_RATE (rate_cap keeps) (get_member (codes "rate") row)))
   table_agrees f section.Symbol =
       same_agrees (symbol_table f)
       (join (join
@@ -175,33 +198,33 @@ module _ (row : Members) where
 
 -- ---- the elements of one of the two arrays
 
-module _ (f : SetupFault) (s : Section) where
+module _ (keeps : Caps) (f : SetupFault) (s : Section) where
   abbrev row_has : Data → Bool
-  row_has row = option_map_or (table_has f (level_of s)) (as_table row) (gate f fault.WrongType true)
+  row_has row = option_map_or (table_has keeps f (level_of s)) (as_table row) (gate f fault.WrongType true)
 
-  row_agrees : (row : Data) → Agrees f (row_has row) (row_fault s row)
+  row_agrees : (row : Data) → Agrees f (row_has row) (row_fault keeps s row)
   row_agrees row = of_table (as_table row)
     where
-      of_table : (found : Option Members) → Agrees f (option_map_or (table_has f (level_of s)) found (gate f fault.WrongType true)) (option_map_or (λ members. least (table_findings s members)) found (Some fault.WrongType))
+      of_table : (found : Option Members) → Agrees f (option_map_or (table_has keeps f (level_of s)) found (gate f fault.WrongType true)) (option_map_or (λ members. least (table_findings keeps s members)) found (Some fault.WrongType))
       of_table None = on f fault.WrongType true
-      of_table (Some members) = table_agrees members f s
+      of_table (Some members) = table_agrees keeps members f s
 
-  each_after : (a : Bool) (x : Option SetupFault) (rows : List Data) → Agrees f a x → Agrees f (a || list_any row_has rows) (fold lesser x (map (row_fault s) rows))
+  each_after : (a : Bool) (x : Option SetupFault) (rows : List Data) → Agrees f a x → Agrees f (a || list_any row_has rows) (fold lesser x (map (row_fault keeps s) rows))
   each_after a x [] p = same_agrees (sym (or_end a)) p
-  each_after a x (row ∷ rows) p = same_agrees (or_assoc a (row_has row) (list_any row_has rows)) (each_after (a || row_has row) (lesser x (row_fault s row)) rows (join p (row_agrees row)))
+  each_after a x (row ∷ rows) p = same_agrees (or_assoc a (row_has row) (list_any row_has rows)) (each_after (a || row_has row) (lesser x (row_fault keeps s row)) rows (join p (row_agrees row)))
 
   tables_apart : (w : Bool) (rows : List Data)
-      → list_any (λ row. option_map_or (table_has f (level_of s)) (as_table row) (w && true)) rows ≡ ((w && list_any is_no_table rows) || list_any (table_has f (level_of s)) (filter_map as_table rows))
+      → list_any (λ row. option_map_or (table_has keeps f (level_of s)) (as_table row) (w && true)) rows ≡ ((w && list_any is_no_table rows) || list_any (table_has keeps f (level_of s)) (filter_map as_table rows))
   tables_apart true [] = refl
   tables_apart true (table members ∷ rows) =
-      ap (λ rest. table_has f (level_of s) members || rest) (tables_apart true rows)
-      ∙ or_swap (table_has f (level_of s) members) (list_any is_no_table rows) (list_any (table_has f (level_of s)) (filter_map as_table rows))
+      ap (λ rest. table_has keeps f (level_of s) members || rest) (tables_apart true rows)
+      ∙ or_swap (table_has keeps f (level_of s) members) (list_any is_no_table rows) (list_any (table_has keeps f (level_of s)) (filter_map as_table rows))
   tables_apart true (row ∷ rows) = refl
   tables_apart false [] = refl
-  tables_apart false (table members ∷ rows) = ap (λ rest. table_has f (level_of s) members || rest) (tables_apart false rows)
+  tables_apart false (table members ∷ rows) = ap (λ rest. table_has keeps f (level_of s) members || rest) (tables_apart false rows)
   tables_apart false (row ∷ rows) = tables_apart false rows
 
-  each_agrees : (rows : List Data) → Agrees f (gate f fault.WrongType (list_any is_no_table rows) || list_any (table_has f (level_of s)) (filter_map as_table rows)) (least (map (row_fault s) rows))
+  each_agrees : (rows : List Data) → Agrees f (gate f fault.WrongType (list_any is_no_table rows) || list_any (table_has keeps f (level_of s)) (filter_map as_table rows)) (least (map (row_fault keeps s) rows))
   each_agrees rows = same_agrees (tables_apart _ rows) (each_after false None rows (nothing f))
 
   -- ---- one of the two arrays
@@ -233,7 +256,7 @@ module _ (f : SetupFault) (s : Section) where
   abbrev tables_in : Option Data → List Members
   tables_in found = filter_map as_table (unwrap_or (option_and_then rows_in found) [])
 
-  array_agrees : (found : Option Data) → Agrees f (any_on f (array_on found) || list_any (table_has f (level_of s)) (tables_in found)) (option_map_or (array_fault s) found (Some fault.Missing))
+  array_agrees : (found : Option Data) → Agrees f (any_on f (array_on found) || list_any (table_has keeps f (level_of s)) (tables_in found)) (option_map_or (array_fault keeps s) found (Some fault.Missing))
   array_agrees None = join (on_each f (array_on None)) (nothing f)
   array_agrees (Some (array items)) =
       let rows = listed items in
@@ -244,20 +267,24 @@ module _ (f : SetupFault) (s : Section) where
 -- ---- the whole document
 
 module _ (document : Members) where
+  abbrev keeps : Caps
+  keeps = caps_in document
+
   abbrev numbers_on : SetupFault → Bool
   numbers_on f =
-      ((gate f fault.UnknownKey (has_other_key level.Top document)
+      (((gate f fault.UnknownKey (has_other_key level.Top document)
       || any_on f (number_on (pos 1) (pos MOST_CHANGES) (get_member (codes "tape_limit") document)))
       || any_on f (number_on (pos LEAST_QUEUE) (pos MOST_QUEUE) (get_member (codes "queue") document)))
-      || any_on f (number_on (pos 1) (pos MOST_DESKS) (get_member (codes "desks") document))
+      || any_on f (number_on (pos 1) (pos MOST_DESKS) (get_member (codes "desks") document)))
+      || any_on f (year_on (get_member (codes "caps") document))
 
   abbrev participants_on : SetupFault → Bool
-  participants_on f = any_on f (array_on f section.Participant (get_member (codes "participant") document))
+  participants_on f = any_on f (array_on keeps f section.Participant (get_member (codes "participant") document))
 
   abbrev symbols_on : SetupFault → Bool
-  symbols_on f = any_on f (array_on f section.Symbol (get_member (codes "symbol") document))
+  symbols_on f = any_on f (array_on keeps f section.Symbol (get_member (codes "symbol") document))
 
-  own_table : (f : SetupFault) → ((numbers_on f || participants_on f) || symbols_on f) ≡ table_has f level.Top document
+  own_table : (f : SetupFault) → ((numbers_on f || participants_on f) || symbols_on f) ≡ table_has keeps f level.Top document
   own_table fault.NotToml = refl
   own_table fault.Missing = simp (or_end, or_assoc) refl
   own_table fault.UnknownKey = simp or_end refl
@@ -278,13 +305,14 @@ module _ (document : Members) where
 
   pub document_agrees : (f : SetupFault) → Agrees f (document_has f document) (document_fault document)
   document_agrees f =
-      let participants = list_any (table_has f level.Participant) (tables_at (codes "participant") document) in
-      let symbols = list_any (table_has f level.Symbol) (tables_at (codes "symbol") document) in
+      let participants = list_any (table_has keeps f level.Participant) (tables_at (codes "participant") document) in
+      let symbols = list_any (table_has keeps f level.Symbol) (tables_at (codes "symbol") document) in
       same_agrees (rows_last (numbers_on f) (participants_on f) participants (symbols_on f) symbols ∙ ap (λ own. (own || participants) || symbols) (own_table f))
-      (join (join (join (join (join
+      (join (join (join (join (join (join
       (on f fault.UnknownKey (has_other_key level.Top document))
       (number_agrees f (pos 1) (pos MOST_CHANGES) (get_member (codes "tape_limit") document)))
       (number_agrees f (pos LEAST_QUEUE) (pos MOST_QUEUE) (get_member (codes "queue") document)))
       (number_agrees f (pos 1) (pos MOST_DESKS) (get_member (codes "desks") document)))
-      (array_agrees f section.Participant (get_member (codes "participant") document)))
-      (array_agrees f section.Symbol (get_member (codes "symbol") document)))
+      (year_agrees f (get_member (codes "caps") document)))
+      (array_agrees keeps f section.Participant (get_member (codes "participant") document)))
+      (array_agrees keeps f section.Symbol (get_member (codes "symbol") document)))

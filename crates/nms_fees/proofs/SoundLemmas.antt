@@ -1,6 +1,5 @@
 -- What follows where no place of a document has a fault.
-use Rattle.std.proofs.Common.{codes, ◌≡◌, ℕ, ℤ, pos, negsuc, neg_ℤ, unsigned_abs, ◌≤ℤ◌, ◌+◌, ◌<◌, ◌≤◌, Bool, true, false, ◌&&◌, ◌||◌, nat_lt, List, [], ◌∷◌, ◌++◌, length, take, drop, get_or, map, Option, Some, None, if◌then◌else◌, is_some, unwrap_or, option_and_then, refl, ap, sym, ◌∙◌, arith, fold, to_z, of_z, subst, zero, suc, append_assoc}
-use Rattle.std.specs.Int.{w64}
+use Rattle.std.proofs.Common.{codes, ◌≡◌, ℕ, ℤ, pos, negsuc, neg_ℤ, unsigned_abs, ◌≤ℤ◌, ◌+◌, ◌<◌, ◌≤◌, Bool, true, false, ◌&&◌, ◌||◌, nat_lt, List, [], ◌∷◌, ◌++◌, length, take, drop, get_or, map, Option, Some, None, if◌then◌else◌, is_some, unwrap_or, option_and_then, refl, ap, sym, ◌∙◌, arith, fold, subst, zero, suc, append_assoc}
 use Rattle.std.specs.Int.RustNames.{int_le}
 use Rattle.std.proofs.lemmas.Int.{ints}
 use Rattle.std.proofs.lemmas.Bool.{false≢true, and_parts}
@@ -15,11 +14,12 @@ use Rattle.toml.specs.View.{view}
 use Rattle.toml.specs.declared.value.Value.{Value}
 use Rattle.nms_quote.specs.Roster.{Name, place_in, refusal_in}
 use Rattle.nms_quote.specs.declared.TheConstants.{MOST_CHANGES}
-use Rattle.nms_fee_book.specs.declared.TheConstants.{FEE_CAP, MOST_FEE, MOST_RATE, RATE_CAP}
+use Rattle.nms_fee_book.specs.declared.TheConstants.{MOST_FEE, MOST_RATE}
+use Rattle.nms_fee_book.specs.declared.caps.Caps.{Caps}
 use Rattle.nms_fees.specs.declared.TheConstants.{LEAST_QUEUE, MOST_DESKS, MOST_QUEUE}
-use Rattle.nms_fee_book.specs.Fees.{IsCapped, AreCapped}
+use Rattle.nms_fee_book.specs.Fees.{fee_cap, rate_cap, IsCapped, AreCapped}
 use Rattle.nms_fees.specs.Faults.{lesser, least}
-use Rattle.nms_fees.specs.Places.{range_fault, cap_fault, name_fault, is_name_in, participant_findings, symbol_findings, row_fault, name_in, has_repeat, most_of, count_fault, rows_in, rows_findings, rows_fault, array_fault, document_findings, document_fault}
+use Rattle.nms_fees.specs.Places.{caps_in, range_fault, cap_fault, name_fault, is_name_in, participant_findings, symbol_findings, row_fault, name_in, has_repeat, most_of, count_fault, rows_in, rows_findings, rows_fault, array_fault, document_findings, document_fault}
 use Rattle.nms_fees.specs.Setup.{text_at, count_at, rows_at, table_of, schedule_of}
 use Rattle.nms_fees.specs.declared.section.Section.{Section}
 use Rattle.nms_fees.specs.declared.section.Section.TheVariants as section
@@ -86,46 +86,41 @@ abbrev pub name_at : Data → Name
 name_at row = text_at (codes "name") (table_of row)
 
 -- a row without a fault has a name of its form
-pub name_of_row : (s : Section) (row : Data) → row_fault s row ≡ None → (name_in row ≡ Some (name_at row)) × (is_name_in s (name_at row) ≡ true)
-name_of_row section.Participant (table members) h = name_found section.Participant (get_member (codes "name") members) (none_from_least (participant_findings members) h).1.0
-name_of_row section.Symbol (table members) h = name_found section.Symbol (get_member (codes "name") members) (none_from_least (symbol_findings members) h).1.0
-name_of_row section.Participant row h = cc
-name_of_row section.Symbol row h = cc
+pub name_of_row : (keeps : Caps) (s : Section) (row : Data) → row_fault keeps s row ≡ None → (name_in row ≡ Some (name_at row)) × (is_name_in s (name_at row) ≡ true)
+name_of_row keeps section.Participant (table members) h = name_found section.Participant (get_member (codes "name") members) (none_from_least (participant_findings keeps members) h).1.0
+name_of_row keeps section.Symbol (table members) h = name_found section.Symbol (get_member (codes "name") members) (none_from_least (symbol_findings members) h).1.0
+name_of_row keeps section.Participant row h = cc
+name_of_row keeps section.Symbol row h = cc
 
 -- no name is left out where no row has a fault
-pub names_of_rows : (s : Section) (rows : List Data) → AllByRecursion (λ row. row_fault s row ≡ None) rows → filter_map name_in rows ≡ map name_at rows
-names_of_rows s [] h = refl
-names_of_rows s (row ∷ rows) h = rw ((name_of_row s row h.0).0, names_of_rows s rows h.1)
+pub names_of_rows : (keeps : Caps) (s : Section) (rows : List Data) → AllByRecursion (λ row. row_fault keeps s row ≡ None) rows → filter_map name_in rows ≡ map name_at rows
+names_of_rows keeps s [] h = refl
+names_of_rows keeps s (row ∷ rows) h = rw ((name_of_row keeps s row h.0).0, names_of_rows keeps s rows h.1)
 
 -- a row without a fault has charges within their caps
-pub charges_of_row : (row : Data) → row_fault section.Participant row ≡ None → IsCapped (schedule_of row)
-charges_of_row (table members) h =
-    let found = none_from_least (participant_findings members) h in
-    let fee = charge_found MOST_FEE FEE_CAP (get_member (codes "fee") members) found.1.1.1.0 in
-    let rate = charge_found MOST_RATE RATE_CAP (get_member (codes "rate") members) found.1.1.1.1.0 in
+charges_of_row : (keeps : Caps) (row : Data) → row_fault keeps section.Participant row ≡ None → IsCapped keeps (schedule_of row)
+charges_of_row keeps (table members) h =
+    let found = none_from_least (participant_findings keeps members) h in
+    let fee = charge_found MOST_FEE (fee_cap keeps) (get_member (codes "fee") members) found.1.1.1.0 in
+    let rate = charge_found MOST_RATE (rate_cap keeps) (get_member (codes "rate") members) found.1.1.1.1.0 in
     record { fee_low = fee.0; fee_cap = fee.1; rate_low = rate.0; rate_cap = rate.1 }
-charges_of_row row h = cc
+charges_of_row keeps row h = cc
 
--- what fits 64 bits is read as it is
-pub capped_as_read : (fee rate fee_read rate_read : ℤ) → fee_read ≡ fee → rate_read ≡ rate → IsCapped (record { fee = fee; rate = rate }) → IsCapped (record { fee = to_z w64 (of_z w64 fee_read); rate = to_z w64 (of_z w64 rate_read) })
-capped_as_read fee rate fee_read rate_read f r capped =
-    record { fee_low = omega (arith, ints); fee_cap = omega (arith, ints); rate_low = omega (arith, ints); rate_cap = omega (arith, ints) }
-
-each_of_map : (s : Section) (rows : List Data) → AllByRecursion (λ finding. finding ≡ None) (map (row_fault s) rows) → AllByRecursion (λ row. row_fault s row ≡ None) rows
-each_of_map s [] h = tt
-each_of_map s (row ∷ rows) h = (h.0, each_of_map s rows h.1)
+each_of_map : (keeps : Caps) (s : Section) (rows : List Data) → AllByRecursion (λ finding. finding ≡ None) (map (row_fault keeps s) rows) → AllByRecursion (λ row. row_fault keeps s row ≡ None) rows
+each_of_map keeps s [] h = tt
+each_of_map keeps s (row ∷ rows) h = (h.0, each_of_map keeps s rows h.1)
 
 -- no row has a fault where an array has none
-each_sound : (s : Section) (rows : List Data) → rows_fault s rows ≡ None → AllByRecursion (λ row. row_fault s row ≡ None) rows
-each_sound s rows h = each_of_map s rows (none_from_least (map (row_fault s) rows) (none_from_least (rows_findings s rows) h).1.1.0)
+each_sound : (keeps : Caps) (s : Section) (rows : List Data) → rows_fault keeps s rows ≡ None → AllByRecursion (λ row. row_fault keeps s row ≡ None) rows
+each_sound keeps s rows h = each_of_map keeps s rows (none_from_least (map (row_fault keeps s) rows) (none_from_least (rows_findings keeps s rows) h).1.1.0)
 
 element_of : (P : Data → Type 0) (rows : List Value) (i : ℕ) (row : Value) → AllByRecursion P (map view rows) → i < length rows → row ≡ get_or rows i row → P (view row)
 element_of P [] i row h within here = absurd (omega arith)
 element_of P (first ∷ rows) zero row h within here = subst (λ value. P (view value)) (sym here) h.0
 element_of P (first ∷ rows) (suc i) row h within here = element_of P rows i row h.1 (omega arith) here
 
-pub row_sound : (s : Section) (rows : List Value) (i : ℕ) (row : Value) → rows_fault s (map view rows) ≡ None → i < length rows → row ≡ get_or rows i row → row_fault s (view row) ≡ None
-row_sound s rows i row h within here = element_of (λ value. row_fault s value ≡ None) rows i row (each_sound s (map view rows) h) within here
+pub row_sound : (keeps : Caps) (s : Section) (rows : List Value) (i : ℕ) (row : Value) → rows_fault keeps s (map view rows) ≡ None → i < length rows → row ≡ get_or rows i row → row_fault keeps s (view row) ≡ None
+row_sound keeps s rows i row h within here = element_of (λ value. row_fault keeps s value ≡ None) rows i row (each_sound keeps s (map view rows) h) within here
 
 or_false : (a b : Bool) → (a || b) ≡ false → (a ≡ false) × (b ≡ false)
 or_false true b h = cc
@@ -176,12 +171,12 @@ not_repeated true h = cc
 not_repeated false h = refl
 
 -- a row of an array without a fault is refused by no roster that has the rows before it
-pub unrefused : {Z : Type 0} (s : Section) (z : Data → Z) (rows : List Value) (i : ℕ) (row : Value) (entries : List (Name × Z)) → rows_fault s (map view rows) ≡ None → i < length rows → row ≡ get_or rows i row
+pub unrefused : {Z : Type 0} (keeps : Caps) (s : Section) (z : Data → Z) (rows : List Value) (i : ℕ) (row : Value) (entries : List (Name × Z)) → rows_fault keeps s (map view rows) ≡ None → i < length rows → row ≡ get_or rows i row
     → entries ≡ map (λ value. (name_at value, z value)) (map view (take i rows)) → refusal_in (is_name_in s) (most_of s) entries (name_at (view row)) ≡ None
-unrefused {Z} s z rows i row entries sound within here before =
-    let found = none_from_least (rows_findings s (map view rows)) sound in
-    let formed : is_name_in s (name_at (view row)) ≡ true = (name_of_row s (view row) (row_sound s rows i row sound within here)).1 in
-    let once : has_repeat (map name_at (map view rows)) ≡ false = ap has_repeat (sym (names_of_rows s (map view rows) (each_sound s (map view rows) sound))) ∙ not_repeated _ found.1.0 in
+unrefused {Z} keeps s z rows i row entries sound within here before =
+    let found = none_from_least (rows_findings keeps s (map view rows)) sound in
+    let formed : is_name_in s (name_at (view row)) ≡ true = (name_of_row keeps s (view row) (row_sound keeps s rows i row sound within here)).1 in
+    let once : has_repeat (map name_at (map view rows)) ≡ false = ap has_repeat (sym (names_of_rows keeps s (map view rows) (each_sound keeps s (map view rows) sound))) ∙ not_repeated _ found.1.0 in
     let unmet : list_any (bytes_eq (name_at (view row))) (map name_at (map view (take i rows))) ≡ false =
     once_before (map name_at (map view (take i rows))) (map name_at (map view (drop (i + 1) rows))) (name_at (view row)) (ap has_repeat (sym (names_split rows i row within here)) ∙ once) in
     let absent : is_some (place_in entries (name_at (view row))) ≡ false =
@@ -192,17 +187,17 @@ unrefused {Z} s z rows i row entries sound within here before =
     rw (formed, absent, enough)
 
 -- and so have all rows of an array without a fault
-each_capped : (rows : List Data) → AllByRecursion (λ row. row_fault section.Participant row ≡ None) rows → AreCapped (map schedule_of rows)
-each_capped [] h = All-nil IsCapped
-each_capped (row ∷ rows) h = All-cons IsCapped (schedule_of row) (map schedule_of rows) (charges_of_row row h.0) (each_capped rows h.1)
+each_capped : (keeps : Caps) (rows : List Data) → AllByRecursion (λ row. row_fault keeps section.Participant row ≡ None) rows → AreCapped keeps (map schedule_of rows)
+each_capped keeps [] h = All-nil (IsCapped keeps)
+each_capped keeps (row ∷ rows) h = All-cons (IsCapped keeps) (schedule_of row) (map schedule_of rows) (charges_of_row keeps row h.0) (each_capped keeps rows h.1)
 
-pub charges_of_rows : (rows : List Data) → rows_fault section.Participant rows ≡ None → AreCapped (map schedule_of rows)
-charges_of_rows rows h = each_capped rows (each_sound section.Participant rows h)
+pub charges_of_rows : (keeps : Caps) (rows : List Data) → rows_fault keeps section.Participant rows ≡ None → AreCapped keeps (map schedule_of rows)
+charges_of_rows keeps rows h = each_capped keeps rows (each_sound keeps section.Participant rows h)
 
-array_found : (s : Section) (found : Option Data) → option_map_or (array_fault s) found (Some fault.Missing) ≡ None → rows_fault s (unwrap_or (option_and_then rows_in found) []) ≡ None
-array_found s None h = cc
-array_found s (Some (array items)) h = h
-array_found s (Some value) h = cc
+array_found : (keeps : Caps) (s : Section) (found : Option Data) → option_map_or (array_fault keeps s) found (Some fault.Missing) ≡ None → rows_fault keeps s (unwrap_or (option_and_then rows_in found) []) ≡ None
+array_found keeps s None h = cc
+array_found keeps s (Some (array items)) h = h
+array_found keeps s (Some value) h = cc
 
 -- a number of a range above zero, as its size
 count_found : (low high : ℕ) (found : Option Data) → option_map_or (range_fault (pos low) (pos high)) found (Some fault.Missing) ≡ None
@@ -228,8 +223,8 @@ module _ (document : Members) (sound : document_fault document ≡ None) where
   pub desks_of : (1 ≤ count_at (codes "desks") document) × (count_at (codes "desks") document ≤ MOST_DESKS)
   desks_of = count_found 1 MOST_DESKS (get_member (codes "desks") document) found.1.1.1.0
 
-  pub participants_of : (rows : List Data) → rows ≡ rows_at (codes "participant") document → rows_fault section.Participant rows ≡ None
-  participants_of rows e = ap (rows_fault section.Participant) e ∙ array_found section.Participant (get_member (codes "participant") document) found.1.1.1.1.0
+  pub participants_of : (rows : List Data) → rows ≡ rows_at (codes "participant") document → rows_fault (caps_in document) section.Participant rows ≡ None
+  participants_of rows e = ap (rows_fault (caps_in document) section.Participant) e ∙ array_found (caps_in document) section.Participant (get_member (codes "participant") document) found.1.1.1.1.1.0
 
-  pub symbols_of : (rows : List Data) → rows ≡ rows_at (codes "symbol") document → rows_fault section.Symbol rows ≡ None
-  symbols_of rows e = ap (rows_fault section.Symbol) e ∙ array_found section.Symbol (get_member (codes "symbol") document) found.1.1.1.1.1.0
+  pub symbols_of : (rows : List Data) → rows ≡ rows_at (codes "symbol") document → rows_fault (caps_in document) section.Symbol rows ≡ None
+  symbols_of rows e = ap (rows_fault (caps_in document) section.Symbol) e ∙ array_found (caps_in document) section.Symbol (get_member (codes "symbol") document) found.1.1.1.1.1.1.0

@@ -1,5 +1,6 @@
 -- The places of a setup's document, and the fault of each. This product's own rule.
-use Rattle.std.specs.Prelude.{codes, ℕ, ℤ, pos, neg_ℤ, Bool, false, not, ◌&&◌, ◌||◌, ◌==◌, nat_le, List, [], ◌∷◌, length, map, Option, Some, None, option_map, option_and_then, if◌then◌else◌}
+use Rattle.std.specs.Prelude.{codes, ◌≡◌, ℕ, ℤ, pos, neg_ℤ, Bool, false, not, ◌&&◌, ◌||◌, ◌==◌, nat_le, List, [], ◌∷◌, length, map, Option, Some, None, option_map, option_and_then, unwrap_or, if◌then◌else◌}
+use Rattle.std.specs.Ordering.{int_eq}
 use Rattle.std.specs.Int.RustNames.{int_le}
 use Rattle.std.specs.Option.{option_map_or}
 use Rattle.std.specs.List.{list_any, filter_map}
@@ -8,7 +9,10 @@ use Rattle.toml.specs.Data.{Data, Items, no_items, item, Members, no_members, me
 use Rattle.nms_units.specs.declared.TheConstants.{MOST_LOT}
 use Rattle.nms_quote.specs.Roster.{Name, is_part_name, is_symbol_name}
 use Rattle.nms_quote.specs.declared.TheConstants.{MOST_CHANGES, MOST_PARTICIPANTS, MOST_SYMBOLS}
-use Rattle.nms_fee_book.specs.declared.TheConstants.{FEE_CAP, MOST_FEE, MOST_RATE, RATE_CAP}
+use Rattle.nms_fee_book.specs.Fees.{fee_cap, rate_cap}
+use Rattle.nms_fee_book.specs.declared.TheConstants.{MOST_FEE, MOST_RATE}
+use Rattle.nms_fee_book.specs.declared.caps.Caps.{Caps}
+use Rattle.nms_fee_book.specs.declared.caps.Caps.TheVariants as caps
 use Rattle.nms_fees.specs.declared.TheConstants.{LEAST_QUEUE, MOST_DESKS, MOST_QUEUE}
 use Rattle.nms_fees.specs.Faults.{least}
 use Rattle.nms_fees.specs.declared.setup_fault.SetupFault.{SetupFault}
@@ -26,6 +30,23 @@ key_fault value_fault key table = option_map_or value_fault (get_member key tabl
 abbrev pub range_fault : ℤ → ℤ → Data → Option SetupFault
 range_fault low high value =
     option_map_or (λ n. if int_le low n && int_le n high then None else Some fault.OutOfRange) (as_integer value) (Some fault.WrongType)
+
+-- the caps of a year: that in which the rule was adopted, or amended
+abbrev pub caps_of : ℤ → Option Caps
+caps_of year = if int_eq year (pos 2005) then Some caps.Of2005 else (if int_eq year (pos 2024) then Some caps.Of2024 else None)
+
+-- a year of caps
+abbrev pub year_fault : Data → Option SetupFault
+year_fault value =
+    option_map_or (λ year. option_map_or (λ _. None) (caps_of year) (Some fault.OutOfRange)) (as_integer value) (Some fault.WrongType)
+
+-- the fault of the one key that may be absent
+abbrev pub caps_fault : Members → Option SetupFault
+caps_fault document = option_map_or year_fault (get_member (codes "caps") document) None
+
+-- the caps that a document asks for: those of 2005 where it names none
+abbrev pub caps_in : Members → Caps
+caps_in document = unwrap_or (option_and_then caps_of (option_and_then as_integer (get_member (codes "caps") document))) caps.Of2005
 
 -- a number up to `most` either way, and not over its cap
 abbrev pub cap_fault : ℕ → ℕ → Data → Option SetupFault
@@ -61,7 +82,8 @@ is_symbol_key key = bytes_eq key (codes "name") || bytes_eq key (codes "lot")
 
 abbrev pub is_top_key : Name → Bool
 is_top_key key =
-    bytes_eq key (codes "tape_limit") || bytes_eq key (codes "queue") || bytes_eq key (codes "desks") || bytes_eq key (codes "participant") || bytes_eq key (codes "symbol")
+    bytes_eq key (codes "tape_limit") || bytes_eq key (codes "queue") || bytes_eq key (codes "desks") || bytes_eq key (codes "caps")
+    || bytes_eq key (codes "participant") || bytes_eq key (codes "symbol")
 
 abbrev pub is_known : Level → Name → Bool
 is_known level.Top key = is_top_key key
@@ -72,14 +94,14 @@ is_known level.Symbol key = is_symbol_key key
 abbrev pub other_key_fault : Level → Members → Option SetupFault
 other_key_fault table_of table = if list_any (λ key. not (is_known table_of key)) (keys_in table) then Some fault.UnknownKey else None
 
--- what each place finds in a table of the array `participant`
-abbrev pub participant_findings : Members → List (Option SetupFault)
-participant_findings table =
+-- what each place finds in a table of the array `participant`, whose fees keep the caps
+abbrev pub participant_findings : Caps → Members → List (Option SetupFault)
+participant_findings keeps table =
     other_key_fault level.Participant table
     ∷ key_fault (name_fault (is_name_in section.Participant)) (codes "name") table
     ∷ key_fault feed_fault (codes "feed") table
-    ∷ key_fault (cap_fault MOST_FEE FEE_CAP) (codes "fee") table
-    ∷ key_fault (cap_fault MOST_RATE RATE_CAP) (codes "rate") table
+    ∷ key_fault (cap_fault MOST_FEE (fee_cap keeps)) (codes "fee") table
+    ∷ key_fault (cap_fault MOST_RATE (rate_cap keeps)) (codes "rate") table
     ∷ []
 
 -- and in one of the array `symbol`
@@ -90,13 +112,13 @@ symbol_findings table =
     ∷ key_fault (range_fault (pos 1) (pos MOST_LOT)) (codes "lot") table
     ∷ []
 
-abbrev pub table_findings : Section → Members → List (Option SetupFault)
-table_findings section.Participant table = participant_findings table
-table_findings section.Symbol table = symbol_findings table
+abbrev pub table_findings : Caps → Section → Members → List (Option SetupFault)
+table_findings keeps section.Participant table = participant_findings keeps table
+table_findings keeps section.Symbol table = symbol_findings table
 
 -- an element of one of the two arrays, which has to be a table
-abbrev pub row_fault : Section → Data → Option SetupFault
-row_fault rows_of row = option_map_or (λ table. least (table_findings rows_of table)) (as_table row) (Some fault.WrongType)
+abbrev pub row_fault : Caps → Section → Data → Option SetupFault
+row_fault keeps rows_of row = option_map_or (λ table. least (table_findings keeps rows_of table)) (as_table row) (Some fault.WrongType)
 
 -- the items of an array
 abbrev pub listed : Items → List Data
@@ -129,15 +151,23 @@ abbrev pub count_fault : ℕ → ℕ → Option SetupFault
 count_fault most count = if count == 0 then Some fault.OutOfRange else (if nat_le count most then None else Some fault.TooMany)
 
 -- what is found in the elements of one of the two arrays
-abbrev pub rows_findings : Section → List Data → List (Option SetupFault)
-rows_findings rows_of rows = count_fault (most_of rows_of) (length rows) ∷ repeat_fault rows ∷ least (map (row_fault rows_of) rows) ∷ []
+abbrev pub rows_findings : Caps → Section → List Data → List (Option SetupFault)
+rows_findings keeps rows_of rows =
+    count_fault (most_of rows_of) (length rows) ∷ repeat_fault rows ∷ least (map (row_fault keeps rows_of) rows) ∷ []
 
-abbrev pub rows_fault : Section → List Data → Option SetupFault
-rows_fault rows_of rows = least (rows_findings rows_of rows)
+abbrev pub rows_fault : Caps → Section → List Data → Option SetupFault
+rows_fault keeps rows_of rows = least (rows_findings keeps rows_of rows)
+
+-- no fault is found in an element, or in all of them: by some caps, where these are not asked for
+abbrev pub IsSound : Section → Data → Type 0
+IsSound rows_of row = (keeps : Caps) × (row_fault keeps rows_of row ≡ None)
+
+abbrev pub AreSound : Section → List Data → Type 0
+AreSound rows_of rows = (keeps : Caps) × (rows_fault keeps rows_of rows ≡ None)
 
 -- one of the two arrays
-abbrev pub array_fault : Section → Data → Option SetupFault
-array_fault rows_of value = option_map_or (rows_fault rows_of) (rows_in value) (Some fault.WrongType)
+abbrev pub array_fault : Caps → Section → Data → Option SetupFault
+array_fault keeps rows_of value = option_map_or (rows_fault keeps rows_of) (rows_in value) (Some fault.WrongType)
 
 -- what is found in a whole document
 abbrev pub document_findings : Members → List (Option SetupFault)
@@ -146,8 +176,9 @@ document_findings document =
     ∷ key_fault (range_fault (pos 1) (pos MOST_CHANGES)) (codes "tape_limit") document
     ∷ key_fault (range_fault (pos LEAST_QUEUE) (pos MOST_QUEUE)) (codes "queue") document
     ∷ key_fault (range_fault (pos 1) (pos MOST_DESKS)) (codes "desks") document
-    ∷ key_fault (array_fault section.Participant) (codes "participant") document
-    ∷ key_fault (array_fault section.Symbol) (codes "symbol") document
+    ∷ caps_fault document
+    ∷ key_fault (array_fault (caps_in document) section.Participant) (codes "participant") document
+    ∷ key_fault (array_fault (caps_in document) section.Symbol) (codes "symbol") document
     ∷ []
 
 -- the fault of least number anywhere in a document

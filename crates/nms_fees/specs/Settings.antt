@@ -1,16 +1,15 @@
 -- What a setup says. This product's own rule.
-use Rattle.std.specs.Prelude.{◌≡◌, ℕ, ◌≤◌, List, length}
+use Rattle.std.specs.Prelude.{◌≡◌, ℕ, ◌≤◌, length}
 use Rattle.nms_quote.specs.Roster.{Listing}
 use Rattle.nms_quote.specs.declared.TheConstants.{MOST_CHANGES}
-use Rattle.nms_fee_book.specs.Fees.{AreCapped}
+use Rattle.nms_fee_book.specs.Fees.{AreCapped, Charges}
 use Rattle.nms_fees.specs.declared.TheConstants.{LEAST_QUEUE, MOST_DESKS, MOST_QUEUE}
-use Rattle.nms_fee_book.specs.declared.fee_schedule.FeeSchedule.{FeeSchedule}
 
--- who is on the roster, the fees of each participant by place, how many changes the tape may have, how
--- many places the queue has, and how many desks there are
+-- who is on the roster, the fees of each participant by place with the caps that they keep, how many changes the tape
+-- may have, how many places the queue has, and how many desks there are
 pub record Settings : Type 0 where
   pub roster : Listing
-  pub fees : List FeeSchedule
+  pub fees : Charges
   pub tape_limit : ℕ
   pub queue : ℕ
   pub desks : ℕ
@@ -23,5 +22,5 @@ pub record IsInRange (settings : Settings) : Type 0 where
   pub queue_high : settings.queue ≤ MOST_QUEUE
   pub desks_low : 1 ≤ settings.desks
   pub desks_high : settings.desks ≤ MOST_DESKS
-  pub fees_of_each : length settings.fees ≡ length settings.roster.parts
-  pub fees_capped : AreCapped settings.fees
+  pub fees_of_each : length settings.fees.schedules ≡ length settings.roster.parts
+  pub fees_capped : AreCapped settings.fees.caps settings.fees.schedules

@@ -8,7 +8,7 @@ use Rattle.nms_quote.specs.Roster.{Name}
 use Rattle.nms_quote.specs.declared.feed.Feed.{Feed}
 use Rattle.nms_quote.specs.declared.feed.Feed.TheVariants as feed
 use Rattle.nms_fees.specs.Settings.{Settings}
-use Rattle.nms_fees.specs.Places.{rows_in, document_fault}
+use Rattle.nms_fees.specs.Places.{caps_in, rows_in, document_fault}
 use Rattle.nms_fee_book.specs.declared.fee_schedule.FeeSchedule.{FeeSchedule}
 use Rattle.nms_fees.specs.declared.setup_fault.SetupFault.{SetupFault}
 use Rattle.nms_fees.specs.declared.setup_fault.SetupFault.TheVariants as fault
@@ -50,7 +50,7 @@ symbol_of row = (text_at (codes "name") (table_of row), count_at (codes "lot") (
 abbrev pub settings_of : Members → Settings
 settings_of document = record {
   roster = record { parts = map participant_of (rows_at (codes "participant") document); syms = map symbol_of (rows_at (codes "symbol") document) };
-  fees = map schedule_of (rows_at (codes "participant") document);
+  fees = record { caps = caps_in document; schedules = map schedule_of (rows_at (codes "participant") document) };
   tape_limit = count_at (codes "tape_limit") document;
   queue = count_at (codes "queue") document;
   desks = count_at (codes "desks") document;

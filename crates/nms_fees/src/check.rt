@@ -4,12 +4,14 @@ ghost use Rattle.toml.specs.View.{view, table_view};
 ghost use Rattle.nms_fees.specs.Faults.{least, lesser};
 ghost use Rattle.nms_fees.specs.Places.{key_fault, range_fault, cap_fault, is_name_in, name_fault, feed_fault, other_key_fault, table_findings, row_fault, most_of, count_fault, rows_fault, array_fault, document_fault};
 
+use crate::caps_key::{caps_fault, caps_in};
 use crate::level::Level;
 use crate::repeat::has_repeat;
 use crate::section::Section;
 use crate::setup_fault::SetupFault;
 use crate::toml_table::{has_other_key, rows_in, value_at};
-use crate::{FEE_CAP, LEAST_QUEUE, MOST_DESKS, MOST_FEE, MOST_QUEUE, MOST_RATE, RATE_CAP};
+use crate::{LEAST_QUEUE, MOST_DESKS, MOST_FEE, MOST_QUEUE, MOST_RATE};
+use nms_fee_book::Caps;
 use nms_quote::{MOST_CHANGES, MOST_PARTICIPANTS, MOST_SYMBOLS, is_part_name, is_symbol_name};
 use nms_units::MOST_LOT;
 use std::alloc::Global;
@@ -146,26 +148,26 @@ fn is_name_in(section: Section, name: &[u8]) -> bool
 }
 
 /// The fault of an element of one of the two arrays.
-fn row_fault(row: &Value, section: Section) -> Option<SetupFault>
-    ensures { result ≡ row_fault section (view row.now) }
+fn row_fault(row: &Value, caps: Caps, section: Section) -> Option<SetupFault>
+    ensures { result ≡ row_fault caps section (view row.now) }
 {
     match row.as_table() {
-        Some(table) => table_fault(table, section),
+        Some(table) => table_fault(table, caps, section),
         None => Some(SetupFault::WrongType),
     }
 }
 
-/// The fault of a table of one of the two arrays.
-fn table_fault(table: &Table, section: Section) -> Option<SetupFault>
-    ensures { result ≡ least (table_findings section (table_view table.now)) }
+/// The fault of a table of one of the two arrays, whose fees keep the caps.
+fn table_fault(table: &Table, caps: Caps, section: Section) -> Option<SetupFault>
+    ensures { result ≡ least (table_findings caps section (table_view table.now)) }
 {
     match section {
         Section::Participant => least(&[
             other_key_fault(table, Level::Participant),
             name_fault(table, section),
             feed_fault(table, "feed"),
-            charge_fault(table, "fee", MOST_FEE, FEE_CAP),
-            charge_fault(table, "rate", MOST_RATE, RATE_CAP),
+            charge_fault(table, "fee", MOST_FEE, caps.fee()),
+            charge_fault(table, "rate", MOST_RATE, caps.rate()),
         ]),
         Section::Symbol => least(&[
             other_key_fault(table, Level::Symbol),
@@ -176,12 +178,12 @@ fn table_fault(table: &Table, section: Section) -> Option<SetupFault>
 }
 
 /// The least fault of the elements of one of the two arrays.
-fn each_row_fault(rows: &[Value], section: Section) -> Option<SetupFault>
-    ensures { result ≡ least (map (row_fault section) (map view rows.now)) }
+fn each_row_fault(rows: &[Value], caps: Caps, section: Section) -> Option<SetupFault>
+    ensures { result ≡ least (map (row_fault caps section) (map view rows.now)) }
 {
     let mut least = None;
     for row in rows {
-        least = lesser(least, row_fault(row, section));
+        least = lesser(least, row_fault(row, caps, section));
     }
     least
 }
@@ -207,9 +209,10 @@ fn count_fault(section: Section, count: usize) -> Option<SetupFault>
 fn rows_fault(
     alloc: Global,
     rows: &[Value],
+    caps: Caps,
     section: Section,
 ) -> Result<Option<SetupFault>, SetupFault>
-    ensures found { IfOk result (λ found. found ≡ rows_fault section (map view rows.now)) }
+    ensures found { IfOk result (λ found. found ≡ rows_fault caps section (map view rows.now)) }
     ensures memory { IfErr result (λ fault. fault ≡ SetupFault.NoMemory) }
 {
     let repeat_fault = if has_repeat(alloc, rows)? {
@@ -220,7 +223,7 @@ fn rows_fault(
     Ok(least(&[
         count_fault(section, rows.len()),
         repeat_fault,
-        each_row_fault(rows, section),
+        each_row_fault(rows, caps, section),
     ]))
 }
 
@@ -229,14 +232,15 @@ fn array_fault(
     alloc: Global,
     document: &Table,
     key: &str,
+    caps: Caps,
     section: Section,
 ) -> Result<Option<SetupFault>, SetupFault>
-    ensures found { IfOk result (λ found. found ≡ key_fault (array_fault section) key.now (table_view document.now)) }
+    ensures found { IfOk result (λ found. found ≡ key_fault (array_fault caps section) key.now (table_view document.now)) }
     ensures memory { IfErr result (λ fault. fault ≡ SetupFault.NoMemory) }
 {
     match value_at(document, key) {
         Some(value) => match rows_in(value) {
-            Some(rows) => rows_fault(alloc, rows, section),
+            Some(rows) => rows_fault(alloc, rows, caps, section),
             None => Ok(Some(SetupFault::WrongType)),
         },
         None => Ok(Some(SetupFault::Missing)),
@@ -251,12 +255,14 @@ pub(crate) fn document_fault(
     ensures found { IfOk result (λ found. found ≡ document_fault (table_view document.now)) }
     ensures memory { IfErr result (λ fault. fault ≡ SetupFault.NoMemory) }
 {
+    let caps = caps_in(document);
     Ok(least(&[
         other_key_fault(document, Level::Top),
         number_fault(document, "tape_limit", 1, MOST_CHANGES as i64),
         number_fault(document, "queue", LEAST_QUEUE as i64, MOST_QUEUE as i64),
         number_fault(document, "desks", 1, MOST_DESKS as i64),
-        array_fault(alloc, document, "participant", Section::Participant)?,
-        array_fault(alloc, document, "symbol", Section::Symbol)?,
+        caps_fault(document),
+        array_fault(alloc, document, "participant", caps, Section::Participant)?,
+        array_fault(alloc, document, "symbol", caps, Section::Symbol)?,
     ]))
 }

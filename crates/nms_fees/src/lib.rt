@@ -1,6 +1,7 @@
 //! A product's setup, read from a TOML document: roster, access fees, limits.
 #![tactic(auto)]
 
+mod caps_key;
 mod check;
 mod laws;
 mod level;
@@ -12,7 +13,7 @@ mod setup_reading;
 mod toml_table;
 
 pub use laws::the_least_fault_is_read;
-pub use nms_fee_book::{FEE_CAP, FeeBook, FeeSchedule, MOST_FEE, MOST_RATE, RATE_CAP};
+pub use nms_fee_book::{Caps, FeeBook, FeeSchedule, MOST_FEE, MOST_RATE};
 pub use setup::Setup;
 pub use setup_fault::SetupFault;
 pub use setup_reading::read_setup;

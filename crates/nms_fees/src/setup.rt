@@ -3,7 +3,7 @@ ghost use Rattle.std.specs.Prelude.{◌≡◌, ◌≤◌, length};
 ghost use Rattle.nms_fee_book.specs.Fees.{AreCapped};
 
 use crate::{LEAST_QUEUE, MOST_DESKS, MOST_QUEUE};
-use nms_fee_book::FeeBook;
+use nms_fee_book::{Caps, FeeBook};
 use nms_quote::{MOST_CHANGES, Roster};
 use std::marker::Model;
 
@@ -39,10 +39,17 @@ impl Setup {
     /// The participants' access fees, none over its cap.
     pub fn fees(&self) -> &FeeBook
         ensures value { result.now ≡ self.now.fees }
-        ensures of_each { length result.now ≡ length self.now.roster.parts }
-        ensures capped { AreCapped result.now }
+        ensures of_each { length result.now.schedules ≡ length self.now.roster.parts }
+        ensures capped { AreCapped result.now.caps result.now.schedules }
     {
         &self.fees
+    }
+
+    /// The caps that the fees keep (17 CFR 242.610(c)): those of 2005, where the document does not name others.
+    pub fn caps(&self) -> Caps
+        ensures { result ≡ self.now.fees.caps }
+    {
+        self.fees.caps()
     }
 
     /// The most changes that the tape may have, 1 to `MOST_CHANGES` (10,000,000).

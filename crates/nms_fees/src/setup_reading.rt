@@ -3,15 +3,16 @@ ghost use Rattle.std.specs.Prelude.{◌≡◌, ◌≢◌, [], ◌∷◌, ◌++�
 ghost use Rattle.toml.specs.View.{view, table_view};
 ghost use Rattle.nms_quote.specs.Roster.{part_refusal, sym_refusal};
 ghost use Rattle.nms_fees.specs.declared.section.Section.TheVariants as section;
-ghost use Rattle.nms_fee_book.specs.Fees.{IsCapped, AreCapped};
-ghost use Rattle.nms_fees.specs.Places.{row_fault, rows_fault, document_fault};
+ghost use Rattle.nms_fee_book.specs.Fees.{AreCapped};
+ghost use Rattle.nms_fees.specs.Places.{rows_fault, document_fault, IsSound, AreSound};
 ghost use Rattle.nms_fees.specs.Setup.{text_at, number_at, table_of, feed_named, participant_of, schedule_of, symbol_of, settings_of, reading};
 
+use crate::caps_key::caps_in;
 use crate::check::document_fault;
 use crate::setup::Setup;
 use crate::setup_fault::SetupFault;
 use crate::toml_table::{count_at, number_at, rows_at, text_at};
-use nms_fee_book::{FeeBook, FeeSchedule};
+use nms_fee_book::{Caps, FeeBook, FeeSchedule};
 use nms_quote::{Feed, Roster};
 use nms_units::Lot;
 use std::alloc::Global;
@@ -24,7 +25,7 @@ use toml::{Table, Value};
 pub fn read_setup(alloc: Global, text: &str) -> Result<Setup, SetupFault>
     ensures read { IfOk result (λ setup. reading text.now ≡ Ok setup) }
     ensures refused { IfErr result (λ fault. fault ≢ SetupFault.NoMemory → reading text.now ≡ Err fault) }
-    ensures capped { IfOk result (λ setup. AreCapped setup.fees) }
+    ensures capped { IfOk result (λ setup. AreCapped setup.fees.caps setup.fees.schedules) }
 {
     let document = match toml::table_from_str(alloc, text) {
         Ok(document) => document,
@@ -52,7 +53,7 @@ fn settings_of(alloc: Global, document: &Table) -> Result<Setup, SetupFault>
     let symbols = rows_at(document, "symbol");
     Ok(Setup {
         roster: roster_of(alloc, participants, symbols)?,
-        fees: fees_of(alloc, participants)?,
+        fees: fees_of(alloc, caps_in(document), participants)?,
         tape_limit: count_at(document, "tape_limit"),
         queue: count_at(document, "queue") as usize,
         desks: count_at(document, "desks") as u8,
@@ -61,8 +62,8 @@ fn settings_of(alloc: Global, document: &Table) -> Result<Setup, SetupFault>
 
 /// The roster of the two arrays.
 fn roster_of(alloc: Global, participants: &[Value], symbols: &[Value]) -> Result<Roster, SetupFault>
-    requires participants { rows_fault section.Participant (map view participants.now) ≡ None }
-    requires symbols { rows_fault section.Symbol (map view symbols.now) ≡ None }
+    requires participants { AreSound section.Participant (map view participants.now) }
+    requires symbols { AreSound section.Symbol (map view symbols.now) }
     ensures parts { IfOk result (λ roster. roster.parts ≡ map participant_of (map view participants.now)) }
     ensures syms { IfOk result (λ roster. roster.syms ≡ map symbol_of (map view symbols.now)) }
     ensures memory { IfErr result (λ fault. fault ≡ SetupFault.NoMemory) }
@@ -83,8 +84,8 @@ fn fill_roster(
     symbols: &[Value],
 ) -> Result<(), SetupFault>
     requires empty { (roster.old.parts ≡ []) × (roster.old.syms ≡ []) }
-    requires participants { rows_fault section.Participant (map view participants.now) ≡ None }
-    requires symbols { rows_fault section.Symbol (map view symbols.now) ≡ None }
+    requires participants { AreSound section.Participant (map view participants.now) }
+    requires symbols { AreSound section.Symbol (map view symbols.now) }
     ensures parts { OnOk result (roster.new.parts ≡ map participant_of (map view participants.now)) }
     ensures syms { OnOk result (roster.new.syms ≡ map symbol_of (map view symbols.now)) }
     ensures memory { IfErr result (λ fault. fault ≡ SetupFault.NoMemory) }
@@ -95,7 +96,7 @@ fn fill_roster(
 
 fn add_participants(roster: &mut Roster, rows: &[Value]) -> Result<(), SetupFault>
     requires empty { roster.old.parts ≡ [] }
-    requires sound { rows_fault section.Participant (map view rows.now) ≡ None }
+    requires sound { AreSound section.Participant (map view rows.now) }
     ensures parts { OnOk result (roster.new.parts ≡ map participant_of (map view rows.now)) }
     ensures syms { OnOk result (roster.new.syms ≡ roster.old.syms) }
     ensures memory { IfErr result (λ fault. fault ≡ SetupFault.NoMemory) }
@@ -108,7 +109,7 @@ fn add_participants(roster: &mut Roster, rows: &[Value]) -> Result<(), SetupFaul
 
 fn add_symbols(roster: &mut Roster, rows: &[Value]) -> Result<(), SetupFault>
     requires empty { roster.old.syms ≡ [] }
-    requires sound { rows_fault section.Symbol (map view rows.now) ≡ None }
+    requires sound { AreSound section.Symbol (map view rows.now) }
     ensures syms { OnOk result (roster.new.syms ≡ map symbol_of (map view rows.now)) }
     ensures parts { OnOk result (roster.new.parts ≡ roster.old.parts) }
     ensures memory { IfErr result (λ fault. fault ≡ SetupFault.NoMemory) }
@@ -134,7 +135,7 @@ fn add_participant(roster: &mut Roster, row: &Value) -> Result<(), SetupFault>
 
 fn add_symbol(roster: &mut Roster, row: &Value) -> Result<(), SetupFault>
     requires unrefused { sym_refusal roster.old (symbol_of (view row.now)).0 ≡ None }
-    requires sound { row_fault section.Symbol (view row.now) ≡ None }
+    requires sound { IsSound section.Symbol (view row.now) }
     ensures syms { OnOk result (roster.new.syms ≡ roster.old.syms ++ symbol_of (view row.now) ∷ []) }
     ensures parts { OnOk result (roster.new.parts ≡ roster.old.parts) }
     ensures memory { IfErr result (λ fault. fault ≡ SetupFault.NoMemory) }
@@ -147,32 +148,30 @@ fn add_symbol(roster: &mut Roster, row: &Value) -> Result<(), SetupFault>
 
 /// The round lot of a symbol's row.
 fn lot_of(row: &Value) -> Lot
-    requires { row_fault section.Symbol (view row.now) ≡ None }
+    requires { IsSound section.Symbol (view row.now) }
     ensures { result ≡ (symbol_of (view row.now)).1 }
 {
     Lot::new(number_in(row, "lot") as u16).unwrap()
 }
 
-/// The fees of each participant's row.
-fn fees_of(alloc: Global, rows: &[Value]) -> Result<FeeBook, SetupFault>
-    requires { rows_fault section.Participant (map view rows.now) ≡ None }
-    ensures value { IfOk result (λ fees. fees ≡ map schedule_of (map view rows.now)) }
+/// The fees of each participant's row, which keep the caps.
+fn fees_of(alloc: Global, caps: Caps, rows: &[Value]) -> Result<FeeBook, SetupFault>
+    requires { rows_fault caps section.Participant (map view rows.now) ≡ None }
+    ensures value { IfOk result (λ fees. fees ≡ record { caps = caps; schedules = map schedule_of (map view rows.now) }) }
     ensures memory { IfErr result (λ fault. fault ≡ SetupFault.NoMemory) }
 {
-    let mut fees = FeeBook::new(alloc);
+    let mut schedules = Vec::new(alloc);
     for row in rows {
-        let Ok(_) = fees.push(schedule_of(row)) else {
+        let Ok(_) = schedules.push(schedule_of(row)) else {
             return Err(SetupFault::NoMemory);
         };
     }
-    Ok(fees)
+    Ok(FeeBook::new(caps, schedules))
 }
 
 /// The fees of a participant's row.
 fn schedule_of(row: &Value) -> FeeSchedule
-    requires { row_fault section.Participant (view row.now) ≡ None }
-    ensures value { result ≡ schedule_of (view row.now) }
-    ensures capped { IsCapped result }
+    ensures { result ≡ schedule_of (view row.now) }
 {
     FeeSchedule {
         fee: number_in(row, "fee"),

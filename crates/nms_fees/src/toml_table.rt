@@ -100,6 +100,7 @@ fn is_top_key(key: &str) -> bool
     key == "tape_limit"
         || key == "queue"
         || key == "desks"
+        || key == "caps"
         || key == "participant"
         || key == "symbol"
 }

@@ -16,7 +16,7 @@ use Rattle.nms_quote.specs.declared.plan.Plan.{Plan}
 use Rattle.nms_lines.specs.PlanLaws.{FitsText, IsKindInRange, IsPriceInRange}
 use Rattle.nms_board.specs.View.{Seen, view_of}
 use Rattle.nms_board.proofs.Offered.{view_parts}
-use Rattle.nms_fee_book.specs.declared.fee_schedule.FeeSchedule.{FeeSchedule}
+use Rattle.nms_fee_book.specs.Fees.{Charges}
 use Rattle.nms_rules.specs.Accepted.{IsAccepted}
 use Rattle.nms_rules.specs.Usable.{contra}
 use Rattle.nms_sweep.specs.Bounds.{IsWithinBounds}
@@ -44,7 +44,7 @@ kind_fits kind.TooMuch range = tt
 kind_fits kind.TooLittle range = tt
 kind_fits (kind.Marginal money) range = (omega (arith, ints, range.0), omega (arith, ints, range.1))
 
-pub fits_text : (roster : Listing) (tape : Tape) (asked : Terms) (fees : List FeeSchedule) (plan : Plan) (cuts : List Cut) → length tape ≤ MOST_CHANGES → asked.sym < length roster.syms
+pub fits_text : (roster : Listing) (tape : Tape) (asked : Terms) (fees : Charges) (plan : Plan) (cuts : List Cut) → length tape ≤ MOST_CHANGES → asked.sym < length roster.syms
     → AreTyped asked plan cuts → IsWithinBounds plan cuts → IsAccepted (view_of (sizes_of roster) tape asked.sym) asked fees plan cuts → FitsText roster plan cuts
 fits_text roster tape asked fees plan cuts few there typed bounds is =
     let seen : Seen = view_of (sizes_of roster) tape asked.sym in

@@ -7,7 +7,7 @@ use Rattle.nms_quote.specs.Terms.{Terms}
 use Rattle.nms_quote.specs.declared.certificate.Cut.{Cut}
 use Rattle.nms_quote.specs.declared.plan.Plan.{Plan}
 use Rattle.nms_board.specs.View.{Seen, view_of}
-use Rattle.nms_fee_book.specs.declared.fee_schedule.FeeSchedule.{FeeSchedule}
+use Rattle.nms_fee_book.specs.Fees.{Charges}
 use Rattle.nms_fees.specs.Settings.{Settings}
 use Rattle.nms_lines.specs.PlanText.{plan_text}
 use Rattle.nms_lines.specs.Written.{AppendsPart, WritesPart}
@@ -42,7 +42,7 @@ report_cut settings bytes old new sym tape seen roster empty made shown file is_
     }
 
 -- a first part of a plan and its certificate
-pub plan_cut : (settings : Settings) (seen : Seen) (order : Terms) (old new : Option (List ℕ)) (plan : Plan) (cuts : List Cut) (fees : List FeeSchedule) (roster : Listing) → fees ≡ settings.fees → roster ≡ settings.roster
+pub plan_cut : (settings : Settings) (seen : Seen) (order : Terms) (old new : Option (List ℕ)) (plan : Plan) (cuts : List Cut) (fees : Charges) (roster : Listing) → fees ≡ settings.fees → roster ≡ settings.roster
     → IsAccepted seen order fees plan cuts → IsOptimal (usable seen order fees) order.shares (given_by plan.legs.items) → AppendsPart old new (plan_text roster plan cuts) → WritesPart (PlansOn settings seen order old) old new
 plan_cut settings seen order old new plan cuts fees roster same_fees same_roster accepted optimal cut =
     let text = plan_text settings.roster plan cuts in
@@ -52,8 +52,8 @@ plan_cut settings seen order old new plan cuts fees roster same_fees same_roster
       leaves = record {
         plan = plan;
         cuts = cuts;
-        accepted = subst (λ (f : List FeeSchedule). IsAccepted seen order f plan cuts) same_fees accepted;
-        optimal = subst (λ (f : List FeeSchedule). IsOptimal (usable seen order f) order.shares (given_by plan.legs.items)) same_fees optimal;
+        accepted = subst (λ (f : Charges). IsAccepted seen order f plan cuts) same_fees accepted;
+        optimal = subst (λ (f : Charges). IsOptimal (usable seen order f) order.shares (given_by plan.legs.items)) same_fees optimal;
         written = appended old text;
       };
       meant = appended old text;

@@ -27,7 +27,13 @@ use Rattle.nms_text.specs.Report.{IsReport}
 -- the change of a line that is one
 abbrev pub change_in : Line → Result Change LineFault
 change_in (line.Change change) = Ok change
-change_in _ = Err line_fault.UnknownKind
+change_in line.TakeOne = Err line_fault.UnknownKind
+change_in line.TakeAll = Err line_fault.UnknownKind
+change_in line.Publish = Err line_fault.UnknownKind
+change_in (line.Tell desk) = Err line_fault.UnknownKind
+change_in (line.Best desk sym) = Err line_fault.UnknownKind
+change_in (line.Through desk sym price) = Err line_fault.UnknownKind
+change_in (line.Sweep desk order) = Err line_fault.UnknownKind
 
 -- what a line says
 abbrev pub change_reading : Listing → Record → Result Change LineFault

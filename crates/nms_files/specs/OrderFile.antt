@@ -19,7 +19,13 @@ use Rattle.nms_files.specs.declared.orders_fault.OrdersFault.TheVariants as faul
 -- the order of a line that is one, and its desk
 abbrev pub order_in : Line → Result DeskOrder LineFault
 order_in (line.Sweep desk order) = Ok (record { desk = desk; order = order })
-order_in _ = Err line_fault.UnknownKind
+order_in (line.Change change) = Err line_fault.UnknownKind
+order_in line.TakeOne = Err line_fault.UnknownKind
+order_in line.TakeAll = Err line_fault.UnknownKind
+order_in line.Publish = Err line_fault.UnknownKind
+order_in (line.Tell desk) = Err line_fault.UnknownKind
+order_in (line.Best desk sym) = Err line_fault.UnknownKind
+order_in (line.Through desk sym price) = Err line_fault.UnknownKind
 
 -- what a line says
 abbrev pub order_reading : Settings → Record → Result DeskOrder LineFault

@@ -1,5 +1,5 @@
 -- The order that the words of `plan` say: that of a script's record with these fields. This product's own rule.
-use Rattle.std.specs.Prelude.{ℕ, Bool, true, false, List, [], ◌∷◌, Option, Some, None, Result, Ok, codes}
+use Rattle.std.specs.Prelude.{ℕ, Bool, true, false, List, [], ◌∷◌, Option, Some, None, Result, Ok, Err, codes}
 use Rattle.nms_quote.specs.Roster.{Listing}
 use Rattle.nms_quote.specs.Terms.{Terms}
 use Rattle.nms_lines.specs.Layout.{Record}
@@ -19,9 +19,20 @@ abbrev pub order_record : List ℕ → List ℕ → List ℕ → List ℕ → Bo
 order_record side sym shares limit manual = codes "O" ∷ codes "0" ∷ side ∷ sym ∷ shares ∷ limit ∷ flag_fields manual
 
 -- the order of a line that is one
+abbrev pub order_said : Line → Option Terms
+order_said (line.Change change) = None
+order_said line.TakeOne = None
+order_said line.TakeAll = None
+order_said line.Publish = None
+order_said (line.Tell desk) = None
+order_said (line.Best desk sym) = None
+order_said (line.Through desk sym price) = None
+order_said (line.Sweep desk order) = Some order
+
+-- the order of a record that is read as one
 abbrev pub order_in : Result Line LineFault → Option Terms
-order_in (Ok (line.Sweep desk order)) = Some order
-order_in _ = None
+order_in (Ok line) = order_said line
+order_in (Err fault) = None
 
 -- the order that a script of one desk reads of it, or none
 abbrev pub order_asked : Listing → List ℕ → List ℕ → List ℕ → List ℕ → Bool → Option Terms

@@ -1,4 +1,4 @@
-//! Files of changes: `Q`, `S` and `X` lines, all of them one tape (specs/ChangeFile).
+//! Files of changes: `Q`, `S`, `X` and `R` lines, all of them one tape (specs/ChangeFile).
 ghost use Rattle.std.specs.Prelude.{◌≡◌, ◌<◌, ◌≤◌, All, length, true, IfErr, IfOk, OnOk};
 ghost use Rattle.csv.specs.Records.{fields_of};
 ghost use Rattle.nms_quote.specs.Roster.{holds, sizes_of};
@@ -76,7 +76,15 @@ fn read_change(row: &ByteRecord, roster: &Roster) -> Result<Change, LineFault>
 {
     match read_line(row, roster, Reading::Changes) {
         Ok(Line::Change(change)) => Ok(change),
-        Ok(_) => Err(LineFault::UnknownKind),
+        Ok(
+            Line::TakeOne
+            | Line::TakeAll
+            | Line::Publish
+            | Line::Tell { .. }
+            | Line::Best { .. }
+            | Line::Through { .. }
+            | Line::Sweep { .. },
+        ) => Err(LineFault::UnknownKind),
         Err(fault) => Err(fault),
     }
 }

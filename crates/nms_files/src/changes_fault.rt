@@ -12,7 +12,7 @@ pub enum ChangesFault {
     /// E1: the file could not be read.
     #[error("E1: the input could not be read")]
     ReadFault,
-    /// L1 to L10: the first line that is refused, where every line before it was taken.
+    /// L1 to L10, or L14: the first line that is refused, where every line before it was taken.
     #[error("{0}")]
     Line(LineFault),
     /// F4: a line says one change more than the setup's tape holds.
@@ -24,7 +24,7 @@ pub enum ChangesFault {
 }
 
 impl ChangesFault {
-    /// The code of the fault: `E1`, `L1` to `L10`, `F4` or `E4`.
+    /// The code of the fault: `E1`, `L1` to `L10`, `L14`, `F4` or `E4`.
     pub fn code(self) -> &'static str
         ensures { result.now ≡ code_of_changes self }
     {

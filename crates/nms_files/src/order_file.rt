@@ -70,7 +70,15 @@ fn read_order(row: &ByteRecord, setup: &Setup) -> Result<DeskOrder, LineFault>
             desk: *desk,
             order: *order,
         }),
-        Ok(_) => Err(LineFault::UnknownKind),
+        Ok(
+            Line::Change(_)
+            | Line::TakeOne
+            | Line::TakeAll
+            | Line::Publish
+            | Line::Tell { .. }
+            | Line::Best { .. }
+            | Line::Through { .. },
+        ) => Err(LineFault::UnknownKind),
         Err(fault) => Err(*fault),
     }
 }

@@ -9,8 +9,7 @@ use Rattle.std.proofs.lemmas.List.Quantifiers.{all_pairs_push}
 use Rattle.std.proofs.lemmas.List.{append-nil, length-drop, length-take-le, take-append-drop, take-append-le}
 use Rattle.std.proofs.lemmas.List.Elements.{All-head, All-nil, All-push, All-tail}
 use Rattle.nms_quote.specs.Merge.{IsMerge, changes_of, is_of_feed, is_same_feed, of_feed}
-use Rattle.nms_quote.specs.Roster.{Listing, feed_at}
-use Rattle.nms_quote.specs.Tape.{participant_of}
+use Rattle.nms_quote.specs.Roster.{Listing, feed_of_change}
 use Rattle.nms_quote.specs.declared.change.Change.{Change}
 use Rattle.nms_quote.specs.declared.feed.Feed.{Feed}
 use Rattle.nms_quote.specs.declared.feed.Feed.TheVariants as feed
@@ -66,19 +65,19 @@ same_feed-sym feed.A feed.B = refl
 same_feed-sym feed.B feed.A = refl
 same_feed-sym feed.B feed.B = refl
 
--- a tape's changes of a feed's participants are those that bear its mark
+-- a tape's changes that belong to a feed are those that bear its mark
 changes_of-marked : (roster : Listing) (feed : Feed) (marked : List Marked) → All (IsOnOwnFeed roster) marked → changes_of roster feed (changes_in marked) ≡ of_feed feed marked
 unfolding of_feed
 changes_of-marked roster feed [] own = refl
 changes_of-marked roster feed (m ∷ ms) own =
-    let first : feed_at roster (participant_of m.change) ≡ Some m.feed = All-head (IsOnOwnFeed roster) m ms own in
+    let first : feed_of_change roster m.change ≡ Some m.feed = All-head (IsOnOwnFeed roster) m ms own in
     let rest : changes_of roster feed (changes_in ms) ≡ of_feed feed ms = changes_of-marked roster feed ms (All-tail (IsOnOwnFeed roster) m ms own) in
-    let test : is_of_feed (feed_at roster (participant_of m.change)) feed ≡ is_same_feed feed m.feed = ap (λ o. is_of_feed o feed) first ∙ same_feed-sym m.feed feed in
+    let test : is_of_feed (feed_of_change roster m.change) feed ≡ is_same_feed feed m.feed = ap (λ o. is_of_feed o feed) first ∙ same_feed-sym m.feed feed in
     ap (λ b. if b then m.change ∷ changes_of roster feed (changes_in ms) else changes_of roster feed (changes_in ms)) test
     ∙ ap (λ cs. if is_same_feed feed m.feed then m.change ∷ cs else cs) rest
 
-pub participants : (roster : Listing) (events : List Event) (feed : Feed) → All (IsOnOwnFeed roster) (sent_by events) → changes_of roster feed (changes_in (sent_by events)) ≡ fed_by feed events
-participants roster events feed own = changes_of-marked roster feed (sent_by events) own ∙ of_feed-sent_by feed events
+pub belonging : (roster : Listing) (events : List Event) (feed : Feed) → All (IsOnOwnFeed roster) (sent_by events) → changes_of roster feed (changes_in (sent_by events)) ≡ fed_by feed events
+belonging roster events feed own = changes_of-marked roster feed (sent_by events) own ∙ of_feed-sent_by feed events
 
 -- no more is published than was taken, and no more taken than sent
 record IsSound (at : Standing) : Type 0 where

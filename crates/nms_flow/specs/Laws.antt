@@ -5,8 +5,7 @@ use Rattle.nms_quote.specs.declared.change.Change.{Change}
 use Rattle.nms_quote.specs.declared.feed.Feed.{Feed}
 use Rattle.nms_quote.specs.declared.marked.Marked.{Marked}
 use Rattle.nms_quote.specs.Merge.{is_same_feed}
-use Rattle.nms_quote.specs.Roster.{Listing, feed_at}
-use Rattle.nms_quote.specs.Tape.{participant_of}
+use Rattle.nms_quote.specs.Roster.{Listing, feed_of_change}
 use Rattle.nms_board.specs.View.{Seen, view_of}
 use Rattle.nms_flow.specs.Run.{Event, Room, is_answered, standing_after, version_at}
 use Rattle.nms_flow.specs.declared.step.Step.{Step}
@@ -25,9 +24,9 @@ sent_on feed (step.Look desk sym) = None
 abbrev pub fed_by : Feed → List Event → List Change
 fed_by feed events = filter_map (λ event. if is_answered event.1 then sent_on feed event.0 else None) events
 
--- a change was sent on the feed of its participant
+-- a change was sent on the feed that it belongs to
 abbrev pub IsOnOwnFeed : Listing → Marked → Type 0
-IsOnOwnFeed roster marked = feed_at roster (participant_of marked.change) ≡ Some marked.feed
+IsOnOwnFeed roster marked = feed_of_change roster marked.change ≡ Some marked.feed
 
 -- the version that an answer shows a desk or tells it of
 abbrev pub version_for : ℕ → Event → Option ℕ

@@ -23,6 +23,7 @@ use nms_board::{Boards, View};
 use nms_fees::Setup;
 use nms_nbbo::best_on;
 use nms_quote::{Change, Feed, MOST_CHANGES, Marked, Side, SideQuote, Sym};
+use nms_units::Lot;
 use std::alloc::{AllocError, Global};
 use std::collections::VecDeque;
 use std::marker::Model;
@@ -271,7 +272,7 @@ fn put_back(queue: &mut VecDeque<Marked>, marked: Marked)
     ensures capacity { deque_capacity queue.new ≡ deque_capacity queue.old }
 {
     // Moving a marked change takes a mention of the types in it: the prover has to have seen them.
-    let _seen: (Option<Change>, Option<SideQuote>) = (None, None);
+    let _seen: (Option<Change>, Option<SideQuote>, Option<Lot>) = (None, None, None);
     queue.push_back_reserved(marked);
 }
 

@@ -19,12 +19,12 @@ pub fn desks_versions_never_fall()
 {}
 
 /// The tape followed by the queue is what was sent, a merge of what the feeds sent. Where each change was
-/// sent on its participant's feed, a tape alone tells what a feed sent: the changes of its participants.
+/// sent on the feed that it belongs to, a tape alone tells what a feed sent: the changes that belong to it.
 pub fn tape_and_queue_are_a_merge()
     ensures merge { (events : List Event) → IsMerge (fed_by feed.A events) (fed_by feed.B events) (sent_by events) }
     ensures whole { (events : List Event)
         → tape_at (standing_after events) ++ queue_at (standing_after events) ≡ changes_in (sent_by events) }
-    ensures participants { (roster : Listing) (events : List Event) (feed : Feed)
+    ensures belonging { (roster : Listing) (events : List Event) (feed : Feed)
         → All (IsOnOwnFeed roster) (sent_by events)
         → changes_of roster feed (changes_in (sent_by events)) ≡ fed_by feed events }
 {}

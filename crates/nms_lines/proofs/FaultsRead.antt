@@ -4,14 +4,15 @@ use Rattle.std.specs.Prelude.{is_none, IsOk, codes}
 use Rattle.std.specs.Fmt.{decimal}
 use Rattle.std.specs.Option.{ok_or, option_map_or}
 use Rattle.std.proofs.lemmas.Fmt.{decimal_digit, decimal_step}
-use Rattle.nms_quote.specs.Roster.{Listing, place_in}
-use Rattle.nms_lines.specs.FieldFaults.{is_foreign_name, is_no_desk, is_no_flag}
-use Rattle.nms_lines.specs.FaultTable.{has_fault, kind_has, record_has, best_has, quote_has, state_has, sweep_has, through_has, withdraw_has}
+use Rattle.nms_quote.specs.Roster.{Listing, feed_at, place_in}
+use Rattle.nms_lines.specs.FieldFaults.{is_foreign_lot, is_foreign_name, is_no_desk, is_no_flag, is_no_lot}
+use Rattle.nms_lines.specs.FaultTable.{has_fault, kind_has, record_has, best_has, lot_has, quote_has, state_has, sweep_has, through_has, withdraw_has}
 use Rattle.nms_lines.specs.Faults.{◌>>=◌, code_of, number_of, refuse_if}
-use Rattle.nms_lines.specs.Fields.{part_in, symbol_in, state_in, side_in, side_named, flag_in, price_in, shares_in, desk_below}
+use Rattle.nms_lines.specs.Fields.{part_in, symbol_in, state_in, side_in, side_named, flag_in, price_in, shares_in, lot_in, desk_below}
 use Rattle.nms_lines.specs.Laws.{IsFaultless, IsLeastFault, ReadsLeastFault}
-use Rattle.nms_lines.specs.Layout.{Record, field, is_count, is_text}
-use Rattle.nms_lines.specs.Lines.{best_reading, kind_reading, quote_reading, reading, state_reading, sweep_reading, through_reading, withdraw_reading}
+use Rattle.nms_lines.specs.Layout.{Record, field, has_average, is_count, is_text}
+use Rattle.nms_lines.specs.Lines.{best_reading, kind_reading, lot_reading, quote_reading, reading, state_reading, sweep_reading, through_reading, withdraw_reading}
+use Rattle.nms_lines.specs.Numbers.{lot_number}
 use Rattle.nms_lines.specs.Sides.{has_bad_price, has_bad_shares, has_half_side}
 use Rattle.nms_lines.specs.Sources.{desks_of, is_foreign, kind_in}
 use Rattle.nms_lines.specs.declared.line.Kind.{Kind}
@@ -53,11 +54,11 @@ ok_or_found (Some y) f x e = cc
 
 -- a participant of another feed is the last thing that a change is refused for
 foreign_told : (roster : Listing) (from : Reading) (name : List ℕ) (part : ℕ) (line : Line) → part_in roster name ≡ Ok part
-    → told (refuse_if (is_foreign roster from part) fault.WrongFeed >>= (λ feed. Ok line)) ≡ cond (is_foreign_name roster from name) (Some fault.WrongFeed) None
+    → told (refuse_if (is_foreign from (feed_at roster part)) fault.WrongFeed >>= (λ feed. Ok line)) ≡ cond (is_foreign_name roster from name) (Some fault.WrongFeed) None
 foreign_told roster from name part line e =
-    let known : is_foreign_name roster from name ≡ is_foreign roster from part =
-    ap (λ place. option_map_or (λ p. is_foreign roster from p) place false) (ok_or_found (place_in roster.parts name) fault.UnknownParticipant part e) in
-    step (refuse_if (is_foreign roster from part) fault.WrongFeed) _ fault.WrongFeed (is_foreign roster from part) None (refuse_if_told _ _) (λ x h. refl)
+    let known : is_foreign_name roster from name ≡ is_foreign from (feed_at roster part) =
+    ap (λ place. option_map_or (λ p. is_foreign from (feed_at roster p)) place false) (ok_or_found (place_in roster.parts name) fault.UnknownParticipant part e) in
+    step (refuse_if (is_foreign from (feed_at roster part)) fault.WrongFeed) _ fault.WrongFeed (is_foreign from (feed_at roster part)) None (refuse_if_told _ _) (λ x h. refl)
     ∙ ap (λ b. cond b (Some fault.WrongFeed) None) (sym known)
 
 -- a desk is the last thing that a look is refused for
@@ -84,6 +85,32 @@ sides_told false true half sides more rest e = refl
 sides_told false false true sides more rest e = refl
 sides_told false false false sides more rest e = e
 
+-- an average, where there are four fields and the word is there
+abbrev averaged : Bool → Bool → Result ℕ LineFault → Result (Option ℕ) LineFault
+averaged four word price =
+    if four then (if word then price >>= (λ number. Ok (Some number)) else Err fault.BadState) else Ok None
+
+-- its two steps, and then what is told behind them
+average_told : (four word : Bool) (price : Result ℕ LineFault) (no_price : Bool) (more : Option ℕ → Result Line LineFault) (rest : Option LineFault)
+    → told price ≡ cond no_price (Some fault.BadPrice) None → ((x : Option ℕ) → averaged four word price ≡ Ok x → told (more x) ≡ rest)
+    → told (averaged four word price >>= more) ≡ cond (four && not word) (Some fault.BadState) (cond (four && no_price) (Some fault.BadPrice) rest)
+average_told true false price no_price more rest e behind = refl
+average_told true true (Ok number) true more rest e behind = absurd (cc)
+average_told true true (Ok number) false more rest e behind = behind (Some number) refl
+average_told true true (Err f) true more rest e behind = e
+average_told true true (Err f) false more rest e behind = absurd (cc)
+average_told false word price no_price more rest e behind = behind None refl
+
+-- where an average was read, the third field is no lot to be looked at
+lot_in_told : (fields : Record) (four word : Bool) (price : Result ℕ LineFault) (average : Option ℕ) → averaged four word price ≡ Ok average
+    → told (lot_in fields average) ≡ cond (not four && is_none (lot_number (field fields 2))) (Some fault.BadLot) None
+lot_in_told fields true word price (Some number) e = refl
+lot_in_told fields true true (Ok number) None e = absurd (cc)
+lot_in_told fields true true (Err f) None e = absurd (cc)
+lot_in_told fields true false price None e = absurd (cc)
+lot_in_told fields false word price None e = ok_or_told _ _
+lot_in_told fields false word price (Some number) e = absurd (cc)
+
 quote_told : (roster : Listing) (from : Reading) (fields : Record) → told (quote_reading roster from fields) ≡ first_of (quote_has roster from fields) field_faults
 quote_told roster from fields =
     step (part_in roster (field fields 1)) _ fault.UnknownParticipant _ _ (ok_or_told _ _) (λ part is_part.
@@ -102,6 +129,13 @@ withdraw_told : (roster : Listing) (from : Reading) (fields : Record) → told (
 withdraw_told roster from fields =
     step (part_in roster (field fields 1)) _ fault.UnknownParticipant _ _ (ok_or_told _ _) (λ part is_part.
     foreign_told roster from (field fields 1) part _ is_part)
+
+lot_told : (roster : Listing) (from : Reading) (fields : Record) → told (lot_reading roster from fields) ≡ first_of (lot_has roster from fields) field_faults
+lot_told roster from fields =
+    step (symbol_in roster (field fields 1)) _ fault.UnknownSymbol _ _ (ok_or_told _ _) (λ sym is_sym.
+    average_told (has_average fields) (is_text (codes "AVG") (field fields 2)) (price_in (field fields 3)) _ _ _ (ok_or_told _ _) (λ average is_average.
+    step (refuse_if (is_foreign_lot from) fault.WrongFeed) _ fault.WrongFeed _ _ (refuse_if_told _ _) (λ x h.
+    step (lot_in fields average) _ fault.BadLot (is_no_lot fields) None (lot_in_told fields _ _ _ average is_average) (λ lot is_lot. refl))))
 
 best_told : (roster : Listing) (from : Reading) (fields : Record) → told (best_reading roster from fields) ≡ first_of (best_has roster from fields) field_faults
 best_told roster from fields =
@@ -128,6 +162,7 @@ kind_told : (roster : Listing) (from : Reading) (fields : Record) (kind : Kind) 
 kind_told roster from fields kind.Quote = quote_told roster from fields
 kind_told roster from fields kind.State = state_told roster from fields
 kind_told roster from fields kind.Withdraw = withdraw_told roster from fields
+kind_told roster from fields kind.Lot = lot_told roster from fields
 kind_told roster from fields kind.TakeOne = refl
 kind_told roster from fields kind.TakeAll = refl
 kind_told roster from fields kind.Publish = refl
@@ -193,6 +228,8 @@ coded fault.HalfSide = one_digit 8 (lit< tt)
 coded fault.WrongFeed = one_digit 9 (lit< tt)
 coded fault.BadDesk =
     ap (λ ds. 76 ∷ ds) (ap (λ ds. ds ++ 48 ∷ []) (sym (decimal_digit 1 (lit< tt))) ∙ sym (decimal_step 10 (lit≤ tt) (lit< tt)))
+coded fault.BadLot =
+    ap (λ ds. 76 ∷ ds) (ap (λ ds. ds ++ 52 ∷ []) (sym (decimal_digit 1 (lit< tt))) ∙ sym (decimal_step 14 (lit≤ tt) (lit< tt)))
 
 pub reads_least_fault : ReadsLeastFault
 reads_least_fault = record {

@@ -8,7 +8,7 @@ use Rattle.nms_lines.specs.declared.line_fault.LineFault.TheVariants as fault
 abbrev pub field_faults : List LineFault
 field_faults =
     fault.UnknownParticipant ∷ fault.UnknownSymbol ∷ fault.BadState ∷ fault.BadPrice ∷ fault.BadShares ∷ fault.HalfSide
-    ∷ fault.WrongFeed ∷ fault.BadDesk ∷ []
+    ∷ fault.WrongFeed ∷ fault.BadDesk ∷ fault.BadLot ∷ []
 
 -- all faults, least number first
 abbrev pub all_faults : List LineFault
@@ -35,6 +35,7 @@ is_among_all fault.BadShares = inr (inr (inr (inr (inr (inr (inl refl))))))
 is_among_all fault.HalfSide = inr (inr (inr (inr (inr (inr (inr (inl refl)))))))
 is_among_all fault.WrongFeed = inr (inr (inr (inr (inr (inr (inr (inr (inl refl))))))))
 is_among_all fault.BadDesk = inr (inr (inr (inr (inr (inr (inr (inr (inr (inl refl)))))))))
+is_among_all fault.BadLot = inr (inr (inr (inr (inr (inr (inr (inr (inr (inr (inl refl))))))))))
 
 -- their numbers rise, from `low` on
 abbrev pub Rises : ℕ → List LineFault → Type 0
@@ -42,7 +43,7 @@ Rises low [] = Unit {0}
 Rises low (x ∷ xs) = (low ≤ number_of x) × Rises (suc (number_of x)) xs
 
 pub all_rise : Rises 0 all_faults
-all_rise = (lit≤ tt, (lit≤ tt, (lit≤ tt, (lit≤ tt, (lit≤ tt, (lit≤ tt, (lit≤ tt, (lit≤ tt, (lit≤ tt, (lit≤ tt, tt))))))))))
+all_rise = (lit≤ tt, (lit≤ tt, (lit≤ tt, (lit≤ tt, (lit≤ tt, (lit≤ tt, (lit≤ tt, (lit≤ tt, (lit≤ tt, (lit≤ tt, (lit≤ tt, tt)))))))))))
 
 among_above : (low : ℕ) (xs : List LineFault) (f : LineFault) → Rises low xs → IsAmong f xs → low ≤ number_of f
 among_above low [] f rises among = absurd among

@@ -4,7 +4,7 @@
 -- them does not matter: L2 is answered.
 use Rattle.std.specs.Prelude.{◌||◌, not, Bool, true, false, length, Option, Some, None, is_none}
 use Rattle.nms_quote.specs.Roster.{Listing, place_in}
-use Rattle.nms_lines.specs.FieldFaults.{is_foreign_name, is_no_desk, is_no_flag, is_no_price, is_no_shares}
+use Rattle.nms_lines.specs.FieldFaults.{is_foreign_lot, is_foreign_name, is_no_average, is_no_average_price, is_no_desk, is_no_flag, is_no_lot, is_no_price, is_no_shares}
 use Rattle.nms_lines.specs.Fields.{side_named, state_named}
 use Rattle.nms_lines.specs.Layout.{Record, field, is_count}
 use Rattle.nms_lines.specs.Sides.{has_bad_price, has_bad_shares, has_half_side}
@@ -40,6 +40,15 @@ withdraw_has roster from fields fault.UnknownParticipant = is_none (place_in ros
 withdraw_has roster from fields fault.WrongFeed = is_foreign_name roster from (field fields 1)
 withdraw_has roster from fields _ = false
 
+-- R,sym,lot, or R,sym,AVG,price
+abbrev pub lot_has : Listing → Reading → Record → LineFault → Bool
+lot_has roster from fields fault.UnknownSymbol = is_none (place_in roster.syms (field fields 1))
+lot_has roster from fields fault.BadState = is_no_average fields
+lot_has roster from fields fault.BadPrice = is_no_average_price fields
+lot_has roster from fields fault.WrongFeed = is_foreign_lot from
+lot_has roster from fields fault.BadLot = is_no_lot fields
+lot_has roster from fields _ = false
+
 -- L,desk
 abbrev pub tell_has : Reading → Record → LineFault → Bool
 tell_has from fields fault.BadDesk = is_no_desk from (field fields 1)
@@ -72,6 +81,7 @@ abbrev pub kind_has : Listing → Reading → Record → Kind → LineFault → 
 kind_has roster from fields kind.Quote other = quote_has roster from fields other
 kind_has roster from fields kind.State other = state_has roster from fields other
 kind_has roster from fields kind.Withdraw other = withdraw_has roster from fields other
+kind_has roster from fields kind.Lot other = lot_has roster from fields other
 kind_has roster from fields kind.TakeOne other = false
 kind_has roster from fields kind.TakeAll other = false
 kind_has roster from fields kind.Publish other = false

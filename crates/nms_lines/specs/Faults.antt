@@ -3,7 +3,8 @@ use Rattle.std.specs.Prelude.{ℕ, Bool, true, false, List, codes, Result, Ok, E
 use Rattle.nms_lines.specs.declared.line_fault.LineFault.{LineFault}
 use Rattle.nms_lines.specs.declared.line_fault.LineFault.TheVariants as fault
 
--- the number of a fault: of those that hold of a record, the one of least number is answered
+-- the number of a fault: of those that hold of a record, the one of least number is answered. The numbers from
+-- 11 to 13 are of faults that no record has
 abbrev pub number_of : LineFault → ℕ
 number_of fault.UnknownKind = 1
 number_of fault.FieldCount = 2
@@ -15,6 +16,7 @@ number_of fault.BadShares = 7
 number_of fault.HalfSide = 8
 number_of fault.WrongFeed = 9
 number_of fault.BadDesk = 10
+number_of fault.BadLot = 14
 
 -- the code of a fault: L and its number
 abbrev pub code_of : LineFault → List ℕ
@@ -28,6 +30,7 @@ code_of fault.BadShares = codes "L7"
 code_of fault.HalfSide = codes "L8"
 code_of fault.WrongFeed = codes "L9"
 code_of fault.BadDesk = codes "L10"
+code_of fault.BadLot = codes "L14"
 
 infixl 10 ◌>>=◌
 -- the first fault, from left to right

@@ -3,13 +3,15 @@ use Rattle.std.specs.Prelude.{ℕ, ◌==◌, Bool, true, false, List, length, co
 use Rattle.std.specs.Option.{ok_or}
 use Rattle.nms_units.specs.Price.{price_number}
 use Rattle.nms_units.specs.Digits.{number_in}
+use Rattle.nms_units.specs.Lot.{average_lot}
 use Rattle.nms_quote.specs.Roster.{Listing, place_in}
 use Rattle.nms_quote.specs.declared.side_quote.QState.{QState}
 use Rattle.nms_quote.specs.declared.side_quote.QState.TheVariants as state
 use Rattle.nms_quote.specs.declared.order.OrderSide.{OrderSide}
 use Rattle.nms_quote.specs.declared.order.OrderSide.TheVariants as side
-use Rattle.nms_lines.specs.Layout.{Record, field, is_text}
-use Rattle.nms_lines.specs.Numbers.{above_zero, below, shares_number}
+use Rattle.nms_lines.specs.Faults.{◌>>=◌}
+use Rattle.nms_lines.specs.Layout.{Record, field, has_average, is_text}
+use Rattle.nms_lines.specs.Numbers.{above_zero, below, lot_number, shares_number}
 use Rattle.nms_lines.specs.declared.line_fault.LineFault.{LineFault}
 use Rattle.nms_lines.specs.declared.line_fault.LineFault.TheVariants as fault
 
@@ -49,13 +51,31 @@ flag_in fields =
     then (if is_text (codes "M") (field fields 6) then Ok true else Err fault.BadState)
     else Ok false
 
--- a price that an order or a trade-through test needs
+-- a price that an order, a trade-through test or a round lot needs
 abbrev pub price_in : List ℕ → Result ℕ LineFault
 price_in text = ok_or (above_zero (price_number text)) fault.BadPrice
 
 -- the shares of an order
 abbrev pub shares_in : List ℕ → Result ℕ LineFault
 shares_in text = ok_or (above_zero (shares_number text)) fault.BadShares
+
+-- an average closing price
+abbrev pub average_price_in : Record → Result (Option ℕ) LineFault
+average_price_in fields = do
+  price ← price_in (field fields 3)
+  Ok (Some price)
+
+-- the one that a round lot is given by, behind the word `AVG`, where it is given by one
+abbrev pub average_in : Record → Result (Option ℕ) LineFault
+average_in fields =
+    if has_average fields
+    then (if is_text (codes "AVG") (field fields 2) then average_price_in fields else Err fault.BadState)
+    else Ok None
+
+-- the round lot that an average closing price gives, else the one that the third field writes
+abbrev pub lot_in : Record → Option ℕ → Result ℕ LineFault
+lot_in fields None = ok_or (lot_number (field fields 2)) fault.BadLot
+lot_in fields (Some average) = Ok (average_lot average)
 
 -- a desk: 1 or 2 digits, below the number of desks
 abbrev pub desk_below : ℕ → List ℕ → Result ℕ LineFault

@@ -1,7 +1,6 @@
 -- What is known of a line that was read. This product's own rule.
 use Rattle.std.specs.Prelude.{ℕ, ◌≡◌, ◌<◌, ⊤, true, length}
 use Rattle.nms_quote.specs.Roster.{Listing, Sizes, holds, sizes_of}
-use Rattle.nms_quote.specs.Tape.{participant_of}
 use Rattle.nms_quote.specs.declared.change.Change.{Change}
 use Rattle.nms_quote.specs.declared.change.Change.TheVariants as change
 use Rattle.nms_lines.specs.Sources.{IsSentBy, brings, desks_of}
@@ -27,6 +26,7 @@ abbrev pub kind_of_change : Change → Kind
 kind_of_change (change.Quote part sym state bid offer) = kind.Quote
 kind_of_change (change.State part sym state) = kind.State
 kind_of_change (change.Withdraw part) = kind.Withdraw
+kind_of_change (change.Lot sym lot) = kind.Lot
 
 -- the kind of a record that says a line
 abbrev pub kind_of : Line → Kind
@@ -39,10 +39,16 @@ kind_of (line.Best desk sym) = kind.Best
 kind_of (line.Through desk sym price) = kind.Through
 kind_of (line.Sweep desk order) = kind.Sweep
 
--- from a feed a change is one of the feed's own participants
+-- from a feed a change is one that belongs to the feed
 abbrev pub IsSent : Listing → Reading → Line → Type 0
-IsSent roster from (line.Change change) = IsSentBy roster from (participant_of change)
-IsSent roster from _ = ⊤
+IsSent roster from (line.Change change) = IsSentBy roster from change
+IsSent roster from line.TakeOne = ⊤
+IsSent roster from line.TakeAll = ⊤
+IsSent roster from line.Publish = ⊤
+IsSent roster from (line.Tell desk) = ⊤
+IsSent roster from (line.Best desk sym) = ⊤
+IsSent roster from (line.Through desk sym price) = ⊤
+IsSent roster from (line.Sweep desk order) = ⊤
 
 -- a line of the roster, of a kind that its source brings
 pub record IsLineOf (roster : Listing) (from : Reading) (line : Line) : Type 0 where

@@ -2,10 +2,11 @@
 -- product's own rule. Laws says that this is the fault of the least number that holds.
 use Rattle.std.specs.Prelude.{not, length, Result, Ok}
 use Rattle.std.specs.Option.{ok_or}
-use Rattle.nms_quote.specs.Roster.{Listing}
+use Rattle.nms_quote.specs.Roster.{Listing, feed_at}
 use Rattle.nms_quote.specs.declared.change.Change.TheVariants as change
 use Rattle.nms_lines.specs.Faults.{◌>>=◌, refuse_if}
-use Rattle.nms_lines.specs.Fields.{part_in, symbol_in, state_in, side_in, flag_in, price_in, shares_in, desk_below}
+use Rattle.nms_lines.specs.FieldFaults.{is_foreign_lot}
+use Rattle.nms_lines.specs.Fields.{average_in, desk_below, flag_in, lot_in, part_in, price_in, shares_in, side_in, state_in, symbol_in}
 use Rattle.nms_lines.specs.Layout.{Record, field, is_count}
 use Rattle.nms_lines.specs.Sides.{sides_in}
 use Rattle.nms_lines.specs.Sources.{desks_of, is_foreign, kind_in}
@@ -24,7 +25,7 @@ quote_reading roster from fields = do
   sym ← symbol_in roster (field fields 2)
   state ← state_in (field fields 3)
   sides ← sides_in fields
-  feed ← refuse_if (is_foreign roster from part) fault.WrongFeed
+  feed ← refuse_if (is_foreign from (feed_at roster part)) fault.WrongFeed
   Ok (line.Change (change.Quote part sym state sides.0 sides.1))
 
 -- S,part,sym,state
@@ -33,15 +34,24 @@ state_reading roster from fields = do
   part ← part_in roster (field fields 1)
   sym ← symbol_in roster (field fields 2)
   state ← state_in (field fields 3)
-  feed ← refuse_if (is_foreign roster from part) fault.WrongFeed
+  feed ← refuse_if (is_foreign from (feed_at roster part)) fault.WrongFeed
   Ok (line.Change (change.State part sym state))
 
 -- X,part
 abbrev pub withdraw_reading : Listing → Reading → Record → Result Line LineFault
 withdraw_reading roster from fields = do
   part ← part_in roster (field fields 1)
-  feed ← refuse_if (is_foreign roster from part) fault.WrongFeed
+  feed ← refuse_if (is_foreign from (feed_at roster part)) fault.WrongFeed
   Ok (line.Change (change.Withdraw part))
+
+-- R,sym,lot, or R,sym,AVG,price. The lot is looked at last
+abbrev pub lot_reading : Listing → Reading → Record → Result Line LineFault
+lot_reading roster from fields = do
+  sym ← symbol_in roster (field fields 1)
+  average ← average_in fields
+  feed ← refuse_if (is_foreign_lot from) fault.WrongFeed
+  lot ← lot_in fields average
+  Ok (line.Change (change.Lot sym lot))
 
 -- L,desk
 abbrev pub tell_reading : Reading → Record → Result Line LineFault
@@ -80,6 +90,7 @@ abbrev pub kind_reading : Listing → Reading → Record → Kind → Result Lin
 kind_reading roster from fields kind.Quote = quote_reading roster from fields
 kind_reading roster from fields kind.State = state_reading roster from fields
 kind_reading roster from fields kind.Withdraw = withdraw_reading roster from fields
+kind_reading roster from fields kind.Lot = lot_reading roster from fields
 kind_reading roster from fields kind.TakeOne = Ok line.TakeOne
 kind_reading roster from fields kind.TakeAll = Ok line.TakeAll
 kind_reading roster from fields kind.Publish = Ok line.Publish

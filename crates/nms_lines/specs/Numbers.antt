@@ -1,6 +1,7 @@
 -- Numbers that a field may or may not write. This product's own rule.
-use Rattle.std.specs.Prelude.{ℕ, ◌==◌, Bool, true, false, List, nat_lt, Option, Some, None, if◌then◌else◌}
+use Rattle.std.specs.Prelude.{ℕ, ◌==◌, ◌&&◌, Bool, true, false, List, nat_le, nat_lt, Option, Some, None, if◌then◌else◌}
 use Rattle.nms_units.specs.Digits.{number_in}
+use Rattle.nms_units.specs.declared.TheConstants.{MOST_LOT}
 
 -- the shares that a field writes: 1 to 9 digits
 abbrev pub shares_number : List ℕ → Option ℕ
@@ -25,3 +26,12 @@ above_zero (Some n) = if n == 0 then None else Some n
 abbrev pub below : ℕ → Option ℕ → Option ℕ
 below limit None = None
 below limit (Some n) = if nat_lt n limit then Some n else None
+
+-- a number that is a round lot: 1 to 1,000
+abbrev pub as_lot : Option ℕ → Option ℕ
+as_lot None = None
+as_lot (Some n) = if nat_le 1 n && nat_le n MOST_LOT then Some n else None
+
+-- the round lot that a field writes: 1 to 4 digits
+abbrev pub lot_number : List ℕ → Option ℕ
+lot_number text = as_lot (number_in 4 text)

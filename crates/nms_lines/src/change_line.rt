@@ -1,18 +1,19 @@
-//! The records of changes, `Q`, `S` and `X`: `specs/Lines`.
-ghost use Rattle.std.specs.Prelude.{◌≡◌, ◌<◌, length, IfOk, true, false};
+//! The records of changes, `Q`, `S`, `X` and `R`: `specs/Lines`.
+ghost use Rattle.std.specs.Prelude.{◌≡◌, IfOk, Some, true};
 ghost use Rattle.csv.specs.Records.{fields_of};
 ghost use Rattle.nms_lines.specs.LineOf.{IsLineOf};
-ghost use Rattle.nms_lines.specs.Lines.{quote_reading, state_reading, withdraw_reading};
-ghost use Rattle.nms_lines.specs.Sources.{IsSentBy, brings, is_foreign};
+ghost use Rattle.nms_lines.specs.Lines.{lot_reading, quote_reading, state_reading, withdraw_reading};
+ghost use Rattle.nms_lines.specs.Sources.{brings, is_foreign};
 
 use crate::field::field;
 use crate::letter::state_in;
 use crate::line::{Kind, Line, Reading};
 use crate::line_fault::{LineFault, refuse_if};
+use crate::lot_field::{average_in, lot_in};
 use crate::name::{part_in, symbol_in};
 use crate::side::sides_in;
 use csv::ByteRecord;
-use nms_quote::{Change, Part, Roster};
+use nms_quote::{Change, Feed, Roster};
 
 /// `Q,part,sym,state,bid,bidshares,offer,offershares`
 pub(crate) fn quote_line(
@@ -27,7 +28,7 @@ pub(crate) fn quote_line(
     let sym = symbol_in(roster, field(row, 2))?;
     let state = state_in(field(row, 3))?;
     let (bid, offer) = sides_in(row)?;
-    refuse_if(is_foreign(roster, from, part), LineFault::WrongFeed)?;
+    refuse_if(is_foreign(from, roster.feed_of(part)), LineFault::WrongFeed)?;
     Ok(Line::Change(Change::Quote {
         part,
         sym,
@@ -49,7 +50,7 @@ pub(crate) fn state_line(
     let part = part_in(roster, field(row, 1))?;
     let sym = symbol_in(roster, field(row, 2))?;
     let state = state_in(field(row, 3))?;
-    refuse_if(is_foreign(roster, from, part), LineFault::WrongFeed)?;
+    refuse_if(is_foreign(from, roster.feed_of(part)), LineFault::WrongFeed)?;
     Ok(Line::Change(Change::State { part, sym, state }))
 }
 
@@ -63,18 +64,28 @@ pub(crate) fn withdraw_line(
     ensures of { brings from Kind.Withdraw ≡ true → IfOk result (IsLineOf roster.now from) }
 {
     let part = part_in(roster, field(row, 1))?;
-    refuse_if(is_foreign(roster, from, part), LineFault::WrongFeed)?;
+    refuse_if(is_foreign(from, roster.feed_of(part)), LineFault::WrongFeed)?;
     Ok(Line::Change(Change::Withdraw { part }))
 }
 
-/// Whether a feed is read, and the participant is of another one.
-fn is_foreign(roster: &Roster, from: Reading, part: Part) -> bool
-    requires { part < length roster.now.parts }
-    ensures foreign { result ≡ is_foreign roster.now from part }
-    ensures sent { result ≡ false → IsSentBy roster.now from part }
+/// `R,sym,lot`, or `R,sym,AVG,price`: a round lot is of the first feed. The lot is looked at last.
+pub(crate) fn lot_line(row: &ByteRecord, roster: &Roster, from: Reading) -> Result<Line, LineFault>
+    ensures line { result ≡ lot_reading roster.now from (fields_of row.now) }
+    ensures of { brings from Kind.Lot ≡ true → IfOk result (IsLineOf roster.now from) }
+{
+    let sym = symbol_in(roster, field(row, 1))?;
+    let average = average_in(row)?;
+    refuse_if(is_foreign(from, Feed::A), LineFault::WrongFeed)?;
+    let lot = lot_in(row, average)?;
+    Ok(Line::Change(Change::Lot { sym, lot }))
+}
+
+/// Whether a feed is read, and what belongs to this one belongs to another.
+fn is_foreign(from: Reading, owner: Feed) -> bool
+    ensures { result ≡ is_foreign from (Some owner) }
 {
     match from {
-        Reading::FromFeed(feed) => roster.feed_of(part) != feed,
-        _ => false,
+        Reading::FromFeed(feed) => owner != feed,
+        Reading::Script { .. } | Reading::Changes | Reading::Orders { .. } => false,
     }
 }

@@ -4,6 +4,7 @@ ghost use Rattle.std.specs.Fmt.{decimal};
 ghost use Rattle.nms_units.specs.Money.{amount_text, money_text, three_digits};
 ghost use Rattle.nms_units.specs.Price.{price_text};
 
+use crate::field_before::{digit, number_before, price_before};
 use itoa::Buffer;
 use nms_units::{Money, Price};
 use std::alloc::AllocError;
@@ -22,24 +23,18 @@ pub fn push_text(out: &mut Vec<u8>, text: &str) -> Result<(), AllocError>
 pub fn push_number(out: &mut Vec<u8>, number: u64) -> Result<(), AllocError>
     ensures { OnOk result (out.new.items ≡ out.old.items ++ 44 ∷ decimal number) }
 {
-    push_text(out, Buffer::new().format(number))
+    let mut field = [0; 24];
+    let start = number_before(&mut field, 24, number);
+    out.extend_from_slice(&field[start..])
 }
 
 /// Appends a comma and a price.
 pub fn push_price(out: &mut Vec<u8>, price: Price) -> Result<(), AllocError>
     ensures { OnOk result (out.new.items ≡ out.old.items ++ 44 ∷ price_text price) }
 {
-    let number = price.get();
-    push_number(out, number / 10_000)?;
-    let decimals = [
-        b'.',
-        digit(number / 1000 % 10),
-        digit(number / 100 % 10),
-        digit(number / 10 % 10),
-        digit(number % 10),
-    ];
-    out.extend_from_slice(&decimals)?;
-    Ok(())
+    let mut field = [0; 32];
+    let start = price_before(&mut field, 32, price);
+    out.extend_from_slice(&field[start..])
 }
 
 /// Appends a comma and an amount of money. Amounts of up to 18 billion dollars are written without 128 bits.
@@ -87,12 +82,4 @@ fn push_three(out: &mut Vec<u8>, number: u64) -> Result<(), AllocError>
     ];
     out.extend_from_slice(&digits)?;
     Ok(())
-}
-
-/// The digit of a number below ten.
-fn digit(number: u64) -> u8
-    requires { number < 10 }
-    ensures { result ≡ 48 + number }
-{
-    b'0' + number as u8
 }

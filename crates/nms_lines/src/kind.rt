@@ -26,6 +26,7 @@ fn kind_named(text: &[u8]) -> Option<Kind>
         b"Q" => Some(Kind::Quote),
         b"S" => Some(Kind::State),
         b"X" => Some(Kind::Withdraw),
+        b"R" => Some(Kind::Lot),
         b"T" => Some(Kind::TakeOne),
         b"F" => Some(Kind::TakeAll),
         b"P" => Some(Kind::Publish),
@@ -51,7 +52,16 @@ fn brings(from: Reading, kind: Kind) -> bool
 fn is_change_kind(kind: Kind) -> bool
     ensures { result ≡ is_change_kind kind }
 {
-    matches!(kind, Kind::Quote | Kind::State | Kind::Withdraw)
+    match kind {
+        Kind::Quote | Kind::State | Kind::Withdraw | Kind::Lot => true,
+        Kind::TakeOne
+        | Kind::TakeAll
+        | Kind::Publish
+        | Kind::Tell
+        | Kind::Best
+        | Kind::Through
+        | Kind::Sweep => false,
+    }
 }
 
 /// Whether a record of the kind has so many fields.
@@ -62,6 +72,7 @@ pub(crate) fn is_count(kind: Kind, fields: usize) -> bool
         Kind::TakeOne | Kind::TakeAll | Kind::Publish => fields == 1,
         Kind::Withdraw | Kind::Tell => fields == 2,
         Kind::Best => fields == 3,
+        Kind::Lot => fields == 3 || fields == 4,
         Kind::State | Kind::Through => fields == 4,
         Kind::Sweep => fields == 6 || fields == 7,
         Kind::Quote => fields == 8,

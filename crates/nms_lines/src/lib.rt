@@ -4,6 +4,7 @@
 mod change_line;
 mod desk_line;
 mod field;
+mod field_before;
 mod field_writing;
 mod kind;
 mod laws;
@@ -11,6 +12,7 @@ mod letter;
 mod line;
 mod line_fault;
 mod line_reading;
+mod lot_field;
 mod name;
 mod number;
 mod plan_reading;
@@ -23,6 +25,7 @@ mod side;
 mod text_writing;
 
 pub use csv::{ByteRecord, Reader};
+pub use field_before::{number_before, price_before, text_before, word_before};
 pub use field_writing::{end_record, push_money, push_number, push_price, push_text};
 pub use laws::{
     a_plan_reads_as_written, a_text_has_one_list_of_records, no_field_of_a_plan_needs_a_quote,

@@ -11,9 +11,9 @@ pub enum Reading {
         /// The setup's number of desks, 1 to 16.
         desks: u8,
     },
-    /// A feed: `Q`, `S` and `X` of its own participants alone.
+    /// A feed: `Q`, `S` and `X` of its own participants alone, and `R` on the first feed.
     FromFeed(Feed),
-    /// A file of changes: `Q`, `S` and `X` of any participant.
+    /// A file of changes: `Q`, `S` and `X` of any participant, and `R`.
     Changes,
     /// A file of orders: `O` alone.
     Orders {
@@ -25,7 +25,7 @@ pub enum Reading {
 /// What a record says.
 #[derive(Clone, Copy, Debug, PartialEq, Eq)]
 pub enum Line {
-    /// `Q`, `S` or `X`: a participant's change.
+    /// `Q`, `S` or `X`: a participant's change; `R`: a new round lot.
     Change(Change),
     /// `T`: take one queued change to the tape.
     TakeOne,
@@ -72,6 +72,8 @@ pub enum Kind {
     State,
     /// `X`: the participant quotes no symbol any more.
     Withdraw,
+    /// `R`: a symbol's round lot from now on (17 CFR 242.600, "round lot").
+    Lot,
     /// `T`.
     TakeOne,
     /// `F`.

@@ -16,22 +16,24 @@ pub enum LineFault {
     UnknownParticipant,
     /// L4: the symbol is not on the roster.
     UnknownSymbol,
-    /// L5: the state, the order's side or its flag is none of its letters.
+    /// L5: the state, the order's side or its flag is none of its letters, or the word before an average is not `AVG`.
     BadState,
-    /// L6: a price is not of the form, or is zero where a quotation or an order needs one.
+    /// L6: a price is not of the form, or is zero where a quotation, an order or a round lot needs one.
     BadPrice,
     /// L7: a share count is not 1 to 9 digits, or is zero where an order needs one.
     BadShares,
     /// L8: a side has a price without shares, or shares without a price.
     HalfSide,
-    /// L9: the participant is of another feed than the one that is read.
+    /// L9: the participant is of another feed than the one that is read, or a round lot is read from another than the first.
     WrongFeed,
     /// L10: the desk is not 1 or 2 digits, or not below the number of desks.
     BadDesk,
+    /// L14: a round lot is not 1 to 4 digits, or not from 1 to 1,000.
+    BadLot,
 }
 
 impl LineFault {
-    /// The code that answers and messages name it by, `L1` to `L10`.
+    /// The code that answers and messages name it by, `L1` to `L10` or `L14`.
     pub fn code(self) -> &'static str
         ensures { result.now ≡ code_of self }
     {
@@ -46,6 +48,7 @@ impl LineFault {
             LineFault::HalfSide => "L8",
             LineFault::WrongFeed => "L9",
             LineFault::BadDesk => "L10",
+            LineFault::BadLot => "L14",
         }
     }
 
@@ -62,6 +65,7 @@ impl LineFault {
             LineFault::HalfSide => "L8: half a side",
             LineFault::WrongFeed => "L9: wrong feed",
             LineFault::BadDesk => "L10: no such desk",
+            LineFault::BadLot => "L14: not a round lot",
         }
     }
 }

@@ -5,7 +5,7 @@ ghost use Rattle.nms_lines.specs.LineOf.{IsLineOf};
 ghost use Rattle.nms_lines.specs.Lines.{kind_reading, reading};
 ghost use Rattle.nms_lines.specs.Sources.{brings};
 
-use crate::change_line::{quote_line, state_line, withdraw_line};
+use crate::change_line::{lot_line, quote_line, state_line, withdraw_line};
 use crate::desk_line::{best_line, sweep_line, tell_line, through_line};
 use crate::kind::{is_count, kind_in};
 use crate::line::{Kind, Line, Reading};
@@ -42,6 +42,7 @@ fn line_of_kind(
         Kind::Quote => quote_line(row, roster, from),
         Kind::State => state_line(row, roster, from),
         Kind::Withdraw => withdraw_line(row, roster, from),
+        Kind::Lot => lot_line(row, roster, from),
         Kind::TakeOne => Ok(Line::TakeOne),
         Kind::TakeAll => Ok(Line::TakeAll),
         Kind::Publish => Ok(Line::Publish),

@@ -1,10 +1,10 @@
--- Each change of a live run's tape is of a participant on the roster.
+-- Each change of a live run's tape belongs to a feed.
 use Rattle.std.proofs.Common.{ℕ, ◌≡◌, List, [], ◌∷◌, map, Option, Some, refl, ap, sym, subst}
 use Rattle.std.specs.Prelude.{All, unwrap_or}
 use Rattle.std.specs.List.{AllByRecursion}
 use Rattle.std.proofs.lemmas.List.Elements.{All-from_recursion}
-use Rattle.nms_quote.specs.Roster.{Listing, feed_at}
-use Rattle.nms_quote.specs.Tape.{Tape, participant_of}
+use Rattle.nms_quote.specs.Roster.{Listing, feed_of_change}
+use Rattle.nms_quote.specs.Tape.{Tape}
 use Rattle.nms_quote.specs.declared.change.Change.{Change}
 use Rattle.nms_quote.specs.declared.feed.Feed.{Feed}
 use Rattle.nms_quote.specs.declared.feed.Feed.TheVariants as feed
@@ -14,9 +14,9 @@ use Rattle.nms_flow.specs.Run.{changes_in}
 use Rattle.nms_live.specs.Reading.{IsOwn, IsTapeOf}
 use Rattle.nms_live.proofs.TapeFacts.{all_own}
 
--- a change with the mark of its participant's feed
+-- a change with the mark of the feed that it belongs to
 abbrev pub marked_by : Listing → Change → Marked
-marked_by roster change = record { feed = unwrap_or (feed_at roster (participant_of change)) feed.A; change = change }
+marked_by roster change = record { feed = unwrap_or (feed_of_change roster change) feed.A; change = change }
 
 pub changes_in-marked : (roster : Listing) (tape : Tape) → changes_in (map (marked_by roster) tape) ≡ tape
 changes_in-marked roster [] = refl
@@ -27,7 +27,7 @@ marked_own : (roster : Listing) (marked : List Marked) → AllByRecursion (λ m.
 marked_own roster [] own = tt
 marked_own roster (m ∷ ms) own = (subst (λ (o : Option Feed). o ≡ Some (unwrap_or o feed.A)) (sym own.0) refl, marked_own roster ms own.1)
 
--- each change of the tape is sent on the feed of its participant
+-- each change of the tape is sent on the feed that it belongs to
 pub own_feeds : (roster : Listing) (texts : List (List ℕ)) (tape : Tape) → IsTapeOf roster texts tape → All (IsOnOwnFeed roster) (map (marked_by roster) tape)
 own_feeds roster texts tape of =
     let own = all_own roster of.marked (λ f. (of.gave f).reads.own) in

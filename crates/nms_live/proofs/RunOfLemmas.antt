@@ -114,7 +114,7 @@ module _ (room : Room) (roster : Listing) (whole : Tape) (published : List ℕ) 
       levels (before ++ change ∷ []) rest (parts ∙ sym (append_assoc before (change ∷ []) rest)) queue limit were rising desks
       (subst (IsUpTo room roster (made_on room whole) published all (before ++ change ∷ [])) (sym (length-append before (change ∷ []))) more)
 
--- of all changes sent, and each on its participant's feed, the feeds sent those of their participants
+-- of all changes sent, and each on the feed that it belongs to, the feeds sent those that belong to them
 abbrev pub TellFeeds : Type 0
 TellFeeds = (roster : Listing) (events : List Event) (feed : Feed) → All (IsOnOwnFeed roster) (sent_by events) → changes_of roster feed (changes_in (sent_by events)) ≡ fed_by feed events
 

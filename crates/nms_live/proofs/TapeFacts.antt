@@ -4,8 +4,8 @@ use Rattle.std.proofs.lemmas.Bool.{false≢true}
 use Rattle.std.specs.Cmp.{nat_eq_equiv}
 use Rattle.std.specs.List.{AllByRecursion}
 use Rattle.nms_quote.specs.Merge.{IsMerge, changes_of, is_of_feed, is_same_feed, of_feed, place_of}
-use Rattle.nms_quote.specs.Roster.{Listing, feed_at}
-use Rattle.nms_quote.specs.Tape.{Tape, participant_of}
+use Rattle.nms_quote.specs.Roster.{Listing, feed_of_change}
+use Rattle.nms_quote.specs.Tape.{Tape}
 use Rattle.nms_quote.specs.declared.change.Change.{Change}
 use Rattle.nms_quote.specs.declared.feed.Feed.{Feed}
 use Rattle.nms_quote.specs.declared.feed.Feed.TheVariants as feed
@@ -22,7 +22,7 @@ rest_of_more : (P : Change → Type 0) (change : Change) (more : List Change) (b
 rest_of_more P change more true all = all.1
 rest_of_more P change more false all = all
 
--- each change bears the mark of its participant's feed, where those of each mark are the feed's own
+-- each change bears the mark of the feed that it belongs to, where those of each mark are the feed's own
 pub all_own : (roster : Listing) (marked : List Marked) → ((f : Feed) → AllByRecursion (IsOwn roster f) (of_feed f marked))
     → AllByRecursion (λ m. IsOwn roster m.feed m.change) marked
 unfolding of_feed
@@ -38,7 +38,7 @@ changes_of-own : (roster : Listing) (f : Feed) (marked : List Marked) → AllByR
 unfolding of_feed
 changes_of-own roster f [] own = refl
 changes_of-own roster f (m ∷ ms) own =
-    let test : is_of_feed (feed_at roster (participant_of m.change)) f ≡ is_same_feed f m.feed =
+    let test : is_of_feed (feed_of_change roster m.change) f ≡ is_same_feed f m.feed =
     ap (λ o. is_of_feed o f) own.0 ∙ nat_eq_equiv.symm (place_of m.feed) (place_of f) in
     ap (λ b. if b then m.change ∷ changes_of roster f (changes_in ms) else changes_of roster f (changes_in ms)) test
     ∙ ap (λ cs. if is_same_feed f m.feed then m.change ∷ cs else cs) (changes_of-own roster f ms own.1)

@@ -2,8 +2,8 @@
 use Rattle.std.specs.Prelude.{ℕ, ◌≡◌, ◌+◌, ◌++◌, ◌∷◌, List, [], length, map, slice_index_or, Option, Some, None, Result, Ok, Err}
 use Rattle.nms_quote.specs.Merge.{changes_of, of_feed, place_of}
 use Rattle.std.specs.List.{AllByRecursion}
-use Rattle.nms_quote.specs.Roster.{Listing, feed_at}
-use Rattle.nms_quote.specs.Tape.{Tape, participant_of}
+use Rattle.nms_quote.specs.Roster.{Listing, feed_of_change}
+use Rattle.nms_quote.specs.Tape.{Tape}
 use Rattle.nms_quote.specs.declared.change.Change.{Change}
 use Rattle.nms_quote.specs.declared.feed.Feed.{Feed}
 use Rattle.nms_quote.specs.declared.marked.Marked.{Marked}
@@ -26,9 +26,9 @@ feed_reading roster feed fields = reading roster (source.FromFeed feed) fields
 abbrev pub Says : Listing → Feed → List Record → List Change → Type 0
 Says roster feed records changes = map (feed_reading roster feed) records ≡ map (λ change. Ok (line.Change change)) changes
 
--- a change of a participant of the feed
+-- a change that belongs to the feed
 abbrev pub IsOwn : Listing → Feed → Change → Type 0
-IsOwn roster feed change = feed_at roster (participant_of change) ≡ Some feed
+IsOwn roster feed change = feed_of_change roster change ≡ Some feed
 
 -- every record of the feed's text says a change of the feed, and these are the changes
 pub record IsRead (roster : Listing) (feed : Feed) (text : List ℕ) (changes : List Change) : Type 0 where
@@ -69,7 +69,7 @@ abbrev pub IsLiveFault : Listing → List (List ℕ) → LiveFault → Type 0
 IsLiveFault roster texts why = IfLine (λ of number own. IsFirstRefused roster of (text_of of texts) number own) why
 
 -- what one feed gave: its text reads as changes, and of the changes that bear the marks of their feeds they are those
--- that bear its own, in order. The mark of a change is the feed of its participant: so the tape alone tells what the
+-- that bear its own, in order. The mark of a change is the feed that it belongs to: so the tape alone tells what the
 -- feed gave
 pub record HasGiven (roster : Listing) (text : List ℕ) (marked : List Marked) (feed : Feed) : Type 0 where
   pub reads : IsRead roster feed text (of_feed feed marked)

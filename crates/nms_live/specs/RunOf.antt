@@ -36,7 +36,7 @@ basis_of settings live answer = seen_in settings (version answer.plan.version li
 pub record IsRunOf (settings : Settings) (texts : List (List ℕ)) (live : Live) (events : List Event) : Type 0 where
   pub run : IsRun (room_under settings) events
   pub answered : All (λ event. is_answered event.1 ≡ true) events
-  -- the sends are what the feeds' texts say, each on the feed of its participant
+  -- the sends are what the feeds' texts say, each on the feed that it belongs to
   pub fed : (feed : Feed) → IsRead settings.roster feed (text_of feed texts) (fed_by feed events)
   pub own : All (IsOnOwnFeed settings.roster) (sent_by events)
   -- all that was sent was taken, and is the tape

@@ -15,6 +15,7 @@ use nms_feed::{MOST_SENT, Sender};
 use nms_fees::Setup;
 use nms_lines::{ByteRecord, Line, LineFault, Reader, Reading, open_records, read_line, read_next};
 use nms_quote::{Change, Feed, Roster, SideQuote};
+use nms_units::Lot;
 use std::snapshot::Snapshot;
 use std::sync::Wait;
 use std::thread::Promise;
@@ -139,8 +140,8 @@ fn send_record<R: Wait, G: Gate>(
     if !passes(means.gate, at) {
         return Err(LiveFault::GateLimit);
     }
-    // Moving a change takes a mention of the type in it: the prover has to have seen it.
-    let _seen: Option<SideQuote> = None;
+    // Moving a change takes a mention of the types in it: the prover has to have seen them.
+    let _seen: (Option<SideQuote>, Option<Lot>) = (None, None);
     sender.send(means.rt, change);
     means.gate.done(at);
     Ok(())
@@ -154,7 +155,15 @@ fn read_change(row: &ByteRecord, roster: &Roster, feed: Feed) -> Result<Change, 
 {
     match read_line(row, roster, Reading::FromFeed(feed)) {
         Ok(Line::Change(change)) => Ok(change),
-        Ok(_) => unreachable!(),
+        Ok(
+            Line::TakeOne
+            | Line::TakeAll
+            | Line::Publish
+            | Line::Tell { .. }
+            | Line::Best { .. }
+            | Line::Through { .. }
+            | Line::Sweep { .. },
+        ) => unreachable!(),
         Err(fault) => Err(fault),
     }
 }

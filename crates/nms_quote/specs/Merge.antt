@@ -1,8 +1,8 @@
 -- Changes with the feeds that brought them, and what it is to merge the lists of two feeds. This product's
 -- own rule.
 use Rattle.std.specs.Prelude.{ℕ, ◌≡◌, Bool, false, List, [], ◌∷◌, nat_eq, filter, Option, Some, None, if◌then◌else◌}
-use Rattle.nms_quote.specs.Roster.{Listing, feed_at}
-use Rattle.nms_quote.specs.Tape.{Tape, participant_of}
+use Rattle.nms_quote.specs.Roster.{Listing, feed_of_change}
+use Rattle.nms_quote.specs.Tape.{Tape}
 use Rattle.nms_quote.specs.declared.change.Change.{Change}
 use Rattle.nms_quote.specs.declared.feed.Feed.{Feed}
 use Rattle.nms_quote.specs.declared.feed.Feed.TheVariants as feed
@@ -26,9 +26,9 @@ abbrev pub is_of_feed : Option Feed → Feed → Bool
 is_of_feed None wanted = false
 is_of_feed (Some feed) wanted = is_same_feed feed wanted
 
--- the changes of a tape that participants of the feed sent, in order
+-- the changes of a tape that belong to the feed, in order
 abbrev pub changes_of : Listing → Feed → Tape → List Change
-changes_of roster feed tape = filter (λ change. is_of_feed (feed_at roster (participant_of change)) feed) tape
+changes_of roster feed tape = filter (λ change. is_of_feed (feed_of_change roster change) feed) tape
 
 -- the changes that bear a feed's mark, in order
 unfoldable pub of_feed : Feed → List Marked → List Change

@@ -4,6 +4,7 @@ use Rattle.std.specs.List.{list_all}
 use Rattle.std.specs.Str.{bytes_eq}
 use Rattle.nms_quote.specs.declared.TheConstants.{MOST_PARTICIPANTS, MOST_SYMBOLS}
 use Rattle.nms_quote.specs.declared.feed.Feed.{Feed}
+use Rattle.nms_quote.specs.declared.feed.Feed.TheVariants as feed
 use Rattle.nms_quote.specs.declared.roster_fault.RosterFault.{RosterFault}
 use Rattle.nms_quote.specs.declared.roster_fault.RosterFault.TheVariants as fault
 use Rattle.nms_quote.specs.declared.change.Change.{Change}
@@ -12,7 +13,7 @@ use Rattle.nms_quote.specs.declared.change.Change.TheVariants as change
 abbrev pub Name : Type 0
 Name = List ℕ
 
--- participants with their feeds and symbols with their round lots, each in order of place
+-- participants with their feeds and symbols with their opening round lots, each in order of place
 pub record Listing : Type 0 where
   pub parts : List (Name × Feed)
   pub syms : List (Name × ℕ)
@@ -70,7 +71,14 @@ symbol_text roster sym = unwrap_or (option_map (λ entry. entry.0) (slice_get ro
 abbrev pub feed_at : Listing → ℕ → Option Feed
 feed_at roster part = option_map (λ entry. entry.1) (slice_get roster.parts part)
 
--- how many participants there are, and each symbol's round lot
+-- the feed that a change belongs to: its participant's, and the first one for a new round lot
+abbrev pub feed_of_change : Listing → Change → Option Feed
+feed_of_change roster (change.Quote part sym state bid offer) = feed_at roster part
+feed_of_change roster (change.State part sym state) = feed_at roster part
+feed_of_change roster (change.Withdraw part) = feed_at roster part
+feed_of_change roster (change.Lot sym lot) = Some feed.A
+
+-- how many participants there are, and each symbol's opening round lot
 pub record Sizes : Type 0 where
   pub parts : ℕ
   pub lots : List ℕ
@@ -83,3 +91,4 @@ abbrev pub holds : Sizes → Change → Bool
 holds sizes (change.Quote part sym state bid offer) = nat_lt part sizes.parts && nat_lt sym (length sizes.lots)
 holds sizes (change.State part sym state) = nat_lt part sizes.parts && nat_lt sym (length sizes.lots)
 holds sizes (change.Withdraw part) = nat_lt part sizes.parts
+holds sizes (change.Lot sym lot) = nat_lt sym (length sizes.lots)

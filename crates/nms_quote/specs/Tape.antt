@@ -1,5 +1,5 @@
 -- The tape of changes, and its versions. This product's own rule.
-use Rattle.std.specs.Prelude.{ℕ, List, [], ◌∷◌, map, take}
+use Rattle.std.specs.Prelude.{ℕ, List, [], ◌∷◌, map, take, Option, Some, None}
 use Rattle.nms_quote.specs.declared.change.Change.{Change}
 use Rattle.nms_quote.specs.declared.change.Change.TheVariants as change
 
@@ -7,11 +7,12 @@ use Rattle.nms_quote.specs.declared.change.Change.TheVariants as change
 abbrev pub Tape : Type 0
 Tape = List Change
 
--- the participant that sends a change
-abbrev pub participant_of : Change → ℕ
-participant_of (change.Quote part sym state bid offer) = part
-participant_of (change.State part sym state) = part
-participant_of (change.Withdraw part) = part
+-- the participant that sends a change. Nobody sends a new round lot
+abbrev pub participant_of : Change → Option ℕ
+participant_of (change.Quote part sym state bid offer) = Some part
+participant_of (change.State part sym state) = Some part
+participant_of (change.Withdraw part) = Some part
+participant_of (change.Lot sym lot) = None
 
 -- version n: the first n changes
 abbrev pub version : ℕ → Tape → Tape

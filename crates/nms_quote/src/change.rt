@@ -1,12 +1,13 @@
-//! What a participant sends: `specs/Tape`.
+//! What a tape is made of: `specs/Tape`.
 ghost use Rattle.std.specs.Prelude.{◌≡◌};
 
 use crate::participant::Part;
 use crate::side_quote::{QState, SideQuote};
 use crate::symbol::Sym;
+use nms_units::Lot;
 
-/// A participant's change of its quotations. Each participant sends only its best bid and its best
-/// offer in a symbol (this product's own rule).
+/// A participant's change of its quotations, or a new round lot of a symbol. Each participant sends
+/// only its best bid and its best offer in a symbol (this product's own rule).
 #[derive(Clone, Copy, Debug, PartialEq, Eq, Hash)]
 pub enum Change {
     /// Both sides of a symbol, `None` where there is no quotation, and their state.
@@ -36,19 +37,28 @@ pub enum Change {
         /// Who sends it.
         part: Part,
     },
+    /// The symbol's round lot from now on, after its average closing price (17 CFR 242.600, "round
+    /// lot"). No participant sends it.
+    Lot {
+        /// Whose round lot changes.
+        sym: Sym,
+        /// The new round lot, 1 to 1,000 shares.
+        lot: Lot,
+    },
 }
 
 impl Change {
     ghost use Rattle.std.specs.Prelude.{◌≡◌};
     ghost use Rattle.nms_quote.specs.Tape.{participant_of};
 
-    /// The participant that sends the change.
-    pub fn part(&self) -> Part
+    /// The participant that sends the change; nobody sends a new round lot.
+    pub fn part(&self) -> Option<Part>
         ensures { result ≡ participant_of self.now }
     {
         match *self {
             Change::Quote { part, .. } | Change::State { part, .. } | Change::Withdraw { part } =>
-                part,
+                Some(part),
+            Change::Lot { .. } => None,
         }
     }
 }

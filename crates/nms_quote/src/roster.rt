@@ -1,6 +1,6 @@
 //! Who is on the roster: `specs/Roster`.
 ghost use Rattle.std.specs.Prelude.{◌≡◌, ℕ, ◌<◌, ◌≤◌, ◌↔◌, [], ◌∷◌, ◌++◌, length, option_map, slice_get, nat_lt, true, IsTrue, IfSome, IfOk, IfErr, OnErr};
-ghost use Rattle.nms_quote.specs.Roster.{part_text, place_in, symbol_text, is_part_name, is_symbol_name, part_refusal, sym_refusal, sizes_of, holds};
+ghost use Rattle.nms_quote.specs.Roster.{part_text, place_in, symbol_text, is_part_name, is_symbol_name, part_refusal, sym_refusal, sizes_of, holds, feed_of_change};
 
 use crate::change::Change;
 use crate::feed::Feed;
@@ -135,6 +135,18 @@ impl Roster {
         self.parts.value_at(usize::from(part.get()))
     }
 
+    /// The feed that a change belongs to: its participant's, and the first one for a new round lot.
+    pub fn feed_of_change(&self, change: &Change) -> Feed
+        requires { holds (sizes_of self.now) change.now ≡ true }
+        ensures { feed_of_change self.now change.now ≡ Some result }
+    {
+        match *change {
+            Change::Quote { part, .. } | Change::State { part, .. } | Change::Withdraw { part } =>
+                self.feed_of(part),
+            Change::Lot { .. } => Feed::A,
+        }
+    }
+
     /// The opening round lot of a symbol of the roster, in shares (17 CFR 242.600, "round lot").
     pub fn lot_of(&self, sym: Sym) -> Lot
         requires { sym < length self.now.syms }
@@ -177,6 +189,7 @@ impl Roster {
                 self.has_part(part) && self.has_sym(sym)
             }
             Change::Withdraw { part } => self.has_part(part),
+            Change::Lot { sym, .. } => self.has_sym(sym),
         }
     }
 

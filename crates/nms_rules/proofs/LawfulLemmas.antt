@@ -12,7 +12,7 @@ use Rattle.nms_quote.specs.declared.plan.Leg.{Leg}
 use Rattle.nms_quote.specs.declared.plan.Plan.{Plan}
 use Rattle.nms_board.specs.View.{Seen, AreRows}
 use Rattle.nms_board.specs.declared.row.Row.{Row}
-use Rattle.nms_fee_book.specs.declared.fee_schedule.FeeSchedule.{FeeSchedule}
+use Rattle.nms_fee_book.specs.Fees.{Charges}
 use Rattle.nms_rules.specs.Assignment.{IsLawful, IsOnUsable, SweepsBetter}
 use Rattle.nms_rules.specs.Breach.{breach_of, is_same_order, has_other_price, has_leg_beyond, is_over_size, is_traded_through, lacks_quotation, row_for, some_has_no_shares, some_has_other_price, some_is_beyond_limit, some_is_over_size, some_lacks_quotation, has_no_shares, is_beyond_limit}
 use Rattle.nms_rules.specs.Faultless.{IsFaultless, cost_of, given_by, sum_of}
@@ -41,12 +41,12 @@ contra_rows_are_rows Sell seen bids offers = bids
 rows_apart : (side : OrderSide) (seen : Seen) → AreRows seen.bids → AreRows seen.offers → Apart place (contra_rows side seen)
 rows_apart side seen bids offers = Apart-rising place (contra_rows side seen) (contra_rows_are_rows side seen bids offers).rising
 
-usable_apart : (seen : Seen) (asked : Terms) (fees : List FeeSchedule) → Apart place (contra_rows asked.side seen) → Apart row_part (usable seen asked fees)
+usable_apart : (seen : Seen) (asked : Terms) (fees : Charges) → Apart place (contra_rows asked.side seen) → Apart row_part (usable seen asked fees)
 usable_apart seen asked fees apart =
     Apart-map place row_part (usable_row asked fees) (λ row. refl) (filter (is_usable asked) (contra_rows asked.side seen)) (Apart-filter place (is_usable asked) (contra_rows asked.side seen) apart)
 
 -- the row that a usable one is of
-record IsOf (seen : Seen) (asked : Terms) (fees : List FeeSchedule) (row : Usable) (quoted : Row) : Type 0 where
+record IsOf (seen : Seen) (asked : Terms) (fees : Charges) (row : Usable) (quoted : Row) : Type 0 where
   pub within : In quoted (contra_rows asked.side seen)
   pub is : row ≡ usable_row asked fees quoted
   pub allowed : is_allowed asked quoted ≡ true
@@ -56,14 +56,14 @@ not-true-is-false : (b : Bool) → not b ≡ true → b ≡ false
 not-true-is-false true e = sym e
 not-true-is-false false e = refl
 
-usable_is : (seen : Seen) (asked : Terms) (fees : List FeeSchedule) (row : Usable) → In row (usable seen asked fees) → (quoted : Row) × IsOf seen asked fees row quoted
+usable_is : (seen : Seen) (asked : Terms) (fees : Charges) (row : Usable) → In row (usable seen asked fees) → (quoted : Row) × IsOf seen asked fees row quoted
 usable_is seen asked fees row within =
     let from = map-In (usable_row asked fees) (filter (is_usable asked) (contra_rows asked.side seen)) row within in
     let kept = filter-In (is_usable asked) (contra_rows asked.side seen) from.0 from.1 in
     let tests = and_parts (is_allowed asked from.0) (not (is_better asked.side asked.limit from.0.price)) kept.1 in
     (from.0, record { within = kept.0; is = from.2; allowed = tests.0; limit = not-true-is-false (is_better asked.side asked.limit from.0.price) tests.1 })
 
-is_usable-from : (seen : Seen) (asked : Terms) (fees : List FeeSchedule) (quoted : Row) → In quoted (contra_rows asked.side seen) → is_allowed asked quoted ≡ true → is_better asked.side asked.limit quoted.price ≡ false → In (usable_row asked fees quoted) (usable seen asked fees)
+is_usable-from : (seen : Seen) (asked : Terms) (fees : Charges) (quoted : Row) → In quoted (contra_rows asked.side seen) → is_allowed asked quoted ≡ true → is_better asked.side asked.limit quoted.price ≡ false → In (usable_row asked fees quoted) (usable seen asked fees)
 is_usable-from seen asked fees quoted within allowed limit =
     In-map (usable_row asked fees) (filter (is_usable asked) (contra_rows asked.side seen)) quoted
     (In-filter (is_usable asked) (contra_rows asked.side seen) quoted within (and_from (is_allowed asked quoted) (not (is_better asked.side asked.limit quoted.price)) allowed (not_from_false (is_better asked.side asked.limit quoted.price) limit)))
@@ -90,7 +90,7 @@ serves-from seen asked leg (Some row) is lacks price size limit =
       },
     )
 
-passes-serves : (seen : Seen) (asked : Terms) (fees : List FeeSchedule) (plan : Plan) → Passes seen asked fees plan → (leg : Leg) → In leg plan.legs.items → (row : Row) × Serves seen asked leg row
+passes-serves : (seen : Seen) (asked : Terms) (fees : Charges) (plan : Plan) → Passes seen asked fees plan → (leg : Leg) → In leg plan.legs.items → (row : Row) × Serves seen asked leg row
 unfolding some_lacks_quotation some_has_other_price some_is_over_size some_is_beyond_limit
 passes-serves seen asked fees plan passes leg within =
     serves-from seen asked leg (row_for seen asked.side leg) refl
@@ -99,7 +99,7 @@ passes-serves seen asked fees plan passes leg within =
     (list_any-none (λ one. is_over_size one (row_for seen asked.side one)) plan.legs.items passes.size leg within)
     (list_any-none (is_beyond_limit asked) plan.legs.items passes.limit leg within)
 
-passes-shares : (seen : Seen) (asked : Terms) (fees : List FeeSchedule) (plan : Plan) → Passes seen asked fees plan → (leg : Leg) → In leg plan.legs.items → 1 ≤ leg.shares
+passes-shares : (seen : Seen) (asked : Terms) (fees : Charges) (plan : Plan) → Passes seen asked fees plan → (leg : Leg) → In leg plan.legs.items → 1 ≤ leg.shares
 unfolding some_has_no_shares
 passes-shares seen asked fees plan passes leg within =
     let some = eqb-false leg.shares 0 (list_any-none has_no_shares plan.legs.items passes.shares leg within) in
@@ -114,7 +114,7 @@ record Legs (seen : Seen) (asked : Terms) (legs : List Leg) : Type 0 where
   pub shares : (leg : Leg) → In leg legs → 1 ≤ leg.shares
   pub served : (leg : Leg) → In leg legs → (row : Row) × Serves seen asked leg row
 
-leg_row_usable : (seen : Seen) (asked : Terms) (fees : List FeeSchedule) (leg : Leg) (row : Row) → Serves seen asked leg row → In (usable_row asked fees row) (usable seen asked fees)
+leg_row_usable : (seen : Seen) (asked : Terms) (fees : Charges) (leg : Leg) (row : Row) → Serves seen asked leg row → In (usable_row asked fees row) (usable seen asked fees)
 leg_row_usable seen asked fees leg row serves = is_usable-from seen asked fees row (served seen asked leg row serves).0 serves.allowed serves.limit
 
 -- shares that a row gets come by a leg to it, at its price and within its size
@@ -142,13 +142,13 @@ given_within : (seen : Seen) (asked : Terms) (legs : List Leg) → Legs seen ask
 given_within seen asked legs is quoted within (inl some) = (comes_by seen asked legs is quoted within some).1.size
 given_within seen asked legs is quoted within (inr none) = omega (arith, none)
 
-usable_within : (seen : Seen) (asked : Terms) (fees : List FeeSchedule) (legs : List Leg) → Legs seen asked legs → (row : Usable) → In row (usable seen asked fees) → given_by legs row.part ≤ row.size
+usable_within : (seen : Seen) (asked : Terms) (fees : Charges) (legs : List Leg) → Legs seen asked legs → (row : Usable) → In row (usable seen asked fees) → given_by legs row.part ≤ row.size
 usable_within seen asked fees legs is row within =
     let of' = usable_is seen asked fees row within in
     let within' = given_within seen asked legs is of'.0 of'.1.within (cases_lt 0 (given_by legs of'.0.part)) in
     subst (λ (one : Usable). given_by legs one.part ≤ one.size) (sym of'.1.is) within'
 
-on_usable : (seen : Seen) (asked : Terms) (fees : List FeeSchedule) (legs : List Leg) → Legs seen asked legs → IsOnUsable (usable seen asked fees) (given_by legs)
+on_usable : (seen : Seen) (asked : Terms) (fees : Charges) (legs : List Leg) → Legs seen asked legs → IsOnUsable (usable seen asked fees) (given_by legs)
 on_usable seen asked fees legs is part some =
     let leg = given-by legs part some in
     let row = is.served leg.0 leg.1 in
@@ -168,7 +168,7 @@ swept-step side legs quoted leg clear protected within better (inl less) (inl be
     (and_from (quoted.protected && nat_lt (given_by legs quoted.part) quoted.size) (has_leg_beyond side quoted.price legs)
     (and_from quoted.protected (nat_lt (given_by legs quoted.part) quoted.size) protected (lt-ltb (given_by legs quoted.part) quoted.size less)) beyond))
 
-swept : (seen : Seen) (asked : Terms) (fees : List FeeSchedule) (legs : List Leg) → Legs seen asked legs → ((quoted : Row) → In quoted (contra_rows asked.side seen) → is_traded_through asked.side legs quoted ≡ false)
+swept : (seen : Seen) (asked : Terms) (fees : Charges) (legs : List Leg) → Legs seen asked legs → ((quoted : Row) → In quoted (contra_rows asked.side seen) → is_traded_through asked.side legs quoted ≡ false)
     → (row : Usable) → In row (usable seen asked fees) → 0 < given_by legs row.part → (other : Usable) → In other (usable seen asked fees) → other.protected ≡ true → other.rank <ℤ row.rank → given_by legs other.part ≡ other.size
 swept seen asked fees legs is clear row within some other also protected less =
     let of' = usable_is seen asked fees row within in
@@ -188,7 +188,7 @@ swept seen asked fees legs is clear row within some other also protected less =
 int-eq : (one other : ℤ) → int_eq one other ≡ true → one ≡ other
 int-eq one other e = (Decides-int_eq one other).0 e
 
-passes-legs : (seen : Seen) (asked : Terms) (fees : List FeeSchedule) (plan : Plan) → Passes seen asked fees plan → AreRows seen.bids → AreRows seen.offers → Legs seen asked plan.legs.items
+passes-legs : (seen : Seen) (asked : Terms) (fees : Charges) (plan : Plan) → Passes seen asked fees plan → AreRows seen.bids → AreRows seen.offers → Legs seen asked plan.legs.items
 passes-legs seen asked fees plan passes bids offers = record {
   rows = rows_apart asked.side seen bids offers;
   once = Apart-has_repeat plan.legs.items passes.once;
@@ -201,7 +201,7 @@ leg_price_shown seen asked leg row =
     let at = served seen asked leg row.0 row.1 in
     Any-In (λ one. (one.part ≡ leg.part) × (one.price ≡ leg.price)) (contra_rows asked.side seen) row.0 at.0 (at.1, sym row.1.price)
 
-lawful-from : (seen : Seen) (asked : Terms) (fees : List FeeSchedule) (plan : Plan) → Passes seen asked fees plan → Legs seen asked plan.legs.items → IsLawful (usable seen asked fees) asked.shares (given_by plan.legs.items)
+lawful-from : (seen : Seen) (asked : Terms) (fees : Charges) (plan : Plan) → Passes seen asked fees plan → Legs seen asked plan.legs.items → IsLawful (usable seen asked fees) asked.shares (given_by plan.legs.items)
 lawful-from seen asked fees plan passes is =
     let legs : List Leg = plan.legs.items in
     let rows : List Usable = usable seen asked fees in
@@ -217,7 +217,7 @@ lawful-from seen asked fees plan passes is =
           (swept seen asked fees legs is (find-none (is_traded_through asked.side legs) (contra_rows asked.side seen) passes.through) row within some));
     }
 
-pub faultless_of_none : (seen : Seen) (asked : Terms) (fees : List FeeSchedule) (plan : Plan) → AreRows seen.bids → AreRows seen.offers → breach_of seen asked fees plan ≡ None → IsFaultless seen asked fees plan
+pub faultless_of_none : (seen : Seen) (asked : Terms) (fees : Charges) (plan : Plan) → AreRows seen.bids → AreRows seen.offers → breach_of seen asked fees plan ≡ None → IsFaultless seen asked fees plan
 faultless_of_none seen asked fees plan bids offers none =
     let passes = passes-none seen asked fees plan none in
     let is = passes-legs seen asked fees plan passes bids offers in
@@ -240,7 +240,7 @@ faultless_of_none seen asked fees plan bids offers none =
 -- ---- a lawful plan is without a breach
 
 -- the usable row of a leg, as a quotation, is the one that its price is of
-serves-step : (seen : Seen) (asked : Terms) (fees : List FeeSchedule) (legs : List Leg) → Apart place (contra_rows asked.side seen) → Apart leg_part legs → (leg : Leg) → In leg legs
+serves-step : (seen : Seen) (asked : Terms) (fees : Charges) (legs : List Leg) → Apart place (contra_rows asked.side seen) → Apart leg_part legs → (leg : Leg) → In leg legs
     → (quoted : Row) → In quoted (contra_rows asked.side seen) → quoted.part ≡ leg.part → quoted.price ≡ leg.price
     → (row : Usable) → In row (usable seen asked fees) → row.part ≡ leg.part → given_by legs row.part ≤ row.size
     → (found : Option Row) → row_for seen asked.side leg ≡ found → (one : Row) × Serves seen asked leg one
@@ -265,7 +265,7 @@ serves-step seen asked fees legs rows once leg within quoted shown part price ro
       },
     )
 
-faultless-serves : (seen : Seen) (asked : Terms) (fees : List FeeSchedule) (plan : Plan) → AreRows seen.bids → AreRows seen.offers → IsFaultless seen asked fees plan → (leg : Leg) → In leg plan.legs.items → (row : Row) × Serves seen asked leg row
+faultless-serves : (seen : Seen) (asked : Terms) (fees : Charges) (plan : Plan) → AreRows seen.bids → AreRows seen.offers → IsFaultless seen asked fees plan → (leg : Leg) → In leg plan.legs.items → (row : Row) × Serves seen asked leg row
 faultless-serves seen asked fees plan bids offers is leg within =
     let legs : List Leg = plan.legs.items in
     let once = Apart-IsDistinct leg_part legs is.once in
@@ -275,7 +275,7 @@ faultless-serves seen asked fees plan bids offers is leg within =
     serves-step seen asked fees legs (rows_apart asked.side seen bids offers) once leg within shown.0 shown.1 shown.2.0 shown.2.1 row.0 row.1 row.2
     (In-All (λ one. given_by legs one.part ≤ one.size) (usable seen asked fees) is.lawful.within row.0 row.1) (row_for seen asked.side leg) refl
 
-faultless-legs : (seen : Seen) (asked : Terms) (fees : List FeeSchedule) (plan : Plan) → AreRows seen.bids → AreRows seen.offers → IsFaultless seen asked fees plan → Legs seen asked plan.legs.items
+faultless-legs : (seen : Seen) (asked : Terms) (fees : Charges) (plan : Plan) → AreRows seen.bids → AreRows seen.offers → IsFaultless seen asked fees plan → Legs seen asked plan.legs.items
 faultless-legs seen asked fees plan bids offers is = record {
   rows = rows_apart asked.side seen bids offers;
   once = Apart-IsDistinct leg_part plan.legs.items is.once;
@@ -294,7 +294,7 @@ clear-step side legs quoted full (inl through) =
     let leg = list_any-some (λ one. is_better side quoted.price one.price) legs last.1 in
     absurd (omega (arith, ltb-true (given_by legs quoted.part) quoted.size first.1, full leg.0 leg.1 first.0 leg.2))
 
-full-size : (seen : Seen) (asked : Terms) (fees : List FeeSchedule) (legs : List Leg) → Legs seen asked legs → IsLawful (usable seen asked fees) asked.shares (given_by legs)
+full-size : (seen : Seen) (asked : Terms) (fees : Charges) (legs : List Leg) → Legs seen asked legs → IsLawful (usable seen asked fees) asked.shares (given_by legs)
     → (quoted : Row) → In quoted (contra_rows asked.side seen) → (leg : Leg) → In leg legs → quoted.protected ≡ true → is_better asked.side quoted.price leg.price ≡ true → quoted.size ≤ given_by legs quoted.part
 full-size seen asked fees legs is lawful quoted shown leg within protected better =
     let rows : List Usable = usable seen asked fees in
@@ -319,7 +319,7 @@ served-tests seen asked leg row serves =
       subst (λ p. is_better asked.side asked.limit p ≡ false) (sym serves.price) serves.limit,
     )
 
-faultless-passes : (seen : Seen) (asked : Terms) (fees : List FeeSchedule) (plan : Plan) → AreRows seen.bids → AreRows seen.offers → IsFaultless seen asked fees plan → Passes seen asked fees plan
+faultless-passes : (seen : Seen) (asked : Terms) (fees : Charges) (plan : Plan) → AreRows seen.bids → AreRows seen.offers → IsFaultless seen asked fees plan → Passes seen asked fees plan
 unfolding some_lacks_quotation some_has_other_price some_has_no_shares some_is_over_size some_is_beyond_limit
 faultless-passes seen asked fees plan bids offers is =
     let legs : List Leg = plan.legs.items in
@@ -348,5 +348,5 @@ faultless-passes seen asked fees plan bids offers is =
       cost = not_from_true (int_eq plan.cost (cost_of fees asked.side legs)) ((Decides-int_eq plan.cost (cost_of fees asked.side legs)).1 is.cost);
     }
 
-pub none_of_faultless : (seen : Seen) (asked : Terms) (fees : List FeeSchedule) (plan : Plan) → AreRows seen.bids → AreRows seen.offers → IsFaultless seen asked fees plan → breach_of seen asked fees plan ≡ None
+pub none_of_faultless : (seen : Seen) (asked : Terms) (fees : Charges) (plan : Plan) → AreRows seen.bids → AreRows seen.offers → IsFaultless seen asked fees plan → breach_of seen asked fees plan ≡ None
 none_of_faultless seen asked fees plan bids offers is = none-passes seen asked fees plan (faultless-passes seen asked fees plan bids offers is)

@@ -9,7 +9,7 @@ use Rattle.nms_quote.specs.declared.plan.Leg.{Leg}
 use Rattle.nms_quote.specs.declared.plan.Plan.{Plan}
 use Rattle.nms_board.specs.View.{Seen}
 use Rattle.nms_board.specs.declared.row.Row.{Row}
-use Rattle.nms_fee_book.specs.declared.fee_schedule.FeeSchedule.{FeeSchedule}
+use Rattle.nms_fee_book.specs.Fees.{Charges}
 use Rattle.nms_rules.specs.Breach.{breach_of, first_traded_through, has_repeat, is_other_order, is_other_version, is_over_asked, leg_breach, some_has_no_shares, some_has_other_price, some_is_beyond_limit, some_is_over_size, some_lacks_quotation, sum_breach}
 use Rattle.nms_rules.specs.Faultless.{cost_of, sum_of}
 use Rattle.nms_rules.specs.First.{when, ◌or_else◌}
@@ -17,7 +17,7 @@ use Rattle.nms_rules.specs.declared.breach_kind.Breach.{Breach}
 use Rattle.nms_rules.specs.declared.breach_kind.Breach.TheVariants as breach
 
 -- no test holds
-pub record Passes (seen : Seen) (order : Terms) (fees : List FeeSchedule) (plan : Plan) : Type 0 where
+pub record Passes (seen : Seen) (order : Terms) (fees : Charges) (plan : Plan) : Type 0 where
   pub version : is_other_version seen plan ≡ false
   pub same : is_other_order seen order plan ≡ false
   pub quotation : some_lacks_quotation seen order plan.legs.items ≡ false
@@ -58,7 +58,7 @@ none-map : (f : Row → Breach) (found : Option Row) → found ≡ None → opti
 none-map f (Some row) e = absurd (some-none row e)
 none-map f None e = refl
 
-pub passes-none : (seen : Seen) (order : Terms) (fees : List FeeSchedule) (plan : Plan) → breach_of seen order fees plan ≡ None → Passes seen order fees plan
+pub passes-none : (seen : Seen) (order : Terms) (fees : Charges) (plan : Plan) → breach_of seen order fees plan ≡ None → Passes seen order fees plan
 passes-none seen order fees plan none =
     let legs : List Leg = plan.legs.items in
     let filled_differs : Bool = not (plan.filled == sum_of legs) in
@@ -90,6 +90,6 @@ passes-none seen order fees plan none =
       cost = when-none cost_differs breach.CostWrong e.1;
     }
 
-pub none-passes : (seen : Seen) (order : Terms) (fees : List FeeSchedule) (plan : Plan) → Passes seen order fees plan → breach_of seen order fees plan ≡ None
+pub none-passes : (seen : Seen) (order : Terms) (fees : Charges) (plan : Plan) → Passes seen order fees plan → breach_of seen order fees plan ≡ None
 none-passes seen order fees plan passes =
     rw (passes.version, passes.same, passes.quotation, passes.price, passes.shares, passes.size, passes.once, passes.limit, passes.asked, passes.through, passes.filled, passes.cost) refl

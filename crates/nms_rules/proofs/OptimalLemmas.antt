@@ -11,7 +11,7 @@ use Rattle.nms_quote.specs.declared.order.OrderSide.{OrderSide}
 use Rattle.nms_quote.specs.declared.order.OrderSide.TheVariants.{Buy, Sell}
 use Rattle.nms_quote.specs.declared.plan.Plan.{Plan}
 use Rattle.nms_board.specs.View.{AreRows, Seen}
-use Rattle.nms_fee_book.specs.declared.fee_schedule.FeeSchedule.{FeeSchedule}
+use Rattle.nms_fee_book.specs.Fees.{Charges}
 use Rattle.nms_rules.specs.Accepted.{IsAccepted}
 use Rattle.nms_rules.specs.Assignment.{IsOptimal, fillable, total_cost}
 use Rattle.nms_rules.specs.Cutoff.{KindHolds}
@@ -22,11 +22,11 @@ use Rattle.nms_rules.proofs.PaidLemmas.{sums_rightly}
 use Rattle.nms_rules.proofs.SoundLemmas.{sound}
 
 -- each row is ranked by its price
-ranked : (seen : Seen) (asked : Terms) (fees : List FeeSchedule) → All (λ row. row.rank ≡ rank_of asked.side row.price) (usable seen asked fees)
+ranked : (seen : Seen) (asked : Terms) (fees : Charges) → All (λ row. row.rank ≡ rank_of asked.side row.price) (usable seen asked fees)
 ranked seen asked fees = All-map (λ row. row.rank ≡ rank_of asked.side row.price) (usable_row asked fees) (filter (is_usable asked) (contra_rows asked.side seen)) (λ k d below. refl)
 
 -- each row's price has a cut that holds
-row_cut : (seen : Seen) (asked : Terms) (fees : List FeeSchedule) (plan : Plan) (cuts : List Cut) → IsAccepted seen asked fees plan cuts
+row_cut : (seen : Seen) (asked : Terms) (fees : Charges) (plan : Plan) (cuts : List Cut) → IsAccepted seen asked fees plan cuts
     → All (λ row. (kind : CutKind) × KindHolds (usable seen asked fees) (fillable (usable seen asked fees) asked.shares) plan.cost row.rank kind) (usable seen asked fees)
 row_cut seen asked fees plan cuts is k d below =
     let rows : List Usable = usable seen asked fees in
@@ -38,7 +38,7 @@ row_cut seen asked fees plan cuts is k d below =
     let same : rank_of asked.side cut.price ≡ row.rank = ap (rank_of asked.side) any.4 ∙ sym (ranked seen asked fees k d below) in
     (cut.kind, subst (λ rank. KindHolds rows (fillable rows asked.shares) plan.cost rank cut.kind) same holds)
 
-pub optimal : (seen : Seen) (asked : Terms) (fees : List FeeSchedule) (plan : Plan) (cuts : List Cut) → IsStrictlyIncreasing (map (λ row. row.part) (contra_rows asked.side seen)) → IsAccepted seen asked fees plan cuts
+pub optimal : (seen : Seen) (asked : Terms) (fees : Charges) (plan : Plan) (cuts : List Cut) → IsStrictlyIncreasing (map (λ row. row.part) (contra_rows asked.side seen)) → IsAccepted seen asked fees plan cuts
     → IsOptimal (usable seen asked fees) asked.shares (given_by plan.legs.items)
 optimal seen asked fees plan cuts rising is =
     let rows : List Usable = usable seen asked fees in
@@ -51,12 +51,12 @@ rows-rise : (side : OrderSide) (seen : Seen) → AreRows seen.bids → AreRows s
 rows-rise Buy seen bids offers = offers.rising
 rows-rise Sell seen bids offers = bids.rising
 
-pub accepted_optimal : (seen : Seen) (asked : Terms) (fees : List FeeSchedule) (plan : Plan) (cuts : List Cut) → AreRows seen.bids → AreRows seen.offers → IsAccepted seen asked fees plan cuts
+pub accepted_optimal : (seen : Seen) (asked : Terms) (fees : Charges) (plan : Plan) (cuts : List Cut) → AreRows seen.bids → AreRows seen.offers → IsAccepted seen asked fees plan cuts
     → IsOptimal (usable seen asked fees) asked.shares (given_by plan.legs.items)
 accepted_optimal seen asked fees plan cuts bids offers is = optimal seen asked fees plan cuts (rows-rise asked.side seen bids offers) is
 
 -- what a lawful plan fills and costs is what its legs give the rows, so none is better than an optimal one
-pub accepted_best : (seen : Seen) (asked : Terms) (fees : List FeeSchedule) (plan : Plan) (cuts : List Cut) → AreRows seen.bids → AreRows seen.offers → IsAccepted seen asked fees plan cuts
+pub accepted_best : (seen : Seen) (asked : Terms) (fees : Charges) (plan : Plan) (cuts : List Cut) → AreRows seen.bids → AreRows seen.offers → IsAccepted seen asked fees plan cuts
     → IsBestPlan seen asked fees plan
 accepted_best seen asked fees plan cuts bids offers is =
     let rising = rows-rise asked.side seen bids offers in

@@ -13,8 +13,7 @@ use Rattle.nms_quote.specs.declared.plan.Leg.{Leg}
 use Rattle.nms_quote.specs.declared.plan.Plan.{Plan}
 use Rattle.nms_board.specs.View.{Seen}
 use Rattle.nms_board.specs.declared.row.Row.{Row}
-use Rattle.nms_fee_book.specs.Fees.{unit_cost_of}
-use Rattle.nms_fee_book.specs.declared.fee_schedule.FeeSchedule.{FeeSchedule}
+use Rattle.nms_fee_book.specs.Fees.{Charges, unit_cost_of}
 use Rattle.nms_rules.specs.Assignment.{Assignment, amount, filled, total, total_cost}
 use Rattle.nms_rules.specs.Faultless.{IsFaultless, cost_of, given_by, leg_cost, sum_of}
 use Rattle.nms_rules.specs.Usable.{Usable, contra_rows, is_usable, usable, usable_row}
@@ -70,42 +69,42 @@ row_place : Usable → ℕ
 row_place row = row.part
 
 -- the usable rows of quotations
-abbrev usable_of : Terms → List FeeSchedule → List Row → List Usable
+abbrev usable_of : Terms → Charges → List Row → List Usable
 usable_of asked fees quoted = map (usable_row asked fees) (filter (is_usable asked) quoted)
 
-lack_usable-step : (asked : Terms) (fees : List FeeSchedule) (n : ℕ) (row : Row) (quoted : List Row) → (n ≡ row.part → ⊥) → Lack row_place n (usable_of asked fees quoted) → (is_usable asked row ≡ true) ⊎ (is_usable asked row ≡ false) → Lack row_place n (usable_of asked fees (row ∷ quoted))
+lack_usable-step : (asked : Terms) (fees : Charges) (n : ℕ) (row : Row) (quoted : List Row) → (n ≡ row.part → ⊥) → Lack row_place n (usable_of asked fees quoted) → (is_usable asked row ≡ true) ⊎ (is_usable asked row ≡ false) → Lack row_place n (usable_of asked fees (row ∷ quoted))
 unfolding row_place
 lack_usable-step asked fees n row quoted first rest (inl is) = rw is (first, rest)
 lack_usable-step asked fees n row quoted first rest (inr is) = rw is rest
 
-lack_usable : (asked : Terms) (fees : List FeeSchedule) (n : ℕ) (quoted : List Row) → Lack place n quoted → Lack row_place n (usable_of asked fees quoted)
+lack_usable : (asked : Terms) (fees : Charges) (n : ℕ) (quoted : List Row) → Lack place n quoted → Lack row_place n (usable_of asked fees quoted)
 unfolding place
 lack_usable asked fees n [] lack = tt
 lack_usable asked fees n (row ∷ quoted) lack = lack_usable-step asked fees n row quoted lack.0 (lack_usable asked fees n quoted lack.1) (cases_Bool (is_usable asked row))
 
-apart_usable-step : (asked : Terms) (fees : List FeeSchedule) (row : Row) (quoted : List Row) → Lack row_place row.part (usable_of asked fees quoted) → Apart row_place (usable_of asked fees quoted) → (is_usable asked row ≡ true) ⊎ (is_usable asked row ≡ false) → Apart row_place (usable_of asked fees (row ∷ quoted))
+apart_usable-step : (asked : Terms) (fees : Charges) (row : Row) (quoted : List Row) → Lack row_place row.part (usable_of asked fees quoted) → Apart row_place (usable_of asked fees quoted) → (is_usable asked row ≡ true) ⊎ (is_usable asked row ≡ false) → Apart row_place (usable_of asked fees (row ∷ quoted))
 unfolding row_place
 apart_usable-step asked fees row quoted first rest (inl is) = rw is (first, rest)
 apart_usable-step asked fees row quoted first rest (inr is) = rw is rest
 
-apart_usable : (asked : Terms) (fees : List FeeSchedule) (quoted : List Row) → Apart place quoted → Apart row_place (usable_of asked fees quoted)
+apart_usable : (asked : Terms) (fees : Charges) (quoted : List Row) → Apart place quoted → Apart row_place (usable_of asked fees quoted)
 unfolding place
 apart_usable asked fees [] apart = tt
 apart_usable asked fees (row ∷ quoted) apart =
     apart_usable-step asked fees row quoted (lack_usable asked fees row.part quoted apart.0) (apart_usable asked fees quoted apart.1) (cases_Bool (is_usable asked row))
 
 -- a usable row of a leg's participant costs what the leg costs, where the leg has the quotation's price
-abbrev IsRowOf : Terms → List FeeSchedule → Leg → Usable → Type 0
+abbrev IsRowOf : Terms → Charges → Leg → Usable → Type 0
 IsRowOf asked fees leg row = (row_place row ≡ leg.part) × (row.cost ≡ unit_cost_of fees leg.part asked.side leg.price)
 
 IsQuoted : Leg → Row → Type 0
 IsQuoted leg row = (place row ≡ leg.part) × (row.price ≡ leg.price)
 
-row_of-here : (asked : Terms) (fees : List FeeSchedule) (leg : Leg) (row : Row) → IsQuoted leg row → IsRowOf asked fees leg (usable_row asked fees row)
+row_of-here : (asked : Terms) (fees : Charges) (leg : Leg) (row : Row) → IsQuoted leg row → IsRowOf asked fees leg (usable_row asked fees row)
 unfolding IsQuoted place row_place
 row_of-here asked fees leg row is = (is.0, ap (λ n. unit_cost_of fees n asked.side row.price) is.0 ∙ ap (λ n. unit_cost_of fees leg.part asked.side n) is.1)
 
-row_of-step : (asked : Terms) (fees : List FeeSchedule) (leg : Leg) (row : Row) (quoted : List Row) → Lack place row.part quoted
+row_of-step : (asked : Terms) (fees : Charges) (leg : Leg) (row : Row) (quoted : List Row) → Lack place row.part quoted
     → (Some' (IsQuoted leg) quoted → Some' (λ one. (row_place one ≡ leg.part) × Unit {0}) (usable_of asked fees quoted) → Some' (IsRowOf asked fees leg) (usable_of asked fees quoted))
     → IsQuoted leg row ⊎ Some' (IsQuoted leg) quoted → (is_usable asked row ≡ true) ⊎ (is_usable asked row ≡ false)
     → Some' (λ one. (row_place one ≡ leg.part) × Unit {0}) (usable_of asked fees (row ∷ quoted)) → Some' (IsRowOf asked fees leg) (usable_of asked fees (row ∷ quoted))
@@ -123,7 +122,7 @@ row_of-step asked fees leg row quoted lack later (inr rest) (inl is) given =
     past (inr some) = inr (later rest some)
 row_of-step asked fees leg row quoted lack later (inr rest) (inr is) given = let given' = rw is at given in rw is (later rest given')
 
-row_of : (asked : Terms) (fees : List FeeSchedule) (leg : Leg) (quoted : List Row) → Apart place quoted → Some' (IsQuoted leg) quoted → Some' (λ one. (row_place one ≡ leg.part) × Unit {0}) (usable_of asked fees quoted) → Some' (IsRowOf asked fees leg) (usable_of asked fees quoted)
+row_of : (asked : Terms) (fees : Charges) (leg : Leg) (quoted : List Row) → Apart place quoted → Some' (IsQuoted leg) quoted → Some' (λ one. (row_place one ≡ leg.part) × Unit {0}) (usable_of asked fees quoted) → Some' (IsRowOf asked fees leg) (usable_of asked fees quoted)
 unfolding place
 row_of asked fees leg [] apart shown given = absurd shown
 row_of asked fees leg (row ∷ quoted) apart shown given =
@@ -170,7 +169,7 @@ other-part : (leg : Leg) (row : Usable) (P : Usable → Type 0) (rows : List Usa
 other-part leg row P rows lack some e = lack_some row_place leg.part P rows (subst (λ n. Lack row_place n rows) (sym e) lack) some
 
 -- a leg is counted once, at its row
-total-leg : (asked : Terms) (fees : List FeeSchedule) (leg : Leg) (rows : List Usable) → Apart row_place rows → Some' (IsRowOf asked fees leg) rows → total (λ row. gives leg row.part) rows ≡ leg.shares
+total-leg : (asked : Terms) (fees : Charges) (leg : Leg) (rows : List Usable) → Apart row_place rows → Some' (IsRowOf asked fees leg) rows → total (λ row. gives leg row.part) rows ≡ leg.shares
 unfolding total row_place
 total-leg asked fees leg [] apart some = absurd some
 total-leg asked fees leg (row ∷ rows) apart (inl here) =
@@ -178,7 +177,7 @@ total-leg asked fees leg (row ∷ rows) apart (inl here) =
 total-leg asked fees leg (row ∷ rows) apart (inr later) =
     omega (arith, gives-other leg row.part (other-part leg row (λ one. one.cost ≡ unit_cost_of fees leg.part asked.side leg.price) rows apart.0 later), total-leg asked fees leg rows apart.1 later)
 
-amount-leg : (asked : Terms) (fees : List FeeSchedule) (leg : Leg) (rows : List Usable) → Apart row_place rows → Some' (IsRowOf asked fees leg) rows → amount (λ row. row.cost *ℤ pos (gives leg row.part)) rows ≡ leg_cost fees asked.side leg
+amount-leg : (asked : Terms) (fees : Charges) (leg : Leg) (rows : List Usable) → Apart row_place rows → Some' (IsRowOf asked fees leg) rows → amount (λ row. row.cost *ℤ pos (gives leg row.part)) rows ≡ leg_cost fees asked.side leg
 unfolding amount row_place
 amount-leg asked fees leg [] apart some = absurd some
 amount-leg asked fees leg (row ∷ rows) apart (inl here) =
@@ -208,12 +207,12 @@ unfolding amount
 amount-no_legs [] = refl
 amount-no_legs (row ∷ rows) = omega (arith, ints, *ℤ-zero row.cost, amount-no_legs rows)
 
-filled_legs : (asked : Terms) (fees : List FeeSchedule) (legs : List Leg) (rows : List Usable) → Apart row_place rows → AllByRecursion (λ leg. Some' (IsRowOf asked fees leg) rows) legs → filled (given_by legs) rows ≡ sum_of legs
+filled_legs : (asked : Terms) (fees : Charges) (legs : List Leg) (rows : List Usable) → Apart row_place rows → AllByRecursion (λ leg. Some' (IsRowOf asked fees leg) rows) legs → filled (given_by legs) rows ≡ sum_of legs
 filled_legs asked fees [] rows apart each = total-no_legs rows
 filled_legs asked fees (leg ∷ legs) rows apart each =
     omega (arith, total-legs leg legs rows, total-leg asked fees leg rows apart each.0, filled_legs asked fees legs rows apart each.1, sum_by-cons (λ (one : Leg). one.shares) leg legs)
 
-cost_legs : (asked : Terms) (fees : List FeeSchedule) (legs : List Leg) (rows : List Usable) → Apart row_place rows → AllByRecursion (λ leg. Some' (IsRowOf asked fees leg) rows) legs → total_cost (given_by legs) rows ≡ cost_of fees asked.side legs
+cost_legs : (asked : Terms) (fees : Charges) (legs : List Leg) (rows : List Usable) → Apart row_place rows → AllByRecursion (λ leg. Some' (IsRowOf asked fees leg) rows) legs → total_cost (given_by legs) rows ≡ cost_of fees asked.side legs
 unfolding cost_of
 cost_legs asked fees [] rows apart each = amount-no_legs rows
 cost_legs asked fees (leg ∷ legs) rows apart each =
@@ -221,7 +220,7 @@ cost_legs asked fees (leg ∷ legs) rows apart each =
 
 -- ---- a lawful plan
 
-legs_rows : (asked : Terms) (fees : List FeeSchedule) (quoted : List Row) (legs : List Leg) → Apart place quoted → AllByRecursion (λ leg. Any (λ row. (row.part ≡ leg.part) × (row.price ≡ leg.price)) quoted) legs → AllByRecursion (λ leg. Any (λ row. row.part ≡ leg.part) (usable_of asked fees quoted)) legs
+legs_rows : (asked : Terms) (fees : Charges) (quoted : List Row) (legs : List Leg) → Apart place quoted → AllByRecursion (λ leg. Any (λ row. (row.part ≡ leg.part) × (row.price ≡ leg.price)) quoted) legs → AllByRecursion (λ leg. Any (λ row. row.part ≡ leg.part) (usable_of asked fees quoted)) legs
     → AllByRecursion (λ leg. Some' (IsRowOf asked fees leg) (usable_of asked fees quoted)) legs
 unfolding IsQuoted place row_place
 legs_rows asked fees quoted [] apart shown given = tt
@@ -241,7 +240,7 @@ on_usable : (rows : List Usable) (given : Assignment) (legs : List Leg) → ((pa
 on_usable rows given [] on some = tt
 on_usable rows given (leg ∷ legs) on some = (on leg.part some.0, on_usable rows given legs on some.1)
 
-pub sums_rightly : (seen : Seen) (asked : Terms) (fees : List FeeSchedule) (plan : Plan) → IsStrictlyIncreasing (map (λ row. row.part) (contra_rows asked.side seen)) → IsFaultless seen asked fees plan → SumsRightly (usable seen asked fees) plan
+pub sums_rightly : (seen : Seen) (asked : Terms) (fees : Charges) (plan : Plan) → IsStrictlyIncreasing (map (λ row. row.part) (contra_rows asked.side seen)) → IsFaultless seen asked fees plan → SumsRightly (usable seen asked fees) plan
 unfolding place
 sums_rightly seen asked fees plan rising is =
     let legs : List Leg = plan.legs.items in

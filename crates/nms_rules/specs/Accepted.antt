@@ -6,13 +6,13 @@ use Rattle.nms_quote.specs.Terms.{Terms}
 use Rattle.nms_quote.specs.declared.certificate.Cut.{Cut}
 use Rattle.nms_quote.specs.declared.plan.Plan.{Plan}
 use Rattle.nms_board.specs.View.{Seen}
-use Rattle.nms_fee_book.specs.declared.fee_schedule.FeeSchedule.{FeeSchedule}
+use Rattle.nms_fee_book.specs.Fees.{Charges}
 use Rattle.nms_rules.specs.Assignment.{fillable}
 use Rattle.nms_rules.specs.Cutoff.{KindHolds}
 use Rattle.nms_rules.specs.Faultless.{IsFaultless}
 use Rattle.nms_rules.specs.Usable.{is_better, rank_of, usable}
 
-pub record IsAccepted (seen : Seen) (asked : Terms) (fees : List FeeSchedule) (plan : Plan) (cuts : List Cut) : Type 0 where
+pub record IsAccepted (seen : Seen) (asked : Terms) (fees : Charges) (plan : Plan) (cuts : List Cut) : Type 0 where
   pub faultless : IsFaultless seen asked fees plan
   -- it fills all that can be filled
   pub full : plan.filled ≡ fillable (usable seen asked fees) asked.shares

@@ -10,7 +10,7 @@ use Rattle.nms_quote.specs.declared.plan.Leg.{Leg}
 use Rattle.nms_quote.specs.declared.plan.Plan.{Plan}
 use Rattle.nms_board.specs.View.{Seen}
 use Rattle.nms_board.specs.declared.row.Row.{Row}
-use Rattle.nms_fee_book.specs.declared.fee_schedule.FeeSchedule.{FeeSchedule}
+use Rattle.nms_fee_book.specs.Fees.{Charges}
 use Rattle.nms_rules.specs.Faultless.{cost_of, given_by, sum_of}
 use Rattle.nms_rules.specs.First.{when, ◌or_else◌}
 use Rattle.nms_rules.specs.Usable.{contra_rows, is_allowed, is_better}
@@ -130,7 +130,7 @@ sum_breach seen order legs =
     or_else option_map (λ row. breach.TradedThrough row.part) (first_traded_through seen order.side legs)
 
 -- what breaks a plan first, and none where nothing does
-abbrev pub breach_of : Seen → Terms → List FeeSchedule → Plan → Option Breach
+abbrev pub breach_of : Seen → Terms → Charges → Plan → Option Breach
 breach_of seen order fees plan =
     when (is_other_version seen plan) breach.OtherVersion
     or_else when (is_other_order seen order plan) breach.OtherOrder

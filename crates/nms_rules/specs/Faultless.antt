@@ -8,8 +8,7 @@ use Rattle.nms_quote.specs.declared.order.OrderSide.{OrderSide}
 use Rattle.nms_quote.specs.declared.plan.Leg.{Leg}
 use Rattle.nms_quote.specs.declared.plan.Plan.{Plan}
 use Rattle.nms_board.specs.View.{Seen}
-use Rattle.nms_fee_book.specs.Fees.{unit_cost_of}
-use Rattle.nms_fee_book.specs.declared.fee_schedule.FeeSchedule.{FeeSchedule}
+use Rattle.nms_fee_book.specs.Fees.{Charges, unit_cost_of}
 use Rattle.nms_rules.specs.Assignment.{Assignment, IsLawful}
 use Rattle.nms_rules.specs.Usable.{contra_rows, usable}
 
@@ -22,15 +21,15 @@ abbrev pub sum_of : List Leg → ℕ
 sum_of legs = sum_by (λ leg. leg.shares) legs
 
 -- what a leg costs, with its fee
-abbrev pub leg_cost : List FeeSchedule → OrderSide → Leg → ℤ
+abbrev pub leg_cost : Charges → OrderSide → Leg → ℤ
 leg_cost fees side leg = unit_cost_of fees leg.part side leg.price *ℤ pos leg.shares
 
 -- what they all cost
-unfoldable pub cost_of : List FeeSchedule → OrderSide → List Leg → ℤ
+unfoldable pub cost_of : Charges → OrderSide → List Leg → ℤ
 cost_of fees side [] = pos 0
 cost_of fees side (leg ∷ legs) = leg_cost fees side leg +ℤ cost_of fees side legs
 
-pub record IsFaultless (seen : Seen) (asked : Terms) (fees : List FeeSchedule) (plan : Plan) : Type 0 where
+pub record IsFaultless (seen : Seen) (asked : Terms) (fees : Charges) (plan : Plan) : Type 0 where
   pub version : plan.version ≡ seen.version
   pub order : plan.order ≡ asked
   pub symbol : asked.sym ≡ seen.sym

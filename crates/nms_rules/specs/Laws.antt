@@ -8,7 +8,7 @@ use Rattle.nms_quote.specs.declared.certificate.Cut.{Cut}
 use Rattle.nms_quote.specs.declared.plan.Leg.{Leg}
 use Rattle.nms_quote.specs.declared.plan.Plan.{Plan}
 use Rattle.nms_board.specs.View.{AreRows, Seen}
-use Rattle.nms_fee_book.specs.declared.fee_schedule.FeeSchedule.{FeeSchedule}
+use Rattle.nms_fee_book.specs.Fees.{Charges}
 use Rattle.nms_rules.specs.Accepted.{IsAccepted}
 use Rattle.nms_rules.specs.Assignment.{IsOptimal}
 use Rattle.nms_rules.specs.Breach.{breach_of}
@@ -33,18 +33,18 @@ NeverTradesThrough seen order legs = All (λ leg. KeepsLimit order leg.price × 
 -- so it is with each plan that has no breach
 abbrev pub LawfulPlansNeverTradeThrough : Type 0
 LawfulPlansNeverTradeThrough =
-    (seen : Seen) (order : Terms) (fees : List FeeSchedule) (plan : Plan)
+    (seen : Seen) (order : Terms) (fees : Charges) (plan : Plan)
     → breach_of seen order fees plan ≡ None → NeverTradesThrough seen order plan.legs.items
 
 -- a plan that is accepted with its cuts is an optimal way to spread shares over the usable rows, whoever made it (this
 -- product's own rule)
 abbrev pub AcceptedPlansAreOptimal : Type 0
 AcceptedPlansAreOptimal =
-    (seen : Seen) (order : Terms) (fees : List FeeSchedule) (plan : Plan) (cuts : List Cut)
+    (seen : Seen) (order : Terms) (fees : Charges) (plan : Plan) (cuts : List Cut)
     → AreRows seen.bids → AreRows seen.offers → IsAccepted seen order fees plan cuts → IsOptimal (usable seen order fees) order.shares (given_by plan.legs.items)
 
 -- a lawful plan for an order on a view: no lawful one fills more, and none that fills as much costs less with fees
-pub record IsBestPlan (seen : Seen) (order : Terms) (fees : List FeeSchedule) (plan : Plan) : Type 0 where
+pub record IsBestPlan (seen : Seen) (order : Terms) (fees : Charges) (plan : Plan) : Type 0 where
   pub lawful : IsFaultless seen order fees plan
   pub most : (other : Plan) → IsFaultless seen order fees other → other.filled ≤ plan.filled
   pub cheapest : (other : Plan) → IsFaultless seen order fees other → other.filled ≡ plan.filled → plan.cost ≤ℤ other.cost
@@ -52,5 +52,5 @@ pub record IsBestPlan (seen : Seen) (order : Terms) (fees : List FeeSchedule) (p
 -- so it is with each plan that is accepted with its cuts (this product's own rule)
 abbrev pub AcceptedPlansAreBest : Type 0
 AcceptedPlansAreBest =
-    (seen : Seen) (order : Terms) (fees : List FeeSchedule) (plan : Plan) (cuts : List Cut)
+    (seen : Seen) (order : Terms) (fees : Charges) (plan : Plan) (cuts : List Cut)
     → AreRows seen.bids → AreRows seen.offers → IsAccepted seen order fees plan cuts → IsBestPlan seen order fees plan

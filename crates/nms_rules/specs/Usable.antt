@@ -10,8 +10,7 @@ use Rattle.nms_quote.specs.declared.side_quote.Side.TheVariants.{Bid, Offer}
 use Rattle.nms_board.specs.Ranking.{better_price}
 use Rattle.nms_board.specs.View.{Seen, rows_on}
 use Rattle.nms_board.specs.declared.row.Row.{Row}
-use Rattle.nms_fee_book.specs.Fees.{unit_cost_of}
-use Rattle.nms_fee_book.specs.declared.fee_schedule.FeeSchedule.{FeeSchedule}
+use Rattle.nms_fee_book.specs.Fees.{Charges, unit_cost_of}
 
 -- the side that an order trades with
 abbrev pub contra : OrderSide → Side
@@ -47,7 +46,7 @@ pub record Usable : Type 0 where
   pub protected : Bool
   pub cost : ℤ
 
-abbrev pub usable_row : Terms → List FeeSchedule → Row → Usable
+abbrev pub usable_row : Terms → Charges → Row → Usable
 usable_row order fees row = record {
   part = row.part;
   rank = rank_of order.side row.price;
@@ -58,5 +57,5 @@ usable_row order fees row = record {
 }
 
 -- the usable rows, by participant place
-abbrev pub usable : Seen → Terms → List FeeSchedule → List Usable
+abbrev pub usable : Seen → Terms → Charges → List Usable
 usable seen order fees = map (usable_row order fees) (filter (is_usable order) (contra_rows order.side seen))

@@ -12,7 +12,7 @@ use crate::leg_test::{
     some_is_beyond_limit, some_is_over_size, some_lacks_quotation, sum_of,
 };
 use arrayvec::ArrayVec;
-use nms_board::View;
+use nms_board::{MOST_ROWS, View};
 use nms_fee_book::FeeBook;
 use nms_quote::{Leg, Order, Plan};
 
@@ -67,7 +67,7 @@ fn check_legs(view: &View, order: &Order, legs: &[Leg]) -> Result<(), Breach>
 }
 
 /// Tests the legs together.
-fn check_sums(view: &View, order: &Order, legs: &ArrayVec<Leg, 32>) -> Result<(), Breach>
+fn check_sums(view: &View, order: &Order, legs: &ArrayVec<Leg, MOST_ROWS>) -> Result<(), Breach>
     ensures { result_err result ≡ sum_breach view.now order.now legs.now.items }
 {
     refuse_if(

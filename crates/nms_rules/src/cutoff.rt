@@ -5,17 +5,19 @@ ghost use Rattle.std.specs.Int.{int_max};
 ghost use Rattle.nms_rules.specs.Assignment.{fillable, total};
 ghost use Rattle.nms_rules.specs.Cutoff.{is_pooled, is_swept, least_cost, pool, pool_part, savings, savings_part, swept, swept_cost, swept_cost_part, swept_part};
 
+use crate::MOST_SIZE;
 use crate::rank::Rank;
 use crate::usable_row::UsableRow;
-use nms_units::{Money, Shares};
+use nms_board::MOST_ROWS;
+use nms_units::{MOST_SHARES, Money, Shares};
 
 /// How many shares can be filled: all that the rows show, or what is asked where that is less.
 ///
-/// There are at most 32 rows, one for each participant.
+/// There are at most `MOST_ROWS` rows, one for each participant.
 pub fn fillable(rows: &[UsableRow], asked: Shares) -> u64
-    requires { length rows.now ≤ 32 }
+    requires { length rows.now ≤ MOST_ROWS }
     ensures most { result ≡ fillable rows.now asked }
-    ensures within { result ≤ 999999999 }
+    ensures within { result ≤ MOST_SHARES }
 {
     shown(rows).min(u64::from(asked.get()))
 }
@@ -23,7 +25,7 @@ pub fn fillable(rows: &[UsableRow], asked: Shares) -> u64
 /// How many shares the rows show.
 #[tactic(auto, using(crate::proofs::SumLemmas::total_none, crate::proofs::SumLemmas::total_more))]
 fn shown(rows: &[UsableRow]) -> u64
-    requires { length rows.now ≤ 32 }
+    requires { length rows.now ≤ MOST_ROWS }
     ensures { result ≡ total (λ row. row.size) rows.now }
 {
     let mut sum = 0;
@@ -51,7 +53,7 @@ pub fn is_pooled(row: &UsableRow, cutoff: Rank) -> bool
 /// How many of a row's shares must be swept.
 fn swept_part(row: &UsableRow, cutoff: Rank) -> u64
     ensures part { result ≡ swept_part cutoff row.now }
-    ensures within { result ≤ 4294967295 }
+    ensures within { result ≤ MOST_SIZE }
 {
     if is_swept(row, cutoff) {
         u64::from(row.size)
@@ -63,7 +65,7 @@ fn swept_part(row: &UsableRow, cutoff: Rank) -> u64
 /// How many of a row's shares are in the pool.
 fn pool_part(row: &UsableRow, cutoff: Rank) -> u64
     ensures part { result ≡ pool_part cutoff row.now }
-    ensures within { result ≤ 4294967295 }
+    ensures within { result ≤ MOST_SIZE }
 {
     if is_pooled(row, cutoff) {
         u64::from(row.size)
@@ -76,7 +78,7 @@ fn pool_part(row: &UsableRow, cutoff: Rank) -> u64
 /// better prices (17 CFR 242.600, "intermarket sweep order").
 #[tactic(auto, using(crate::proofs::SumLemmas::total_none, crate::proofs::SumLemmas::total_more))]
 pub fn swept(rows: &[UsableRow], cutoff: Rank) -> u64
-    requires { length rows.now ≤ 32 }
+    requires { length rows.now ≤ MOST_ROWS }
     ensures sum { result ≡ swept cutoff rows.now }
     ensures within { result ≤ 2 ^ 37 }
 {
@@ -90,7 +92,7 @@ pub fn swept(rows: &[UsableRow], cutoff: Rank) -> u64
 /// How many shares are in the pool: those of the other rows at a price of that rank or better.
 #[tactic(auto, using(crate::proofs::SumLemmas::total_none, crate::proofs::SumLemmas::total_more))]
 pub fn pool(rows: &[UsableRow], cutoff: Rank) -> u64
-    requires { length rows.now ≤ 32 }
+    requires { length rows.now ≤ MOST_ROWS }
     ensures sum { result ≡ pool cutoff rows.now }
     ensures within { result ≤ 2 ^ 37 }
 {
@@ -174,7 +176,7 @@ fn minus(one: Money, other: Money) -> Money
 /// What the shares that must be swept cost.
 #[tactic(auto, using(crate::proofs::SumLemmas::amount_none, crate::proofs::SumLemmas::amount_more))]
 fn swept_cost(rows: &[UsableRow], cutoff: Rank) -> Money
-    requires { length rows.now ≤ 32 }
+    requires { length rows.now ≤ MOST_ROWS }
     ensures sum { result ≡ swept_cost cutoff rows.now }
     ensures low { neg_ℤ (pos (2 ^ 105)) ≤ℤ result }
     ensures high { result ≤ℤ pos (2 ^ 105) }
@@ -189,7 +191,7 @@ fn swept_cost(rows: &[UsableRow], cutoff: Rank) -> Money
 /// What the shares of the pool cost less than the marginal, where they cost less.
 #[tactic(auto, using(crate::proofs::SumLemmas::amount_none, crate::proofs::SumLemmas::amount_more))]
 fn savings(rows: &[UsableRow], cutoff: Rank, marginal: Money) -> Money
-    requires rows { length rows.now ≤ 32 }
+    requires rows { length rows.now ≤ MOST_ROWS }
     requires low { neg_ℤ (pos (10 ^ 18)) ≤ℤ marginal }
     requires high { marginal ≤ℤ pos (10 ^ 18) }
     ensures sum { result ≡ savings cutoff marginal rows.now }
@@ -208,8 +210,8 @@ fn savings(rows: &[UsableRow], cutoff: Rank, marginal: Money) -> Money
 ///
 /// The marginal is from -10^18 to 10^18.
 pub fn least_cost(rows: &[UsableRow], most: u64, cutoff: Rank, marginal: Money) -> Money
-    requires rows { length rows.now ≤ 32 }
-    requires most { most ≤ 999999999 }
+    requires rows { length rows.now ≤ MOST_ROWS }
+    requires most { most ≤ MOST_SHARES }
     requires low { neg_ℤ (pos (10 ^ 18)) ≤ℤ marginal }
     requires high { marginal ≤ℤ pos (10 ^ 18) }
     ensures { result ≡ least_cost rows.now most cutoff marginal }

@@ -5,7 +5,7 @@ ghost use Rattle.nms_rules.specs.Faultless.{cost_of, given_by, leg_cost, sum_of}
 ghost use Rattle.nms_rules.specs.Usable.{contra, is_better};
 
 use arrayvec::ArrayVec;
-use nms_board::{Row, View};
+use nms_board::{MOST_ROWS, Row, View, is_better_price};
 use nms_fee_book::FeeBook;
 use nms_quote::{Leg, Order, OrderSide, Part, Side};
 use nms_units::{Money, Price};
@@ -24,10 +24,7 @@ pub(crate) fn contra(side: OrderSide) -> Side
 pub fn is_better(side: OrderSide, price: Price, other: Price) -> bool
     ensures { result ≡ is_better side price other }
 {
-    match side {
-        OrderSide::Buy => price < other,
-        OrderSide::Sell => price > other,
-    }
+    is_better_price(contra(side), price, other)
 }
 
 /// The quotation that a leg goes to.
@@ -144,7 +141,7 @@ pub(crate) fn has_repeat(legs: &[Leg]) -> bool
 }
 
 /// The shares of the legs to a participant.
-fn given_to(legs: &ArrayVec<Leg, 32>, part: Part) -> u64
+fn given_to(legs: &ArrayVec<Leg, MOST_ROWS>, part: Part) -> u64
     ensures { result ≡ given_by legs.now.items part }
 {
     let mut given = 0;
@@ -162,7 +159,7 @@ fn given_to(legs: &ArrayVec<Leg, 32>, part: Part) -> u64
 pub(crate) fn first_traded_through(
     view: &View,
     side: OrderSide,
-    legs: &ArrayVec<Leg, 32>,
+    legs: &ArrayVec<Leg, MOST_ROWS>,
 ) -> Option<Row>
     ensures { result ≡ first_traded_through view.now side legs.now.items }
 {
@@ -177,7 +174,7 @@ pub(crate) fn first_traded_through(
 /// Whether the legs trade through a quotation: it is protected, gets less than its full size, and some leg has a
 /// worse price.
 #[tactic(auto, unfolding(crate::specs::Breach::is_traded_through))]
-fn is_traded_through(side: OrderSide, legs: &ArrayVec<Leg, 32>, row: &Row) -> bool
+fn is_traded_through(side: OrderSide, legs: &ArrayVec<Leg, MOST_ROWS>, row: &Row) -> bool
     ensures { result ≡ is_traded_through side legs.now.items row.now }
 {
     if !row.protected {
@@ -198,7 +195,7 @@ fn has_leg_beyond(side: OrderSide, legs: &[Leg], price: Price) -> bool
 
 /// The shares of all legs.
 pub(crate) fn sum_of(legs: &[Leg]) -> u64
-    requires { length legs.now ≤ 32 }
+    requires { length legs.now ≤ MOST_ROWS }
     ensures { result ≡ sum_of legs.now }
 {
     let mut sum = 0;
@@ -210,7 +207,7 @@ pub(crate) fn sum_of(legs: &[Leg]) -> u64
 
 /// What all legs cost, with fees.
 pub(crate) fn cost_of(fees: &FeeBook, side: OrderSide, legs: &[Leg]) -> Money
-    requires { length legs.now ≤ 32 }
+    requires { length legs.now ≤ MOST_ROWS }
     ensures { result ≡ cost_of fees.now side legs.now }
 {
     let mut cost = Money::new(0);

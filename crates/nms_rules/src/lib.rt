@@ -11,6 +11,9 @@ mod rank;
 mod through;
 mod usable_row;
 
+/// The most that a row's size can count, in shares: as many as its type holds.
+pub const MOST_SIZE: u32 = 4_294_967_295;
+
 pub use breach_finding::breach;
 pub use breach_kind::Breach;
 pub use cutoff::{fillable, is_pooled, is_swept, least_cost, pool, swept};

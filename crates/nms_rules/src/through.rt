@@ -1,10 +1,9 @@
 //! What a price trades through: `specs/Through`.
 ghost use Rattle.std.specs.Prelude.{◌≡◌, ◌+◌, ◌≤◌, ◌++◌, length};
-ghost use Rattle.nms_board.specs.Ranking.{better_price};
 ghost use Rattle.nms_rules.specs.Through.{through_on, traded_through_at};
 
 use arrayvec::ArrayVec;
-use nms_board::{Row, View};
+use nms_board::{Row, View, is_better_price};
 use nms_quote::Side;
 use nms_units::Price;
 
@@ -28,18 +27,8 @@ fn push_through(through: &mut ArrayVec<(Side, Row), 64>, side: Side, rows: &[Row
     ensures within { length through.new.items ≤ length through.old.items + length rows.now }
 {
     for row in rows {
-        if row.protected && is_better(side, row.price, price) {
+        if row.protected && is_better_price(side, row.price, price) {
             through.push((side, *row));
         }
-    }
-}
-
-/// Whether a bid is higher than a price, or an offer lower.
-fn is_better(side: Side, price: Price, other: Price) -> bool
-    ensures { result ≡ better_price side price other }
-{
-    match side {
-        Side::Bid => price > other,
-        Side::Offer => price < other,
     }
 }

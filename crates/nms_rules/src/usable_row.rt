@@ -6,7 +6,7 @@ ghost use Rattle.nms_rules.specs.Usable.{contra_rows, is_usable, usable, usable_
 use crate::leg_test::{contra, is_better};
 use crate::rank::Rank;
 use arrayvec::ArrayVec;
-use nms_board::{Row, View};
+use nms_board::{MOST_ROWS, Row, View};
 use nms_fee_book::FeeBook;
 use nms_quote::{Order, OrderSide, Part};
 use nms_units::{Money, Price};
@@ -73,7 +73,7 @@ impl Default for UsableRow {
 }
 
 /// The rows of a view that an order may trade with, by participant place. Takes no memory.
-pub fn usable_rows(view: &View, order: &Order, fees: &FeeBook) -> ArrayVec<UsableRow, 32>
+pub fn usable_rows(view: &View, order: &Order, fees: &FeeBook) -> ArrayVec<UsableRow, MOST_ROWS>
     ensures rows { result.items ≡ usable view.now order.now fees.now }
     ensures rising { IsStrictlyIncreasing (map (λ row. row.part) (contra_rows order.now.side view.now)) }
 {

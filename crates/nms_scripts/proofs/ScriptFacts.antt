@@ -3,8 +3,7 @@ use Rattle.std.proofs.Common.{ℕ, ◌≡◌, ◌≢◌, ◌++◌, Bool, cond, t
 use Rattle.std.proofs.lemmas.List.Elements.{All-push}
 use Rattle.std.specs.Prelude.{IfOk, Result, count_by}
 use Rattle.std.specs.declared.alloc.AllocError.{AllocError}
-use Rattle.nms_quote.specs.Roster.{Listing, feed_at}
-use Rattle.nms_quote.specs.Tape.{participant_of}
+use Rattle.nms_quote.specs.Roster.{Listing, feed_of_change}
 use Rattle.nms_quote.specs.declared.change.Change.{Change}
 use Rattle.nms_quote.specs.declared.feed.Feed.{Feed}
 use Rattle.nms_quote.specs.declared.side_quote.Side.{Side}
@@ -60,15 +59,15 @@ refuses_one number asked why old new before after (Ok refused) went some h =
     failed : (let a : Answer = Err why in a) ≡ Err fault.NoMemory → why ≡ fault.NoMemory
     failed e = cc
 
--- a change is sent on its participant's feed
+-- a change is sent on the feed that it belongs to
 pub sends : (roster : Listing) (number : ℕ) (change : Change) (feed : Feed) (old new : State) (before after : Option (List ℕ)) (is_refused : Bool)
-    → feed_at roster (participant_of change) ≡ Some feed → Serves (AsksOne number (step.Send feed change)) old new before after is_refused → Serves (Sends roster number change) old new before after is_refused
+    → feed_of_change roster change ≡ Some feed → Serves (AsksOne number (step.Send feed change)) old new before after is_refused → Serves (Sends roster number change) old new before after is_refused
 sends roster number change feed old new before after is_refused own serves events h =
     let served = serves events h in
     (served.0, served.1, (feed, own, served.2), served.3, served.4, served.5)
 
 pub sends_all : (roster : Listing) (number : ℕ) (change : Change) (feed : Feed) (old new : State) (before after : Option (List ℕ)) (told : Result Bool AllocError)
-    → feed_at roster (participant_of change) ≡ Some feed → IfOk told (Serves (AsksOne number (step.Send feed change)) old new before after) → IfOk told (Serves (Sends roster number change) old new before after)
+    → feed_of_change roster change ≡ Some feed → IfOk told (Serves (AsksOne number (step.Send feed change)) old new before after) → IfOk told (Serves (Sends roster number change) old new before after)
 sends_all roster number change feed old new before after (Ok refused) own serves = sends roster number change feed old new before after refused own serves
 sends_all roster number change feed old new before after (Err e) own serves = tt
 

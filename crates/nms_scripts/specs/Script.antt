@@ -3,8 +3,7 @@
 use Rattle.std.specs.Prelude.{ℕ, ◌≡◌, ◌≢◌, ◌≤◌, ◌+◌, All, Bool, true, List, [], ◌∷◌, ◌++◌, length, Option, Some, Result, Ok, Err, count_by, codes, if◌then◌else◌}
 use Rattle.std.specs.Str.{bytes_eq}
 use Rattle.std.specs.Io.KnownBytes.{Appends}
-use Rattle.nms_quote.specs.Roster.{Listing, feed_at}
-use Rattle.nms_quote.specs.Tape.{participant_of}
+use Rattle.nms_quote.specs.Roster.{Listing, feed_of_change}
 use Rattle.nms_quote.specs.declared.change.Change.{Change}
 use Rattle.nms_quote.specs.declared.feed.Feed.{Feed}
 use Rattle.nms_quote.specs.declared.side_quote.Side.TheVariants.{Bid, Offer}
@@ -49,10 +48,10 @@ script_reading settings fields = reading settings.roster (source.Script settings
 abbrev pub AsksOne : ℕ → Step → List Event → List Record → Type 0
 AsksOne number asked events told = (answer : Answer) × (answer ≢ Err fault.NoMemory) × (events ≡ (asked, answer) ∷ []) × (told ≡ told_by number answer)
 
--- a change is sent on its participant's feed
+-- a change is sent on the feed that it belongs to
 abbrev pub Sends : Listing → ℕ → Change → List Event → List Record → Type 0
 Sends roster number change events told =
-    (feed : Feed) × (feed_at roster (participant_of change) ≡ Some feed) × AsksOne number (step.Send feed change) events told
+    (feed : Feed) × (feed_of_change roster change ≡ Some feed) × AsksOne number (step.Send feed change) events told
 
 -- taking all: changes are taken until the queue is empty, and the tape is published. A full tape ends it
 abbrev pub TakesAll : Answer → List Event → Type 0

@@ -17,9 +17,7 @@ use nms_flow::{Flow, StepFault};
 use nms_lines::{ByteRecord, Line, LineFault, Reading, append_plan, read_line};
 use nms_quote::{Change, Order, Roster, Sym};
 use nms_sweep::plan;
-use nms_text::{
-    tell_best, tell_published, tell_refusal, tell_taken, tell_through_head, tell_told,
-};
+use nms_text::{tell_best, tell_published, tell_refusal, tell_taken, tell_through_head, tell_told};
 use nms_units::Price;
 use std::alloc::AllocError;
 
@@ -78,7 +76,7 @@ fn serve_line(
     }
 }
 
-/// Sends a change on its participant's feed.
+/// Sends a change on the feed that it belongs to.
 fn serve_change(
     flow: &mut Flow,
     roster: &Roster,
@@ -91,7 +89,7 @@ fn serve_change(
     ensures served { IfOk result (Serves (Sends roster.now number change.now) flow.old flow.new (Some out.old.items) (Some out.new.items)) }
     ensures room { room_of flow.new ≡ room_of flow.old }
 {
-    let feed = roster.feed_of(change.part());
+    let feed = roster.feed_of_change(change);
     match flow.send(feed, *change) {
         Ok(()) => Ok(false),
         Err(fault) => refuse_step(out, number, fault),

@@ -13,8 +13,7 @@ use Rattle.nms_quote.specs.declared.order.OrderSide.{OrderSide}
 use Rattle.nms_quote.specs.declared.plan.Leg.{Leg}
 use Rattle.nms_quote.specs.declared.plan.Plan.{Plan}
 use Rattle.nms_board.specs.View.{Seen}
-use Rattle.nms_fee_book.specs.Fees.{unit_cost_of}
-use Rattle.nms_fee_book.specs.declared.fee_schedule.FeeSchedule.{FeeSchedule}
+use Rattle.nms_fee_book.specs.Fees.{Charges, unit_cost_of}
 use Rattle.nms_rules.specs.Accepted.{IsAccepted}
 use Rattle.nms_rules.specs.Cutoff.{KindHolds}
 use Rattle.nms_rules.specs.Faultless.{cost_of, sum_of}
@@ -25,17 +24,17 @@ use Rattle.nms_sweep.specs.Bounds.{IsWithinBounds, most_unit}
 use Rattle.nms_sweep.specs.Choice.{IsInRange}
 
 -- what legs cost is within bounds
-pub record AreWithin (fees : List FeeSchedule) (side : OrderSide) (legs : List Leg) : Type 0 where
+pub record AreWithin (fees : Charges) (side : OrderSide) (legs : List Leg) : Type 0 where
   pub low : neg_ℤ (pos (most_unit * sum_of legs)) ≤ℤ cost_of fees side legs
   pub high : cost_of fees side legs ≤ℤ pos (most_unit * sum_of legs)
 
-pub within-none : (fees : List FeeSchedule) (side : OrderSide) → AreWithin fees side []
+pub within-none : (fees : Charges) (side : OrderSide) → AreWithin fees side []
 within-none fees side =
     let none = cost_of-none fees side in
     record { low = omega (arith, ints, none); high = omega (arith, ints, none) }
 
 -- and with one more
-pub within-push : (fees : List FeeSchedule) (side : OrderSide) (legs : List Leg) (leg : Leg) → AreWithin fees side legs
+pub within-push : (fees : Charges) (side : OrderSide) (legs : List Leg) (leg : Leg) → AreWithin fees side legs
     → negsuc 10000000009999999 ≤ℤ unit_cost_of fees leg.part side leg.price → unit_cost_of fees leg.part side leg.price ≤ℤ pos 10000000010000000
     → AreWithin fees side (legs ++ leg ∷ [])
 within-push fees side legs leg before low high =
@@ -55,7 +54,7 @@ in-range rows most cost cutoff TooMuch holds = tt
 in-range rows most cost cutoff TooLittle holds = tt
 in-range rows most cost cutoff (Marginal marginal) holds = (holds.low, holds.high)
 
-pub within_bounds : (seen : Seen) (asked : Terms) (fees : List FeeSchedule) (plan : Plan) (cuts : List Cut) → asked.shares ≤ MOST_SHARES
+pub within_bounds : (seen : Seen) (asked : Terms) (fees : Charges) (plan : Plan) (cuts : List Cut) → asked.shares ≤ MOST_SHARES
     → AreWithin fees asked.side plan.legs.items → IsAccepted seen asked fees plan cuts → IsWithinBounds plan cuts
 within_bounds seen asked fees plan cuts few costs is =
     let rows : List Usable = usable seen asked fees in

@@ -1,14 +1,14 @@
 -- The cutoffs of the usable rows: each usable price once, best first, with the sums at it.
-use Rattle.std.proofs.Common.{◌≡◌, List, Any, refl, ap, sym, ◌∙◌, subst}
+use Rattle.std.proofs.Common.{◌≡◌, List, All, Any, refl, ap, sym, ◌∙◌, subst}
 use Rattle.std.specs.List.Sorted.{IsPermutation}
-use Rattle.std.proofs.lemmas.List.Sorted.{IsPermutation-sym}
+use Rattle.std.proofs.lemmas.List.Sorted.{IsPermutation-sym, IsPermutation-trans}
 use Rattle.nms_quote.specs.Terms.{Terms}
 use Rattle.nms_quote.specs.declared.order.OrderSide.{OrderSide}
 use Rattle.nms_board.specs.View.{Seen}
-use Rattle.nms_fee_book.specs.declared.fee_schedule.FeeSchedule.{FeeSchedule}
+use Rattle.nms_fee_book.specs.Fees.{Charges}
 use Rattle.nms_rules.specs.Cutoff.{pool, pool_part, swept, swept_cost, swept_cost_part, swept_part}
 use Rattle.nms_rules.specs.Usable.{Usable, rank_of, usable}
-use Rattle.nms_rules.proofs.Offered.{All-In, Any-In, In}
+use Rattle.nms_rules.proofs.Offered.{All-In, Any-In, In, In-All}
 use Rattle.nms_sweep.specs.Cutoffs.{AreCutoffs, IsCutoffOf, cutoff_at, cutoffs_of}
 use Rattle.nms_sweep.specs.Order.{IsOrdered}
 use Rattle.nms_sweep.specs.declared.cutoffs.Cutoff.{Cutoff}
@@ -43,12 +43,27 @@ are_cutoffs side rows by_price same ordered ranks =
     }
 
 -- the usable rows have the ranks of their prices, in any order
-pub usable_ranks : (seen : Seen) (asked : Terms) (fees : List FeeSchedule) (rows by_price : List Usable) → rows ≡ usable seen asked fees → IsPermutation rows by_price → (row : Usable) → In row by_price → row.rank ≡ rank_of asked.side row.price
+pub usable_ranks : (seen : Seen) (asked : Terms) (fees : Charges) (rows by_price : List Usable) → rows ≡ usable seen asked fees → IsPermutation rows by_price → (row : Usable) → In row by_price → row.rank ≡ rank_of asked.side row.price
 usable_ranks seen asked fees rows by_price are same row within =
     let at = usable_is seen asked fees row (subst (In row) are (in_other by_price rows (IsPermutation-sym rows by_price same) row within)) in
     rw at.1.is refl
 
-pub usable_cutoffs : (seen : Seen) (asked : Terms) (fees : List FeeSchedule) (rows by_price : List Usable) → rows ≡ usable seen asked fees → IsPermutation rows by_price → IsOrdered Price by_price
+pub usable_cutoffs : (seen : Seen) (asked : Terms) (fees : Charges) (rows by_price : List Usable) → rows ≡ usable seen asked fees → IsPermutation rows by_price → IsOrdered Price by_price
     → AreCutoffs asked.side (usable seen asked fees) (cutoffs_of by_price by_price)
 usable_cutoffs seen asked fees rows by_price are same ordered =
     are_cutoffs asked.side (usable seen asked fees) by_price (subst (λ (one : List Usable). IsPermutation one by_price) are same) ordered (usable_ranks seen asked fees rows by_price are same)
+
+-- and in the order of their costs they tell the same sums
+pub sums_by_cost : (side : OrderSide) (rows by_price by_cost costs : List Usable) (cutoffs : List Cutoff) → IsPermutation rows by_price → IsPermutation by_price by_cost → costs ≡ by_cost → AreCutoffs side rows cutoffs
+    → All (λ cutoff. IsCutoffOf side costs cutoff) cutoffs
+sums_by_cost side rows by_price by_cost costs cutoffs one two cheap are =
+    let same = IsPermutation-trans rows by_price by_cost one two in
+    subst (λ (some : List Usable). All (λ cutoff. IsCutoffOf side some cutoff) cutoffs) (sym cheap)
+    (All-In (λ (cutoff : Cutoff). IsCutoffOf side by_cost cutoff) cutoffs (λ cutoff within.
+    let is = In-All (λ (one : Cutoff). IsCutoffOf side rows one) cutoffs are.sums cutoff within in
+    let rank = rank_of side cutoff.price in
+    record {
+      swept = is.swept ∙ sym (total_same (swept_part rank) rows by_cost same);
+      swept_cost = is.swept_cost ∙ sym (amount_same (swept_cost_part rank) rows by_cost same);
+      pool = is.pool ∙ sym (total_same (pool_part rank) rows by_cost same);
+    }))

@@ -8,7 +8,7 @@ use Rattle.std.proofs.lemmas.List.Sorted.{IsPermutation-sym}
 use Rattle.nms_quote.specs.declared.certificate.Cut.{Cut}
 use Rattle.nms_quote.specs.declared.certificate.CutKind.{CutKind}
 use Rattle.nms_quote.specs.declared.order.OrderSide.{OrderSide}
-use Rattle.nms_fee_book.specs.declared.fee_schedule.FeeSchedule.{FeeSchedule}
+use Rattle.nms_fee_book.specs.Fees.{Charges}
 use Rattle.nms_rules.specs.Assignment.{total}
 use Rattle.nms_rules.specs.Cutoff.{is_pooled, pool, pool_part, swept}
 use Rattle.nms_rules.specs.Usable.{Usable, rank_of}
@@ -136,7 +136,7 @@ own-step row (inl at) = let less = lt-true row.rank row.rank (and_parts row.prot
 own-step row (inr (inl at)) = at.pooled
 own-step row (inr (inr at)) = absurd (omega (arith, ints, at.beyond))
 
-marginal-at : (side : OrderSide) (fees : List FeeSchedule) (rows by_price by_cost : List Usable) → Table side fees rows by_price by_cost → (most : ℕ) (row : Usable) → In row rows → IsFit rows by_cost most row.rank
+marginal-at : (side : OrderSide) (fees : Charges) (rows by_price by_cost : List Usable) → Table side fees rows by_price by_cost → (most : ℕ) (row : Usable) → In row rows → IsFit rows by_cost most row.rank
     → IsMarginalAt rows most row.rank (share_cost row.rank (most - swept row.rank rows) (pos 0) by_cost)
 unfolding HasPooled
 marginal-at side fees rows by_price by_cost table' most row within fit =
@@ -157,7 +157,7 @@ marginal-at side fees rows by_price by_cost table' most row within fit =
       };
     }
 
-kind-exact : (side : OrderSide) (fees : List FeeSchedule) (rows by_price by_cost : List Usable) → Table side fees rows by_price by_cost → (most : ℕ) (row : Usable) → In row rows → (kind : CutKind) → kind ≡ kind_at rows by_cost most row.rank
+kind-exact : (side : OrderSide) (fees : Charges) (rows by_price by_cost : List Usable) → Table side fees rows by_price by_cost → (most : ℕ) (row : Usable) → In row rows → (kind : CutKind) → kind ≡ kind_at rows by_cost most row.rank
     → Kinds rows by_cost most row.rank → KindIs rows most row.rank kind
 unfolding Kinds
 kind-exact side fees rows by_price by_cost table' most row within kind is (inl much) = subst (KindIs rows most row.rank) (sym (is ∙ much.1)) much.0
@@ -165,7 +165,7 @@ kind-exact side fees rows by_price by_cost table' most row within kind is (inr (
 kind-exact side fees rows by_price by_cost table' most row within kind is (inr (inr fit)) =
     subst (KindIs rows most row.rank) (sym (is ∙ fit.is)) (marginal-at side fees rows by_price by_cost table' most row within fit)
 
-pub exact : (side : OrderSide) (fees : List FeeSchedule) (rows by_price by_cost : List Usable) → Table side fees rows by_price by_cost → (most : ℕ) (cuts : List Cut) → cuts ≡ cuts_of (kind_at rows by_cost most) by_price → AreExact side rows most cuts
+pub exact : (side : OrderSide) (fees : Charges) (rows by_price by_cost : List Usable) → Table side fees rows by_price by_cost → (most : ℕ) (cuts : List Cut) → cuts ≡ cuts_of (kind_at rows by_cost most) by_price → AreExact side rows most cuts
 exact side fees rows by_price by_cost table' most cuts made =
     All-In (λ (cut : Cut). KindIs rows most (rank_of side cut.price) cut.kind) cuts (λ cut within.
     let row = row-of side fees rows by_price by_cost table' most cut (subst (In cut) made within) in

@@ -7,7 +7,7 @@ use Rattle.std.proofs.lemmas.List.Sorted.{IsPermutation-sym}
 use Rattle.std.specs.Int.RustNames.{int_lt}
 use Rattle.nms_quote.specs.declared.order.OrderSide.{OrderSide}
 use Rattle.nms_quote.specs.declared.plan.Leg.{Leg}
-use Rattle.nms_fee_book.specs.declared.fee_schedule.FeeSchedule.{FeeSchedule}
+use Rattle.nms_fee_book.specs.Fees.{Charges}
 use Rattle.nms_rules.specs.Cutoff.{is_pooled, is_swept}
 use Rattle.nms_rules.specs.Faultless.{given_by, sum_of}
 use Rattle.nms_rules.specs.Usable.{Usable}
@@ -134,7 +134,7 @@ none-given : (cutoff : ℤ) (row : Usable) (share : ℕ) → Gets cutoff row sha
 none-given cutoff row share gets beyond (inl some) = let within = gets.beyond some in absurd (omega (arith, ints, within, beyond))
 none-given cutoff row share gets beyond (inr none) = omega (arith, none)
 
-pub filling : (side : OrderSide) (fees : List FeeSchedule) (rows by_price by_cost : List Usable) → Table side fees rows by_price by_cost → (most : ℕ) (cost : ℤ) (legs : List Leg)
+pub filling : (side : OrderSide) (fees : Charges) (rows by_price by_cost : List Usable) → Table side fees rows by_price by_cost → (most : ℕ) (cost : ℤ) (legs : List Leg)
     → Fills side fees by_price most cost legs → FillsInOrder rows (given_by legs)
 filling side fees rows by_price by_cost table' most cost legs fills' =
     let cutoff = fills'.cutoff in

@@ -7,8 +7,7 @@ use Rattle.std.proofs.lemmas.List.Sums.{sum_by-cons}
 use Rattle.std.proofs.Math.IntN.{*ℤ-zero}
 use Rattle.nms_quote.specs.declared.order.OrderSide.{OrderSide}
 use Rattle.nms_quote.specs.declared.plan.Leg.{Leg}
-use Rattle.nms_fee_book.specs.Fees.{unit_cost_of}
-use Rattle.nms_fee_book.specs.declared.fee_schedule.FeeSchedule.{FeeSchedule}
+use Rattle.nms_fee_book.specs.Fees.{Charges, unit_cost_of}
 use Rattle.nms_rules.specs.Assignment.{amount, total}
 use Rattle.nms_rules.specs.Cutoff.{savings, swept, swept_cost, swept_part}
 use Rattle.nms_rules.specs.Faultless.{cost_of, given_by, sum_of}
@@ -48,13 +47,13 @@ sum_legs cutoff marginal left (row ∷ rows) =
 
 -- ---- what they cost
 
-cost-with : (fees : List FeeSchedule) (side : OrderSide) (row : Usable) (shares : ℕ) (legs : List Leg) → row.cost ≡ unit_cost_of fees row.part side row.price
+cost-with : (fees : Charges) (side : OrderSide) (row : Usable) (shares : ℕ) (legs : List Leg) → row.cost ≡ unit_cost_of fees row.part side row.price
     → (0 < shares) × (with_leg row shares legs ≡ leg_to row shares ∷ legs) ⊎ (shares ≡ 0) × (with_leg row shares legs ≡ legs) → cost_of fees side (with_leg row shares legs) ≡ row.cost *ℤ pos shares +ℤ cost_of fees side legs
 unfolding cost_of leg_to
 cost-with fees side row shares legs costs (inl is) = ap (cost_of fees side) is.1 ∙ ap (λ z. z *ℤ pos shares +ℤ cost_of fees side legs) (sym costs)
 cost-with fees side row shares legs costs (inr is) = omega (arith, ints, ap (cost_of fees side) is.1, *ℤ-zero row.cost, ap (λ n. row.cost *ℤ pos n) is.0)
 
-pub cost_legs : (fees : List FeeSchedule) (side : OrderSide) (cutoff marginal : ℤ) (left : ℕ) (rows : List Usable) → ((row : Usable) → In row rows → row.cost ≡ unit_cost_of fees row.part side row.price)
+pub cost_legs : (fees : Charges) (side : OrderSide) (cutoff marginal : ℤ) (left : ℕ) (rows : List Usable) → ((row : Usable) → In row rows → row.cost ≡ unit_cost_of fees row.part side row.price)
     → cost_of fees side (legs_of cutoff marginal left rows) +ℤ marginal *ℤ pos (swept cutoff rows) +ℤ savings cutoff marginal rows ≡ swept_cost cutoff rows +ℤ marginal *ℤ pos (sum_of (legs_of cutoff marginal left rows))
 unfolding legs_of total amount cost_of
 cost_legs fees side cutoff marginal left [] costs = omega (arith, ints)

@@ -12,6 +12,7 @@ mod PlanLemmas
 mod SameLemmas
 mod StandLemmas
 mod SumFacts
+mod TakenLemmas
 mod TierLemmas
 mod TotalLemmas
 mod WalkLemmas

@@ -27,14 +27,14 @@ none-below cutoff marginal row (other ∷ rows) most no_less =
     omega (arith, below_dear cutoff marginal other (omega (arith, ints, most, no_less.0)) (tier cutoff marginal other), none-below cutoff marginal row rows most no_less.1)
 
 -- the part of a row that does not reach the number
-pool-before : (cutoff : ℤ) (number : ℕ) (row : Usable) → (is_pooled cutoff row && nat_le number row.size ≡ false) → (is_pooled cutoff row ≡ true) ⊎ (is_pooled cutoff row ≡ false) → pool_part cutoff row ≤ number
+pub pool-before : (cutoff : ℤ) (number : ℕ) (row : Usable) → (is_pooled cutoff row && nat_le number row.size ≡ false) → (is_pooled cutoff row ≡ true) ⊎ (is_pooled cutoff row ≡ false) → pool_part cutoff row ≤ number
 pool-before cutoff number row later (inr out) = omega (arith, pool-not cutoff row out)
 pool-before cutoff number row later (inl pooled) =
     let over = leb-false number row.size (sym (ap (λ b. b && nat_le number row.size) pooled) ∙ later) in
     omega (arith, pool-is cutoff row pooled, over)
 
 -- the first that reaches the number, or a later one
-share-step : (cutoff : ℤ) (number : ℕ) (last : ℤ) (row : Usable) (rows : List Usable) → (is_pooled cutoff row && nat_le number row.size ≡ true) ⊎ (is_pooled cutoff row && nat_le number row.size ≡ false)
+pub share-step : (cutoff : ℤ) (number : ℕ) (last : ℤ) (row : Usable) (rows : List Usable) → (is_pooled cutoff row && nat_le number row.size ≡ true) ⊎ (is_pooled cutoff row && nat_le number row.size ≡ false)
     → (is_pooled cutoff row ≡ true) × (number ≤ row.size) × (share_cost cutoff number last (row ∷ rows) ≡ row.cost)
     ⊎ (pool_part cutoff row ≤ number) × (share_cost cutoff number last (row ∷ rows) ≡ share_cost cutoff (number - pool_part cutoff row) row.cost rows)
 unfolding share_cost

@@ -19,8 +19,7 @@ use Rattle.nms_quote.specs.declared.plan.Leg.{Leg}
 use Rattle.nms_quote.specs.declared.plan.Plan.{Plan}
 use Rattle.nms_board.specs.View.{AreRows, Seen}
 use Rattle.nms_board.specs.declared.row.Row.{Row}
-use Rattle.nms_fee_book.specs.Fees.{unit_cost_of}
-use Rattle.nms_fee_book.specs.declared.fee_schedule.FeeSchedule.{FeeSchedule}
+use Rattle.nms_fee_book.specs.Fees.{Charges, unit_cost_of}
 use Rattle.nms_rules.specs.Accepted.{IsAccepted}
 use Rattle.nms_rules.specs.Assignment.{IsLawful, SweepsBetter, fillable, total}
 use Rattle.nms_rules.specs.Cutoff.{IsBounded, KindHolds, least_cost, pool, pool_part, savings_part, swept, swept_cost_part, swept_part}
@@ -62,23 +61,23 @@ place : Row → ℕ
 place row = row.part
 
 -- what a usable row is
-pub record IsOf (seen : Seen) (asked : Terms) (fees : List FeeSchedule) (row : Usable) (quoted : Row) : Type 0 where
+pub record IsOf (seen : Seen) (asked : Terms) (fees : Charges) (row : Usable) (quoted : Row) : Type 0 where
   pub within : In quoted (contra_rows asked.side seen)
   pub is : row ≡ usable_row asked fees quoted
 
-pub usable_is : (seen : Seen) (asked : Terms) (fees : List FeeSchedule) (row : Usable) → In row (usable seen asked fees) → (quoted : Row) × IsOf seen asked fees row quoted
+pub usable_is : (seen : Seen) (asked : Terms) (fees : Charges) (row : Usable) → In row (usable seen asked fees) → (quoted : Row) × IsOf seen asked fees row quoted
 usable_is seen asked fees row within =
     let from = map-In (usable_row asked fees) (filter (is_usable asked) (contra_rows asked.side seen)) row within in
     (from.0, record { within = (filter-In (is_usable asked) (contra_rows asked.side seen) from.0 from.1).0; is = from.2 })
 
-pub usable_apart : (seen : Seen) (asked : Terms) (fees : List FeeSchedule) → IsStrictlyIncreasing (map (λ row. row.part) (contra_rows asked.side seen)) → Apart row_part (usable seen asked fees)
+pub usable_apart : (seen : Seen) (asked : Terms) (fees : Charges) → IsStrictlyIncreasing (map (λ row. row.part) (contra_rows asked.side seen)) → Apart row_part (usable seen asked fees)
 unfolding place
 usable_apart seen asked fees rising =
     Apart-map place row_part (usable_row asked fees) (λ row. refl) (filter (is_usable asked) (contra_rows asked.side seen))
     (Apart-filter place (is_usable asked) (contra_rows asked.side seen) (Apart-rising place (contra_rows asked.side seen) rising))
 
 -- what the planner goes through
-pub record Table (side : OrderSide) (fees : List FeeSchedule) (rows by_price by_cost : List Usable) : Type 0 where
+pub record Table (side : OrderSide) (fees : Charges) (rows by_price by_cost : List Usable) : Type 0 where
   pub same_price : IsPermutation rows by_price
   pub same_cost : IsPermutation rows by_cost
   pub in_order : InOrder Price by_price
@@ -88,7 +87,7 @@ pub record Table (side : OrderSide) (fees : List FeeSchedule) (rows by_price by_
   pub ranks : (row : Usable) → In row rows → row.rank ≡ rank_of side row.price
   pub costs : (row : Usable) → In row rows → row.cost ≡ unit_cost_of fees row.part side row.price
 
-pub table : (seen : Seen) (asked : Terms) (fees : List FeeSchedule) (by_price by_cost : List Usable) → IsStrictlyIncreasing (map (λ row. row.part) (contra_rows asked.side seen))
+pub table : (seen : Seen) (asked : Terms) (fees : Charges) (by_price by_cost : List Usable) → IsStrictlyIncreasing (map (λ row. row.part) (contra_rows asked.side seen))
     → IsPermutation (usable seen asked fees) by_price → IsOrdered Price by_price → IsPermutation by_price by_cost → IsOrdered Cost by_cost → Table asked.side fees (usable seen asked fees) by_price by_cost
 table seen asked fees by_price by_cost rising same ordered again cheapest = record {
   same_price = same;
@@ -137,7 +136,7 @@ record Right (rows : List Usable) (most : ℕ) (choice : Choice) : Type 0 where
 choice_at : List Usable → ℕ → ℤ → ℤ → Choice
 choice_at rows most cutoff marginal = record { cutoff = cutoff; marginal = marginal; cost = least_cost rows most cutoff marginal }
 
-right-fit : (side : OrderSide) (fees : List FeeSchedule) (rows by_price by_cost : List Usable) → Table side fees rows by_price by_cost → (most : ℕ) (cutoff : ℤ) → (row : Usable) × In row rows × (row.rank ≡ cutoff) → IsFit rows by_cost most cutoff
+right-fit : (side : OrderSide) (fees : Charges) (rows by_price by_cost : List Usable) → Table side fees rows by_price by_cost → (most : ℕ) (cutoff : ℤ) → (row : Usable) × In row rows × (row.rank ≡ cutoff) → IsFit rows by_cost most cutoff
     → Right rows most (choice_at rows most cutoff (share_cost cutoff (most - swept cutoff rows) (pos 0) by_cost))
 unfolding choice_at
 right-fit side fees rows by_price by_cost table' most cutoff at fit =
@@ -159,7 +158,7 @@ some-same : (one other : Choice) → Some one ≡ Some other → one ≡ other
 some-same one other e = ap (λ found. unwrap_or found one) e
 
 -- what a cutoff offers is right
-right-offer : (side : OrderSide) (fees : List FeeSchedule) (rows by_price by_cost : List Usable) → Table side fees rows by_price by_cost → (most : ℕ) (cutoff : ℤ) (choice : Choice)
+right-offer : (side : OrderSide) (fees : Charges) (rows by_price by_cost : List Usable) → Table side fees rows by_price by_cost → (most : ℕ) (cutoff : ℤ) (choice : Choice)
     → (row : Usable) × In row rows × (row.rank ≡ cutoff) → Kinds rows by_cost most cutoff → candidate rows most cutoff (kind_at rows by_cost most cutoff) ≡ Some choice → Right rows most choice
 unfolding Kinds choice_at
 right-offer side fees rows by_price by_cost table' most cutoff choice at (inl much) e = absurd (false≢true (ap is_some (ap (candidate rows most cutoff) (sym much.1) ∙ e)))
@@ -177,7 +176,7 @@ pub record RowOf (side : OrderSide) (rows by_cost : List Usable) (most : ℕ) (c
   pub rank : rank_of side cut.price ≡ row.rank
   pub kind : cut.kind ≡ kind_at rows by_cost most row.rank
 
-pub row-of : (side : OrderSide) (fees : List FeeSchedule) (rows by_price by_cost : List Usable) → Table side fees rows by_price by_cost → (most : ℕ) (cut : Cut) → In cut (cuts_of (kind_at rows by_cost most) by_price)
+pub row-of : (side : OrderSide) (fees : Charges) (rows by_price by_cost : List Usable) → Table side fees rows by_price by_cost → (most : ℕ) (cut : Cut) → In cut (cuts_of (kind_at rows by_cost most) by_price)
     → (row : Usable) × RowOf side rows by_cost most cut row
 row-of side fees rows by_price by_cost table' most cut within =
     let at = row_of_cut (kind_at rows by_cost most) by_price cut within in
@@ -197,7 +196,7 @@ offers-as : (side : OrderSide) (rows by_cost : List Usable) (most : ℕ) (cut : 
 offers-as side rows by_cost most cut row is = ap (λ rank. candidate rows most rank cut.kind) is.rank ∙ ap (candidate rows most row.rank) is.kind
 
 -- the chosen one is right
-right-step : (side : OrderSide) (fees : List FeeSchedule) (rows by_price by_cost : List Usable) → Table side fees rows by_price by_cost → (most : ℕ) (choice : Choice)
+right-step : (side : OrderSide) (fees : Charges) (rows by_price by_cost : List Usable) → Table side fees rows by_price by_cost → (most : ℕ) (choice : Choice)
     → Offered side rows most None (cuts_of (kind_at rows by_cost most) by_price) choice → Right rows most choice
 right-step side fees rows by_price by_cost table' most choice (inl none) = absurd (false≢true (ap is_some none))
 right-step side fees rows by_price by_cost table' most choice (inr at) =
@@ -207,7 +206,7 @@ right-step side fees rows by_price by_cost table' most choice (inr at) =
 -- ---- what the legs fill and cost
 
 -- the legs are those of some cutoff, fill so much and cost so much
-pub record Fills (side : OrderSide) (fees : List FeeSchedule) (by_price : List Usable) (most : ℕ) (cost : ℤ) (legs : List Leg) : Type 0 where
+pub record Fills (side : OrderSide) (fees : Charges) (by_price : List Usable) (most : ℕ) (cost : ℤ) (legs : List Leg) : Type 0 where
   pub cutoff : ℤ
   pub marginal : ℤ
   pub left : ℕ
@@ -216,7 +215,7 @@ pub record Fills (side : OrderSide) (fees : List FeeSchedule) (by_price : List U
   pub sum : sum_of legs ≡ most
   pub pays : cost_of fees side legs ≡ cost
 
-fills-right : (side : OrderSide) (fees : List FeeSchedule) (rows by_price by_cost : List Usable) → Table side fees rows by_price by_cost → (most : ℕ) (choice : Choice) → Right rows most choice
+fills-right : (side : OrderSide) (fees : Charges) (rows by_price by_cost : List Usable) → Table side fees rows by_price by_cost → (most : ℕ) (choice : Choice) → Right rows most choice
     → Fills side fees by_price most choice.cost (legs_chosen rows most (Some choice) by_price)
 fills-right side fees rows by_price by_cost table' most choice right =
     let cutoff = choice.cutoff in
@@ -260,7 +259,7 @@ fit-is rows by_cost most cutoff sweeps reaches (inl much) = absurd (omega (arith
 fit-is rows by_cost most cutoff sweeps reaches (inr (inl little)) = absurd (omega (arith, reaches, little.0))
 fit-is rows by_cost most cutoff sweeps reaches (inr (inr fit)) = fit
 
-some-offer : (side : OrderSide) (fees : List FeeSchedule) (rows by_price by_cost : List Usable) → Table side fees rows by_price by_cost → (most : ℕ) (row : Usable) → In row by_price → Fits by_price most row
+some-offer : (side : OrderSide) (fees : Charges) (rows by_price by_cost : List Usable) → Table side fees rows by_price by_cost → (most : ℕ) (row : Usable) → In row by_price → Fits by_price most row
     → (choice : Choice) × Offered side rows most None (cuts_of (kind_at rows by_cost most) by_price) choice
 unfolding choice_at
 some-offer side fees rows by_price by_cost table' most row within fits' =
@@ -285,7 +284,7 @@ legs-nothing : [] ≡ legs_of (pos 0) (pos 0) 0 []
 unfolding legs_of
 legs-nothing = refl
 
-cost-nothing : (fees : List FeeSchedule) (side : OrderSide) → cost_of fees side [] ≡ pos 0
+cost-nothing : (fees : Charges) (side : OrderSide) → cost_of fees side [] ≡ pos 0
 unfolding cost_of
 cost-nothing fees side = refl
 
@@ -293,7 +292,7 @@ none-some : (found : Option Choice) (choice : Choice) → found ≡ None → fou
 none-some found choice none some = absurd (false≢true (ap is_some (sym none ∙ some)))
 
 -- so the legs fill what can be filled
-fills-found : (side : OrderSide) (fees : List FeeSchedule) (rows by_price by_cost : List Usable) → Table side fees rows by_price by_cost → (asked : ℕ) (found : Option Choice)
+fills-found : (side : OrderSide) (fees : Charges) (rows by_price by_cost : List Usable) → Table side fees rows by_price by_cost → (asked : ℕ) (found : Option Choice)
     → chosen side rows (fillable rows asked) None (cuts_of (kind_at rows by_cost (fillable rows asked)) by_price) ≡ found
     → Fills side fees by_price (fillable rows asked) (cost_chosen found) (legs_chosen rows (fillable rows asked) found by_price)
 fills-found side fees rows by_price by_cost table' asked (Some choice) e =
@@ -311,7 +310,7 @@ fills-found side fees rows (row ∷ by_price) by_cost table' asked None e =
     let found = chosen_least side rows most None (cuts_of (kind_at rows by_cost most) (row ∷ by_price)) some.0 some.1 in
     none-some (chosen side rows most None (cuts_of (kind_at rows by_cost most) (row ∷ by_price))) found.choice e found.is
 
-pub fills : (side : OrderSide) (fees : List FeeSchedule) (rows by_price by_cost : List Usable) → Table side fees rows by_price by_cost → (asked : ℕ)
+pub fills : (side : OrderSide) (fees : Charges) (rows by_price by_cost : List Usable) → Table side fees rows by_price by_cost → (asked : ℕ)
     → Fills side fees by_price (fillable rows asked) (cost_chosen (chosen side rows (fillable rows asked) None (cuts_of (kind_at rows by_cost (fillable rows asked)) by_price)))
     (legs_chosen rows (fillable rows asked) (chosen side rows (fillable rows asked) None (cuts_of (kind_at rows by_cost (fillable rows asked)) by_price)) by_price)
 fills side fees rows by_price by_cost table' asked =
@@ -320,13 +319,13 @@ fills side fees rows by_price by_cost table' asked =
 -- ---- a lawful plan
 
 -- a leg's quotation
-quoted : (seen : Seen) (asked : Terms) (fees : List FeeSchedule) (row : Usable) → In row (usable seen asked fees) → (leg : Leg) → GoesTo row leg → Any (λ (one : Row). (one.part ≡ leg.part) × (one.price ≡ leg.price)) (contra_rows asked.side seen)
+quoted : (seen : Seen) (asked : Terms) (fees : Charges) (row : Usable) → In row (usable seen asked fees) → (leg : Leg) → GoesTo row leg → Any (λ (one : Row). (one.part ≡ leg.part) × (one.price ≡ leg.price)) (contra_rows asked.side seen)
 quoted seen asked fees row within leg goes =
     let at = usable_is seen asked fees row within in
     Any-In (λ (one : Row). (one.part ≡ leg.part) × (one.price ≡ leg.price)) (contra_rows asked.side seen) at.0 at.1.within
     (ap (λ (one : Usable). one.part) (sym at.1.is) ∙ sym goes.part, ap (λ (one : Usable). one.price) (sym at.1.is) ∙ sym goes.price)
 
-lawful : (side : OrderSide) (fees : List FeeSchedule) (rows by_price by_cost : List Usable) → Table side fees rows by_price by_cost → (asked : ℕ) (cost : ℤ) (legs : List Leg)
+lawful : (side : OrderSide) (fees : Charges) (rows by_price by_cost : List Usable) → Table side fees rows by_price by_cost → (asked : ℕ) (cost : ℤ) (legs : List Leg)
     → Fills side fees by_price (fillable rows asked) cost legs → IsLawful rows asked (given_by legs)
 lawful side fees rows by_price by_cost table' asked cost legs fills' =
     let same = table'.same_price in
@@ -349,7 +348,7 @@ lawful side fees rows by_price by_cost table' asked cost legs fills' =
           (gets other also).sweeps (and_from other.protected (int_lt other.rank fills'.cutoff) protected (true-lt other.rank fills'.cutoff (omega (arith, ints, less, (gets row within).beyond some))))));
     }
 
-pub faultless : (seen : Seen) (asked : Terms) (fees : List FeeSchedule) (plan : Plan) (by_price by_cost : List Usable) → Table asked.side fees (usable seen asked fees) by_price by_cost
+pub faultless : (seen : Seen) (asked : Terms) (fees : Charges) (plan : Plan) (by_price by_cost : List Usable) → Table asked.side fees (usable seen asked fees) by_price by_cost
     → plan.version ≡ seen.version → plan.order ≡ asked → asked.sym ≡ seen.sym → plan.filled ≡ fillable (usable seen asked fees) asked.shares
     → Fills asked.side fees by_price (fillable (usable seen asked fees) asked.shares) plan.cost plan.legs.items → IsFaultless seen asked fees plan
 faultless seen asked fees plan by_price by_cost table' version order symbol filled' fills' =
@@ -397,7 +396,7 @@ kind-holds rows by_cost most cost cutoff kind is range least (inr (inr fit)) =
 least-paid : (found : Option Choice) (other : Choice) → IsNoDearer found other → cost_chosen found ≤ℤ other.cost
 least-paid found other least = subst (λ (one : Option Choice). cost_chosen one ≤ℤ other.cost) (sym least.is) least.cost
 
-cut-holds : (side : OrderSide) (fees : List FeeSchedule) (rows by_price by_cost : List Usable) → Table side fees rows by_price by_cost → (most : ℕ) (cut : Cut) → In cut (cuts_of (kind_at rows by_cost most) by_price) → IsInRange cut.kind
+cut-holds : (side : OrderSide) (fees : Charges) (rows by_price by_cost : List Usable) → Table side fees rows by_price by_cost → (most : ℕ) (cut : Cut) → In cut (cuts_of (kind_at rows by_cost most) by_price) → IsInRange cut.kind
     → KindHolds rows most (cost_chosen (chosen side rows most None (cuts_of (kind_at rows by_cost most) by_price))) (rank_of side cut.price) cut.kind
 cut-holds side fees rows by_price by_cost table' most cut within range =
     let cuts = cuts_of (kind_at rows by_cost most) by_price in
@@ -409,7 +408,7 @@ cut-holds side fees rows by_price by_cost table' most cut within range =
 
 -- ---- accepted
 
-pub accepted : (seen : Seen) (asked : Terms) (fees : List FeeSchedule) (plan : Plan) (by_price by_cost : List Usable) (cuts : List Cut) → Table asked.side fees (usable seen asked fees) by_price by_cost
+pub accepted : (seen : Seen) (asked : Terms) (fees : Charges) (plan : Plan) (by_price by_cost : List Usable) (cuts : List Cut) → Table asked.side fees (usable seen asked fees) by_price by_cost
     → IsFaultless seen asked fees plan → plan.filled ≡ fillable (usable seen asked fees) asked.shares
     → cuts ≡ cuts_of (kind_at (usable seen asked fees) by_cost (fillable (usable seen asked fees) asked.shares)) by_price → All (λ cut. IsInRange cut.kind) cuts
     → plan.cost ≡ cost_chosen (chosen asked.side (usable seen asked fees) (fillable (usable seen asked fees) asked.shares) None cuts) → IsAccepted seen asked fees plan cuts
@@ -437,7 +436,7 @@ accepted seen asked fees plan by_price by_cost cuts table' is full made range pa
 -- ---- what the planner goes through, of one view
 
 -- the rows in both orders, the cuts and the choice
-pub record Found (seen : Seen) (asked : Terms) (fees : List FeeSchedule) (by_price by_cost : List Usable) (cuts : List Cut) (most : ℕ) (found : Option Choice) : Type 0 where
+pub record Found (seen : Seen) (asked : Terms) (fees : Charges) (by_price by_cost : List Usable) (cuts : List Cut) (most : ℕ) (found : Option Choice) : Type 0 where
   pub rows : Table asked.side fees (usable seen asked fees) by_price by_cost
   pub fillable_is : most ≡ fillable (usable seen asked fees) asked.shares
   pub cuts_are : cuts ≡ cuts_of (kind_at (usable seen asked fees) by_cost (fillable (usable seen asked fees) asked.shares)) by_price
@@ -452,7 +451,7 @@ cut-with : ℕ → CutKind → Cut
 cut-with price kind = record { price = price; kind = kind }
 
 -- the cuts of the cutoffs are those of the prices
-cuts-made : (side : OrderSide) (fees : List FeeSchedule) (rows by_price by_cost : List Usable) → Table side fees rows by_price by_cost → (most : ℕ)
+cuts-made : (side : OrderSide) (fees : Charges) (rows by_price by_cost : List Usable) → Table side fees rows by_price by_cost → (most : ℕ)
     → map (cut_by side by_cost most) (cutoffs_of by_price by_price) ≡ cuts_of (kind_at rows by_cost most) by_price
 unfolding cut-with
 cuts-made side fees rows by_price by_cost table' most =
@@ -465,11 +464,11 @@ cuts-made side fees rows by_price by_cost table' most =
     ∙ ap (kind_by by_cost most row.rank (swept row.rank rows)) (total_same (pool_part row.rank) rows by_price same)))
 
 -- of slices that show the rows
-pub found_from : (seen : Seen) (asked : Terms) (fees : List FeeSchedule) (terms : Terms) (first again last costs : List Usable) (coming : List Cutoff) (by_price by_cost : List Usable) (cuts : List Cut) (most : ℕ) (found : Option Choice)
+pub found_from : (seen : Seen) (asked : Terms) (fees : Charges) (terms : Terms) (first again costs : List Usable) (coming : List Cutoff) (by_price by_cost : List Usable) (cuts : List Cut) (most : ℕ) (found : Option Choice)
     → terms ≡ asked → AreRows seen.bids → AreRows seen.offers → IsPermutation (usable seen asked fees) by_price → IsByPrice by_price → coming ≡ cutoffs_of by_price by_price
-    → first ≡ by_price → again ≡ by_price → last ≡ by_price → costs ≡ by_cost → IsPermutation again by_cost → IsOrdered Cost by_cost
-    → most ≡ fillable first terms.shares → cuts ≡ map (cut_by terms.side costs most) coming → found ≡ chosen terms.side last most None cuts → Found seen asked fees by_price by_cost cuts most found
-found_from seen asked fees terms first again last costs coming by_price by_cost cuts most found same bids offers rows_same ordered comes one two three cheap cost_same cheapest count made choice =
+    → first ≡ by_price → again ≡ by_price → costs ≡ by_cost → IsPermutation again by_cost → IsOrdered Cost by_cost
+    → most ≡ fillable first terms.shares → cuts ≡ map (cut_by terms.side costs most) coming → found ≡ chosen terms.side costs most None (map (cut_by terms.side costs most) coming) → Found seen asked fees by_price by_cost cuts most found
+found_from seen asked fees terms first again costs coming by_price by_cost cuts most found same bids offers rows_same ordered comes one two cheap cost_same cheapest count made choice =
     let usables : List Usable = usable seen asked fees in
     let rows = table seen asked fees by_price by_cost (rising asked.side seen bids offers) rows_same ordered (subst (λ (some : List Usable). IsPermutation some by_cost) two cost_same) cheapest in
     let count' : most ≡ fillable usables asked.shares =
@@ -480,11 +479,11 @@ found_from seen asked fees terms first again last costs coming by_price by_cost 
       cuts_are = made ∙ ap (map (cut_by terms.side costs most)) comes ∙ ap (λ (some : List Usable). map (cut_by terms.side some most) (cutoffs_of by_price by_price)) cheap
           ∙ ap (λ (some : Terms). map (cut_by some.side by_cost most) (cutoffs_of by_price by_price)) same ∙ cuts-made asked.side fees usables by_price by_cost rows most
           ∙ ap (λ n. cuts_of (kind_at usables by_cost n) by_price) count';
-      found_is = choice ∙ ap (λ (some : List Usable). chosen terms.side some most None cuts) three ∙ ap (λ (some : Terms). chosen some.side by_price most None cuts) same
-          ∙ chosen_same asked.side usables by_price rows_same most None cuts ∙ ap (λ n. chosen asked.side usables n None cuts) count';
+      found_is = choice ∙ ap (chosen terms.side costs most None) (sym made) ∙ ap (λ (some : List Usable). chosen terms.side some most None cuts) cheap ∙ ap (λ (some : Terms). chosen some.side by_cost most None cuts) same
+          ∙ chosen_same asked.side usables by_cost rows.same_cost most None cuts ∙ ap (λ n. chosen asked.side usables n None cuts) count';
     }
 
-pub legs_found : (seen : Seen) (asked : Terms) (fees : List FeeSchedule) (by_price by_cost : List Usable) (cuts : List Cut) (most : ℕ) (found : Option Choice) → Found seen asked fees by_price by_cost cuts most found
+pub legs_found : (seen : Seen) (asked : Terms) (fees : Charges) (by_price by_cost : List Usable) (cuts : List Cut) (most : ℕ) (found : Option Choice) → Found seen asked fees by_price by_cost cuts most found
     → Fills asked.side fees by_price (fillable (usable seen asked fees) asked.shares) (cost_chosen found) (legs_chosen (usable seen asked fees) most found by_price)
 legs_found seen asked fees by_price by_cost cuts most found is =
     let rows : List Usable = usable seen asked fees in

@@ -10,7 +10,7 @@ use Rattle.nms_quote.specs.Terms.{Terms}
 use Rattle.nms_quote.specs.declared.order.OrderSide.{OrderSide}
 use Rattle.nms_quote.specs.declared.plan.Leg.{Leg}
 use Rattle.nms_board.specs.View.{Seen}
-use Rattle.nms_fee_book.specs.declared.fee_schedule.FeeSchedule.{FeeSchedule}
+use Rattle.nms_fee_book.specs.Fees.{Charges}
 use Rattle.nms_rules.specs.Usable.{Usable, contra_rows, rank_of, usable}
 use Rattle.nms_rules.proofs.Offered.{Apart, row_part, All-In, In, better-from-rank}
 use Rattle.nms_sweep.specs.Choice.{left_after, legs_chosen, legs_of, share_of, with_leg}
@@ -67,7 +67,7 @@ chosen_stand side rows most None by_price ranks apart is = λ i j d less below. 
 chosen_stand side rows most (Some choice) by_price ranks apart is = legs_stand side choice.cutoff choice.marginal _ by_price ranks apart is
 
 -- whichever cutoff is chosen, of rows that are the usable ones in the order of their prices
-pub chosen_in_order : (seen : Seen) (asked : Terms) (fees : List FeeSchedule) (rows by_price : List Usable) → rows ≡ usable seen asked fees → IsStrictlyIncreasing (map (λ row. row.part) (contra_rows asked.side seen))
+pub chosen_in_order : (seen : Seen) (asked : Terms) (fees : Charges) (rows by_price : List Usable) → rows ≡ usable seen asked fees → IsStrictlyIncreasing (map (λ row. row.part) (contra_rows asked.side seen))
     → IsPermutation rows by_price → IsOrdered Price by_price → (most : ℕ) (found : Option Choice) → AreInOrder asked.side (legs_chosen rows most found by_price)
 chosen_in_order seen asked fees rows by_price are rising same ordered most found =
     let usables : List Usable = usable seen asked fees in

@@ -16,12 +16,16 @@ use Rattle.nms_sweep.specs.declared.cutoffs.Cutoff.{Cutoff}
 
 -- ---- the marginal
 
+-- a row of the pool has as many shares as are wanted
+abbrev pub has_last : ℤ → ℕ → Usable → Bool
+has_last cutoff number row = is_pooled cutoff row && nat_le number row.size
+
 -- what share number `number` of the pool costs, of rows in the order of their costs; the pool's least unit cost for
 -- number 0
 unfoldable pub share_cost : ℤ → ℕ → ℤ → List Usable → ℤ
 share_cost cutoff number last [] = last
 share_cost cutoff number last (row ∷ rows) =
-    if is_pooled cutoff row && nat_le number row.size then row.cost else share_cost cutoff (number - pool_part cutoff row) row.cost rows
+    if has_last cutoff number row then row.cost else share_cost cutoff (number - pool_part cutoff row) row.cost rows
 
 -- ---- the cuts
 

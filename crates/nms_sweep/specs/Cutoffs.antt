@@ -1,6 +1,6 @@
 -- The prices that an order could trade at, and what each asks for: how many shares must be swept there (17 CFR 242.600,
 -- "intermarket sweep order"), what they cost with fees, and how many the pool has. The sums are this product's own rule.
-use Rattle.std.specs.Prelude.{◌≡◌, true, List, [], ◌∷◌, Option, Some, None, All, AllPairs, Any}
+use Rattle.std.specs.Prelude.{pos, neg_ℤ, ◌≡◌, ◌^◌, ◌≤ℤ◌, true, List, [], ◌∷◌, Option, Some, None, All, AllPairs, Any}
 use Rattle.nms_quote.specs.declared.order.OrderSide.{OrderSide}
 use Rattle.nms_rules.specs.Cutoff.{pool, swept, swept_cost}
 use Rattle.nms_rules.specs.Usable.{Usable, is_better, rank_of}
@@ -25,6 +25,11 @@ pub record AreCutoffs (side : OrderSide) (rows : List Usable) (cutoffs : List Cu
 abbrev pub GivesNext : List Cutoff → Option Cutoff → List Cutoff → Type 0
 GivesNext [] given later = (given ≡ None) × (later ≡ [])
 GivesNext (cutoff ∷ cutoffs) given later = (given ≡ Some cutoff) × (later ≡ cutoffs)
+
+-- what is swept at a given cutoff costs no more than that, paid or received
+abbrev pub HasCostWithin : Option Cutoff → Type 0
+HasCostWithin None = Unit {0}
+HasCostWithin (Some cutoff) = (neg_ℤ (pos (2 ^ 106)) ≤ℤ cutoff.swept_cost) × (cutoff.swept_cost ≤ℤ pos (2 ^ 106))
 
 -- a walk over the prices: the usable rows in the order of their prices, and the cutoffs that are still to come
 pub record Walk : Type 0 where

@@ -8,3 +8,4 @@ pub mod Cutoffs
 pub mod Filling
 pub mod Order
 pub mod Passed
+pub mod Taken

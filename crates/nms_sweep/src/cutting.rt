@@ -1,80 +1,78 @@
-//! The cuts of a certificate: `specs/Choice`.
-ghost use Rattle.std.specs.Prelude.{◌≡◌, ◌≤◌, pos, neg_ℤ, ◌^◌, ◌-◌, ◌≤ℤ◌, All, length, map};
-ghost use Rattle.nms_rules.specs.Cutoff.{pool_part};
-ghost use Rattle.nms_sweep.specs.Choice.{IsInRange, cut_by, kind_by, share_cost};
+//! The cuts of a certificate, and the best of the cutoffs that they are made at: `specs/Choice`.
+ghost use Rattle.std.specs.Prelude.{◌≡◌, ◌≤◌, ◌^◌, ◌≤ℤ◌, All, None, length, map, neg_ℤ, pos};
+ghost use Rattle.nms_rules.specs.Usable.{rank_of};
+ghost use Rattle.nms_sweep.specs.Choice.{IsInRange, candidate, chosen, cut_by, kind_by};
+ghost use Rattle.nms_sweep.specs.Cutoffs.{IsCutoffOf};
+ghost use Rattle.nms_sweep.specs.Order.{IsByCost};
 
-use crate::cutoffs::Cutoffs;
+use crate::choice::{Choice, cheaper};
+use crate::cutoffs::{Cutoff, Cutoffs, plus};
+use crate::taking::take_cheapest;
 use arrayvec::ArrayVec;
 use nms_quote::{Certificate, Cut, CutKind, OrderSide};
-use nms_rules::{Rank, UsableRow, is_pooled};
-use nms_units::Money;
+use nms_rules::{Rank, UsableRow};
 
-/// A cut for each cutoff that is to come, where so many can be filled. The rows come in the order of their costs.
+/// A cut for each cutoff that is to come, where so many can be filled, and the cutoff of least cost, of equals the best
+/// price: `None` where none can be filled at. The rows come in the order of their costs.
 pub(crate) fn cuts_of(
     side: OrderSide,
-    cutoffs: &mut Cutoffs,
     by_cost: &[UsableRow],
     most: u64,
-) -> Certificate
+    cutoffs: &mut Cutoffs,
+) -> (Certificate, Option<Choice>)
     requires few { length cutoffs.old.to_come ≤ 32 }
-    ensures cuts { result.items ≡ map (cut_by side by_cost.now most) cutoffs.old.to_come }
-    ensures range { All (λ cut. IsInRange cut.kind) result.items }
+    requires rows { length by_cost.now ≤ 32 }
+    requires most { most ≤ 999999999 }
+    requires ordered { IsByCost by_cost.now }
+    requires sums { All (λ cutoff. IsCutoffOf side by_cost.now cutoff) cutoffs.old.to_come }
+    ensures cuts { result.0.items ≡ map (cut_by side by_cost.now most) cutoffs.old.to_come }
+    ensures range { All (λ cut. IsInRange cut.kind) result.0.items }
+    ensures best { result.1 ≡ chosen side by_cost.now most None (map (cut_by side by_cost.now most) cutoffs.old.to_come) }
     ensures rows { cutoffs.new.rows ≡ cutoffs.old.rows }
 {
     let mut cuts = ArrayVec::new_in(());
+    let mut best = None;
     while let Some(cutoff) = cutoffs.next() {
-        let rank = Rank::of(side, cutoff.price);
-        let kind = kind_by(by_cost, most, rank, cutoff.swept, cutoff.pool);
+        let (kind, offer) = tried(side, by_cost, most, &cutoff);
+        best = cheaper(best, offer);
         cuts.push(Cut {
             price: cutoff.price,
             kind,
         });
     }
-    cuts
+    (cuts, best)
 }
 
-/// What the cut at a cutoff says, where so many shares must be swept and the pool has so many.
-fn kind_by(by_cost: &[UsableRow], most: u64, cutoff: Rank, swept: u64, pool: u64) -> CutKind
-    ensures kind { result ≡ kind_by by_cost.now most cutoff swept pool }
-    ensures range { IsInRange result }
+/// What the cut at a cutoff says, and what the cutoff offers, where so many can be filled.
+fn tried(
+    side: OrderSide,
+    by_cost: &[UsableRow],
+    most: u64,
+    cutoff: &Cutoff,
+) -> (CutKind, Option<Choice>)
+    requires rows { length by_cost.now ≤ 32 }
+    requires most { most ≤ 999999999 }
+    requires ordered { IsByCost by_cost.now }
+    requires sums { IsCutoffOf side by_cost.now cutoff.now }
+    requires low { neg_ℤ (pos (2 ^ 106)) ≤ℤ cutoff.now.swept_cost }
+    requires high { cutoff.now.swept_cost ≤ℤ pos (2 ^ 106) }
+    ensures kind { result.0 ≡ kind_by by_cost.now most (rank_of side cutoff.now.price) cutoff.now.swept cutoff.now.pool }
+    ensures range { IsInRange result.0 }
+    ensures offer { result.1 ≡ candidate by_cost.now most (rank_of side cutoff.now.price) result.0 }
 {
-    if most < swept {
-        CutKind::TooMuch
-    } else if pool < most - swept {
-        CutKind::TooLittle
-    } else {
-        CutKind::Marginal(share_cost(by_cost, cutoff, most - swept))
+    if most < cutoff.swept {
+        return (CutKind::TooMuch, None);
     }
-}
-
-/// What share number `number` of the pool costs with its fee, the cheapest first.
-#[tactic(auto, unfolding(crate::specs::Choice::share_cost))]
-fn share_cost(by_cost: &[UsableRow], cutoff: Rank, number: u64) -> Money
-    ensures cost { result ≡ share_cost cutoff number (pos 0) by_cost.now }
-    ensures low { neg_ℤ (pos (10 ^ 18)) ≤ℤ result }
-    ensures high { result ≤ℤ pos (10 ^ 18) }
-{
-    let mut number = number;
-    let mut last = Money::new(0);
-    let mut behind = by_cost;
-    while let Some((row, more)) = behind.split_first() {
-        if is_pooled(row, cutoff) && number <= u64::from(row.size) {
-            return row.cost;
-        }
-        number = number_after(number, cutoff, row);
-        last = row.cost;
-        behind = more;
+    let rest = most - cutoff.swept;
+    if cutoff.pool < rest {
+        return (CutKind::TooLittle, None);
     }
-    last
-}
-
-/// The number that is left after a row's shares in the pool.
-fn number_after(number: u64, cutoff: Rank, row: &UsableRow) -> u64
-    ensures { result ≡ number - pool_part cutoff row.now }
-{
-    if is_pooled(row, cutoff) {
-        number.saturating_sub(u64::from(row.size))
-    } else {
-        number
-    }
+    let rank = Rank::of(side, cutoff.price);
+    let taken = take_cheapest(by_cost, rank, rest);
+    let offer = Choice {
+        cutoff: rank,
+        marginal: taken.marginal,
+        cost: plus(cutoff.swept_cost, taken.cost),
+    };
+    (CutKind::Marginal(taken.marginal), Some(offer))
 }

@@ -9,6 +9,7 @@ mod laws;
 mod legs;
 mod planning;
 mod row_order;
+mod taking;
 
 pub use cutoffs::{Cutoff, Cutoffs};
 pub use laws::an_accepted_plan_is_within_bounds;

@@ -8,11 +8,12 @@ ghost use Rattle.nms_rules.specs.Usable.{usable};
 ghost use Rattle.nms_sweep.specs.Filling.{AreExact, FillsInOrder};
 ghost use Rattle.nms_sweep.specs.Order.{AreInOrder};
 
-use crate::choice::{chosen, cost_chosen};
+use crate::choice::cost_chosen;
 use crate::cutoffs::Cutoffs;
 use crate::cutting::cuts_of;
 use crate::legs::legs_chosen;
-use crate::row_order::{Key, in_order};
+use crate::row_order::{Key, put_in_order};
+use arrayvec::ArrayVec;
 use nms_board::View;
 use nms_fee_book::FeeBook;
 use nms_quote::{Certificate, Order, Plan};
@@ -23,9 +24,9 @@ use nms_rules::fillable;
 ///
 /// It always answers, and takes no memory. Legs stand by price, best first, then by participant place. Among equally
 /// good plans the choice is fixed: the cutoff at the best price; there the protected quotations that are better in
-/// full, then the others by unit cost, then better price, then place. The cuts are made in
-/// one walk over the prices; for each that can be filled at, what filling there costs takes a pass over the usable
-/// quotations, of which there are at most 32.
+/// full, then the others by unit cost, then better price, then place. The cuts are made in one walk over the prices;
+/// for each that can be filled at, one pass over the usable quotations, of which there are at most 32, gives the
+/// marginal and the cost.
 pub fn plan(view: &View, order: &Order, fees: &FeeBook) -> (Plan, Certificate)
     requires { order.now.sym ≡ view.now.sym }
     ensures lawful { breach_of view.now order.now fees.now result.0 ≡ None }
@@ -39,11 +40,10 @@ pub fn plan(view: &View, order: &Order, fees: &FeeBook) -> (Plan, Certificate)
     let version = view.version();
     let mut cutoffs = Cutoffs::new(view, order, fees);
     let most = fillable(cutoffs.rows(), order.shares);
-    let cheapest_first = in_order(Key::Cost, cutoffs.rows());
-    let cuts = cuts_of(order.side, &mut cutoffs, cheapest_first.as_slice(), most);
-    let rows = cutoffs.rows();
-    let choice = chosen(order.side, rows, most, &cuts);
-    let legs = legs_chosen(rows, most, &choice);
+    let mut by_cost = ArrayVec::new_in(());
+    put_in_order(Key::Cost, cutoffs.rows(), &mut by_cost);
+    let (cuts, choice) = cuts_of(order.side, by_cost.as_slice(), most, &mut cutoffs);
+    let legs = legs_chosen(cutoffs.rows(), most, &choice);
     let plan = Plan {
         version,
         order: *order,

@@ -8,7 +8,7 @@ use nms_feed::{
     open_lane,
 };
 use nms_quote::{Change, Part, QState, SideQuote, Sym};
-use nms_units::{Price, Shares};
+use nms_units::{Lot, Price, Shares};
 use std::alloc::{AllocError, Global};
 use std::process::Abort;
 use std::snapshot::Snapshot;
@@ -33,7 +33,7 @@ fn bid_of(place: u8, shares: u32) -> Option<Change> {
 fn told_by(change: &Change) -> Option<(u8, u32)> {
     match *change {
         Change::Quote { part, bid, .. } => Some((part.get(), bid?.shares.get())),
-        _ => None,
+        Change::State { .. } | Change::Withdraw { .. } | Change::Lot { .. } => None,
     }
 }
 
@@ -44,9 +44,17 @@ fn take_one<R: Wait + Abort>(rt: &R, taker: &mut Taker, wanted: Option<Change>)
     same(rt, taker.take(rt), wanted);
 }
 
-/// Two bids of the first participant, and one of the second.
-fn three_bids() -> Option<[Change; 3]> {
-    Some([bid_of(0, 1)?, bid_of(0, 2)?, bid_of(1, 1)?])
+/// A new round lot of 40 shares.
+fn new_lot() -> Option<Change> {
+    Some(Change::Lot {
+        sym: Sym::new(0)?,
+        lot: Lot::new(40)?,
+    })
+}
+
+/// A bid of the first participant, a new round lot, and a bid of the second participant.
+fn three_changes() -> Option<[Change; 3]> {
+    Some([bid_of(0, 1)?, new_lot()?, bid_of(1, 1)?])
 }
 
 /// Closes a lane, and compares how many were sent from each end and taken.
@@ -67,7 +75,7 @@ fn compare_closed<R: Abort>(rt: &R, a: Sender, b: Sender, taker: Taker, counts: 
 fn a_full_lane_gives_the_change_back_and_closing_waits_for_the_taker(
     rt: HostRuntime,
 ) -> Result<(), Fail> {
-    let [a1, a2, b1] = &three_bids().ok_or("a bid")?;
+    let [a1, a2, b1] = &three_changes().ok_or("a change")?;
     let (mut a, mut b, taker) = open_lane(rt.alloc(), 2)?;
     a.send(&rt, *a1);
     b.send(&rt, *b1);
@@ -133,7 +141,7 @@ fn a_lane_takes_as_many_as_it_was_opened_for(rt: HostRuntime) {
 
 #[test]
 fn a_taker_that_stops_and_takes_again_loses_nothing(rt: HostRuntime) -> Result<(), Fail> {
-    let [a1, a2, b1] = &three_bids().ok_or("a bid")?;
+    let [a1, a2, b1] = &three_changes().ok_or("a change")?;
     let (mut a, mut b, mut taker) = open_lane(rt.alloc(), 4)?;
     take_one(&rt, &mut taker, None);
     a.send(&rt, *a1);

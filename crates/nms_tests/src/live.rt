@@ -4,8 +4,10 @@ ghost use Rattle.std.specs.Prelude.{◌≡◌, ◌<◌, All, IfSome};
 mod chance;
 mod gated;
 mod judge;
+mod lots;
 mod overlap;
 mod pace;
+mod plain_look;
 mod worked;
 
 use nms_fees::{Setup, read_setup};

@@ -18,8 +18,7 @@ use plain::plain_plan;
 use std::alloc::Global;
 use std::test::Fail;
 
-/// How many random plans are compared. `bench/plans.sh` compares more, up to 1,250,000: a board takes ten million
-/// changes, and each plan sends eight.
+/// How many random plans are compared. `bench/plans.sh` compares a million, with a program that it makes of this file.
 const RANDOM_PLANS: u32 = 4000;
 
 /// What is asked for: shares, a limit in 1/10,000 dollar, and whether manual quotations may be used.

@@ -6,7 +6,7 @@ use nms_board::Row;
 use nms_fees::{Setup, read_setup};
 use nms_quote::{Change, Part, QState, Side, SideQuote, Sym};
 use nms_scripts::SETUP_K;
-use nms_units::{Price, Shares};
+use nms_units::{Lot, Price, Shares};
 use nms_versions::{
     AppendFault, Desk, NoReading, OpenFault, Publisher, Receipt, Settled, Unsettled, open_tape,
 };
@@ -137,9 +137,26 @@ fn append(rt: &impl Abort, publisher: &mut Publisher, place: u8) -> &'static str
 fn append_offer(rt: &impl Abort, publisher: &mut Publisher, offer: Offer) -> &'static str
     ensures { publisher.new.opening ≡ publisher.old.opening }
 {
-    let Some(change) = change_of(offer) else {
+    match change_of(offer) {
+        Some(change) => append_change(rt, publisher, change),
+        None => "no change",
+    }
+}
+
+/// Appends a new round lot of ABC, and tells the code of its refusal, or "ok".
+fn append_lot(rt: &impl Abort, publisher: &mut Publisher, shares: u16) -> &'static str
+    ensures { publisher.new.opening ≡ publisher.old.opening }
+{
+    let (Some(sym), Some(lot)) = (Sym::new(0), Lot::new(shares)) else {
         return "no change";
     };
+    append_change(rt, publisher, Change::Lot { sym, lot })
+}
+
+/// Appends a change, and tells the code of its refusal, or "ok".
+fn append_change(rt: &impl Abort, publisher: &mut Publisher, change: Change) -> &'static str
+    ensures { publisher.new.opening ≡ publisher.old.opening }
+{
     assert!(rt; publisher.holds(&change));
     match publisher.append(change) {
         Ok(()) => "ok",
@@ -182,7 +199,7 @@ fn place_of(word: &str) -> u8 {
 }
 
 /// What the step that a word names is answered: a participant's letter appends its offer, desk 0 is told of the
-/// published version, a desk looks.
+/// published version, a desk looks, a lot is a new round lot.
 fn go<R: Wait + Abort>(
     rt: &R,
     alloc: Global,
@@ -204,6 +221,8 @@ fn go<R: Wait + Abort>(
         "tape" => printed(alloc, &publisher.tape().len()),
         "desk 0" => seen(alloc, looked(one)),
         "desk 1" => seen(alloc, looked(other)),
+        "lot 101" => Ok(String::from_str(alloc, append_lot(rt, publisher, 101))?),
+        "lot 40" => Ok(String::from_str(alloc, append_lot(rt, publisher, 40))?),
         _ => Ok(String::from_str(alloc, append(rt, publisher, place_of(word)))?),
     }
 }
@@ -294,6 +313,28 @@ fn desks_see_what_is_published_told_or_not(rt: HostRuntime) -> Result<(), Fail> 
         ("tape", "5"),
         ("publish", "published"),
         ("desk 1", "5 4"),
+    ];
+    run(&rt, rt.alloc(), SETUP_K, &steps)
+}
+
+/// Offers of 100 shares are hidden under a lot of 101, once it is published, and show again under one of 40.
+#[test]
+fn desks_see_a_new_round_lot_once_it_is_published(rt: HostRuntime) -> Result<(), Fail> {
+    let steps = [
+        ("N", "ok"),
+        ("P", "ok"),
+        ("publish", "published"),
+        ("lot 101", "ok"),
+        ("desk 0", "2 2"),
+        ("publish", "published"),
+        ("desk 0", "3 0"),
+        ("Y", "ok"),
+        ("lot 40", "ok"),
+        ("desk 1", "3 0"),
+        ("publish", "published"),
+        ("tell", "5"),
+        ("desk 1", "5 3"),
+        ("tape", "5"),
     ];
     run(&rt, rt.alloc(), SETUP_K, &steps)
 }

@@ -1,5 +1,5 @@
 -- Records as text, in parts.
-use Rattle.std.proofs.Common.{ℕ, ◌≡◌, List, [], ◌∷◌, ◌++◌, Option, sym, refl, ap, ◌∙◌, append_assoc}
+use Rattle.std.proofs.Common.{ℕ, ◌≡◌, List, [], ◌∷◌, ◌++◌, Option, sym, ap, ◌∙◌, append_assoc}
 use Rattle.std.specs.Prelude.{codes}
 use Rattle.std.specs.List.{join_with_byte}
 use Rattle.std.specs.Fmt.{decimal}
@@ -25,12 +25,10 @@ best_text roster desk seen bid offer =
     ∙ ap (λ (t : List ℕ). t ++ 10 ∷ []) (joined ∙ ap (λ (t : List ℕ). look_text desk (symbol_text roster seen.sym) seen.version (market_word (market_of bid offer)) ++ t) parts)
     ∙ append_assoc (look_text desk (symbol_text roster seen.sym) seen.version (market_word (market_of bid offer))) (later_fields (best_fields roster bid) ++ later_fields (best_fields roster offer)) (10 ∷ [])
 
--- the look and both rows, written one after the other
-pub best_written : (roster : Listing) (desk : ℕ) (seen : Seen) (bid offer : Option Row) (old looked new name market : List ℕ) (version : ℕ)
-    → looked ≡ old ++ look_text desk name version market → new ≡ looked ++ rows_text roster bid offer
+-- the look before both rows
+pub best_written : (roster : Listing) (desk : ℕ) (seen : Seen) (bid offer : Option Row) (told name market : List ℕ) (version : ℕ)
+    → told ≡ look_text desk name version market ++ rows_text roster bid offer
     → symbol_text roster seen.sym ≡ name → version ≡ seen.version → market ≡ market_word (market_of bid offer)
-    → new ≡ old ++ text_of (best_record roster desk seen bid offer ∷ [])
-best_written roster desk seen bid offer old looked new name market version look rows s v m =
-    let here : look_text desk name version market ≡ look_text desk (symbol_text roster seen.sym) seen.version (market_word (market_of bid offer)) = rw (v, m, s) refl in
-    rows ∙ ap (λ (t : List ℕ). t ++ rows_text roster bid offer) (look ∙ ap (λ (t : List ℕ). old ++ t) here)
-    ∙ append_assoc old _ (rows_text roster bid offer) ∙ ap (λ (t : List ℕ). old ++ t) (sym (best_text roster desk seen bid offer))
+    → told ≡ text_of (best_record roster desk seen bid offer ∷ [])
+best_written roster desk seen bid offer told name market version written s v m =
+    written ∙ rw (v, m, ← s) (sym (best_text roster desk seen bid offer))

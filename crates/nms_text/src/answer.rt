@@ -1,15 +1,21 @@
 //! What a desk is told, a record at a time (specs/Answers).
-ghost use Rattle.std.specs.Prelude.{◌≡◌, ◌<◌, ◌++◌, ◌∷◌, [], All, length, map, false, OnOk, IfSome, Ok, Err};
+ghost use Rattle.std.specs.Prelude.{◌≡◌, ◌+◌, ◌<◌, ◌≤◌, ◌++◌, ◌∷◌, [], All, drop, length, map, false, OnOk, IfSome, Ok, Err};
 ghost use Rattle.nms_lines.specs.Text.{later_fields, text_of};
 ghost use Rattle.nms_board.specs.View.{Seen};
 ghost use Rattle.nms_text.specs.Answers.{best_fields, best_record, look_text, market_word, published_record, refusal, rows_text, side_word, taken_record, through_head, through_row, told_record};
 
 use nms_board::Row;
-use nms_lines::{end_record, push_number, push_price, push_text};
+use nms_lines::{
+    end_record, number_before, price_before, push_number, push_price, push_text, text_before,
+    word_before,
+};
 use nms_nbbo::{Market, market_between};
 use nms_quote::{Roster, Side, Sym};
 use nms_units::Price;
 use std::alloc::AllocError;
+
+/// Room for the record of a best bid and offer, which takes at most 147 bytes behind its market and 66 before.
+const BEST_ROOM: usize = 224;
 
 /// Appends the record that refuses the one of that number.
 pub fn tell_refusal(out: &mut Vec<u8>, number: u64, code: &str) -> Result<(), AllocError>
@@ -89,58 +95,60 @@ pub fn tell_best(
         → OnOk result (out.new.items ≡ out.old.items ++ text_of (best_record roster.now desk seen bid.now offer.now ∷ [])) }
 {
     let market = word_of_market(market_between(*bid, *offer));
-    tell_look(out, desk, roster.sym_name(sym), version, market)?;
-    tell_rows(out, roster, bid, offer)
+    let mut buf = [0; BEST_ROOM];
+    let rows = rows_before(&mut buf, roster, bid, offer);
+    let start = look_before(&mut buf, rows, desk, roster.sym_name(sym), version, market);
+    out.extend_from_slice(&buf[start..])
 }
 
-/// Appends the first fields of a best bid and offer: the desk, the symbol, the version, the market.
-fn tell_look(
-    out: &mut Vec<u8>,
-    desk: u8,
-    sym: &str,
-    version: u64,
-    market: &str,
-) -> Result<(), AllocError>
-    ensures { OnOk result (out.new.items ≡ out.old.items ++ look_text desk sym.now version market.now) }
+/// Writes the first fields of a best bid and offer before the rows: the desk, the symbol, the version, the market.
+fn look_before(buf: &mut [u8], end: usize, desk: u8, sym: &str, version: u64, market: &str) -> usize
+    requires room { 66 ≤ end }
+    requires within { end ≤ length buf.old }
+    requires sym { length sym.now ≤ 8 }
+    requires market { length market.now ≤ 8 }
+    ensures within { result ≤ end }
+    ensures written { drop result buf.new ≡ look_text desk sym.now version market.now ++ drop end buf.old }
 {
-    out.extend_from_slice(b"BEST")?;
-    push_number(out, u64::from(desk))?;
-    push_text(out, sym)?;
-    push_number(out, version)?;
-    push_text(out, market)
+    let end = text_before(buf, end, market);
+    let end = number_before(buf, end, version);
+    let end = text_before(buf, end, sym);
+    let end = number_before(buf, end, u64::from(desk));
+    word_before(buf, end, "BEST")
 }
 
-/// Appends a best bid's and a best offer's fields, and ends the record.
-fn tell_rows(
-    out: &mut Vec<u8>,
-    roster: &Roster,
-    bid: &Option<Row>,
-    offer: &Option<Row>,
-) -> Result<(), AllocError>
+/// Writes a best bid's and a best offer's fields, and the end of the record, at the end of a buffer.
+fn rows_before(buf: &mut [u8], roster: &Roster, bid: &Option<Row>, offer: &Option<Row>) -> usize
     requires bid { IfSome bid.now (λ row. row.part < length roster.now.parts) }
     requires offer { IfSome offer.now (λ row. row.part < length roster.now.parts) }
-    ensures { OnOk result (out.new.items ≡ out.old.items ++ rows_text roster.now bid.now offer.now) }
+    requires room { 147 ≤ length buf.old }
+    ensures room { length buf.old ≤ result + 147 }
+    ensures within { result ≤ length buf.old }
+    ensures written { drop result buf.new ≡ rows_text roster.now bid.now offer.now }
 {
-    tell_row(out, roster, bid)?;
-    tell_row(out, roster, offer)?;
-    end_record(out)
+    let end = buf.len() - 1;
+    buf[end] = b'\n';
+    let end = row_before(buf, end, roster, offer);
+    row_before(buf, end, roster, bid)
 }
 
-/// Appends a best row's four fields.
-fn tell_row(out: &mut Vec<u8>, roster: &Roster, row: &Option<Row>) -> Result<(), AllocError>
-    requires { IfSome row.now (λ row. row.part < length roster.now.parts) }
-    ensures { OnOk result (out.new.items ≡ out.old.items ++ later_fields (best_fields roster.now row.now)) }
+/// Writes a best row's four fields, which take at most 73 bytes, so that they end at a place, and tells where they
+/// start.
+fn row_before(buf: &mut [u8], end: usize, roster: &Roster, row: &Option<Row>) -> usize
+    requires row { IfSome row.now (λ row. row.part < length roster.now.parts) }
+    requires room { 73 ≤ end }
+    requires within { end ≤ length buf.old }
+    ensures room { end ≤ result + 73 }
+    ensures within { result ≤ end }
+    ensures written { drop result buf.new ≡ later_fields (best_fields roster.now row.now) ++ drop end buf.old }
 {
     match row {
-        None => {
-            out.extend_from_slice(b",,,,")?;
-            Ok(())
-        }
+        None => word_before(buf, end, ",,,,"),
         Some(row) => {
-            push_text(out, roster.part_name(row.part))?;
-            push_price(out, row.price)?;
-            push_number(out, u64::from(row.size))?;
-            push_number(out, row.receipt)
+            let end = number_before(buf, end, row.receipt);
+            let end = number_before(buf, end, u64::from(row.size));
+            let end = price_before(buf, end, row.price);
+            text_before(buf, end, roster.part_name(row.part))
         }
     }
 }

@@ -1,9 +1,10 @@
 //! Round lots: `specs/Lot`.
 ghost use Rattle.std.specs.Prelude.{◌≡◌, ℕ, ◌≤◌};
 ghost use Rattle.std.specs.Option.{SomeIff};
-ghost use Rattle.nms_units.specs.Lot.{displayed_size};
+ghost use Rattle.nms_units.specs.Lot.{average_lot, displayed_size};
 
 use crate::MOST_LOT;
+use crate::price::Price;
 use crate::shares::Shares;
 use std::marker::Model;
 
@@ -36,6 +37,21 @@ impl Lot {
         } else {
             None
         }
+    }
+
+    /// The round lot by an average closing price (17 CFR 242.600, "round lot"): 100 shares up to
+    /// 250.0000 dollars, 40 up to 1,000.0000, 10 up to 10,000.0000, and 1 above. A price between two
+    /// tiers belongs to the higher-priced one (this product's own rule).
+    pub fn by_average(average: Price) -> Self
+        ensures { result ≡ average_lot average }
+    {
+        let shares = match average.get() {
+            0..=2_500_000 => 100,
+            2_500_001..=10_000_000 => 40,
+            10_000_001..=100_000_000 => 10,
+            _ => 1,
+        };
+        Lot { shares }
     }
 
     /// The number of shares in a lot, 1 to `MOST_LOT`.

@@ -15,6 +15,7 @@ use crate::receipt::Receipt;
 use crate::rule::{PairWriter, Showing};
 use core::mem::{replace, replace_with};
 use nms_quote::{Change, SideQuote};
+use nms_units::Lot;
 use std::alloc::Global;
 use std::marker::Model;
 use std::sync::Wait;
@@ -150,8 +151,8 @@ fn put(tape: &mut Vec<Change>, change: Change)
     requires { vec_len tape.old + 1 ≤ vec_capacity tape.old }
     ensures { tape.new.items ≡ tape.old.items ++ change ∷ [] }
 {
-    // Moving a change takes a mention of the type in it: the prover has to have seen it.
-    let _seen: Option<SideQuote> = None;
+    // Moving a change takes a mention of the types in it: the prover has to have seen them.
+    let _seen: (Option<SideQuote>, Option<Lot>) = (None, None);
     let _put = tape.push(change);
 }
 

@@ -23,12 +23,13 @@ Records that are refused, of a script (answered ERR,number,code) or of a file:
   L2   the number of fields is not that of the kind
   L3   the participant is not on the roster
   L4   the symbol is not on the roster
-  L5   the state is not A, M or H, the side of an order is not B or S, or its flag is not M
+  L5   the state is not A, M or H, the side of an order not B or S, its flag not M, or the word of R not AVG
   L6   a price, or the limit of an order, is not 1 to 7 digits with at most 4 decimals, or is zero
   L7   shares are not 1 to 9 digits, or those of an order are 0
   L8   exactly one of the two fields of a side is empty
-  L9   a change came on a feed that is not its participant's
+  L9   a change came on a feed that is not its participant's, or R on another than A
   L10  the desk is not below the number of desks
+  L14  the round lot of R is not 1 to 4 digits, or not from 1 to 1000
   F2   a change was sent and the queue is full
   F3   a take, and the queue is empty
   F4   a change beyond the limit of the tape

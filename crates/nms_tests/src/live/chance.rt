@@ -6,14 +6,15 @@ use crate::same::same;
 use nms_lines::LineFault;
 use nms_live::{Gate, GatePoint, Live, LiveFault};
 use nms_quote::{Change, Feed, Part, QState, SideQuote, Sym};
-use nms_units::{Price, Shares};
+use nms_units::{Lot, Price, Shares};
 use std::alloc::Global;
 use std::sync::Wait;
 use std::sync::atomic::{AtomicU64, Ordering};
 use std::thread;
 use std::thread::Threads;
 
-/// A record in numbers: of each side the cents over 10 dollars, below 10, and the shares.
+/// A record in numbers: of each side the cents over 10 dollars, below 10, and the shares; of a new round lot its place
+/// among those that are drawn.
 #[derive(Clone, Copy)]
 struct Record {
     kind: u32,
@@ -22,6 +23,7 @@ struct Record {
     state: u32,
     bid: (u32, u32),
     offer: (u32, u32),
+    lot: u32,
 }
 
 /// Cents and shares of a side; of 0 shares there is no quotation.
@@ -31,13 +33,14 @@ fn drawn_side(chance: &mut Chance) -> (u32, u32) {
     (cents, shares)
 }
 
-/// A record of a participant of a feed.
+/// A record of a feed: of one of its participants, or a new round lot, which feed B does not bring.
 fn drawn_record(chance: &mut Chance, feed: Feed) -> Record {
-    let first = match feed {
-        Feed::A => 0u8,
-        Feed::B => 2,
+    let (first, kinds) = match feed {
+        Feed::A => (0u8, 18),
+        Feed::B => (2, 16),
     };
-    let (kind, state) = (chance.draw() % 16, chance.draw() % 8);
+    let kind = chance.draw().checked_rem(kinds).unwrap_or(0);
+    let state = chance.draw() % 8;
     let (part, sym) = if chance.draw() % 2 == 0 {
         (first, chance.draw() % 2)
     } else {
@@ -50,6 +53,25 @@ fn drawn_record(chance: &mut Chance, feed: Feed) -> Record {
         state,
         bid: drawn_side(chance),
         offer: drawn_side(chance),
+        lot: chance.draw() % 12,
+    }
+}
+
+/// A new round lot, and the field or the fields that say it: averages stand at each boundary.
+fn lot_of(place: u32) -> (u16, &'static str) {
+    match place {
+        0 => (1, "1"),
+        1 => (1000, "1000"),
+        2 => (10, "0010"),
+        3 => (151, "151"),
+        4 => (300, "300"),
+        5 => (100, "AVG,250.0000"),
+        6 => (40, "AVG,250.0001"),
+        7 => (40, "AVG,1000.0000"),
+        8 => (10, "AVG,1000.0001"),
+        9 => (10, "AVG,10000.0000"),
+        10 => (1, "AVG,10000.0001"),
+        _ => (100, "100"),
     }
 }
 
@@ -74,6 +96,13 @@ fn change_of(record: &Record) -> Option<Change> {
     Some(match record.kind {
         0 => Change::Withdraw { part },
         1 | 2 => Change::State { part, sym, state },
+        16 | 17 => {
+            let (shares, _) = lot_of(record.lot);
+            Change::Lot {
+                sym,
+                lot: Lot::new(shares)?,
+            }
+        }
         _ => Change::Quote {
             part,
             sym,
@@ -110,6 +139,10 @@ fn record_text(alloc: Global, record: &Record) -> Option<String> {
     match record.kind {
         0 => format!(in alloc; "X,{part}").ok(),
         1 | 2 => format!(in alloc; "S,{part},{sym},{state}").ok(),
+        16 | 17 => {
+            let (_, fields) = lot_of(record.lot);
+            format!(in alloc; "R,{sym},{fields}").ok()
+        }
         _ => {
             let bid = side_text(alloc, record.bid)?;
             let offer = side_text(alloc, record.offer)?;
@@ -136,8 +169,29 @@ fn refused(number: u32) -> (&'static str, bool, &'static str, LineFault) {
     }
 }
 
+/// A new round lot that is refused, of feed A or of feed B: the record and the fault.
+fn refused_lot(number: u32, feed: Feed) -> (&'static str, LineFault) {
+    let own = match feed {
+        Feed::A => LineFault::BadLot,
+        Feed::B => LineFault::WrongFeed,
+    };
+    match number {
+        11 => ("R,ABC", LineFault::FieldCount),
+        12 => ("R,XYZ,40", LineFault::UnknownSymbol),
+        13 => ("R,ABC,AV,10.00", LineFault::BadState),
+        14 => ("R,ABC,AVG,0", LineFault::BadPrice),
+        15 => ("R,ABC,0", own),
+        16 => ("R,PNY,1001", own),
+        _ => ("R,PNY,00001", own),
+    }
+}
+
 /// A refused record as a text, and its fault.
 fn refused_text(alloc: Global, number: u32, feed: Feed) -> Option<(String, LineFault)> {
+    if number > 10 {
+        let (text, fault) = refused_lot(number, feed);
+        return Some((String::from_str(alloc, text).ok()?, fault));
+    }
     let (front, is_own, behind, fault) = refused(number);
     let part = if is_own == (feed == Feed::A) {
         "N"
@@ -173,8 +227,8 @@ fn add_record(alloc: Global, chance: &mut Chance, feed: Feed, sent: &mut Sent) -
     let line = record_text(alloc, &record)?;
     add_line(&mut sent.text, line.as_str(), chance.draw() % 8)?;
     if sent.fault.is_none() {
-        // Moving a change takes a mention of the type in it: the prover has to have seen it.
-        let _seen: Option<SideQuote> = None;
+        // Moving a change takes a mention of the types in it: the prover has to have seen them.
+        let _seen: (Option<SideQuote>, Option<Lot>) = (None, None);
         let change = change_of(&record)?;
         sent.changes.push(change).ok()?;
     }
@@ -183,7 +237,7 @@ fn add_record(alloc: Global, chance: &mut Chance, feed: Feed, sent: &mut Sent) -
 
 /// Adds a record that is refused.
 fn add_refused(alloc: Global, chance: &mut Chance, feed: Feed, sent: &mut Sent) -> Option<()> {
-    let (line, fault) = refused_text(alloc, chance.draw() % 11, feed)?;
+    let (line, fault) = refused_text(alloc, chance.draw() % 18, feed)?;
     add_line(&mut sent.text, line.as_str(), chance.draw() % 8)?;
     if sent.fault.is_none() {
         sent.fault = Some(fault);

@@ -1,4 +1,5 @@
 //! A plain slow program that judges what a live run came to. It is told what the feeds sent and what was asked for.
+use super::plain_look::are_shown;
 use super::{Wanted, order_of};
 use nms_board::Boards;
 use nms_cert::confirm;
@@ -7,13 +8,21 @@ use nms_live::{Answer, Live};
 use nms_quote::Change;
 use std::alloc::Global;
 
-/// Whether the tape has the changes of both feeds, those of each in order, and no others. The participants of feed A
-/// are the first two.
+/// Whether a change has to come from feed A: one of the first two participants, or a new round lot.
+fn is_of_a(change: &Change) -> bool {
+    match *change {
+        Change::Quote { part, .. } | Change::State { part, .. } | Change::Withdraw { part } =>
+            part.get() < 2,
+        Change::Lot { .. } => true,
+    }
+}
+
+/// Whether the tape has the changes of both feeds, those of each in order, and no others.
 fn is_merge(tape: &[Change], from_a: &[Change], from_b: &[Change]) -> bool {
     let mut rest_a = from_a.iter();
     let mut rest_b = from_b.iter();
     for change in tape {
-        let due = if change.part().get() < 2 {
+        let due = if is_of_a(change) {
             rest_a.next()
         } else {
             rest_b.next()
@@ -126,10 +135,13 @@ fn is_confirmed_on(mut boards: Boards, fees: &FeeBook, tape: &[Change], answer: 
     confirm(&view, &plan.order, fees, plan, &answer.certificate).is_ok()
 }
 
-/// Whether the checker confirms an answer, over a board of its own.
+/// Whether the checker confirms an answer, over a board of its own, and its legs take what a plain look at each change
+/// before shows.
 fn is_confirmed(alloc: Global, setup: &Setup, tape: &[Change], answer: &Answer) -> bool {
     match Boards::new(alloc, setup.roster()) {
-        Ok(boards) => is_confirmed_on(boards, setup.fees(), tape, answer),
+        Ok(boards) => {
+            is_confirmed_on(boards, setup.fees(), tape, answer) && are_shown(tape, &answer.plan)
+        }
         Err(_) => false,
     }
 }

@@ -4,7 +4,7 @@ use crate::same::same;
 use nms_fees::read_setup;
 use nms_lines::{LineFault, read_plan};
 use nms_live::{Answer, Gate, GatePoint, Live, LiveFault, OpenGate};
-use nms_quote::{Certificate, Change, Feed, Leg, Plan, Roster};
+use nms_quote::{Certificate, Change, Feed, Leg, Part, Plan, Roster};
 use nms_scripts::SETUP_K;
 use std::alloc::Global;
 use std::process::Abort;
@@ -50,7 +50,8 @@ pub(crate) fn first_told(answers: &[Answer]) -> Option<(u8, usize, u64, u32)> {
 
 /// The place in the tape of the first change of a participant.
 fn place_of(tape: &[Change], part: u8) -> Option<usize> {
-    tape.iter().position(|change| change.part().get() == part)
+    let part = Part::new(part)?;
+    tape.iter().position(|change| change.part() == Some(part))
 }
 
 /// Whether none is below the one before it.
@@ -157,11 +158,15 @@ fn the_first_refused_record_is_named_and_feed_a_goes_first(rt: HostRuntime) {
     let stranger = b"Q,N,ABC,A,,,10.00,300\nQ,Z,ABC,A,,,10.02,100\n".as_slice();
     let short = b"Q,N,ABC,A,,,10.00,300\nQ,N,ABC,A,10.00,100\n".as_slice();
     let unknown = b"Z\nQ,Z,ABC,A,,,10.02,100\n".as_slice();
+    let lot = b"R,ABC,40\n".as_slice();
+    let no_lot = b"R,ABC,1000\nR,ABC,1001\n".as_slice();
     for (text_a, text_b, feed, number, fault_told) in [
         (feed_a(), stranger, Feed::B, 1, LineFault::WrongFeed),
         (short, unknown, Feed::A, 2, LineFault::FieldCount),
         (feed_a(), unknown, Feed::B, 1, LineFault::UnknownKind),
         (short, feed_b(), Feed::A, 2, LineFault::FieldCount),
+        (lot, lot, Feed::B, 1, LineFault::WrongFeed),
+        (no_lot, lot, Feed::A, 2, LineFault::BadLot),
     ] {
         let told = fault(&rt, rt.alloc(), 1000, (text_a, text_b), &OpenGate);
         let want = LiveFault::Line {

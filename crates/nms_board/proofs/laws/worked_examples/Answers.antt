@@ -17,4 +17,9 @@ returns c = record {
   a_withdrawal_leaves_no_offer = refl;
   a_bid_after_a_withdrawal_is_new = refl;
   an_offer_after_a_withdrawal_is_new = refl;
+  less_than_a_lot_is_hidden = refl;
+  a_smaller_lot_brings_to_light = refl;
+  a_lot_of_one_shows_all = refl;
+  a_halt_hides_in_another_lot = refl;
+  a_halt_lifted_shows_in_the_lot_of_then = refl;
 }

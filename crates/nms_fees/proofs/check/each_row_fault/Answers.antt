@@ -11,5 +11,5 @@ pub returns : goal.returns
 returns c =
     let whole = take_all c.loop-row.row-index c.args.rows.now (omega arith) in
     c.loop-row.invariant
-    ∙ ap (fold (λ found row. lesser found (row_fault c.args.section (view row))) None) whole
-    ∙ sym (fold-map lesser (row_fault c.args.section) None (map view c.args.rows.now) ∙ fold-map (λ found row. lesser found (row_fault c.args.section row)) view None c.args.rows.now)
+    ∙ ap (fold (λ found row. lesser found (row_fault c.args.caps c.args.section (view row))) None) whole
+    ∙ sym (fold-map lesser (row_fault c.args.caps c.args.section) None (map view c.args.rows.now) ∙ fold-map (λ found row. lesser found (row_fault c.args.caps c.args.section row)) view None c.args.rows.now)

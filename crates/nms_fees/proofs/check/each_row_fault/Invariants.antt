@@ -6,4 +6,4 @@ use Rattle.nms_fees.specs.Places.{row_fault}
 use Rattle.nms_fees.proofs.check.each_row_fault.Given as goal
 
 abbrev pub invariant-loop-row : goal.invariant-loop-row
-invariant-loop-row l = l.least ≡ fold (λ found row. lesser found (row_fault l.section (view row))) None (take l.row-index l.rows)
+invariant-loop-row l = l.least ≡ fold (λ found row. lesser found (row_fault l.caps l.section (view row))) None (take l.row-index l.rows)

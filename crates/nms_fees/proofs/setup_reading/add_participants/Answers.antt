@@ -6,4 +6,4 @@ use Rattle.nms_fees.proofs.setup_reading.add_participants.Goals as goal
 
 pub add_participant-requires : goal.add_participant-requires
 add_participant-requires c =
-    unrefused section.Participant (λ row. feed_named (text_at (codes "feed") (table_of row))) c.args.rows.now c.loop-row.row-index c.row-item.result c.loop-row.roster.parts c.requires.sound c.loop-row-test.true c.row-item.is c.loop-row.invariant.parts
+    unrefused c.requires.sound.0 section.Participant (λ row. feed_named (text_at (codes "feed") (table_of row))) c.args.rows.now c.loop-row.row-index c.row-item.result c.loop-row.roster.parts c.requires.sound.1 c.loop-row-test.true c.row-item.is c.loop-row.invariant.parts

@@ -6,7 +6,7 @@ use Rattle.nms_fees.proofs.setup_reading.add_symbols.Goals as goal
 
 pub add_symbol-requires-clause-unrefused : goal.add_symbol-requires-clause-unrefused
 add_symbol-requires-clause-unrefused c =
-    unrefused section.Symbol (λ row. count_at (codes "lot") (table_of row)) c.args.rows.now c.loop-row.row-index c.row-item.result c.loop-row.roster.syms c.requires.sound c.loop-row-test.true c.row-item.is c.loop-row.invariant.syms
+    unrefused c.requires.sound.0 section.Symbol (λ row. count_at (codes "lot") (table_of row)) c.args.rows.now c.loop-row.row-index c.row-item.result c.loop-row.roster.syms c.requires.sound.1 c.loop-row-test.true c.row-item.is c.loop-row.invariant.syms
 
 pub add_symbol-requires-clause-sound : goal.add_symbol-requires-clause-sound
-add_symbol-requires-clause-sound c = row_sound section.Symbol c.args.rows.now c.loop-row.row-index c.row-item.result c.requires.sound c.loop-row-test.true c.row-item.is
+add_symbol-requires-clause-sound c = (c.requires.sound.0, row_sound c.requires.sound.0 section.Symbol c.args.rows.now c.loop-row.row-index c.row-item.result c.requires.sound.1 c.loop-row-test.true c.row-item.is)

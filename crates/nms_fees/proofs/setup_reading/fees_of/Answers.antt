@@ -1,6 +1,12 @@
-use Rattle.nms_fees.specs.declared.section.Section.TheVariants as section
-use Rattle.nms_fees.proofs.SoundLemmas.{row_sound}
+use Rattle.std.proofs.Common.{map, ap, subst, sym, ◌∙◌, arith}
+use Rattle.std.proofs.lemmas.List.{take_all}
+use Rattle.toml.specs.View.{view}
+use Rattle.nms_fee_book.specs.Fees.{AreCapped}
+use Rattle.nms_fees.specs.Setup.{schedule_of}
+use Rattle.nms_fees.proofs.SoundLemmas.{charges_of_rows}
 use Rattle.nms_fees.proofs.setup_reading.fees_of.Goals as goal
 
-pub schedule_of-requires : goal.schedule_of-requires
-schedule_of-requires c = row_sound section.Participant c.args.rows.now c.loop-row.row-index c.row-item.result c.requires c.loop-row-test.true c.row-item.is
+pub new-requires : goal.new-requires
+new-requires c =
+    let whole = c.loop-row.invariant ∙ ap (λ rows. map schedule_of (map view rows)) (take_all c.loop-row.row-index c.args.rows.now (omega arith)) in
+    subst (AreCapped c.args.caps) (sym whole) (charges_of_rows c.args.caps (map view c.args.rows.now) c.requires)

@@ -4,4 +4,4 @@ use Rattle.nms_fees.specs.Setup.{schedule_of}
 use Rattle.nms_fees.proofs.setup_reading.fees_of.Given as goal
 
 abbrev pub invariant-loop-row : goal.invariant-loop-row
-invariant-loop-row l = l.fees ≡ map schedule_of (map view (take l.row-index l.rows))
+invariant-loop-row l = l.schedules.items ≡ map schedule_of (map view (take l.row-index l.rows))

@@ -1,21 +1,31 @@
-use Rattle.std.proofs.Common.{◌≡◌, ℕ, ◌≤◌, Fits, w8, arith, ap, ◌∙◌, sym, subst, length, map}
+use Rattle.std.proofs.Common.{◌≡◌, None, List, ℕ, ◌≤◌, Fits, w8, arith, ap, ◌∙◌, sym, subst, length, map}
 use Rattle.std.proofs.lemmas.List.{length-map}
+use Rattle.toml.specs.Data.{Data}
 use Rattle.toml.specs.View.{view, table_view}
 use Rattle.nms_quote.specs.declared.TheConstants.{MOST_CHANGES}
 use Rattle.nms_fees.specs.declared.TheConstants.{LEAST_QUEUE, MOST_DESKS, MOST_QUEUE}
-use Rattle.nms_fee_book.specs.Fees.{AreCapped}
+use Rattle.nms_fee_book.specs.Fees.{AreCapped, Charges}
+use Rattle.nms_fee_book.specs.declared.caps.Caps.{Caps}
+use Rattle.nms_fees.specs.Places.{caps_in, rows_fault}
 use Rattle.nms_fees.specs.Setup.{participant_of, schedule_of}
+use Rattle.nms_fees.specs.declared.section.Section.TheVariants as section
 use Rattle.nms_fees.proofs.SoundLemmas.{tape_limit_of, queue_of, desks_of, participants_of, symbols_of, charges_of_rows}
 use Rattle.nms_fees.proofs.setup_reading.settings_of.Goals as goal
 
 pub roster_of-requires-clause-participants : goal.roster_of-requires-clause-participants
-roster_of-requires-clause-participants c = participants_of (table_view c.args.document.now) c.requires (map view c.rows_at-participants.result.now) c.rows_at-participants.ensures
+roster_of-requires-clause-participants c = (caps_in (table_view c.args.document.now), participants_of (table_view c.args.document.now) c.requires (map view c.rows_at-participants.result.now) c.rows_at-participants.ensures)
 
 pub roster_of-requires-clause-symbols : goal.roster_of-requires-clause-symbols
-roster_of-requires-clause-symbols c = symbols_of (table_view c.args.document.now) c.requires (map view c.rows_at-symbols.result.now) c.rows_at-symbols.ensures
+roster_of-requires-clause-symbols c = (caps_in (table_view c.args.document.now), symbols_of (table_view c.args.document.now) c.requires (map view c.rows_at-symbols.result.now) c.rows_at-symbols.ensures)
+
+-- by the caps that were read
+kept : (rows : List Data) (read keeps : Caps) → read ≡ keeps → rows_fault keeps section.Participant rows ≡ None → rows_fault read section.Participant rows ≡ None
+kept rows read keeps e h = ap (λ (by : Caps). rows_fault by section.Participant rows) e ∙ h
 
 pub fees_of-requires : goal.fees_of-requires
-fees_of-requires c = participants_of (table_view c.args.document.now) c.requires (map view c.rows_at-participants.result.now) c.rows_at-participants.ensures
+fees_of-requires c =
+    let rows = map view c.rows_at-participants.result.now in
+    kept rows c.caps_in.result _ c.caps_in.ensures (participants_of (table_view c.args.document.now) c.requires rows c.rows_at-participants.ensures)
 
 fits_a_byte : (n m : ℕ) → n ≡ m → m ≤ MOST_DESKS → Fits w8 n
 fits_a_byte n m e h = omega arith
@@ -39,6 +49,6 @@ invariant_of-result c =
       queue_high = queue.1;
       desks_low = desks.0;
       desks_high = desks.1;
-      fees_of_each = ap length c.in_ok-fees_of.ensures.value ∙ length-map rows schedule_of ∙ sym (length-map rows participant_of) ∙ sym (ap length c.in_ok-roster_of.ensures.parts);
-      fees_capped = subst AreCapped (sym c.in_ok-fees_of.ensures.value) (charges_of_rows rows (participants_of (table_view c.args.document.now) c.requires rows c.rows_at-participants.ensures));
+      fees_of_each = ap (λ (fees : Charges). length fees.schedules) c.in_ok-fees_of.ensures.value ∙ length-map rows schedule_of ∙ sym (length-map rows participant_of) ∙ sym (ap length c.in_ok-roster_of.ensures.parts);
+      fees_capped = subst (λ (fees : Charges). AreCapped fees.caps fees.schedules) (sym c.in_ok-fees_of.ensures.value) (charges_of_rows c.caps_in.result rows (kept rows c.caps_in.result _ c.caps_in.ensures (participants_of (table_view c.args.document.now) c.requires rows c.rows_at-participants.ensures)));
     }

@@ -3,7 +3,7 @@ use Rattle.nms_quote.specs.Roster.{Listing, sizes_of}
 use Rattle.nms_quote.specs.Tape.{version}
 use Rattle.nms_quote.specs.declared.plan.Plan.{Plan}
 use Rattle.nms_board.specs.View.{Seen, view_of}
-use Rattle.nms_fee_book.specs.declared.fee_schedule.FeeSchedule.{FeeSchedule}
+use Rattle.nms_fee_book.specs.Fees.{Charges}
 use Rattle.nms_cert.specs.Doubts.{doubt_of}
 use Rattle.nms_files.specs.Audit.{seen_by}
 use Rattle.nms_files.proofs.auditing.audit.Goals as goal
@@ -16,7 +16,7 @@ returns-in-Err-confirm-clause-found c =
     ∙ (ap (λ (p : Plan). view_of (sizes_of c.roster.result.now) (version p.version c.args.changes.now) p.order.sym) c.plan.view_is
     ∙ ap (λ (r : Listing). view_of (sizes_of r) (version c.args.plan.now.version c.args.changes.now) c.args.plan.now.order.sym) c.roster.ensures) in (
       search rules,
-      ap (λ (f : List FeeSchedule). doubt_of (seen_by c.args.setup.now c.args.changes.now c.args.plan.now) c.args.plan.now.order f c.args.plan.now c.args.certificate.now.items) (sym c.fees.ensures.value)
+      ap (λ (f : Charges). doubt_of (seen_by c.args.setup.now c.args.changes.now c.args.plan.now) c.args.plan.now.order f c.args.plan.now c.args.certificate.now.items) (sym c.fees.ensures.value)
           ∙ (ap (λ (s : Seen). doubt_of s c.args.plan.now.order c.fees.result.now c.args.plan.now c.args.certificate.now.items) (sym seen)
           ∙ sym c.in-Err-confirm.ensures.first),
     )

@@ -6,4 +6,4 @@ pub returns : goal.returns
 returns c =
     is_some_run c.args.setup.now (c.args.feed_a.now ∷ c.args.feed_b.now ∷ []) c.args.orders.now c.args.live.now
     (omega (arith, c.queue-room.ensures))
-    c.tape_and_queue_are_a_merge.ensures.participants c.requires
+    c.tape_and_queue_are_a_merge.ensures.belonging c.requires

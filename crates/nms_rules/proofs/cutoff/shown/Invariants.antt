@@ -1,10 +1,11 @@
 use Rattle.std.proofs.Common.{◌≡◌, ◌≤◌, ◌*◌, take}
 use Rattle.nms_rules.specs.Assignment.{total}
 use Rattle.nms_rules.specs.Usable.{Usable}
+use Rattle.nms_rules.specs.declared.TheConstants.{MOST_SIZE}
 use Rattle.nms_rules.proofs.cutoff.shown.Given as goal
 
 abbrev pub invariant-loop-row : goal.invariant-loop-row
 invariant-loop-row l = record {
   sum : l.sum ≡ total (λ (row : Usable). row.size) (take l.row-index l.rows);
-  within : l.sum ≤ l.row-index * 4294967295;
+  within : l.sum ≤ l.row-index * MOST_SIZE;
 }

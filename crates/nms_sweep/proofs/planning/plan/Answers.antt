@@ -1,4 +1,5 @@
-use Rattle.std.proofs.Common.{◌≡◌, List, Option, refl, ap, sym, ◌∙◌, subst, arith}
+use Rattle.std.proofs.Common.{◌≡◌, All, List, Option, refl, ap, sym, ◌∙◌, subst, arith}
+use Rattle.std.specs.List.Sorted.{IsPermutation}
 use Rattle.nms_quote.specs.Terms.{Terms}
 use Rattle.nms_quote.specs.contracts.order.Order.{the_view}
 use Rattle.nms_quote.specs.declared.certificate.Cut.{Cut}
@@ -10,9 +11,12 @@ use Rattle.nms_rules.specs.Faultless.{sum_of}
 use Rattle.nms_rules.specs.Usable.{Usable, usable}
 use Rattle.nms_rules.proofs.Offered.{none_of_faultless, accepted_optimal}
 use Rattle.nms_sweep.specs.Choice.{cost_chosen, legs_chosen}
+use Rattle.nms_sweep.specs.Cutoffs.{IsCutoffOf}
 use Rattle.nms_sweep.specs.Filling.{AreExact}
 use Rattle.nms_sweep.specs.Order.{AreInOrder}
 use Rattle.nms_sweep.specs.declared.choice.Choice.{Choice}
+use Rattle.nms_sweep.specs.declared.cutoffs.Cutoff.{Cutoff}
+use Rattle.nms_sweep.proofs.CutoffLemmas.{sums_by_cost}
 use Rattle.nms_sweep.proofs.ExactLemmas.{exact}
 use Rattle.nms_sweep.proofs.FillingLemmas.{filling}
 use Rattle.nms_sweep.proofs.PlanLemmas.{Fills, Found, accepted, faultless, found_from, legs_found, rising}
@@ -27,20 +31,29 @@ legs_chosen-legs-requires-clause-few c =
     let fees = c.args.fees.now in
     let rows : List Usable = usable seen asked fees in
     let by_price : List Usable = c.new-cutoffs.result.rows in
-    let by_cost : List Usable = c.in_order-cheapest_first.result.items in
-    let cuts : List Cut = c.cuts_of-cuts.result.items in
+    let by_cost : List Usable = c.put_in_order.new.ordered.items in
+    let cuts : List Cut = c.cuts_of-cuts.result.0.items in
     let most = c.fillable-most.result in
-    let found : Option Choice = c.chosen-choice.result in
-    let last : c.rows-rows.result.now ≡ by_price = c.rows-rows.ensures.rows ∙ c.cuts_of-cuts.ensures.rows in
+    let found : Option Choice = c.cuts_of-cuts.result.1 in
+    let last : c.rows-3.result.now ≡ by_price = c.rows-3.ensures.rows ∙ c.cuts_of-cuts.ensures.rows in
     let walk = c.new-cutoffs.ensures in
     let all : Found seen asked fees by_price by_cost cuts most found =
-    found_from seen asked fees (the_view c.order.inside) c.rows.result.now c.rows-2.result.now c.rows-rows.result.now c.as_slice.result.now c.new-cutoffs.result.to_come by_price by_cost cuts most found
-    c.order.view_is c.version-version.ensures.bids c.version-version.ensures.offers walk.rows walk.ordered walk.all c.rows.ensures.rows c.rows-2.ensures.rows last c.as_slice.ensures.value
-    c.in_order-cheapest_first.ensures.same c.in_order-cheapest_first.ensures.ordered c.fillable-most.ensures.most c.cuts_of-cuts.ensures.cuts c.chosen-choice.ensures in
+    found_from seen asked fees (the_view c.order.inside) c.rows.result.now c.rows-2.result.now c.as_slice.result.now c.new-cutoffs.result.to_come by_price by_cost cuts most found
+    c.order.view_is c.version-version.ensures.bids c.version-version.ensures.offers walk.rows walk.ordered walk.all c.rows.ensures.rows c.rows-2.ensures.rows c.as_slice.ensures.value
+    c.put_in_order.ensures.same c.put_in_order.ensures.ordered c.fillable-most.ensures.most c.cuts_of-cuts.ensures.cuts c.cuts_of-cuts.ensures.best in
     let fills = legs_found seen asked fees by_price by_cost cuts most found all in
-    let same : legs_chosen c.rows-rows.result.now most found c.rows-rows.result.now ≡ legs_chosen rows most found by_price =
+    let same : legs_chosen c.rows-3.result.now most found c.rows-3.result.now ≡ legs_chosen rows most found by_price =
     ap (λ (some : List Usable). legs_chosen some most found some) last ∙ legs_same rows by_price walk.rows most found in
     omega (arith, ap sum_of same, fills.sum, all.fillable_is, c.fillable-most.ensures.within)
+
+pub cuts_of-cuts-requires-clause-sums : goal.cuts_of-cuts-requires-clause-sums
+cuts_of-cuts-requires-clause-sums c =
+    let walk = c.new-cutoffs.ensures in
+    let by_price : List Usable = c.new-cutoffs.result.rows in
+    let same = subst (λ (some : List Usable). IsPermutation some c.put_in_order.new.ordered.items) c.rows-2.ensures.rows c.put_in_order.ensures.same in
+    let asked = ap (λ (some : Terms). some.side) c.order.view_is in
+    subst (λ side. All (λ (cutoff : Cutoff). IsCutoffOf side c.as_slice.result.now cutoff) c.new-cutoffs.result.to_come) (sym asked)
+    (sums_by_cost c.args.order.now.side (usable c.args.view.now c.args.order.now c.args.fees.now) by_price c.put_in_order.new.ordered.items c.as_slice.result.now c.new-cutoffs.result.to_come walk.rows same c.as_slice.ensures.value walk.cutoffs)
 
 pub returns : goal.returns
 returns c =
@@ -49,18 +62,18 @@ returns c =
     let fees = c.args.fees.now in
     let rows : List Usable = usable seen asked fees in
     let by_price : List Usable = c.new-cutoffs.result.rows in
-    let by_cost : List Usable = c.in_order-cheapest_first.result.items in
-    let cuts : List Cut = c.cuts_of-cuts.result.items in
+    let by_cost : List Usable = c.put_in_order.new.ordered.items in
+    let cuts : List Cut = c.cuts_of-cuts.result.0.items in
     let most = c.fillable-most.result in
-    let found : Option Choice = c.chosen-choice.result in
-    let last : c.rows-rows.result.now ≡ by_price = c.rows-rows.ensures.rows ∙ c.cuts_of-cuts.ensures.rows in
+    let found : Option Choice = c.cuts_of-cuts.result.1 in
+    let last : c.rows-3.result.now ≡ by_price = c.rows-3.ensures.rows ∙ c.cuts_of-cuts.ensures.rows in
     let walk = c.new-cutoffs.ensures in
     let all : Found seen asked fees by_price by_cost cuts most found =
-    found_from seen asked fees (the_view c.order.inside) c.rows.result.now c.rows-2.result.now c.rows-rows.result.now c.as_slice.result.now c.new-cutoffs.result.to_come by_price by_cost cuts most found
-    c.order.view_is c.version-version.ensures.bids c.version-version.ensures.offers walk.rows walk.ordered walk.all c.rows.ensures.rows c.rows-2.ensures.rows last c.as_slice.ensures.value
-    c.in_order-cheapest_first.ensures.same c.in_order-cheapest_first.ensures.ordered c.fillable-most.ensures.most c.cuts_of-cuts.ensures.cuts c.chosen-choice.ensures in
+    found_from seen asked fees (the_view c.order.inside) c.rows.result.now c.rows-2.result.now c.as_slice.result.now c.new-cutoffs.result.to_come by_price by_cost cuts most found
+    c.order.view_is c.version-version.ensures.bids c.version-version.ensures.offers walk.rows walk.ordered walk.all c.rows.ensures.rows c.rows-2.ensures.rows c.as_slice.ensures.value
+    c.put_in_order.ensures.same c.put_in_order.ensures.ordered c.fillable-most.ensures.most c.cuts_of-cuts.ensures.cuts c.cuts_of-cuts.ensures.best in
     let fills = legs_found seen asked fees by_price by_cost cuts most found all in
-    let same : legs_chosen c.rows-rows.result.now most found c.rows-rows.result.now ≡ legs_chosen rows most found by_price =
+    let same : legs_chosen c.rows-3.result.now most found c.rows-3.result.now ≡ legs_chosen rows most found by_price =
     ap (λ (some : List Usable). legs_chosen some most found some) last ∙ legs_same rows by_price walk.rows most found in
     let legs : c.legs_chosen-legs.result.items ≡ legs_chosen rows most found by_price = c.legs_chosen-legs.ensures ∙ same in
     let filled = subst (λ (one : List Leg). Fills asked.side fees by_price (fillable rows asked.shares) (cost_chosen found) one) (sym legs) fills in

@@ -12,10 +12,11 @@ use Rattle.nms_board.proofs.board.Boards.part_ranked.Goals as goal
 
 pub returns-in-Some : goal.returns-in-Some
 returns-in-Some c =
-    let board : Board = record { sizes = record { parts = c.self.inside.parts; lots = c.self.inside.lots.items }; cells = c.self.inside.cells.items; applied = c.self.inside.applied } in
+    let board : Board = record { sizes = record { parts = c.self.inside.parts; lots = c.self.inside.opening.items }; lots = c.self.inside.lots.items; cells = c.self.inside.cells.items; applied = c.self.inside.applied } in
     let orders : SymbolRanks = c.index-orders.result.now in
     let ranks = c.self.inside.ranks.items in
-    let below : c.args.sym < length board.sizes.lots = subst (λ (b : Board). c.args.sym < length b.sizes.lots) (sym c.self.view_is) c.requires in
+    let in_syms : c.args.sym < length board.sizes.lots = subst (λ (b : Board). c.args.sym < length b.sizes.lots) (sym c.self.view_is) c.requires in
+    let below : c.args.sym < length board.lots = omega (arith, in_syms, c.self.invariant.0.shape.lots) in
     let there : slice_get ranks c.args.sym ≡ Some orders =
     slice_get_read ranks (length ranks) c.args.sym orders refl (omega (arith, c.self.invariant.1.symbols, below)) (c.index-orders.ensures ∙ ap (λ n. get_or ranks n orders) (c.from.ensures ∙ c.get.ensures.place)) in
     let place_is : slice_get (order_on c.args.side orders).places c.args.at ≡ Some c.in-Some.place = sym c.place.ensures ∙ c.in-Some.is in
@@ -31,10 +32,11 @@ returns-in-Some c =
 
 pub returns-in-None : goal.returns-in-None
 returns-in-None c =
-    let board : Board = record { sizes = record { parts = c.self.inside.parts; lots = c.self.inside.lots.items }; cells = c.self.inside.cells.items; applied = c.self.inside.applied } in
+    let board : Board = record { sizes = record { parts = c.self.inside.parts; lots = c.self.inside.opening.items }; lots = c.self.inside.lots.items; cells = c.self.inside.cells.items; applied = c.self.inside.applied } in
     let orders : SymbolRanks = c.index-orders.result.now in
     let ranks = c.self.inside.ranks.items in
-    let below : c.args.sym < length board.sizes.lots = subst (λ (b : Board). c.args.sym < length b.sizes.lots) (sym c.self.view_is) c.requires in
+    let in_syms : c.args.sym < length board.sizes.lots = subst (λ (b : Board). c.args.sym < length b.sizes.lots) (sym c.self.view_is) c.requires in
+    let below : c.args.sym < length board.lots = omega (arith, in_syms, c.self.invariant.0.shape.lots) in
     let there : slice_get ranks c.args.sym ≡ Some orders =
     slice_get_read ranks (length ranks) c.args.sym orders refl (omega (arith, c.self.invariant.1.symbols, below)) (c.index-orders.ensures ∙ ap (λ n. get_or ranks n orders) (c.from.ensures ∙ c.get.ensures.place)) in
     record {

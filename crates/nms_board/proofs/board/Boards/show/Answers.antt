@@ -1,41 +1,53 @@
-use Rattle.std.proofs.Common.{◌≡◌, ◌+◌, [], ◌++◌, slice_get, Some, ◌∙◌, sym, ap, subst, arith}
+use Rattle.std.proofs.Common.{◌≡◌, ◌+◌, ◌<◌, get_or, length, refl, sym, ap, ◌∙◌, arith}
 use Rattle.std.proofs.lemmas.Grind.{common_steps}
-use Rattle.std.specs.List.{filter_map, range_with_len, cons_option}
-use Rattle.nms_quote.specs.declared.side_quote.Side.{Side}
 use Rattle.nms_quote.specs.declared.side_quote.Side.TheVariants.{Bid, Offer}
-use Rattle.nms_board.specs.Shown.{row_held, rows_held, row_of_cell}
-use Rattle.nms_board.specs.Cells.{Board, place_of}
-use Rattle.nms_board.proofs.RowLemmas.{length-filter_map-range, rows_more}
+use Rattle.nms_board.proofs.RowLemmas.{IsWalk, walk_all, walk_long, walk_more, walk_of, walk_room}
 use Rattle.nms_board.proofs.board.Boards.show.Goals as goal
 
+pub loop-cell-init : goal.loop-cell-init
+loop-cell-init c = record { place = refl; bids = c.requires.bids; offers = c.requires.offers }
+
+pub unwrap-part-requires : goal.unwrap-part-requires
+unwrap-part-requires c =
+    let walk : IsWalk c.args.self.now c.args.sym c.args.lot c.symbol_cells-cell-items.result.now =
+    walk_of _ c.args.self.now c.args.sym c.args.lot c.from.result c.deref.result.now c.symbol_cells-cell-items.result.now c.self.view_is c.self.invariant.0.shape c.requires.lot (c.from.ensures ∙ c.get.ensures.place) c.deref.ensures.value c.symbol_cells-cell-items.ensures in
+    let long = walk_long c.args.self.now c.args.sym c.args.lot c.symbol_cells-cell-items.result.now walk in
+    let few : c.loop-cell.place < 32 = omega (arith, c.loop-cell.invariant.place, c.loop-cell-test.true, long, walk.shape.parts) in
+    grind (arith, common_steps)
+
 pub push_some-requires : goal.push_some-requires
-push_some-requires c = rw c.loop-place.invariant.bids (omega (arith, length-filter_map-range (row_held c.args.self.now c.args.sym Bid) 0 c.loop-place.place))
+push_some-requires c =
+    let walk : IsWalk c.args.self.now c.args.sym c.args.lot c.symbol_cells-cell-items.result.now =
+    walk_of _ c.args.self.now c.args.sym c.args.lot c.from.result c.deref.result.now c.symbol_cells-cell-items.result.now c.self.view_is c.self.invariant.0.shape c.requires.lot (c.from.ensures ∙ c.get.ensures.place) c.deref.ensures.value c.symbol_cells-cell-items.ensures in
+    walk_room c.args.self.now c.args.sym c.args.lot c.loop-cell.place c.symbol_cells-cell-items.result.now Bid c.loop-cell.bids.items walk (omega (arith, c.loop-cell.invariant.place, c.loop-cell-test.true)) c.loop-cell.invariant.bids
 
-pub push_some-requires-in-loop-place : goal.push_some-requires-in-loop-place
-push_some-requires-in-loop-place c = rw c.loop-place.invariant.offers (omega (arith, length-filter_map-range (row_held c.args.self.now c.args.sym Offer) 0 c.loop-place.place))
+pub push_some-requires-in-loop-cell : goal.push_some-requires-in-loop-cell
+push_some-requires-in-loop-cell c =
+    let walk : IsWalk c.args.self.now c.args.sym c.args.lot c.symbol_cells-cell-items.result.now =
+    walk_of _ c.args.self.now c.args.sym c.args.lot c.from.result c.deref.result.now c.symbol_cells-cell-items.result.now c.self.view_is c.self.invariant.0.shape c.requires.lot (c.from.ensures ∙ c.get.ensures.place) c.deref.ensures.value c.symbol_cells-cell-items.ensures in
+    walk_room c.args.self.now c.args.sym c.args.lot c.loop-cell.place c.symbol_cells-cell-items.result.now Offer c.loop-cell.offers.items walk (omega (arith, c.loop-cell.invariant.place, c.loop-cell-test.true)) c.loop-cell.invariant.offers
 
--- the cell of this participant was read
-one_more : (c : goal.After-push_some-in-loop-place) (side : Side) → filter_map (row_held c.args.self.now c.args.sym side) (range_with_len 0 (c.loop-place.place + 1)) ≡ filter_map (row_held c.args.self.now c.args.sym side) (range_with_len 0 c.loop-place.place) ++ cons_option (row_of_cell c.args.lot c.unwrap-part.result side c.index-cell.result.now) []
-one_more c side =
-    let part : c.unwrap-part.result ≡ c.loop-place.place = grind (arith, common_steps) in
-    let listed = subst (λ (board : Board). slice_get board.sizes.lots c.args.sym ≡ Some c.args.lot) (sym c.self.view_is) c.requires.lot in
-    let place : c.place_of.result ≡ place_of c.loop-place.place c.args.sym = c.place_of.ensures.place ∙ ap (λ part. place_of part c.args.sym) part in
-    rw (← c.self.view_is, part) (rows_more _ c.args.sym side c.loop-place.place c.args.lot c.place_of.result c.index-cell.result.now c.self.invariant.0.shape listed (omega arith) place c.index-cell.ensures)
-
-pub loop-place-preserved : goal.loop-place-preserved
-loop-place-preserved c = record {
-  bids = c.push_some.ensures ∙ rw (c.loop-place.invariant.bids, c.row.ensures) (sym (one_more c Bid));
-  offers = c.push_some-in-loop-place.ensures ∙ rw (c.loop-place.invariant.offers, c.row-in-loop-place.ensures) (sym (one_more c Offer));
-}
-
--- the rows of all participants
-all_rows : (c : goal.After-loop-place) (side : Side) → filter_map (row_held c.args.self.now c.args.sym side) (range_with_len 0 c.loop-place.place) ≡ rows_held c.args.self.now c.args.sym side
-all_rows c side =
-    let all_parts : c.loop-place.place ≡ c.self.inside.parts = omega arith in
-    ap (λ n. filter_map (row_held c.args.self.now c.args.sym side) (range_with_len 0 n)) (all_parts ∙ ap (λ (board : Board). board.sizes.parts) c.self.view_is)
+pub loop-cell-preserved : goal.loop-cell-preserved
+loop-cell-preserved c =
+    let walk : IsWalk c.args.self.now c.args.sym c.args.lot c.symbol_cells-cell-items.result.now =
+    walk_of _ c.args.self.now c.args.sym c.args.lot c.from.result c.deref.result.now c.symbol_cells-cell-items.result.now c.self.view_is c.self.invariant.0.shape c.requires.lot (c.from.ensures ∙ c.get.ensures.place) c.deref.ensures.value c.symbol_cells-cell-items.ensures in
+    let below : c.loop-cell.place < length c.symbol_cells-cell-items.result.now = omega (arith, c.loop-cell.invariant.place, c.loop-cell-test.true) in
+    let read = c.cell-item.is ∙ ap (λ n. get_or c.symbol_cells-cell-items.result.now n c.cell-item.result) (sym c.loop-cell.invariant.place) in
+    let part : c.unwrap-part.result ≡ c.loop-cell.place = grind (arith, common_steps) in
+    record {
+      place = ap (λ n. n + 1) c.loop-cell.invariant.place;
+      bids = c.push_some.ensures ∙ rw (c.row.ensures, part) (walk_more c.args.self.now c.args.sym c.args.lot c.loop-cell.place c.symbol_cells-cell-items.result.now Bid c.cell-item.result c.loop-cell.bids.items walk below read c.loop-cell.invariant.bids);
+      offers = c.push_some-in-loop-cell.ensures ∙ rw (c.row-in-loop-cell.ensures, part) (walk_more c.args.self.now c.args.sym c.args.lot c.loop-cell.place c.symbol_cells-cell-items.result.now Offer c.cell-item.result c.loop-cell.offers.items walk below read c.loop-cell.invariant.offers);
+    }
 
 pub returns-clause-bids : goal.returns-clause-bids
-returns-clause-bids c = c.loop-place.invariant.bids ∙ all_rows c Bid
+returns-clause-bids c =
+    let walk : IsWalk c.args.self.now c.args.sym c.args.lot c.symbol_cells-cell-items.result.now =
+    walk_of _ c.args.self.now c.args.sym c.args.lot c.from.result c.deref.result.now c.symbol_cells-cell-items.result.now c.self.view_is c.self.invariant.0.shape c.requires.lot (c.from.ensures ∙ c.get.ensures.place) c.deref.ensures.value c.symbol_cells-cell-items.ensures in
+    walk_all c.args.self.now c.args.sym c.args.lot c.loop-cell.place c.symbol_cells-cell-items.result.now Bid c.loop-cell.bids.items walk (omega (arith, c.loop-cell.invariant.place, c.loop-cell-test.false)) (omega (arith, c.loop-cell.invariant.place, c.loop-cell.auto.cell-index-end)) c.loop-cell.invariant.bids
 
 pub returns-clause-offers : goal.returns-clause-offers
-returns-clause-offers c = c.loop-place.invariant.offers ∙ all_rows c Offer
+returns-clause-offers c =
+    let walk : IsWalk c.args.self.now c.args.sym c.args.lot c.symbol_cells-cell-items.result.now =
+    walk_of _ c.args.self.now c.args.sym c.args.lot c.from.result c.deref.result.now c.symbol_cells-cell-items.result.now c.self.view_is c.self.invariant.0.shape c.requires.lot (c.from.ensures ∙ c.get.ensures.place) c.deref.ensures.value c.symbol_cells-cell-items.ensures in
+    walk_all c.args.self.now c.args.sym c.args.lot c.loop-cell.place c.symbol_cells-cell-items.result.now Offer c.loop-cell.offers.items walk (omega (arith, c.loop-cell.invariant.place, c.loop-cell-test.false)) (omega (arith, c.loop-cell.invariant.place, c.loop-cell.auto.cell-index-end)) c.loop-cell.invariant.offers

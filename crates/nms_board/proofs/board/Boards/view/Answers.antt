@@ -1,4 +1,5 @@
 use Rattle.std.proofs.Common.{◌≡◌, slice_get, None, ◌∙◌, sym, ap, subst, refl}
+use Rattle.std.proofs.lemmas.Option.{slice_get_within}
 use Rattle.nms_quote.specs.declared.side_quote.Side.TheVariants.{Bid, Offer}
 use Rattle.nms_board.specs.Cells.{Board, IsBoard}
 use Rattle.nms_board.proofs.BoardLemmas.{rows_held_unlisted, seen_stands}
@@ -6,10 +7,13 @@ use Rattle.nms_board.proofs.RowLemmas.{rows_held_are_rows}
 use Rattle.nms_board.proofs.PartLemmas.{seen_parts}
 use Rattle.nms_board.proofs.board.Boards.view.Goals as goal
 
-pub invariant_of-view-2 : goal.invariant_of-view-2
-invariant_of-view-2 c =
+pub orders_of-requires : goal.orders_of-requires
+orders_of-requires c = slice_get_within c.args.self.now.lots c.args.sym c.in-Some.lot (sym c.lot_of.ensures ∙ c.in-Some.is)
+
+pub invariant_of-view : goal.invariant_of-view
+invariant_of-view c =
     let is : IsBoard c.args.self.now = subst IsBoard c.self.view_is c.self.invariant.0 in
-    (rw c.show.ensures.bids (rows_held_are_rows c.args.self.now c.args.sym Bid is), rw c.show.ensures.offers (rows_held_are_rows c.args.self.now c.args.sym Offer is))
+    rw (c.show.ensures.bids, c.show.ensures.offers) (rows_held_are_rows c.args.self.now c.args.sym Bid is, rows_held_are_rows c.args.self.now c.args.sym Offer is, c.orders_of.ensures)
 
 pub returns-clause-cells : goal.returns-clause-cells
 returns-clause-cells c = rw (c.show.ensures.bids, c.show.ensures.offers, ← c.self.view_is) refl
@@ -22,9 +26,9 @@ returns-clause-parts c = seen_parts c.args.self.now c.args.sym _ (returns-clause
 
 pub returns-in_default-clause-cells : goal.returns-in_default-clause-cells
 returns-in_default-clause-cells c =
-    let unlisted : slice_get c.args.self.now.sizes.lots c.args.sym ≡ None = sym c.lot_of.ensures ∙ c.in_default.is in
+    let unlisted : slice_get c.args.self.now.lots c.args.sym ≡ None = sym c.lot_of.ensures ∙ c.in_default.is in
     let version : c.self.inside.applied ≡ c.args.self.now.applied = ap (λ (board : Board). board.applied) c.self.view_is in
-    rw (version, c.new_in.ensures, c.new_in-2.ensures, rows_held_unlisted c.args.self.now c.args.sym Bid unlisted, rows_held_unlisted c.args.self.now c.args.sym Offer unlisted) refl
+    rw (c.of_nothing.ensures, version, rows_held_unlisted c.args.self.now c.args.sym Bid unlisted, rows_held_unlisted c.args.self.now c.args.sym Offer unlisted) refl
 
 pub returns-in_default-clause-shows : goal.returns-in_default-clause-shows
 returns-in_default-clause-shows c = λ tape stands. returns-in_default-clause-cells c ∙ seen_stands c.args.self.now tape c.args.sym stands

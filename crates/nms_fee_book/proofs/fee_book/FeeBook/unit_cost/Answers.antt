@@ -1,7 +1,6 @@
-use Rattle.std.proofs.Common.{ℤ, pos, negsuc, ◌≡◌, ◌+ℤ◌, ◌≤ℤ◌, arith, ap, ◌∙◌, to_z, of_z}
+use Rattle.std.proofs.Common.{ℤ, pos, negsuc, ◌≡◌, ◌+ℤ◌, ◌≤ℤ◌, arith, ◌∙◌, to_z, of_z}
 use Rattle.std.proofs.lemmas.Int.{ints}
 use Rattle.std.specs.Int.{w128}
-use Rattle.nms_fee_book.specs.Fees.{fee_at}
 use Rattle.nms_fee_book.proofs.fee_book.FeeBook.unit_cost.Goals as goal
 
 -- the sum fits
@@ -11,6 +10,5 @@ sum_kept cost price fee price_read fee_read p f low high fee_low fee_high e = om
 
 pub returns-clause-cost : goal.returns-clause-cost
 returns-clause-cost c =
-    let sum = sum_kept c.new.result c.price_for.result c.fee_for.result c.get.result c.get-fee.result c.get.ensures c.get-fee.ensures c.price_for.ensures.low c.price_for.ensures.high c.fee_for.ensures.low c.fee_for.ensures.high c.new.ensures in
-    let fee = c.fee_for.ensures.fee ∙ ap (λ schedule. fee_at schedule c.args.price) c.schedule.ensures.value in
-    sum ∙ rw (c.price_for.ensures.price, fee)
+    let sum = sum_kept c.new.result c.price_for.result c.fee.result c.get.result c.get-fee.result c.get.ensures c.get-fee.ensures c.price_for.ensures.low c.price_for.ensures.high c.fee.ensures.low c.fee.ensures.high c.new.ensures in
+    sum ∙ rw (c.price_for.ensures.price, c.fee.ensures.fee)

@@ -1,0 +1,145 @@
+//! Appending where memory may be wanting: a change that found none is appended once more, and nothing was lost between.
+ghost use Rattle.std.specs.Prelude.{◌≡◌, true};
+ghost use Rattle.nms_quote.specs.Roster.{holds};
+
+use crate::Failed;
+use nms_fees::Setup;
+use nms_quote::{Change, Part, QState, Side, SideQuote, Sym};
+use nms_units::{Price, Shares};
+use nms_versions::{AppendFault, Desk, Publisher, open_tape};
+use std::alloc::Global;
+use std::sync::Wait;
+use std::thread;
+
+/// A setup of one participant and one symbol.
+pub(crate) const SMALL: &str = r#"tape_limit = 1000
+queue = 2
+desks = 1
+[[participant]]
+name = "N"
+feed = "A"
+fee = 0
+rate = 0
+[[symbol]]
+name = "ABC"
+lot = 100
+"#;
+
+/// What came of it.
+#[derive(Clone, Copy, Debug, PartialEq, Eq)]
+pub(crate) struct Appended {
+    /// How many of the changes stand on the tape where they belong.
+    pub(crate) in_place: usize,
+    /// How many changes the tape has.
+    pub(crate) tape: usize,
+    /// The version that a desk was shown at last, and how many shares it showed.
+    pub(crate) shown: (u64, u32),
+    /// Whether each change was appended, the first time or the second, and a refusal left all as it was.
+    pub(crate) is_whole: bool,
+}
+
+/// Appends so many changes and publishes them, half of them at once.
+pub(crate) fn append_all<R: Wait>(
+    rt: &R,
+    alloc: Global,
+    setup: &Setup,
+    sym: Sym,
+    count: u32,
+) -> Result<Appended, Failed> {
+    let Ok((mut publisher, mut desks)) = open_tape(alloc, rt, setup) else {
+        return Err(Failed);
+    };
+    let is_whole = append_each(rt, &mut publisher, count);
+    let shown = match desks.first_mut() {
+        Some(desk) => shown_to(desk, sym),
+        None => (0, 0),
+    };
+    let tape = publisher.close(rt);
+    Ok(Appended {
+        in_place: in_place(tape.as_slice()),
+        tape: tape.len(),
+        shown,
+        is_whole,
+    })
+}
+
+/// Appends each change, and publishes behind the half of them and behind all.
+fn append_each<R: Wait>(rt: &R, publisher: &mut Publisher, count: u32) -> bool {
+    let mut is_whole = true;
+    for number in 0..count {
+        if number == count / 2 {
+            publisher.publish(rt);
+        }
+        is_whole = append_again(publisher, number) && is_whole;
+    }
+    publisher.publish(rt);
+    is_whole
+}
+
+/// The change of that number: the participant offers a round lot more each time.
+fn offer_of(number: u32) -> Option<Change> {
+    let shares = Shares::new((number % 1000 + 1) * 100)?;
+    Some(Change::Quote {
+        part: Part::new(0)?,
+        sym: Sym::new(0)?,
+        state: QState::Automated,
+        bid: None,
+        offer: SideQuote::new(Price::new(100_000)?, shares),
+    })
+}
+
+/// Appends a change, and tells whether it is on the tape now.
+fn append_again(publisher: &mut Publisher, number: u32) -> bool {
+    match offer_of(number) {
+        Some(change) => publisher.holds(&change) && append_held(publisher, &change),
+        None => false,
+    }
+}
+
+/// Appends a change of the roster. Where there is no memory for it, the tape and what is published have to be as they
+/// were, and the same change is appended once more.
+fn append_held(publisher: &mut Publisher, change: &Change) -> bool
+    requires { holds publisher.old.sizes change.now ≡ true }
+{
+    let before = length_and_version(publisher);
+    match publisher.append(*change) {
+        Ok(()) => true,
+        Err(AppendFault::TapeFull) => false,
+        Err(AppendFault::NoMemory) => {
+            let left = length_and_version(publisher);
+            // Another thread may give memory back.
+            thread::yield_now();
+            left == before && publisher.append(*change).is_ok()
+        }
+    }
+}
+
+/// How many changes the tape has, and how many of them are published.
+fn length_and_version(publisher: &mut Publisher) -> (usize, u64)
+    ensures { publisher.new ≡ publisher.old }
+{
+    let receipt = publisher.receipt();
+    (publisher.tape().len(), receipt.version())
+}
+
+/// The version that a desk sees of a symbol, and the shares that the first participant offers.
+fn shown_to(desk: &mut Desk, sym: Sym) -> (u64, u32) {
+    let Ok(view) = desk.look(sym) else {
+        return (0, 0);
+    };
+    match view.rows(Side::Offer).first() {
+        Some(row) => (view.version(), row.size),
+        None => (view.version(), 0),
+    }
+}
+
+/// How many changes of a tape stand where they were appended.
+fn in_place(tape: &[Change]) -> usize {
+    let mut count = 0usize;
+    for (change, number) in tape.iter().zip(0..1000u32) {
+        if offer_of(number) == Some(*change) {
+            count = count.saturating_add(1);
+        }
+    }
+    count
+}

@@ -1,0 +1,52 @@
+//! The fields of a round lot: `specs/Fields`.
+ghost use Rattle.std.specs.Prelude.{◌≡◌};
+ghost use Rattle.csv.specs.Records.{fields_of};
+ghost use Rattle.nms_lines.specs.Fields.{average_in, lot_in};
+ghost use Rattle.nms_lines.specs.Layout.{has_average};
+ghost use Rattle.nms_lines.specs.Numbers.{lot_number};
+
+use crate::field::field;
+use crate::line_fault::LineFault;
+use crate::number::price_in;
+use csv::ByteRecord;
+use nms_units::{Lot, Price, parse_digits};
+
+/// The average closing price that a round lot is given by, where there are four fields: `BadState` where
+/// the third is not `AVG`, `BadPrice` where the fourth is no price.
+pub(crate) fn average_in(row: &ByteRecord) -> Result<Option<Price>, LineFault>
+    ensures { result ≡ average_in (fields_of row.now) }
+{
+    if !has_average(row) {
+        return Ok(None);
+    }
+    match field(row, 2) {
+        b"AVG" => Ok(Some(price_in(field(row, 3))?)),
+        _ => Err(LineFault::BadState),
+    }
+}
+
+/// The round lot that the average gives (17 CFR 242.600, "round lot"), else the one that the third field
+/// writes, or `BadLot`.
+pub(crate) fn lot_in(row: &ByteRecord, average: Option<Price>) -> Result<Lot, LineFault>
+    ensures { result ≡ lot_in (fields_of row.now) average }
+{
+    match average {
+        Some(price) => Ok(Lot::by_average(price)),
+        None => lot_of(field(row, 2)).ok_or(LineFault::BadLot),
+    }
+}
+
+/// Whether a round lot is given by an average closing price.
+fn has_average(row: &ByteRecord) -> bool
+    ensures { result ≡ has_average (fields_of row.now) }
+{
+    row.len() == 4
+}
+
+/// The round lot that 1 to 4 digits write, from 1 to 1,000 shares.
+fn lot_of(text: &[u8]) -> Option<Lot>
+    ensures { result ≡ lot_number text.now }
+{
+    let number = parse_digits(text, 4)?;
+    Lot::new(number as u16)
+}

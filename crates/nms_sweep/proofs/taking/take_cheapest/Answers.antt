@@ -1,0 +1,56 @@
+use Rattle.std.proofs.Common.{◌≡◌, ◌-◌, false, true, List, ◌∷◌, length, ap, sym, ◌∙◌, arith}
+use Rattle.std.specs.Prelude.{pos, ◌*ℤ◌}
+use Rattle.std.proofs.lemmas.Bool.{and_parts, leb-true}
+use Rattle.std.proofs.lemmas.Int.{ints}
+use Rattle.nms_rules.specs.Cutoff.{pool_part}
+use Rattle.nms_rules.specs.Usable.{Usable}
+use Rattle.nms_sweep.specs.Choice.{has_last, share_cost}
+use Rattle.nms_sweep.specs.Taken.{taken_cost}
+use Rattle.nms_sweep.proofs.TakenLemmas.{share_later, taken_here, taken_later}
+use Rattle.nms_sweep.proofs.taking.take_cheapest.Goals as goal
+
+pub returns-then-has_last-clause-cost : goal.returns-then-has_last-clause-cost
+returns-then-has_last-clause-cost c =
+    let cutoff = c.args.cutoff in
+    let left = c.loop-row.left in
+    let row : Usable = c.in-Some.row.now in
+    let more : List Usable = c.in-Some.more.now in
+    let behind : c.loop-row.behind.now ≡ row ∷ more = c.in-Some.ensures.cases.0 in
+    let last : has_last cutoff left row ≡ true = sym c.has_last.ensures ∙ c.if-has_last.true in
+    let parts = and_parts _ _ last in
+    let here = taken_here cutoff left row more parts.0 (leb-true left row.size parts.1) in
+    omega (arith, ints, c.loop-row.invariant.cost, ap (taken_cost cutoff left) behind, here, c.with_shares.ensures.cost)
+
+pub loop-row-preserved : goal.loop-row-preserved
+loop-row-preserved c =
+    let cutoff = c.args.cutoff in
+    let left = c.loop-row.left in
+    let row : Usable = c.in-Some.row.now in
+    let more : List Usable = c.in-Some.more.now in
+    let is = c.loop-row.invariant in
+    let behind : c.loop-row.behind.now ≡ row ∷ more = c.in-Some.ensures.cases.0 in
+    let later : has_last cutoff left row ≡ false = sym c.has_last.ensures ∙ c.if-has_last.false in
+    let step = share_later cutoff left c.loop-row.taken.marginal row more later in
+    let part : c.pool_part-part.result ≡ pool_part cutoff row = c.pool_part-part.ensures.part in
+    let rest : c.saturating_sub-left.result ≡ left - pool_part cutoff row = c.saturating_sub-left.ensures ∙ ap (λ n. left - n) part in
+    let with' = c.with_shares-taken.ensures in
+    record {
+      marginal = is.marginal ∙ ap (share_cost cutoff left c.loop-row.taken.marginal) behind ∙ step.1 ∙ ap (λ n. share_cost cutoff n row.cost more) (sym rest)
+          ∙ ap (λ z. share_cost cutoff c.saturating_sub-left.result z more) (sym with'.marginal);
+      cost = omega (
+        arith,
+        ints,
+        is.cost,
+        ap (taken_cost cutoff left) behind,
+        taken_later cutoff left row more step.0,
+        with'.cost,
+        ap (λ n. row.cost *ℤ pos n) part,
+        ap (λ n. taken_cost cutoff n more) rest,
+      );
+      marginal_low = omega (arith, ints, with'.marginal, with'.marginal_low);
+      marginal_high = omega (arith, ints, with'.marginal, with'.marginal_high);
+      behind = omega (arith, is.behind, ap length behind);
+      low = omega (arith, ints, is.low, with'.cost, with'.low, is.behind, ap length behind);
+      high = omega (arith, ints, is.high, with'.cost, with'.high, is.behind, ap length behind);
+      few = omega (arith, is.few, rest);
+    }

@@ -1,0 +1,93 @@
+//! The cheapest shares of a pool: `specs/Taken`.
+ghost use Rattle.std.specs.Prelude.{◌≡◌, ◌≤◌, ◌^◌, ◌+ℤ◌, ◌*ℤ◌, ◌≤ℤ◌, length, neg_ℤ, pos};
+ghost use Rattle.nms_rules.specs.Cutoff.{pool_part};
+ghost use Rattle.nms_sweep.specs.Choice.{has_last, share_cost};
+ghost use Rattle.nms_sweep.specs.Taken.{taken_cost};
+
+use crate::cutoffs::plus;
+use nms_rules::{Rank, UsableRow, is_pooled};
+use nms_units::Money;
+
+/// What so many shares of a pool cost, the cheapest first.
+#[derive(Clone, Copy, Debug)]
+pub(crate) struct Taken {
+    /// What the last of them costs with its fee, in nanodollars; of none, what the cheapest does.
+    pub(crate) marginal: Money,
+    /// What all of them cost with fees, in nanodollars.
+    pub(crate) cost: Money,
+}
+
+/// What so many shares of the pool at a cutoff cost, the cheapest first, in one pass. The rows come in the order of
+/// their costs.
+#[tactic(auto, unfolding(crate::specs::Choice::share_cost, crate::specs::Taken::taken_cost))]
+pub(crate) fn take_cheapest(by_cost: &[UsableRow], cutoff: Rank, number: u64) -> Taken
+    requires rows { length by_cost.now ≤ 32 }
+    requires number { number ≤ 999999999 }
+    ensures marginal { result.marginal ≡ share_cost cutoff number (pos 0) by_cost.now }
+    ensures cost { result.cost ≡ taken_cost cutoff number by_cost.now }
+    ensures marginal_low { neg_ℤ (pos (10 ^ 18)) ≤ℤ result.marginal }
+    ensures marginal_high { result.marginal ≤ℤ pos (10 ^ 18) }
+    ensures low { neg_ℤ (pos (2 ^ 106)) ≤ℤ result.cost }
+    ensures high { result.cost ≤ℤ pos (2 ^ 106) }
+{
+    let mut left = number;
+    let mut taken = Taken {
+        marginal: Money::new(0),
+        cost: Money::new(0),
+    };
+    let mut behind = by_cost;
+    while let Some((row, more)) = behind.split_first() {
+        if has_last(row, cutoff, left) {
+            return with_shares(taken, row, left);
+        }
+        let part = pool_part(row, cutoff);
+        taken = with_shares(taken, row, part);
+        left = left.saturating_sub(part);
+        behind = more;
+    }
+    taken
+}
+
+/// Whether a row of the pool has as many shares as are wanted.
+fn has_last(row: &UsableRow, cutoff: Rank, number: u64) -> bool
+    ensures { result ≡ has_last cutoff number row.now }
+{
+    is_pooled(row, cutoff) && number <= u64::from(row.size)
+}
+
+/// What is taken with so many shares of a row.
+fn with_shares(taken: Taken, row: &UsableRow, shares: u64) -> Taken
+    requires shares { shares ≤ 4294967295 }
+    requires low { neg_ℤ (pos (2 ^ 110)) ≤ℤ taken.cost }
+    requires high { taken.cost ≤ℤ pos (2 ^ 110) }
+    ensures marginal { result.marginal ≡ row.now.cost }
+    ensures cost { result.cost ≡ taken.cost +ℤ row.now.cost *ℤ pos shares }
+    ensures marginal_low { neg_ℤ (pos (10 ^ 18)) ≤ℤ row.now.cost }
+    ensures marginal_high { row.now.cost ≤ℤ pos (10 ^ 18) }
+    ensures low { neg_ℤ (pos (2 ^ 100)) ≤ℤ (row.now.cost *ℤ pos shares) }
+    ensures high { (row.now.cost *ℤ pos shares) ≤ℤ pos (2 ^ 100) }
+{
+    Taken {
+        marginal: row.cost,
+        cost: plus(taken.cost, times(row, shares)),
+    }
+}
+
+/// What so many shares of a row cost with the fee.
+fn times(row: &UsableRow, shares: u64) -> Money
+    requires { shares ≤ 4294967295 }
+    ensures cost { result ≡ row.now.cost *ℤ pos shares }
+    ensures low { neg_ℤ (pos (2 ^ 100)) ≤ℤ result }
+    ensures high { result ≤ℤ pos (2 ^ 100) }
+{
+    Money::new(row.cost.get() * i128::from(shares))
+}
+
+/// How many shares of a row are in the pool.
+fn pool_part(row: &UsableRow, cutoff: Rank) -> u64
+    ensures part { result ≡ pool_part cutoff row.now }
+    ensures within { result ≤ 4294967295 }
+{
+    let size = u64::from(row.size);
+    if is_pooled(row, cutoff) { size } else { 0 }
+}

@@ -1,0 +1,98 @@
+//! Round lots that change while desks look, by what was worked out by hand.
+use super::worked::{order, told};
+use super::{Wanted, run};
+use crate::same::same;
+use nms_live::{Answer, Gate, GatePoint, Live};
+use nms_quote::Leg;
+use nms_scripts::SETUP_K;
+use std::alloc::Global;
+use std::process::Abort;
+use std::sync::Wait;
+use std::sync::atomic::{AtomicU64, Ordering};
+use std::test::Fail;
+use std::thread::Threads;
+
+/// Lets feed A and a desk take turns: each look is made on what was published behind one change more.
+#[derive(Drop)]
+struct Turns {
+    looked: AtomicU64,
+    published: AtomicU64,
+}
+
+impl Gate for Turns {
+    fn may(&self, at: GatePoint) -> bool {
+        match at {
+            GatePoint::Send { k, .. } => k <= self.looked.load(Ordering::SeqCst),
+            GatePoint::Look { k, .. } => k < self.published.load(Ordering::SeqCst),
+            GatePoint::Publish { .. } => true,
+        }
+    }
+
+    fn done(&self, at: GatePoint) {
+        match at {
+            GatePoint::Send { .. } => {}
+            GatePoint::Look { .. } => {
+                self.looked.fetch_add(1, Ordering::SeqCst);
+            }
+            GatePoint::Publish { .. } => {
+                self.published.fetch_add(1, Ordering::SeqCst);
+            }
+        }
+    }
+}
+
+/// N offers 290 shares and P offers 250 at the same price. Under a lot of 100 both show 200, and N was first; under one
+/// of 40 N shows 280 and P 240; under one of 300 neither shows; under one of 10, by an average, both show all.
+const FEED: &[u8] =
+    b"Q,N,ABC,A,,,10.00,290\nQ,P,ABC,A,,,10.00,250\nR,ABC,40\nR,ABC,300\nR,PNY,1\nR,ABC,AVG,10000.0000\n";
+
+/// What a run over that feed came to, with an order for each of its changes.
+fn run_lots<R: Threads + Wait + Sync>(rt: &R, alloc: Global) -> Option<Live> {
+    let gate = Turns {
+        looked: AtomicU64::new(0),
+        published: AtomicU64::new(0),
+    };
+    let table: [Wanted; 6] = [order(), order(), order(), order(), order(), order()];
+    run(rt, alloc, SETUP_K, (FEED, b""), &table, &gate)?.ok()
+}
+
+/// The shares of a leg to the participant at a place, and 0 where there is none.
+fn shares_to(legs: &[Leg], part: u8) -> u32 {
+    for leg in legs {
+        if leg.part.get() == part {
+            return leg.shares.get();
+        }
+    }
+    0
+}
+
+/// What an answer takes from N and from P.
+fn taken(answer: &Answer) -> (u32, u32) {
+    let legs = answer.plan.legs.as_slice();
+    (shares_to(legs, 0), shares_to(legs, 1))
+}
+
+/// Compares what each look showed with what is due behind so many changes, and the closing answers with the last of it.
+fn compare_lots<R: Abort>(rt: &R, live: &Live) {
+    let due = [(200, 0), (200, 200), (280, 240), (0, 0), (0, 0), (290, 250)];
+    let mut version = 0u64;
+    for (answer, shares) in live.answers.iter().zip(due) {
+        version = version.saturating_add(1);
+        let (_, _, at, _) = told(answer);
+        same(rt, (at, taken(answer)), (version, shares));
+    }
+    for answer in &live.closing {
+        let (_, _, at, _) = told(answer);
+        same(rt, (at, taken(answer)), (6, (290, 250)));
+    }
+    same(rt, (live.answers.len(), live.closing.len()), (6, 6));
+}
+
+#[test]
+fn a_desk_plans_on_the_round_lot_that_is_published(rt: HostRuntime) -> Result<(), Fail> {
+    match run_lots(&rt, rt.alloc()) {
+        Some(live) => compare_lots(&rt, &live),
+        None => return Err("a run")?,
+    }
+    Ok(())
+}

@@ -1,0 +1,76 @@
+//! What a plain slow look at each change of a tape shows of a participant's side: no board stands here.
+use nms_quote::{Change, Leg, Order, OrderSide, Part, Plan, QState, SideQuote};
+
+/// What is known of a participant's side of a symbol: the symbol's lot, the state, and the price and shares of the side,
+/// of which 0 are no quotation.
+#[derive(Drop)]
+struct Known {
+    lot: u16,
+    is_halted: bool,
+    price: u64,
+    shares: u32,
+}
+
+/// The price and the shares of a side, and 0 where there is no quotation.
+fn content_of(quote: &Option<SideQuote>) -> (u64, u32) {
+    match quote {
+        Some(quote) => (quote.price.get(), quote.shares.get()),
+        None => (0, 0),
+    }
+}
+
+/// Takes one change in, where it speaks of the participant or the symbol: of the side that an order takes from.
+fn follow(side: &mut Known, change: &Change, order: &Order, who: Part) {
+    match *change {
+        Change::Quote {
+            part,
+            sym,
+            state,
+            bid,
+            offer,
+        } => if part == who && sym == order.sym {
+            let (price, shares) = match order.side {
+                OrderSide::Buy => content_of(&offer),
+                OrderSide::Sell => content_of(&bid),
+            };
+            side.is_halted = state == QState::Halted;
+            side.price = price;
+            side.shares = shares;
+        },
+        Change::State { part, sym, state } => if part == who && sym == order.sym {
+            side.is_halted = state == QState::Halted;
+        },
+        Change::Withdraw { part } => if part == who {
+            side.shares = 0;
+        },
+        Change::Lot { sym, lot } => if sym == order.sym {
+            side.lot = lot.get();
+        },
+    }
+}
+
+/// Whether a leg takes no more than whole lots of what its participant quotes behind so many changes, at its price.
+fn is_shown(tape: &[Change], count: u64, order: &Order, leg: &Leg) -> bool {
+    let mut side = Known {
+        lot: 100,
+        is_halted: false,
+        price: 0,
+        shares: 0,
+    };
+    for (change, _) in tape.iter().zip(0..count) {
+        follow(&mut side, change, order, leg.part);
+    }
+    let more = side.shares.checked_rem(u32::from(side.lot)).unwrap_or(0);
+    let displayed = side.shares.saturating_sub(more);
+    !side.is_halted && leg.price.get() == side.price && leg.shares.get() <= displayed
+}
+
+/// Whether each leg of a plan takes what is shown. The setups of all runs open with lots of 100.
+pub(crate) fn are_shown(tape: &[Change], plan: &Plan) -> bool {
+    for leg in plan.legs.as_slice() {
+        if !is_shown(tape, plan.version, &plan.order, leg) {
+            return false;
+        }
+    }
+    true
+}
