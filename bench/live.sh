@@ -34,7 +34,7 @@ echo
 for desks in 1 4 16; do
     setup=$folder/setup-$desks.toml orders=$folder/orders-$desks.csv
     feeds=("$folder/feed_a.csv" "$folder/feed_b.csv")
-    read -r wall cpu < <(best_of "$out" "$program" live "${feeds[@]}" "$orders" --setup "$setup")
+    read -r wall cpu < <(best_of "$out" "$program" live "$orders" "${feeds[@]}" --setup "$setup")
     [ "$(head -n 1 "$out")" = "TAPE,$changes" ] || { head -n 1 "$out" >&2 && exit 1; }
     awk -v d="$desks" -v n="$changes" -v w="$wall" -v c="$cpu" \
         'BEGIN { printf "%-6d %9.2f %9.2f %12.0f %10.0f", d, w, c, n / w, 2000 * d / w }'

@@ -14,6 +14,8 @@ import sys
 TOP = os.path.dirname(os.path.dirname(os.path.realpath(__file__)))
 # Lines of the front page, and words of a sentence there.
 MOST_LINES, MOST_WORDS = 150, 30
+# Columns of a definition or a proof.
+MOST_COLUMNS = 140
 SPAN = re.compile(r"`([^`]+)`")
 CELLS = 0
 CODE = re.compile(r"\b([A-Z])(\d{1,2})\b")
@@ -359,6 +361,18 @@ def check_imports():
             check(there, file, f"no crate above cites {name}")
 
 
+def check_proofs():
+    """A line of a definition or a proof can be read whole, and a file of answers says which function and clause it is for."""
+    for file in sorted(it for it in FILES if it.endswith(".antt")):
+        text = read(file)
+        widest = max(map(len, text.split("\n")))
+        check(widest <= MOST_COLUMNS, file, f"a line of {widest} columns, and at most {MOST_COLUMNS} are wanted")
+        if re.search(r"/proofs/.*/(Answers|Invariants|Proof)\.antt$", file):
+            name = file.split("/")[-2]
+            head = re.match(r"(?:--[^\n]*\n)*", text)[0]
+            check(bool(re.search(rf"\b{name}\b", head)), file, f"its head does not name `{name}`")
+
+
 # What is said twice.
 
 def sentences(text):
@@ -415,7 +429,7 @@ def check_cases():
 
 def main():
     for part in (check_names, check_codes, check_statuses, check_links, check_claims, check_table, check_words, check_imports,
-                 check_front, check_twice, check_cases):
+                 check_proofs, check_front, check_twice, check_cases):
         part()
     print(f"{COUNT['passed']} passed, {COUNT['failed']} failed")
     return 1 if COUNT["failed"] else 0

@@ -53,6 +53,13 @@ widest() {
     echo END
 }
 
+# A plan that names these participants of a crowd, by their numbers.
+naming() {
+    names=$(printf '+EX%s' "$@")
+    echo "PLAN,1,B,0.ABC,1,1.0000,,0,0.000000000,${names#+}"
+    echo END
+}
+
 # The most participants and symbols, legs and cuts, and one more of each.
 crowds() {
     setup
@@ -77,6 +84,10 @@ crowds() {
     widest 32 32
     echo '-- gives'
     widest 32 32
+    echo '== rewrite a plan that names every participant'
+    naming $(seq 41 -1 10)
+    echo '-- gives'
+    naming $(seq 10 41)
     echo '== plan one leg too many'
     widest 33 0
     printf '%s\n' '-- gives' 'L11: not the text of a plan'
@@ -88,7 +99,7 @@ crowds() {
 # A live run of so many changes under the built-in setup, whose tape holds 1,000. What stands last of each
 # participant is the same.
 live() {
-    printf '%s\n' live feed_a feed_b orders '-- file feed_a'
+    printf '%s\n' live orders feed_a feed_b '-- file feed_a'
     seq "$(($1 / 2 - 2))" | sed 's/.*/Q,N,ABC,A,,,&,100/'
     printf '%s\n' Q,N,ABC,A,,,10.00,300 Q,P,ABC,A,,,10.00,500 '-- file feed_b'
     seq "$(($1 - $1 / 2 - 2))" | sed 's/.*/Q,Y,ABC,A,,,&,100/'
@@ -111,6 +122,7 @@ bundle() {
     script refused.script
     script halt.script
     script through.script
+    script self_help.script
     report ABC first.changes
     report ABC pairs.changes
     script new_lot.script

@@ -17,7 +17,7 @@ import tempfile
 from concurrent.futures import ThreadPoolExecutor
 
 sys.dont_write_bytecode = True
-from judge_plans import FEES, RANGE, best, cost_of, dollars, doubt, drawn, drawn_plan, money, usable
+from judge_plans import FEES, RANGE, best, cost_of, dollars, doubt, drawn, drawn_plan, money, names_of, usable
 
 TOP = os.path.dirname(os.path.dirname(os.path.realpath(__file__)))
 PLANS, TEXTS = 240, 25
@@ -59,7 +59,8 @@ class Forged:
     def records(self):
         order = self.order
         yield f"PLAN,{self.version},{order['side']},{self.symbol},{order['shares']},{dollars(order['limit'])}," \
-            f"{'M' if order['manual'] else ''},{self.filled},{money(self.cost)}\n"
+            f"{'M' if order['manual'] else ''},{self.filled},{money(self.cost)}" \
+            f"{',' if order['self_help'] else ''}{names_of(order)}\n"
         for part, price, shares in self.legs:
             yield f"LEG,{part},{dollars(price)},{shares}\n"
         for price, kind, marginal in self.cuts:
@@ -86,6 +87,8 @@ def forged_fields(plan):
     yield turned(lambda it: it.order.update(side="S" if it.side == "B" else "B"))
     yield turned(lambda it: setattr(it, "symbol", "PNY"))
     yield turned(lambda it: it.order.update(manual=not it.order["manual"]))
+    for part in FEES:
+        yield turned(lambda it: it.order.update(self_help=it.order["self_help"] ^ {part}))
     for shares in near(plan.order["shares"], 1, 999_999_999, (-100, -1, 1, 100, 200, 999_999_000)):
         yield turned(lambda it: it.order.update(shares=shares))
     for limit in near(plan.order["limit"], 1, 99_999_999_999, (-200, -100, -1, 1, 100, 90_000_000)):
@@ -127,9 +130,11 @@ def forged_cut(cut):
 
 
 def lawful_plans(chance, count):
-    """Plans of orders drawn by chance that are confirmed, and fill something."""
+    """Plans of orders drawn by chance that are confirmed, and fill something. Half of the orders declare self-help."""
+    naming = random.Random(611)
     while count:
         order, rows, _, _ = drawn(chance)
+        order["self_help"] = frozenset(naming.sample(list(FEES), naming.choice([0, 0, 1, 2])))
         (legs, filled, cost), cuts = drawn_plan(chance, order, rows)
         it = Forged(rows, order["side"], order, (legs, filled, cost), cuts)
         if legs and usable(order, rows) and cost == cost_of(order, legs) and it.finding() == "confirmed":
@@ -165,6 +170,9 @@ def forged_texts(plan):
         cut = body.pop()
         yield "".join([head, cut, *body, "END\n"])
     yield "".join(records[:1] + ["END\n"] + body + ["END\n"])
+    if not plan.order["self_help"]:
+        for names in ("Q", "N+", "+N", "N++P", "+", "n", "N P", "N,P"):
+            yield head[:-1] + f",{names}\n" + "".join(records[1:])
     for record in records:
         yield "".join(records).replace(record, record[:-1] + ",\n")
         yield "".join(records).replace(record, record.replace(",", ";") if "," in record else "end\n")

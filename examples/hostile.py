@@ -114,7 +114,7 @@ def calls():
     changes = {**SETUP, "given.changes": OFFERS}
     plan = [*"plan given.changes B ABC 600 10.01".split(), *UNDER]
     check = [*"check given.changes given.plan".split(), *UNDER]
-    live = [*"live feed_a feed_b orders".split(), *UNDER]
+    live = [*"live orders feed_a feed_b".split(), *UNDER]
     yield Call("a script", [], "G2 C9 E4", given=SCRIPT)
     yield Call("a report", ["report", "given.changes", "ABC", *UNDER], "E4 B1", files=changes)
     yield Call("a plan", plan, "E4 B1 L12", files=changes, unwritten="L13")

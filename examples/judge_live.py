@@ -56,7 +56,7 @@ def write_case(chance, number):
         flag = ",M" if order["manual"] else ""
         orders.append(f"O,{desk},{order['side']},ABC,{order['shares']},{dollars(order['limit'])}{flag}")
         answers += [f"ANSWER,{desk},{place}", *planned(order, rows_of(board, order), length)]
-    print(f"== command a live run drawn by chance, {number}", "live", "feed_a", "feed_b", "orders", sep="\n")
+    print(f"== command a live run drawn by chance, {number}", "live", "orders", "feed_a", "feed_b", sep="\n")
     print("--setup", "setup.toml", "-- file feed_a", *feeds[0], "-- file feed_b", *feeds[1], sep="\n")
     print("-- file orders", *orders, "-- file setup.toml", sep="\n")
     print(SETUP.format(limit=max(1, length), queue=queue, desks=desks), "-- gives", "0", *answers, "-- errors", sep="\n")

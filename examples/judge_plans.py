@@ -25,11 +25,18 @@ def is_better(order, price, other):
     return price < other if order["side"] == "B" else price > other
 
 
+def is_named(order, row):
+    """Whether the order declares self-help against the participant of a quotation (17 CFR 242.611(b)(1))."""
+    return row[0] in order.get("self_help", ())
+
+
+def may_trade(order, row):
+    return not is_named(order, row) and (row[3] or order["manual"])
+
+
 def usable(order, rows):
     """The quotations that the order may trade with; a quotation is (participant, price, size, protected)."""
-    return [
-        row for row in rows if (row[3] or order["manual"]) and not is_better(order, order["limit"], row[1])
-    ]
+    return [row for row in rows if may_trade(order, row) and not is_better(order, order["limit"], row[1])]
 
 
 def is_lawful(order, rows, shares):
@@ -56,7 +63,7 @@ def best(order, rows):
 
 def breach(order, rows, legs, filled, cost):
     """The first breach of a plan of the order's own version."""
-    found = {row[0]: row for row in rows if row[3] or order["manual"]}
+    found = {row[0]: row for row in rows if may_trade(order, row)}
     given = {}
     for part, _, shares in legs:
         given[part] = given.get(part, 0) + shares
@@ -73,6 +80,7 @@ def breach(order, rows, legs, filled, cost):
             any(
                 row[3] and given.get(row[0], 0) < row[2] and is_better(order, row[1], leg[1])
                 for row in rows
+                if not is_named(order, row)
                 for leg in legs
             ),
         ),
@@ -209,6 +217,11 @@ def drawn(chance):
         if chance.random() < 0.85
     ]
     return order, rows, *spoilt(chance, order, *drawn_plan(chance, order, rows))
+
+
+def names_of(order):
+    """The participants that the order names, by place, joined as a record has them."""
+    return "+".join(part for part in FEES if part in order.get("self_help", ()))
 
 
 def money(nanodollars):

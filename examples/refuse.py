@@ -113,7 +113,7 @@ def calls():
     plan = [*"plan given.changes B ABC 600 10.01".split(), *under]
     check = [*"check given.changes given.plan".split(), *under]
     late = PLAN.replace("PLAN,3", "PLAN,20003")
-    live = [*"live feed_a feed_b orders".split(), *under]
+    live = [*"live orders feed_a feed_b".split(), *under]
     feeds = {"feed_a": many.replace("Q,Y", "Q,N"), "feed_b": "Q,Y,ABC,A,,,10.01,200\n", "orders": "O,0,B,ABC,600,10.01\n"}
     short = {**feeds, "feed_a": OFFERS.replace("Q,Y", "Q,N")}
     orders = {**short, "orders": "O,0,B,ABC,600,10.01\n" * 4000}

@@ -9,11 +9,12 @@ use crate::Failed;
 use crate::looks::{quotation, setup_text};
 use nms_board::Boards;
 use nms_fees::{Setup, read_setup};
-use nms_quote::{Change, Feed, Order, OrderSide, SideQuote, Sym};
+use nms_quote::{Change, Feed, Order, OrderSide, PartSet, SideQuote, Sym};
 use nms_units::{Price, Shares};
 use std::alloc::Global;
 use std::sync::Wait;
 use std::thread::Threads;
+pub(crate) use threads::{close_two, open_two};
 
 /// Makes the call that a word names, with so many changes, on the symbol at a place, and tells what came of it.
 pub(crate) fn make<R: AllocGlobal + Threads + Wait + Sync>(
@@ -117,7 +118,7 @@ fn tell_sweep(alloc: Global, setup: &Setup, sym: Sym, changes: u32) -> Result<St
 /// An order to buy 950 shares of a symbol at 10.00 or better.
 fn order_of(sym: Sym) -> Option<Order> {
     let (shares, limit) = (Shares::new(950)?, Price::new(100_000)?);
-    Order::new(OrderSide::Buy, sym, shares, limit, false)
+    Order::new(OrderSide::Buy, sym, shares, limit, false, PartSet::none())
 }
 
 /// How many changes each feed sent and how many were taken, and the version that the desk was settled on.
@@ -130,11 +131,8 @@ fn tell_threads<R: Threads + Wait + Sync>(
 ) -> Result<String, Failed> {
     let change = quotation(0).ok_or(Failed)?;
     let came = threads::run(rt, alloc, setup, &change, changes, sym)?;
-    let (sent, taken) = (
-        (came.delivered.sent_a, came.delivered.sent_b),
-        came.delivered.taken,
-    );
-    format!(in alloc; "{} {} {taken} {}", sent.0, sent.1, came.settled).map_err(|_| Failed)
+    let (delivered, settled) = (&came.delivered, came.settled);
+    format!(in alloc; "{:?} {} {settled}", delivered.sent, delivered.taken).map_err(|_| Failed)
 }
 
 /// How many changes were appended where they belong, how many the tape has, the version and the shares that a desk was

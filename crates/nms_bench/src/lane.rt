@@ -3,7 +3,8 @@ ghost use Rattle.std.specs.Prelude.{◌≡◌, ◌≤◌, [], length};
 ghost use Rattle.nms_feed.specs.declared.TheConstants.{LEAST_CAPACITY, MOST_CAPACITY};
 
 use crate::Failed;
-use nms_feed::{Delivered, LEAST_CAPACITY, MOST_CAPACITY, Sender, Taker, close, open_lane};
+use crate::callers::{close_two, open_two};
+use nms_feed::{Delivered, LEAST_CAPACITY, MOST_CAPACITY, Sender, Taker};
 use nms_quote::{Change, Part, QState, SideQuote, Sym};
 use nms_units::{Price, Shares};
 use std::alloc::Global;
@@ -47,7 +48,7 @@ fn run<R: Threads + Wait + Sync>(
 ) -> Result<Delivered, Failed>
     requires { (LEAST_CAPACITY ≤ capacity) × (capacity ≤ MOST_CAPACITY) }
 {
-    let Ok((a, b, taker)) = open_lane(alloc, capacity) else {
+    let Some((a, b, taker)) = open_two(alloc, capacity) else {
         return Err(Failed);
     };
     let (a, (b, taker)) = thread::join(
@@ -58,7 +59,7 @@ fn run<R: Threads + Wait + Sync>(
         { send_all(rt, a, change, changes) },
         move || -> (Sender, Taker)
             requires { b.sent ≡ [] }
-            ensures { (result.0.lane ≡ b.lane) × (result.0.feed ≡ b.feed) × (result.1.lane ≡ taker.lane) }
+            ensures { (result.0.lane ≡ b.lane) × (result.0.feed ≡ b.feed) × (result.1.lane ≡ taker.lane) × (result.1.senders ≡ taker.senders) }
         {
             thread::join(
                 rt,
@@ -67,12 +68,12 @@ fn run<R: Threads + Wait + Sync>(
                     ensures { (result.lane ≡ b.lane) × (result.feed ≡ b.feed) }
                 { send_all(rt, b, change, changes) },
                 move || -> Taker
-                    ensures { result.lane ≡ taker.lane }
+                    ensures { (result.lane ≡ taker.lane) × (result.senders ≡ taker.senders) }
                 { take_all(rt, taker, 2 * u64::from(changes)) },
             )
         },
     );
-    close(a, b, taker).map_err(|_| Failed)
+    close_two(alloc, a, b, taker).ok_or(Failed)
 }
 
 /// Sends a change so many times.
@@ -89,7 +90,7 @@ pub(crate) fn send_all<R: Wait>(rt: &R, mut sender: Sender, change: &Change, cha
 
 /// Takes so many changes.
 fn take_all<R: Wait>(rt: &R, mut taker: Taker, changes: u64) -> Taker
-    ensures { result.lane ≡ taker.lane }
+    ensures { (result.lane ≡ taker.lane) × (result.senders ≡ taker.senders) }
 {
     let mut taken = 0;
     for _ in rt.forever() {

@@ -45,12 +45,8 @@ fn run_all<R: AllocGlobal + Threads + Wait + Clock + Sync, W: Write>(
         let second = second.parse::<u32>().map_err(|_| Failed)?;
         if kind == "lane" {
             let capacity = first.parse::<usize>().map_err(|_| Failed)?;
-            let Delivered {
-                sent_a,
-                sent_b,
-                taken,
-            } = lane::measure(rt, capacity, second)?;
-            writeln!(answers, "{line} {sent_a} {sent_b} {taken}").map_err(|_| Failed)?;
+            let Delivered { sent, taken } = lane::measure(rt, capacity, second)?;
+            writeln!(answers, "{line} {sent:?} {taken}").map_err(|_| Failed)?;
         } else if kind == "looks" {
             let desks = first.parse::<u8>().map_err(|_| Failed)?;
             let rows = looks::measure(rt, desks, second)?;

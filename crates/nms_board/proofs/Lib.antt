@@ -7,5 +7,6 @@ pub mod ListLemmas
 mod RowLemmas
 pub mod OrderLemmas
 pub mod PartLemmas
+pub mod PassLemmas
 pub mod RankLemmas
 pub mod Offered

@@ -1,5 +1,6 @@
 -- The rows that a board shows are of its own participants.
-use Rattle.std.proofs.Common.{ℕ, zero, suc, ◌≡◌, ◌+◌, ◌<◌, Bool, true, false, cond, List, [], ◌∷◌, Option, Some, None, arith, refl, subst, ap}
+use Rattle.std.proofs.Common.{ℕ, zero, suc, ◌≡◌, ◌+◌, ◌<◌, Bool, true, false, cond, List, [], ◌∷◌, Option, Some, None, arith, refl, subst}
+use Rattle.std.proofs.Common.{ap}
 use Rattle.std.specs.Prelude.{All, slice_get, slice_index, ◌==◌}
 use Rattle.std.specs.List.{AllByRecursion, cons_option, filter_map, range_with_len}
 use Rattle.std.specs.Option.{option_and_then}
@@ -20,11 +21,13 @@ use Rattle.nms_board.specs.declared.cell.Cell.{Cell}
 use Rattle.nms_board.specs.declared.row.Row.{Row}
 
 -- a quotation is of the participant that it is asked of
-quotation_part : (lot part : ℕ) (state : Option QState) (receipt : ℕ) (content : Option Content) (row : Row) → quotation lot part state receipt content ≡ Some row → row.part ≡ part
+quotation_part : (lot part : ℕ) (state : Option QState) (receipt : ℕ) (content : Option Content) (row : Row)
+    → quotation lot part state receipt content ≡ Some row → row.part ≡ part
 quotation_part lot part state receipt None row e = absurd (cc)
 quotation_part lot part state receipt (Some content) row e = by (is_halted state) (displayed_size lot content.shares == 0) _ refl e
   where
-    by : (halted nothing : Bool) (shown : Row) → shown.part ≡ part → cond halted None (cond nothing None (Some shown)) ≡ Some row → row.part ≡ part
+    by : (halted nothing : Bool) (shown : Row) → shown.part ≡ part → cond halted None (cond nothing None (Some shown)) ≡ Some row
+        → row.part ≡ part
     by true nothing shown p h = absurd (cc)
     by false true shown p h = absurd (cc)
     by false false shown p h = let same : shown ≡ row = cc in subst (λ (r : Row). r.part ≡ part) same p
@@ -34,22 +37,27 @@ held_part board sym side part row e = by (slice_get board.cells (place_of part s
   where
     by : (cell : Option Cell) → option_and_then (row_of_cell (slice_index board.lots sym) part side) cell ≡ Some row → row.part ≡ part
     by None h = absurd (cc)
-    by (Some cell) h = quotation_part (slice_index board.lots sym) part cell.state (on_side side cell.bid cell.offer).receipt (on_side side cell.bid cell.offer).quote row h
+    by (Some cell) h = quotation_part (slice_index board.lots sym) part cell.state (on_side side cell.bid cell.offer).receipt
+        (on_side side cell.bid cell.offer).quote row h
 
-rows_below : (f : ℕ → Option Row) → ((part : ℕ) (row : Row) → f part ≡ Some row → row.part ≡ part) → (from n : ℕ) → AllByRecursion (λ (row : Row). row.part < from + n) (filter_map f (range_with_len from n))
+rows_below : (f : ℕ → Option Row) → ((part : ℕ) (row : Row) → f part ≡ Some row → row.part ≡ part) → (from n : ℕ)
+    → AllByRecursion (λ (row : Row). row.part < from + n) (filter_map f (range_with_len from n))
 rows_below f own from zero = tt
 rows_below f own from (suc n) = by (f from) refl (rows_below f own (from + 1) n)
   where
-    step : (xs : List Row) → AllByRecursion (λ (row : Row). row.part < (from + 1) + n) xs → AllByRecursion (λ (row : Row). row.part < from + suc n) xs
+    step : (xs : List Row) → AllByRecursion (λ (row : Row). row.part < (from + 1) + n) xs
+        → AllByRecursion (λ (row : Row). row.part < from + suc n) xs
     step [] h = tt
     step (x ∷ xs) h = (omega (arith, h.0), step xs h.1)
 
-    by : (found : Option Row) → f from ≡ found → AllByRecursion (λ (row : Row). row.part < (from + 1) + n) (filter_map f (range_with_len (from + 1) n))
+    by : (found : Option Row) → f from ≡ found
+        → AllByRecursion (λ (row : Row). row.part < (from + 1) + n) (filter_map f (range_with_len (from + 1) n))
         → AllByRecursion (λ (row : Row). row.part < from + suc n) (cons_option found (filter_map f (range_with_len (from + 1) n)))
     by None e rest = step _ rest
     by (Some row) e rest = (omega (arith, own from row e), step _ rest)
 
-all_below : (rows : List Row) (parts : ℕ) → AllByRecursion (λ (row : Row). row.part < 0 + parts) rows → All (λ (row : Row). row.part < parts) rows
+all_below : (rows : List Row) (parts : ℕ) → AllByRecursion (λ (row : Row). row.part < 0 + parts) rows
+    → All (λ (row : Row). row.part < parts) rows
 all_below rows parts h = All-from_recursion (λ (row : Row). row.part < parts) rows (step rows h)
   where
     step : (xs : List Row) → AllByRecursion (λ (row : Row). row.part < 0 + parts) xs → AllByRecursion (λ (row : Row). row.part < parts) xs
@@ -58,10 +66,12 @@ all_below rows parts h = All-from_recursion (λ (row : Row). row.part < parts) r
 
 -- each row that is held is of one of the board's participants
 pub held_parts : (board : Board) (sym : ℕ) (side : Side) → All (λ (row : Row). row.part < board.sizes.parts) (rows_held board sym side)
-held_parts board sym side = all_below (rows_held board sym side) board.sizes.parts (rows_below (row_held board sym side) (held_part board sym side) 0 board.sizes.parts)
+held_parts board sym side = all_below (rows_held board sym side) board.sizes.parts
+    (rows_below (row_held board sym side) (held_part board sym side) 0 board.sizes.parts)
 
 -- and so is each row that is shown
-pub shown_parts : (board : Board) (sym : ℕ) (side : Side) → All (λ (row : Row). row.part < board.sizes.parts) (rows_on side (seen_on board sym))
+pub shown_parts : (board : Board) (sym : ℕ) (side : Side)
+    → All (λ (row : Row). row.part < board.sizes.parts) (rows_on side (seen_on board sym))
 shown_parts board sym Bid = held_parts board sym Bid
 shown_parts board sym Offer = held_parts board sym Offer
 
@@ -70,20 +80,25 @@ rows_seen board symbol Bid = refl
 rows_seen board symbol Offer = refl
 
 -- the same of what is seen
-pub seen_parts : (board : Board) (sym : ℕ) (seen : Seen) → seen ≡ seen_on board sym → (side : Side) → All (λ (row : Row). row.part < board.sizes.parts) (rows_on side seen)
-seen_parts board sym seen e side = subst (λ (s : Seen). All (λ (row : Row). row.part < board.sizes.parts) (rows_on side s)) (sym_of e) (shown_parts board sym side)
+pub seen_parts : (board : Board) (sym : ℕ) (seen : Seen) → seen ≡ seen_on board sym → (side : Side)
+    → All (λ (row : Row). row.part < board.sizes.parts) (rows_on side seen)
+seen_parts board sym seen e side = subst (λ (s : Seen). All (λ (row : Row). row.part
+    < board.sizes.parts) (rows_on side s)) (sym_of e) (shown_parts board sym side)
   where
     sym_of : {a b : Seen} → a ≡ b → b ≡ a
     sym_of p = Rattle.std.proofs.Common.sym p
 
 -- each quotation of a tape is of a participant of the roster
-quoted_parts : (sizes : Sizes) (tape : Tape) (sym : ℕ) (side : Side) → All (λ (row : Row). row.part < sizes.parts) (quotations sizes tape sym side)
+quoted_parts : (sizes : Sizes) (tape : Tape) (sym : ℕ) (side : Side)
+    → All (λ (row : Row). row.part < sizes.parts) (quotations sizes tape sym side)
 quoted_parts sizes tape symbol side =
     all_below (quotations sizes tape symbol side) sizes.parts
     (rows_below (quotation_of sizes tape symbol side)
-    (λ part row e. quotation_part (lot_at sizes tape symbol) part (state_at part symbol tape) (receipt_of part symbol side tape) (content_at part symbol side tape) row e) 0 sizes.parts)
+    (λ part row e. quotation_part (lot_at sizes tape symbol) part (state_at part symbol tape) (receipt_of part symbol side tape)
+    (content_at part symbol side tape) row e) 0 sizes.parts)
 
 -- and so is each row of a view of it
-pub view_parts : (sizes : Sizes) (tape : Tape) (sym : ℕ) (side : Side) → All (λ (row : Row). row.part < sizes.parts) (rows_on side (view_of sizes tape sym))
+pub view_parts : (sizes : Sizes) (tape : Tape) (sym : ℕ) (side : Side)
+    → All (λ (row : Row). row.part < sizes.parts) (rows_on side (view_of sizes tape sym))
 view_parts sizes tape symbol Bid = quoted_parts sizes tape symbol Bid
 view_parts sizes tape symbol Offer = quoted_parts sizes tape symbol Offer

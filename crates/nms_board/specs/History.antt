@@ -1,7 +1,8 @@
 -- What a tape says of one side of one participant in one symbol, and of the symbol's round lot, looking back
 -- over the whole of it.
 -- This product's own rule, after the tape's order of changes.
-use Rattle.std.specs.Prelude.{ℕ, ◌+◌, ◌==◌, ◌&&◌, Bool, true, false, List, [], ◌∷◌, map, Option, Some, None, option_map, slice_get, unwrap_or, if◌then◌else◌}
+use Rattle.std.specs.Prelude.{ℕ, ◌+◌, ◌==◌, ◌&&◌, Bool, true, false, List, [], ◌∷◌, map, Option, Some, None, option_map, slice_get}
+use Rattle.std.specs.Prelude.{unwrap_or, if◌then◌else◌}
 use Rattle.std.specs.List.{filter_map, last_or, list_all}
 use Rattle.nms_quote.specs.Content.{Content}
 use Rattle.nms_quote.specs.Roster.{Sizes}

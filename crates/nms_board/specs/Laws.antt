@@ -39,7 +39,8 @@ pub record HidesAndKeeps (sizes : Sizes) (part sym : ℕ) (tape : Tape) : Type 0
   pub hides : (side : Side) → quotation_of sizes (tape ++ change.State part sym Halted ∷ []) sym side part ≡ None
   pub shows_again : (side : Side) (others : Tape) → All (λ change. participant_of change ≢ Some part) others
       → quotation_of sizes (lifted_after part sym tape others) sym side part
-      ≡ quotation (lot_at sizes (lifted_after part sym tape others) sym) part (Some Automated) (receipt_of part sym side tape) (content_at part sym side tape)
+      ≡ quotation (lot_at sizes (lifted_after part sym tape others) sym) part (Some Automated) (receipt_of part sym side tape)
+      (content_at part sym side tape)
 
 -- a symbol of the roster gets another round lot: no side is altered, and each row that comes to light or stays
 -- has the receipt that it had. Other symbols show what they did

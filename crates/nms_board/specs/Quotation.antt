@@ -31,7 +31,13 @@ quotation lot part state receipt None = None
 quotation lot part state receipt (Some content) =
     if is_halted state then None
     else (if displayed_size lot content.shares == 0 then None
-    else Some (record { part = part; price = content.price; size = displayed_size lot content.shares; receipt = receipt; protected = is_automated state }))
+    else Some (record {
+      part = part;
+      price = content.price;
+      size = displayed_size lot content.shares;
+      receipt = receipt;
+      protected = is_automated state;
+    }))
 
 -- the participant's quotation on a side of the symbol: something is there, a whole round lot of it
 -- shows, and the participant is not halted. The lot is the symbol's present one.

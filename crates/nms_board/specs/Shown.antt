@@ -13,7 +13,8 @@ use Rattle.nms_board.specs.declared.row.Row.{Row}
 
 -- the quotation that a cell has on a side
 abbrev pub row_of_cell : ℕ → ℕ → Side → Cell → Option Row
-row_of_cell lot part side cell = quotation lot part cell.state (on_side side cell.bid cell.offer).receipt (on_side side cell.bid cell.offer).quote
+row_of_cell lot part side cell =
+    quotation lot part cell.state (on_side side cell.bid cell.offer).receipt (on_side side cell.bid cell.offer).quote
 
 -- the quotation of a participant's cell; no cell has none
 abbrev pub row_held : Board → ℕ → Side → ℕ → Option Row

@@ -341,7 +341,8 @@ fn place_of(part: Part, sym: Sym) -> usize
     MOST_ROWS * usize::from(sym.get()) + usize::from(part.get())
 }
 
-/// Withdraws the participant's cell in each symbol, as the change of that number.
+/// Withdraws the participant's cell in each symbol, as the change of that number. A cell with no quote on
+/// either side stays, and its symbol with it.
 fn withdraw_from(
     number: u64,
     part: Part,
@@ -358,16 +359,18 @@ fn withdraw_from(
     ensures ranks { AreRanks (record { parts = parts; lots = lots.now }) cells.new ranks.new }
 {
     for sym in 0..lots.len() {
-        alter(
-            number,
-            Change::Withdraw { part },
-            part,
-            sym,
-            parts,
-            lots,
-            cells,
-            ranks,
-        );
+        if cells[MOST_ROWS * sym + usize::from(part.get())].has_quote() {
+            alter(
+                number,
+                Change::Withdraw { part },
+                part,
+                sym,
+                parts,
+                lots,
+                cells,
+                ranks,
+            );
+        }
     }
 }
 
@@ -395,11 +398,10 @@ fn alter(
 {
     let lot = lots[sym];
     let cell = &mut cells[MOST_ROWS * sym + usize::from(part.get())];
-    let bid = cell.row(Side::Bid, part, lot);
-    let offer = cell.row(Side::Offer, part, lot);
+    let was = *cell;
     cell.alter(number, change);
     let orders = &mut ranks[sym];
-    orders.settle(part, lot, bid, offer, symbol_cells(cells, sym, parts));
+    orders.settle(part, lot, &was, symbol_cells(cells, sym, parts));
 }
 
 /// Gives a symbol another round lot, in which both its sides rank anew.

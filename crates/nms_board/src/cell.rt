@@ -1,7 +1,7 @@
 //! One participant in one symbol: the cells of `specs/Cells`.
-ghost use Rattle.std.specs.Prelude.{◌≡◌, ◌*◌, ◌≤◌, IfOk, replicate};
+ghost use Rattle.std.specs.Prelude.{◌≡◌, ℕ, ◌*◌, ◌≤◌, IfOk, false, true, replicate};
 ghost use Rattle.nms_board.specs.Cells.{empty_cell};
-ghost use Rattle.nms_board.specs.History.{same_content};
+ghost use Rattle.nms_board.specs.History.{on_side, same_content};
 
 use crate::MOST_ROWS;
 use crate::row::Row;
@@ -127,14 +127,39 @@ impl Cell {
         self.offer.take(number, None);
     }
 
+    /// Whether either side has a quote. Where none has, a withdrawal alters nothing.
+    pub(crate) fn has_quote(&self) -> bool
+        ensures { result ≡ false → (number : ℕ) → withdrawn number self.now ≡ self.now }
+    {
+        self.bid.quote.is_some() | self.offer.quote.is_some()
+    }
+
+    /// What is held of a side.
+    pub(crate) fn held(&self, side: Side) -> &Held
+        ensures { result.now ≡ on_side side self.now.bid self.now.offer }
+    {
+        match side {
+            Side::Bid => &self.bid,
+            Side::Offer => &self.offer,
+        }
+    }
+
+    /// Whether a side shows what that of another cell of the participant does, as far as is told without its lot.
+    pub(crate) fn shows_as(&self, was: &Cell, side: Side) -> bool
+        ensures { result ≡ true → (lot part : ℕ) → row_of_cell lot part side was.now ≡ row_of_cell lot part side self.now }
+    {
+        let held = self.held(side);
+        let held_before = was.held(side);
+        self.state == was.state
+            && held.receipt == held_before.receipt
+            && is_same(&held.quote, &held_before.quote)
+    }
+
     /// The quotation of a side in lots of that size, if it is one.
     pub(crate) fn row(&self, side: Side, part: Part, lot: Lot) -> Option<Row>
         ensures { result ≡ row_of_cell lot part side self.now }
     {
-        let held = match side {
-            Side::Bid => &self.bid,
-            Side::Offer => &self.offer,
-        };
+        let held = self.held(side);
         if self.state == Some(QState::Halted) {
             return None;
         }

@@ -5,6 +5,7 @@ mod board;
 mod board_fault;
 mod cell;
 mod laws;
+mod passing;
 mod ranks;
 mod row;
 mod symbol_ranks;

@@ -1,6 +1,7 @@
 -- What makes a plan and its certificate doubtful. Each doubt says by itself when it holds; of those that hold the
 -- first is told. This product's own rule.
-use Rattle.std.specs.Prelude.{ℕ, ℤ, pos, neg_ℤ, ◌+◌, ◌^◌, ◌==◌, ◌||◌, Bool, false, not, nat_le, nat_lt, List, [], ◌∷◌, Option, option_map, position}
+use Rattle.std.specs.Prelude.{ℕ, ℤ, pos, neg_ℤ, ◌+◌, ◌^◌, ◌==◌, ◌||◌, Bool, false, not, nat_le, nat_lt, List, [], ◌∷◌, Option, option_map}
+use Rattle.std.specs.Prelude.{position}
 use Rattle.std.specs.Int.RustNames.{int_lt}
 use Rattle.std.specs.List.{list_any}
 use Rattle.nms_quote.specs.Terms.{Terms}

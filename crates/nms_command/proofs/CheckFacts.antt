@@ -19,21 +19,25 @@ use Rattle.nms_command.specs.declared.ending.Ending.TheVariants as ending
 use Rattle.nms_command.specs.declared.tool_fault.ToolFault.{ToolFault}
 
 -- only a finding of nothing is told as done
-best_of : (finding : Finding) (Best : Type 0) (old new : Option (List ℕ)) (ends : Ending) → OnOk finding Best → Tells finding old new ends → ends ≡ ending.Done → Best
+best_of : (finding : Finding) (Best : Type 0) (old new : Option (List ℕ)) (ends : Ending) → OnOk finding Best → Tells finding old new ends
+    → ends ≡ ending.Done → Best
 best_of (Ok done) Best old new ends best told is = best
 best_of (Err fault.VersionBeyondTape) Best old new ends best told is = absurd (cc (told.0, is))
 best_of (Err (fault.Doubt why)) Best old new ends best told is = absurd (cc (told.0, is))
 best_of (Err fault.NoMemory) Best old new ends best told is = absurd told
 
 -- a finding that was told
-pub judged : (r : Result Ending ToolFault) (settings : Settings) (tape : Tape) (plan : Plan) (cuts : List Cut) (finding : Finding) (old new : Option (List ℕ))
-    → IsFinding settings tape plan cuts finding → OnOk finding (IsBest settings tape plan) → IfOk r (Tells finding old new) → IfOk r (Judges settings tape plan cuts old new)
+pub judged : (r : Result Ending ToolFault) (settings : Settings) (tape : Tape) (plan : Plan) (cuts : List Cut) (finding : Finding)
+    (old new : Option (List ℕ))
+    → IsFinding settings tape plan cuts finding → OnOk finding (IsBest settings tape plan) → IfOk r (Tells finding old new)
+    → IfOk r (Judges settings tape plan cuts old new)
 judged (Ok ends) settings tape plan cuts finding old new found best told =
     record { finding = finding; found = found; told = told; best = best_of finding (IsBest settings tape plan) old new ends best told }
 judged (Err why) settings tape plan cuts finding old new found best told = tt
 
 -- a doubt that is no breach is told by its own code
-pub other_line : (why : Doubt) → ((breach : Breach) → why ≡ doubt.Breach breach → ⊥) → codes "DOUBT," ++ (doubt_codes.code_of why ++ 10 ∷ []) ≡ record_text (doubt_record why)
+pub other_line : (why : Doubt) → ((breach : Breach) → why ≡ doubt.Breach breach → ⊥)
+    → codes "DOUBT," ++ (doubt_codes.code_of why ++ 10 ∷ []) ≡ record_text (doubt_record why)
 other_line (doubt.Breach breach) other = absurd (other breach refl)
 other_line doubt.NotMost other = refl
 other_line doubt.CutMissing other = refl
@@ -43,12 +47,14 @@ other_line doubt.MarginalRange other = refl
 other_line (doubt.BoundFails cut) other = refl
 
 -- a plan that was judged, as a text says it, and on the tape of a file
-pub on_text : (r : Result Ending ToolFault) (settings : Settings) (tape : Tape) (text : List ℕ) (plan : Plan) (cuts : List Cut) (old new : Option (List ℕ))
+pub on_text : (r : Result Ending ToolFault) (settings : Settings) (tape : Tape) (text : List ℕ) (plan : Plan) (cuts : List Cut)
+    (old new : Option (List ℕ))
     → Says settings.roster text plan cuts → IfOk r (Judges settings tape plan cuts old new) → IfOk r (JudgesText settings tape text old new)
 on_text (Ok ends) settings tape text plan cuts old new says judges = (plan, cuts, says, judges)
 on_text (Err why) settings tape text plan cuts old new says judges = tt
 
-pub on_file : (r : Result Ending ToolFault) (settings : Settings) (bytes : Option (List ℕ)) (tape : Tape) (text : List ℕ) (old new : Option (List ℕ))
+pub on_file : (r : Result Ending ToolFault) (settings : Settings) (bytes : Option (List ℕ)) (tape : Tape) (text : List ℕ)
+    (old new : Option (List ℕ))
     → IsFileTape settings bytes tape → IfOk r (JudgesText settings tape text old new) → IfOk r (JudgesOnFile settings bytes text old new)
 on_file (Ok ends) settings bytes tape text old new file judges = (tape, file, judges)
 on_file (Err why) settings bytes tape text old new file judges = tt

@@ -15,16 +15,19 @@ use Rattle.nms_files.specs.declared.orders_fault.OrdersFault.TheVariants as orde
 use Rattle.nms_files.specs.declared.plan_fault.PlanFault.{PlanFault}
 use Rattle.nms_files.specs.declared.plan_fault.PlanFault.TheVariants as plan
 use Rattle.nms_lines.specs.PlanFaults as plan_faults
+use Rattle.nms_lines.specs.RecordFaults as record_faults
 use Rattle.nms_lines.specs.declared.plan_text_fault.PlanTextFault.{PlanTextFault}
 use Rattle.nms_lines.specs.declared.plan_text_fault.PlanTextFault.TheVariants as plan_text
+use Rattle.nms_lines.specs.declared.record_fault.RecordFault.{RecordFault}
+use Rattle.nms_lines.specs.declared.record_fault.RecordFault.TheVariants as read
 use Rattle.nms_live.specs.Faults as live_faults
 use Rattle.nms_live.specs.declared.live_fault.LiveFault.{LiveFault}
 use Rattle.nms_live.specs.declared.live_fault.LiveFault.TheVariants as live
 use Rattle.nms_text.specs.Faults as text_faults
-use Rattle.nms_text.specs.declared.live_text_fault.LiveTextFault.{LiveTextFault}
-use Rattle.nms_text.specs.declared.live_text_fault.LiveTextFault.TheVariants as live_text
 use Rattle.nms_text.specs.declared.script_fault.ScriptFault.{ScriptFault}
 use Rattle.nms_text.specs.declared.script_fault.ScriptFault.TheVariants as script
+use Rattle.nms_text.specs.declared.text_fault.TextFault.{TextFault}
+use Rattle.nms_text.specs.declared.text_fault.TextFault.TheVariants as told_text
 use Rattle.nms_words.specs.Faults as words_faults
 use Rattle.nms_words.specs.declared.words_fault.WordsFault.{WordsFault}
 use Rattle.nms_words.specs.declared.words_fault.WordsFault.TheVariants as words
@@ -56,11 +59,18 @@ six = (omega arith, λ e. omega arith, λ e. omega arith)
 seven : IsFaultStatus 7
 seven = (omega arith, λ e. omega arith, λ e. omega arith)
 
+record_status : (fault : RecordFault) → IsFaultStatus (record_faults.status_of fault)
+record_status read.Failed = one
+record_status read.NoMemory = five
+
+text_status : (fault : TextFault) → IsFaultStatus (text_faults.status_of_text fault)
+text_status told_text.NoMemory = five
+text_status told_text.WriteFault = one
+
 changes_status : (fault : ChangesFault) → IsFaultStatus (file_faults.status_of_changes fault)
-changes_status changes.ReadFault = one
+changes_status (changes.Record fault) = record_status fault
 changes_status (changes.Line line) = six
 changes_status changes.TapeFull = six
-changes_status changes.NoMemory = five
 
 report_status : (fault : ReportFault) → IsFaultStatus (file_faults.status_of_report fault)
 report_status (report.Changes inner) = changes_status inner
@@ -71,18 +81,15 @@ report_status report.NoMemory = five
 plan_status : (fault : PlanFault) → IsFaultStatus (file_faults.status_of_plan fault)
 plan_status (plan.Changes inner) = changes_status inner
 plan_status (plan.Board board) = five
-plan_status plan.NoMemory = five
-plan_status plan.WriteFault = one
+plan_status (plan.Text fault) = text_status fault
 
 orders_status : (fault : OrdersFault) → IsFaultStatus (file_faults.status_of_orders fault)
-orders_status orders.ReadFault = one
+orders_status (orders.Record fault) = record_status fault
 orders_status (orders.Line line) = six
-orders_status orders.NoMemory = five
 
 feed_status : (fault : FeedFault) → IsFaultStatus (file_faults.status_of_feed fault)
-feed_status feed.ReadFault = one
+feed_status (feed.Record fault) = record_status fault
 feed_status feed.TooLong = six
-feed_status feed.NoMemory = five
 
 setup_status : (fault : SetupFault) → IsFaultStatus (setup_faults.status_of fault)
 setup_status setup.NotToml = three
@@ -101,10 +108,6 @@ script_status script.WriteFault = one
 script_status script.TooLong = six
 script_status script.NoMemory = five
 
-live_text_status : (fault : LiveTextFault) → IsFaultStatus (text_faults.status_of_live_text fault)
-live_text_status live_text.NoMemory = five
-live_text_status live_text.WriteFault = one
-
 plan_text_status : (fault : PlanTextFault) → IsFaultStatus (plan_faults.status_of fault)
 plan_text_status plan_text.BadPlanText = six
 plan_text_status plan_text.NoMemory = five
@@ -119,7 +122,7 @@ live_status live.GateLimit = seven
 live_status live.NoMemory = five
 
 words_status : (fault : WordsFault) → IsFaultStatus (words_faults.status_of fault)
-words_status (words.Parser text help) = two
+words_status (words.Parser told help) = two
 words_status words.NoMemory = five
 
 fault_status : (fault : ToolFault) → IsFaultStatus (status_of fault)
@@ -136,7 +139,7 @@ fault_status tool.NoAudit = five
 fault_status (tool.Feed fault) = feed_status fault
 fault_status (tool.Orders fault) = orders_status fault
 fault_status (tool.Live fault) = live_status fault
-fault_status (tool.LiveText fault) = live_text_status fault
+fault_status (tool.LiveText fault) = text_status fault
 
 pub fault_below : (fault : ToolFault) → status_of fault < 8
 fault_below fault = (fault_status fault).0

@@ -37,17 +37,19 @@ doubt_record (doubt.BoundFails cut) = codes "DOUBT" ∷ codes "K7" ∷ []
 -- the line of a finding was written, and nothing else, and so it ends. No line tells of want of memory
 abbrev pub Tells : Finding → Option (List ℕ) → Option (List ℕ) → Ending → Type 0
 Tells (Ok done) old new ends = (ends ≡ ending.Done) × Appends old new (record_text (codes "CONFIRMED" ∷ []))
-Tells (Err fault.VersionBeyondTape) old new ends = (ends ≡ ending.NotConfirmed) × Appends old new (record_text (codes "DOUBT" ∷ codes "A1" ∷ []))
+Tells (Err fault.VersionBeyondTape) old new ends = (ends ≡ ending.NotConfirmed)
+    × Appends old new (record_text (codes "DOUBT" ∷ codes "A1" ∷ []))
 Tells (Err (fault.Doubt why)) old new ends = (ends ≡ ending.NotConfirmed) × Appends old new (record_text (doubt_record why))
 Tells (Err fault.NoMemory) old new ends = ⊥
 
 -- a plan was judged by its cuts on its own version of a tape, and the line of what was found was written, and nothing
 -- else. It ends as done only where the plan is lawful there, no lawful one fills more, and none that fills as much costs less
-pub record Judges (settings : Settings) (tape : Tape) (plan : Plan) (cuts : List Cut) (old new : Option (List ℕ)) (ends : Ending) : Type 0 where
-  pub finding : Finding
-  pub found : IsFinding settings tape plan cuts finding
-  pub told : Tells finding old new ends
-  pub best : ends ≡ ending.Done → IsBest settings tape plan
+pub record Judges (settings : Settings) (tape : Tape) (plan : Plan) (cuts : List Cut) (old new : Option (List ℕ)) (ends : Ending) : Type 0
+  where
+    pub finding : Finding
+    pub found : IsFinding settings tape plan cuts finding
+    pub told : Tells finding old new ends
+    pub best : ends ≡ ending.Done → IsBest settings tape plan
 
 -- a text says this plan with these cuts
 abbrev pub Says : Listing → List ℕ → Plan → List Cut → Type 0
@@ -55,7 +57,8 @@ Says roster text plan cuts = (records : List Record) → AreAllRecords (Some tex
 
 -- the plan that a text says was judged on a tape
 abbrev pub JudgesText : Settings → Tape → List ℕ → Option (List ℕ) → Option (List ℕ) → Ending → Type 0
-JudgesText settings tape text old new ends = (plan : Plan) × (cuts : List Cut) × Says settings.roster text plan cuts × Judges settings tape plan cuts old new ends
+JudgesText settings tape text old new ends = (plan : Plan) × (cuts : List Cut) × Says settings.roster text plan cuts
+    × Judges settings tape plan cuts old new ends
 
 -- the plan that a text says was judged on the tape of a file of changes
 abbrev pub JudgesOnFile : Settings → Option (List ℕ) → List ℕ → Option (List ℕ) → Option (List ℕ) → Ending → Type 0

@@ -23,13 +23,18 @@ use Rattle.nms_command.specs.declared.ending.Ending.TheVariants as ending
 -- the report of the symbol that the second word names was written, after all the changes of a file, and nothing else
 abbrev pub Reports : Settings → List (List ℕ) → Option (List ℕ) → Option (List ℕ) → Type 0
 Reports settings own old new =
-    (bytes : Option (List ℕ)) × (sym : ℕ) × (place_in settings.roster.syms (field own 1) ≡ Some sym) × ReportsFile settings bytes sym old new
+    (bytes : Option (List ℕ)) × (sym : ℕ) × (place_in settings.roster.syms (field own 1) ≡ Some sym)
+    × ReportsFile settings bytes sym old new
 
--- a plan of the order that the words behind the first say was written with its certificate, on all the changes of a file
-abbrev pub Plans : Settings → List (List ℕ) → Bool → Option (List ℕ) → Option (List ℕ) → Type 0
-Plans settings own manual old new =
-    (bytes : Option (List ℕ)) × (order : Terms)
-    × (order_asked settings.roster (field own 1) (field own 2) (field own 3) (field own 4) manual ≡ Some order) × PlansFile settings bytes order old new
+-- the order that is asked for: by the words behind the first and by the options
+abbrev pub asked_order : Settings → Asked → Option Terms
+asked_order settings asked =
+    order_asked settings.roster (field asked.own 1) (field asked.own 2) (field asked.own 3) (field asked.own 4) asked.manual asked.self_help
+
+-- a plan of that order was written with its certificate, on all the changes of a file
+abbrev pub Plans : Settings → Asked → Option (List ℕ) → Option (List ℕ) → Type 0
+Plans settings asked old new = (bytes : Option (List ℕ)) × (order : Terms) × (asked_order settings asked ≡ Some order)
+    × PlansFile settings bytes order old new
 
 -- the answers to the script of the input were written, and nothing else
 abbrev pub Scripts : Settings → Option (List ℕ) → Option (List ℕ) → Option (List ℕ) → Type 0
@@ -39,7 +44,7 @@ Scripts settings input old new = (counts : Counts) × Answers settings input old
 abbrev pub Serves : Sub → Settings → Asked → Option (List ℕ) → Option (List ℕ) → Option (List ℕ) → Ending → Type 0
 Serves sub.Script settings asked input old new ends = (ends ≡ ending.Done) × Scripts settings input old new
 Serves sub.Report settings asked input old new ends = (ends ≡ ending.Done) × Reports settings asked.own old new
-Serves sub.Plan settings asked input old new ends = (ends ≡ ending.Done) × Plans settings asked.own asked.manual old new
+Serves sub.Plan settings asked input old new ends = (ends ≡ ending.Done) × Plans settings asked old new
 Serves sub.Check settings asked input old new ends = JudgesFiles settings old new ends
 Serves sub.Live settings asked input old new ends = ends ≡ ending.Done
 

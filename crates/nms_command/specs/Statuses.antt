@@ -35,7 +35,7 @@ status_of tool.NoAudit = 5
 status_of (tool.Feed fault) = file_faults.status_of_feed fault
 status_of (tool.Orders fault) = file_faults.status_of_orders fault
 status_of (tool.Live fault) = live_faults.status_of fault
-status_of (tool.LiveText fault) = text_faults.status_of_live_text fault
+status_of (tool.LiveText fault) = text_faults.status_of_text fault
 
 -- what the line on standard error names
 abbrev pub code_of : ToolFault → List ℕ
@@ -52,7 +52,7 @@ code_of tool.NoAudit = codes "A3"
 code_of (tool.Feed fault) = file_faults.code_of_feed fault
 code_of (tool.Orders fault) = file_faults.code_of_orders fault
 code_of (tool.Live fault) = live_faults.code_of fault
-code_of (tool.LiveText fault) = text_faults.code_of_live_text fault
+code_of (tool.LiveText fault) = text_faults.code_of_text fault
 
 -- what is written of it on standard error: the parser's own text, or one line with the code
 abbrev pub fault_text : ToolFault → List ℕ

@@ -1,5 +1,5 @@
-//! The subcommand `live`: two feeds, the tape and the desks at once, each in a thread of its own.
-ghost use Rattle.std.specs.Prelude.{◌≡◌, IfOk};
+//! The subcommand `live`: the feeds, the tape and the desks at once, each in a thread of its own.
+ghost use Rattle.std.specs.Prelude.{◌≡◌, IfOk, length};
 
 use crate::ending::Ending;
 use crate::files::open_file;
@@ -7,7 +7,7 @@ use crate::tool_fault::ToolFault;
 use nms_fees::Setup;
 use nms_files::{read_orders, read_within};
 use nms_live::{Live, OpenGate, run_live};
-use nms_text::write_live;
+use nms_text::{ScriptFault, write_live};
 use std::alloc::Global;
 use std::io::{Read, Write};
 use std::rt::Files;
@@ -17,8 +17,8 @@ use std::thread::Threads;
 /// The most bytes of a feed. This product's own rule.
 const MOST_FEED_BYTES: u64 = 1_000_000_000;
 
-/// Runs the feeds of two files with the orders of a third one, and writes the tape's length and each order's plan on
-/// the whole tape, with its certificate.
+/// Runs the feeds of as many files as the setup has feeds, with the orders of the first file, and writes the tape's
+/// length and each order's plan on the whole tape, with its certificate.
 pub(crate) fn serve_live<T: Files + AllocGlobal + Threads + Wait + Sync, W: Write>(
     rt: &T,
     setup: &Setup,
@@ -27,14 +27,31 @@ pub(crate) fn serve_live<T: Files + AllocGlobal + Threads + Wait + Sync, W: Writ
 ) -> Result<Ending, ToolFault>
     ensures { IfOk result (λ ends. ends ≡ Ending.Done) }
 {
-    let [feed_a, feed_b, orders] = words else {
+    let Some((orders, feeds)) = words.split_first() else {
         return Err(ToolFault::Usage);
     };
-    // All three files are read before a line of one is judged.
-    let feed_a = read_feed(rt, feed_a.as_str())?;
-    let feed_b = read_feed(rt, feed_b.as_str())?;
+    if feeds.len() != usize::from(setup.feeds()) {
+        return Err(ToolFault::Usage);
+    }
+    // All files are read before a line of one is judged.
     let orders = open_file(rt, orders.as_str())?;
-    serve_feeds(rt, setup, feed_a, feed_b, orders, answers)
+    let feeds = read_feeds(rt, feeds)?;
+    serve_feeds(rt, setup, feeds, orders, answers)
+}
+
+/// The bytes of each feed's file.
+fn read_feeds<T: Files + AllocGlobal>(rt: &T, paths: &[String]) -> Result<Vec<Vec<u8>>, ToolFault>
+    ensures { IfOk result (λ feeds. length feeds.items ≡ length paths.now) }
+{
+    let mut feeds = Vec::new(rt.alloc());
+    for path in paths {
+        let bytes = read_feed(rt, path.as_str())?;
+        match feeds.push(bytes) {
+            Ok(()) => {}
+            Err(_) => return Err(ToolFault::Script(ScriptFault::NoMemory)),
+        }
+    }
+    Ok(feeds)
 }
 
 /// The bytes of a feed's file, where there are not too many.
@@ -46,22 +63,22 @@ fn read_feed<T: Files + AllocGlobal>(rt: &T, path: &str) -> Result<Vec<u8>, Tool
     }
 }
 
-/// Runs two feeds with the orders of a file, and writes what the run came to.
+/// Runs the feeds with the orders of a file, and writes what the run came to.
 fn serve_feeds<T: AllocGlobal + Threads + Wait + Sync, R: Read + Drop, W: Write>(
     rt: &T,
     setup: &Setup,
-    feed_a: Vec<u8>,
-    feed_b: Vec<u8>,
+    feeds: Vec<Vec<u8>>,
     orders: R,
     answers: &mut W,
 ) -> Result<Ending, ToolFault>
+    requires { length feeds.items ≡ setup.now.feeds }
     ensures { IfOk result (λ ends. ends ≡ Ending.Done) }
 {
     let orders = match read_orders(rt.alloc(), setup, orders) {
         Ok(orders) => orders,
         Err(fault) => return Err(ToolFault::Orders(fault)),
     };
-    match run_live(rt, rt.alloc(), setup, feed_a, feed_b, orders, &OpenGate) {
+    match run_live(rt, rt.alloc(), setup, feeds, orders, &OpenGate) {
         Ok(live) => tell_run(rt.alloc(), setup, &live, answers),
         Err(fault) => Err(ToolFault::Live(fault)),
     }

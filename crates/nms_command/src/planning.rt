@@ -1,6 +1,6 @@
 //! The subcommand `plan`: an order planned on the changes of a file.
-ghost use Rattle.std.specs.Prelude.{◌≡◌, IfOk, map};
-ghost use Rattle.std.specs.String.{string_bytes};
+ghost use Rattle.std.specs.Prelude.{◌≡◌, IfOk};
+ghost use Rattle.nms_words.specs.CommandLine.{shown};
 ghost use Rattle.nms_command.specs.Served.{Plans};
 
 use crate::ending::Ending;
@@ -19,13 +19,22 @@ pub(crate) fn serve_plan<T: Files + AllocGlobal, W: Write>(
     request: &Request,
     answers: &mut W,
 ) -> Result<Ending, ToolFault>
-    ensures { IfOk result (λ ends. (ends ≡ Ending.Done) × Plans setup.now (map string_bytes request.now.words.items) request.now.manual (W.contents answers.old) (W.contents answers.new)) }
+    ensures { IfOk result (λ ends. (ends ≡ Ending.Done) × Plans setup.now (shown request.now) (W.contents answers.old) (W.contents answers.new)) }
 {
     let [changes, side, sym, shares, limit] = request.words.as_slice() else {
         return Err(ToolFault::Usage);
     };
     let (side, sym, shares, limit) = (side.as_str(), sym.as_str(), shares.as_str(), limit.as_str());
-    let Some(order) = order_of(setup.roster(), side, sym, shares, limit, request.manual) else {
+    let names = request.self_help.as_ref().map(String::as_str);
+    let Some(order) = order_of(
+        setup.roster(),
+        side,
+        sym,
+        shares,
+        limit,
+        request.manual,
+        names,
+    ) else {
         return Err(ToolFault::Usage);
     };
     let file = open_file(rt, changes.as_str())?;

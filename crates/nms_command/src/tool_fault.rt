@@ -6,7 +6,7 @@ use nms_fees::SetupFault;
 use nms_files::{AuditFault, ChangesFault, FeedFault, OrdersFault, PlanFault, ReportFault};
 use nms_lines::PlanTextFault;
 use nms_live::LiveFault;
-use nms_text::{LiveTextFault, ScriptFault};
+use nms_text::{ScriptFault, TextFault};
 use nms_words::WordsFault;
 
 /// Why the program ends with another status than 0.
@@ -39,7 +39,7 @@ pub enum ToolFault {
     /// A live run gave nothing.
     Live(LiveFault),
     /// What a live run came to was not written.
-    LiveText(LiveTextFault),
+    LiveText(TextFault),
 }
 
 impl ToolFault {

@@ -9,4 +9,4 @@ pub use nms_files::{
 };
 pub use nms_live::{Answer, DeskOrder, Gate, GatePoint, Live, LiveFault, OpenGate, run_live};
 pub use nms_scripts::{Counts, MOST_RECORDS, SETUP_K, run_script};
-pub use nms_text::{LiveTextFault, ScriptFault, report, write_live};
+pub use nms_text::{ScriptFault, TextFault, report, write_live};

@@ -4,10 +4,10 @@ use crate::Failed;
 use nms_board::BoardFault;
 use nms_fees::SetupFault;
 use nms_files::{ChangesFault, FeedFault, OrdersFault, PlanFault, ReportFault};
-use nms_lines::{LineFault, PlanTextFault};
+use nms_lines::{LineFault, PlanTextFault, RecordFault};
 use nms_live::LiveFault;
 use nms_quote::Feed;
-use nms_text::{LiveTextFault, ScriptFault};
+use nms_text::{ScriptFault, TextFault};
 use std::io::Write;
 
 /// Adds of each fault its code and its exit status, a line each.
@@ -61,9 +61,9 @@ fn tell_change_exits(given: &mut Vec<u8>) -> Result<(), Failed> {
         tell(given, fault.code(), fault.status())?;
     }
     for fault in [
-        ChangesFault::ReadFault,
+        ChangesFault::Record(RecordFault::Failed),
         ChangesFault::TapeFull,
-        ChangesFault::NoMemory,
+        ChangesFault::Record(RecordFault::NoMemory),
     ] {
         let (report, plan) = (ReportFault::Changes(fault), PlanFault::Changes(fault));
         tell(given, fault.code(), fault.status())?;
@@ -91,16 +91,16 @@ fn tell_file_exits(given: &mut Vec<u8>) -> Result<(), Failed> {
         tell(given, fault.code(), fault.status())?;
     }
     for fault in [
-        FeedFault::ReadFault,
+        FeedFault::Record(RecordFault::Failed),
         FeedFault::TooLong,
-        FeedFault::NoMemory,
+        FeedFault::Record(RecordFault::NoMemory),
     ] {
         tell(given, fault.code(), fault.status())?;
     }
     for fault in [
-        OrdersFault::ReadFault,
+        OrdersFault::Record(RecordFault::Failed),
         OrdersFault::Line(LineFault::BadDesk),
-        OrdersFault::NoMemory,
+        OrdersFault::Record(RecordFault::NoMemory),
     ] {
         tell(given, fault.code(), fault.status())?;
     }
@@ -111,8 +111,8 @@ fn tell_file_exits(given: &mut Vec<u8>) -> Result<(), Failed> {
 fn tell_plan_exits(given: &mut Vec<u8>) -> Result<(), Failed> {
     for fault in [
         PlanFault::Board(BoardFault::NoMemory),
-        PlanFault::NoMemory,
-        PlanFault::WriteFault,
+        PlanFault::Text(TextFault::NoMemory),
+        PlanFault::Text(TextFault::WriteFault),
     ] {
         tell(given, fault.code(), fault.status())?;
     }
@@ -143,7 +143,7 @@ fn tell_live_exits(given: &mut Vec<u8>) -> Result<(), Failed> {
     ] {
         tell(given, fault.code(), fault.status())?;
     }
-    for fault in [LiveTextFault::NoMemory, LiveTextFault::WriteFault] {
+    for fault in [TextFault::NoMemory, TextFault::WriteFault] {
         tell(given, fault.code(), fault.status())?;
     }
     Ok(())

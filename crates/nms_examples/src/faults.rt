@@ -8,7 +8,7 @@ use nms_flow::{FlowFault, StepFault};
 use nms_lines::{LineFault, PlanTextFault, RecordFault};
 use nms_live::LiveFault;
 use nms_quote::{Feed, RosterFault};
-use nms_text::{LiveTextFault, ScriptFault};
+use nms_text::{ScriptFault, TextFault};
 use nms_units::UnitFault;
 use nms_words::WordsFault;
 use std::fmt::Display;
@@ -119,10 +119,10 @@ fn tell_engine_faults(given: &mut Vec<u8>) -> Result<(), Failed> {
         tell(given, fault)?;
     }
     for fault in [
-        ChangesFault::ReadFault,
+        ChangesFault::Record(RecordFault::Failed),
         ChangesFault::Line(LineFault::UnknownKind),
         ChangesFault::TapeFull,
-        ChangesFault::NoMemory,
+        ChangesFault::Record(RecordFault::NoMemory),
     ] {
         tell(given, ReportFault::Changes(fault))?;
     }
@@ -141,9 +141,9 @@ fn tell_engine_faults(given: &mut Vec<u8>) -> Result<(), Failed> {
 
 fn tell_live_faults(given: &mut Vec<u8>) -> Result<(), Failed> {
     for fault in [
-        OrdersFault::ReadFault,
+        OrdersFault::Record(RecordFault::Failed),
         OrdersFault::Line(LineFault::BadDesk),
-        OrdersFault::NoMemory,
+        OrdersFault::Record(RecordFault::NoMemory),
     ] {
         tell(given, fault)?;
     }
@@ -163,13 +163,13 @@ fn tell_live_faults(given: &mut Vec<u8>) -> Result<(), Failed> {
         tell(given, fault)?;
     }
     for fault in [
-        FeedFault::ReadFault,
+        FeedFault::Record(RecordFault::Failed),
         FeedFault::TooLong,
-        FeedFault::NoMemory,
+        FeedFault::Record(RecordFault::NoMemory),
     ] {
         tell(given, fault)?;
     }
-    for fault in [LiveTextFault::NoMemory, LiveTextFault::WriteFault] {
+    for fault in [TextFault::NoMemory, TextFault::WriteFault] {
         tell(given, fault)?;
     }
     Ok(())

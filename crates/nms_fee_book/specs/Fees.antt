@@ -3,7 +3,8 @@
 use Rattle.std.specs.Prelude.{ℕ, ℤ, pos, neg_ℤ, ◌+ℤ◌, ◌*ℤ◌, ◌≤ℤ◌, ◌*◌, nat_le, List, All, unwrap_or, slice_get, if◌then◌else◌}
 use Rattle.nms_quote.specs.declared.order.OrderSide.{OrderSide}
 use Rattle.nms_quote.specs.declared.order.OrderSide.TheVariants as side
-use Rattle.nms_fee_book.specs.declared.TheConstants.{FEE_CAP_OF_2005, FEE_CAP_OF_2024, MOST_FEE, MOST_RATE, RATE_CAP_OF_2005, RATE_CAP_OF_2024}
+use Rattle.nms_fee_book.specs.declared.TheConstants.{FEE_CAP_OF_2005, FEE_CAP_OF_2024, MOST_FEE, MOST_RATE, RATE_CAP_OF_2005}
+use Rattle.nms_fee_book.specs.declared.TheConstants.{RATE_CAP_OF_2024}
 use Rattle.nms_fee_book.specs.declared.caps.Caps.{Caps}
 use Rattle.nms_fee_book.specs.declared.caps.Caps.TheVariants as caps
 use Rattle.nms_fee_book.specs.declared.fee_schedule.FeeSchedule.{FeeSchedule}

@@ -1,1 +1,2 @@
 mod Moves
+mod Ends

@@ -3,6 +3,7 @@ use Rattle.std.specs.Prelude.{ℕ, ◌≡◌, ◌≤◌, ◌*◌, List, [], ◌�
 use Rattle.nms_quote.specs.Merge.{feeds}
 use Rattle.nms_quote.specs.declared.change.Change.{Change}
 use Rattle.nms_quote.specs.declared.feed.Feed.{Feed}
+use Rattle.nms_quote.specs.declared.TheConstants.{MOST_FEEDS}
 use Rattle.nms_quote.specs.declared.marked.Marked.{Marked}
 use Rattle.nms_feed.specs.declared.TheConstants.{MOST_SENT}
 use Rattle.nms_feed.specs.declared.known.Known.{Known}
@@ -11,17 +12,21 @@ use Rattle.nms_feed.specs.declared.known.Sent.{Sent}
 abbrev pub sent_for : Feed → List Change → Sent
 sent_for feed changes = record { feed = feed; changes = changes }
 
+-- nothing yet
+abbrev pub unsent : Feed → Sent
+unsent feed = sent_for feed []
+
 -- it may send for one feed, for which these were sent, and take nothing
 abbrev pub sender_view : Feed → List Change → Known
 sender_view feed changes = record { sent = sent_for feed changes ∷ []; taken = None }
 
--- it may take, and these were taken; it may send nothing
-abbrev pub taker_view : List Marked → Known
-taker_view taken = record { sent = []; taken = Some taken }
+-- it may take, and these were taken; it alone may send for the feeds that have no sender, and nothing was sent for these
+abbrev pub taker_view : ℕ → List Marked → Known
+taker_view senders taken = record { sent = map unsent (drop senders feeds); taken = Some taken }
 
 -- the first pass may send for each feed, and take
 abbrev pub first_view : Known
-first_view = record { sent = map (λ feed. sent_for feed []) feeds; taken = Some [] }
+first_view = record { sent = map unsent feeds; taken = Some [] }
 
 -- it may do nothing any more
 abbrev pub spent_view : Known
@@ -37,7 +42,7 @@ first_alone known = record { sent = take 1 known.sent; taken = None }
 
 -- with the rights to send that another has
 abbrev pub gathered : Known → Known → Known
-gathered known other = record { sent = other.sent ++ known.sent; taken = known.taken }
+gathered known other = record { sent = known.sent ++ other.sent; taken = known.taken }
 
 -- what was sent for the first of its feeds
 abbrev pub first_sent : List Sent → List Change
@@ -54,8 +59,9 @@ pub record IsSender (known : Known) (feed : Feed) (count : ℕ) : Type 0 where
   pub counted : count ≡ length (first_sent known.sent)
   pub within : count ≤ MOST_SENT
 
--- what the taker's pass knows: what was taken, so many changes
-pub record IsTaker (known : Known) (count : ℕ) : Type 0 where
-  pub one : known ≡ taker_view (taken_in known)
+-- what the taker's pass knows, in a lane of so many senders: what was taken, so many changes
+pub record IsTaker (known : Known) (senders count : ℕ) : Type 0 where
+  pub one : known ≡ taker_view senders (taken_in known)
+  pub few : senders ≤ MOST_FEEDS
   pub counted : count ≡ length (taken_in known)
-  pub within : count ≤ 2 * MOST_SENT
+  pub within : count ≤ MOST_FEEDS * MOST_SENT

@@ -1,12 +1,11 @@
 //! What went over a lane.
+use arrayvec::ArrayVec;
 
 /// How many changes went over a lane.
-#[derive(Clone, Copy, Debug, PartialEq, Eq, Hash)]
+#[derive(Debug, PartialEq, Drop)]
 pub struct Delivered {
-    /// Those that the sender of feed A sent, at most 2^40.
-    pub sent_a: u64,
-    /// Those that the sender of feed B sent, at most 2^40.
-    pub sent_b: u64,
+    /// Those that each sender sent, in order of feed: at most 2^40 each.
+    pub sent: ArrayVec<u64, 8>,
     /// Those that were taken: all of them.
     pub taken: u64,
 }

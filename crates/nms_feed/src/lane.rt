@@ -1,79 +1,161 @@
 //! Opening and closing a lane (specs/Lane).
-ghost use Rattle.std.specs.Prelude.{◌≡◌, ◌<◌, ◌≤◌, ◌+◌, ◌↔◌, [], length, IfErr, IfOk, IsErr};
-ghost use Rattle.nms_quote.specs.Merge.{IsMerge};
-ghost use Rattle.nms_quote.specs.declared.feed.Feed.TheVariants as feed;
-ghost use Rattle.nms_feed.specs.declared.TheConstants.{LEAST_CAPACITY, MOST_CAPACITY};
+ghost use Rattle.std.specs.Prelude.{◌≡◌, ◌<◌, ◌≤◌, ◌↔◌, suc, [], length, map, slice_get, sum_by, take, Some, IfErr, IfOk, IsErr, OnOk};
+ghost use Rattle.nms_quote.specs.Merge.{IsMerge, feeds};
+ghost use Rattle.nms_quote.specs.declared.TheConstants.{MOST_FEEDS};
+ghost use Rattle.crossbeam_queue.specs.Passes.{IsPassOf, IsSamePass, view};
+ghost use Rattle.nms_feed.specs.Known.{gathered, sender_view, taker_view};
+ghost use Rattle.nms_feed.specs.Lane.{AreSendersOf, fresh, lists_of};
+ghost use Rattle.nms_feed.specs.declared.TheConstants.{LEAST_CAPACITY, MOST_CAPACITY, MOST_SENT};
 
 use crate::delivered::Delivered;
 use crate::lane_fault::LaneFault;
 use crate::not_empty::NotEmpty;
-use crate::rule::{FirstFeed, Gathers, Line, Tallies};
+use crate::rule::{FirstFeed, Gathers, Line, LinePass, Tallies};
 use crate::sender::Sender;
 use crate::taker::Taker;
+use arrayvec::ArrayVec;
 use nms_quote::Feed;
 use std::alloc::Global;
 use std::sync::Arc;
 
-/// Opens a lane that holds up to so many changes at once, 2 to 1,024: the sender of feed A, that of feed B,
-/// and the taker. Nothing after it takes memory. `NoMemory` leaves nothing.
-pub fn open_lane(alloc: Global, capacity: usize) -> Result<(Sender, Sender, Taker), LaneFault>
+/// Opens a lane that holds up to so many changes at once, 2 to 1,024, for so many senders, 1 to 8: a sender for
+/// each of the first feeds, in order, and the taker. Nothing after it takes memory. `NoMemory` leaves nothing.
+pub fn open_lane(
+    alloc: Global,
+    capacity: usize,
+    senders: u8,
+) -> Result<(Vec<Sender>, Taker), LaneFault>
     requires capacity { (LEAST_CAPACITY ≤ capacity) × (capacity ≤ MOST_CAPACITY) }
-    ensures one_lane { IfOk result (λ ends. (ends.0.lane ≡ ends.2.lane) × (ends.1.lane ≡ ends.2.lane)) }
-    ensures feeds { IfOk result (λ ends. (ends.0.feed ≡ feed.A) × (ends.1.feed ≡ feed.B)) }
-    ensures empty { IfOk result (λ ends. (ends.0.sent ≡ []) × (ends.1.sent ≡ []) × (ends.2.taken ≡ [])) }
+    requires senders { (1 ≤ senders) × (senders ≤ MOST_FEEDS) }
+    ensures senders { IfOk result (λ ends. ends.0.items ≡ map (fresh ends.1.lane) (take senders feeds)) }
+    ensures taker { IfOk result (λ ends. (ends.1.senders ≡ senders) × (ends.1.taken ≡ [])) }
 {
     let Ok((line, mut pass)) = Line::ruled(alloc, capacity) else {
         return Err(LaneFault::NoMemory);
     };
-    let pass_a = line.another::<FirstFeed>(&mut pass);
-    let pass_b = line.another::<FirstFeed>(&mut pass);
     let Ok(line) = Arc::new(alloc, line) else {
         return Err(LaneFault::NoMemory);
     };
-    let (Ok(line_a), Ok(line_b)) = (Arc::try_clone(&line), Arc::try_clone(&line)) else {
-        return Err(LaneFault::NoMemory);
-    };
-    let a = Sender {
-        line: line_a,
-        pass: pass_a,
-        feed: Feed::A,
-        sent: 0,
-    };
-    let b = Sender {
-        line: line_b,
-        pass: pass_b,
-        feed: Feed::B,
-        sent: 0,
-    };
+    let ends = cut_senders(alloc, &line, &mut pass, senders)?;
     let taker = Taker {
         line,
         pass,
+        senders,
         taken: 0,
     };
-    Ok((a, b, taker))
+    Ok((ends, taker))
+}
+
+/// Cuts a pass off the first one for each of the first feeds, in order.
+fn cut_senders(
+    alloc: Global,
+    line: &Arc<Line>,
+    pass: &mut LinePass,
+    senders: u8,
+) -> Result<Vec<Sender>, LaneFault>
+    requires few { senders ≤ MOST_FEEDS }
+    requires of_line { IsPassOf line.now.value pass.old }
+    requires knows { view pass.old ≡ taker_view 0 [] }
+    ensures same { IsSamePass pass.old pass.new }
+    ensures knows { OnOk result (view pass.new ≡ taker_view senders []) }
+    ensures senders { IfOk result (λ ends. ends.items ≡ map (fresh pass.old.table_id) (take senders feeds)) }
+{
+    let Ok(mut ends) = Vec::with_capacity(alloc, usize::from(senders)) else {
+        return Err(LaneFault::NoMemory);
+    };
+    for place in 0..senders {
+        ends.push_reserved(cut_sender(line, pass, place)?);
+    }
+    Ok(ends)
+}
+
+/// Cuts a pass off the first one for the feed at a place, the first that is still with it.
+fn cut_sender(line: &Arc<Line>, pass: &mut LinePass, place: u8) -> Result<Sender, LaneFault>
+    requires place { place < MOST_FEEDS }
+    requires of_line { IsPassOf line.now.value pass.old }
+    requires knows { view pass.old ≡ taker_view place [] }
+    ensures same { IsSamePass pass.old pass.new }
+    ensures knows { OnOk result (view pass.new ≡ taker_view (suc place) []) }
+    ensures feed { IfOk result (λ sender. slice_get feeds place ≡ Some sender.feed) }
+    ensures fresh { IfOk result (λ sender. sender ≡ fresh pass.old.table_id sender.feed) }
+{
+    let Some(feed) = Feed::at(place) else {
+        unreachable!()
+    };
+    let Ok(line) = Arc::try_clone(line) else {
+        return Err(LaneFault::NoMemory);
+    };
+    let pass = line.another::<FirstFeed>(pass);
+    Ok(Sender {
+        line,
+        pass,
+        feed,
+        sent: 0,
+    })
 }
 
 /// Closes a lane of which all that was sent was taken, and tells how much that was. `NotEmpty` where a
-/// change is still to be taken: all three ends come back as they were. `a` is the sender of feed A.
-pub fn close(a: Sender, b: Sender, taker: Taker) -> Result<Delivered, NotEmpty>
-    requires one_lane { (a.lane ≡ taker.lane) × (b.lane ≡ taker.lane) }
-    requires feeds { (a.feed ≡ feed.A) × (b.feed ≡ feed.B) }
-    ensures merged { IfOk result (λ delivered. IsMerge a.sent b.sent taker.taken) }
-    ensures counted { IfOk result (λ delivered. delivered ≡ record { sent_a = length a.sent; sent_b = length b.sent; taken = length taker.taken }) }
-    ensures when { IsErr result ↔ (length taker.taken < length a.sent + length b.sent) }
-    ensures back { IfErr result (λ ends. ends ≡ record { a = a; b = b; taker = taker }) }
+/// change is still to be taken: all ends come back as they were. The senders are all that the lane has, in
+/// order of feed.
+pub fn close(senders: Vec<Sender>, taker: Taker) -> Result<Delivered, NotEmpty>
+    requires all { AreSendersOf taker senders.items }
+    ensures merged { IfOk result (λ delivered. IsMerge (lists_of senders.items) taker.taken) }
+    ensures counted { IfOk result (λ delivered. (delivered.sent.items ≡ map (λ sender. length sender.sent) senders.items) × (delivered.taken ≡ length taker.taken)) }
+    ensures when { IsErr result ↔ (length taker.taken < sum_by (λ sender. length sender.sent) senders.items) }
+    ensures back { IfErr result (λ ends. ends ≡ record { senders = senders; taker = taker }) }
 {
-    if taker.taken < a.sent + b.sent {
-        return Err(NotEmpty { a, b, taker });
+    if taker.taken < all_sent(&senders) {
+        return Err(NotEmpty { senders, taker });
     }
-    let (sent_a, sent_b, taken) = (a.sent, b.sent, taker.taken);
+    let sent = counts_of(&senders);
+    let taken = taker.taken;
+    join(senders, taker);
+    Ok(Delivered { sent, taken })
+}
+
+/// How many changes all senders sent.
+fn all_sent(senders: &[Sender]) -> u64
+    requires { length senders.now ≤ MOST_FEEDS }
+    ensures { result ≡ sum_by (λ sender. length sender.sent) senders.now }
+{
+    let mut sent = 0;
+    for sender in senders {
+        sent += sender.count();
+    }
+    sent
+}
+
+/// How many changes each sender sent, in their order.
+fn counts_of(senders: &[Sender]) -> ArrayVec<u64, 8>
+    requires { length senders.now ≤ MOST_FEEDS }
+    ensures { result.items ≡ map (λ sender. length sender.sent) senders.now }
+{
+    let mut counts = ArrayVec::new_in(());
+    for sender in senders {
+        counts.push(sender.count());
+    }
+    counts
+}
+
+/// Puts together what the ends of a lane know of which all was taken.
+fn join(senders: Vec<Sender>, taker: Taker)
+    requires all { AreSendersOf taker senders.items }
+    requires taken { sum_by (λ sender. length sender.sent) senders.items ≤ length taker.taken }
+    ensures { IsMerge (lists_of senders.items) taker.taken }
+{
     let Taker { line, mut pass, .. } = taker;
-    line.absorb::<Gathers>(&mut pass, a.pass);
-    line.absorb::<Gathers>(&mut pass, b.pass);
+    for sender in senders {
+        join_sender(&line, &mut pass, sender);
+    }
     line.learn_as::<Tallies>(&mut pass);
-    Ok(Delivered {
-        sent_a,
-        sent_b,
-        taken,
-    })
+}
+
+/// Takes in what a sender knows.
+fn join_sender(line: &Line, pass: &mut LinePass, sender: Sender)
+    requires of_line { IsPassOf line.now pass.old }
+    requires one_lane { sender.lane ≡ pass.old.table_id }
+    ensures same { IsSamePass pass.old pass.new }
+    ensures knows { view pass.new ≡ gathered (view pass.old) (sender_view sender.feed sender.sent) }
+{
+    line.absorb::<Gathers>(pass, sender.pass);
 }

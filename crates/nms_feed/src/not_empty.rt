@@ -2,13 +2,11 @@
 use crate::sender::Sender;
 use crate::taker::Taker;
 
-/// N3: a change that was sent was not yet taken. All three ends come back as they were.
+/// N3: a change that was sent was not yet taken. All ends come back as they were.
 #[derive(Drop)]
 pub struct NotEmpty {
-    /// The sender of feed A.
-    pub a: Sender,
-    /// The sender of feed B.
-    pub b: Sender,
+    /// The senders, in order of feed.
+    pub senders: Vec<Sender>,
     /// The lane's other end.
     pub taker: Taker,
 }

@@ -1,9 +1,10 @@
 //! The rule of the lane's queue (specs/Rule), and what each step over the queue tells.
-ghost use Rattle.std.specs.Prelude.{◌≡◌, ◌<◌, ◌*◌, ◌∷◌, ◌++◌, [], length};
+ghost use Rattle.std.specs.Prelude.{◌≡◌, ◌<◌, ◌*◌, ◌∷◌, ◌++◌, [], length, Some};
 ghost use Rattle.std.specs.List.{AllByRecursion};
 ghost use Rattle.nms_quote.specs.Merge.{of_feed};
+ghost use Rattle.nms_quote.specs.declared.TheConstants.{MOST_FEEDS};
 ghost use Rattle.nms_feed.specs.declared.TheConstants.{MOST_SENT};
-ghost use Rattle.nms_feed.specs.Known.{first_alone, first_sent, first_view, gathered, sender_view, spent_view, taken_in, taker_view, without_first};
+ghost use Rattle.nms_feed.specs.Known.{first_alone, first_sent, first_view, gathered, sender_view, spent_view, taken_in, without_first};
 ghost use Rattle.nms_feed.specs.Rule.{Kept};
 
 use crate::known::Known;
@@ -41,7 +42,7 @@ impl Lesson<Marked, Known> for Sends {
 pub struct Takes;
 
 impl Outcome<Marked, Known> for Takes {
-    ghost then = { λ known marked after. (after ≡ taker_view (taken_in known ++ marked ∷ [])) × (length (taken_in known) < 2 * MOST_SENT) };
+    ghost then = { λ known marked after. (after ≡ record { sent = known.sent; taken = Some (taken_in known ++ marked ∷ []) }) × (length (taken_in known) < MOST_FEEDS * MOST_SENT) };
 }
 
 impl Lesson<Marked, Known> for Takes {

@@ -1,5 +1,5 @@
 //! A feed's end of a lane (specs/Lane).
-ghost use Rattle.std.specs.Prelude.{◌≡◌, ◌<◌, ◌∷◌, ◌++◌, [], length, IfErr, OnErr, OnOk};
+ghost use Rattle.std.specs.Prelude.{◌≡◌, ◌<◌, ◌≤◌, ◌∷◌, ◌++◌, [], length, IfErr, OnErr, OnOk};
 ghost use Rattle.nms_feed.specs.declared.TheConstants.{MOST_SENT};
 
 use crate::full::Full;
@@ -33,6 +33,21 @@ impl Model for Sender {
 }
 
 impl Sender {
+    /// The feed that marks its changes.
+    pub fn feed(&self) -> Feed
+        ensures { result ≡ self.now.feed }
+    {
+        self.feed
+    }
+
+    /// How many changes it sent.
+    pub(crate) fn count(&self) -> u64
+        ensures count { result ≡ length self.now.sent }
+        ensures within { result ≤ MOST_SENT }
+    {
+        self.sent
+    }
+
     /// Sends a change. Waits where the lane is full, until a change is taken.
     pub fn send<R: Wait>(&mut self, rt: &R, change: Change)
         requires room { length self.old.sent < MOST_SENT }

@@ -1,4 +1,4 @@
-//! The end of a lane where the changes of both feeds are taken (specs/Lane).
+//! The end of a lane where the changes of all feeds are taken (specs/Lane).
 ghost use Rattle.std.specs.Prelude.{◌≡◌, ◌∷◌, ◌++◌, [], IfSome, IfNone};
 ghost use Rattle.nms_quote.specs.declared.feed.Feed.{Feed};
 
@@ -8,11 +8,13 @@ use std::alloc::Global;
 use std::marker::Model;
 use std::sync::{Arc, Wait};
 
-/// The end of a lane where the changes of both feeds are taken.
+/// The end of a lane where the changes of all feeds are taken.
 #[derive(Drop)]
 pub struct Taker {
     pub(crate) line: Arc<Line, Global>,
     pub(crate) pass: LinePass,
+    /// How many senders the lane has, 1 to 8.
+    pub(crate) senders: u8,
     /// How many changes were taken.
     pub(crate) taken: u64,
 }
@@ -24,9 +26,9 @@ impl Model for Taker {
 
     ghost Value = { Taking };
 
-    ghost view = { λ t. record { lane = t.pass.table_id; taken = taken_in t.pass.me.0.client } };
+    ghost view = { λ t. record { lane = t.pass.table_id; senders = t.senders; taken = taken_in t.pass.me.0.client } };
 
-    ghost invariant = { λ t. IsPassOf t.line.value t.pass × IsTaker t.pass.me.0.client t.taken };
+    ghost invariant = { λ t. IsPassOf t.line.value t.pass × IsTaker t.pass.me.0.client t.senders t.taken };
 }
 
 impl Taker {
@@ -34,7 +36,7 @@ impl Taker {
     pub fn take<R: Wait>(&mut self, rt: &R) -> Option<Change>
         ensures taken { IfSome result (λ change. (feed : Feed) × (self.new ≡ record self.old { taken = self.old.taken ++ record { feed = feed; change = change } ∷ [] })) }
         ensures unchanged { IfNone result (self.new ≡ self.old) }
-        ensures same { self.new.lane ≡ self.old.lane }
+        ensures same { (self.new.lane ≡ self.old.lane) × (self.new.senders ≡ self.old.senders) }
     {
         let marked = self.line.pop_as::<Takes, R>(rt, &mut self.pass)?;
         self.taken += 1;

@@ -1,5 +1,6 @@
 -- A finding agrees with the faults that hold: it is the one of least number among them.
-use Rattle.std.proofs.Common.{◌≡◌, ℕ, ◌<◌, ◌≤◌, Bool, true, false, ◌&&◌, ◌||◌, ◌==◌, nat_le, List, [], ◌∷◌, Option, Some, None, if◌then◌else◌, refl, sym, ap, subst, ◌∙◌, arith, inl, inr}
+use Rattle.std.proofs.Common.{◌≡◌, ℕ, ◌<◌, ◌≤◌, Bool, true, false, ◌&&◌, ◌||◌, ◌==◌, nat_le, List, [], ◌∷◌, Option, Some, None}
+use Rattle.std.proofs.Common.{if◌then◌else◌, refl, sym, ap, subst, ◌∙◌, arith, inl, inr}
 use Rattle.std.proofs.lemmas.Bool.{or_from, or_left, or_right, true≢false, cases_order}
 use Rattle.std.proofs.lemmas.Bool.Decides.{nat_tests}
 use Rattle.nms_fees.specs.Faults.{lesser, number_of}
@@ -20,7 +21,8 @@ le_from m n h = grind (arith, nat_tests)
 lt_from : (m n : ℕ) → nat_le m n ≡ false → n < m
 lt_from m n h = grind (arith, nat_tests)
 
-lesser_agrees : (f : SetupFault) (a b : Bool) (x y : Option SetupFault) → AgreesWith f a x → AgreesWith f b y → AgreesWith f (a || b) (lesser x y)
+lesser_agrees : (f : SetupFault) (a b : Bool) (x y : Option SetupFault) → AgreesWith f a x → AgreesWith f b y
+    → AgreesWith f (a || b) (lesser x y)
 lesser_agrees f a b None None p q = or_from a b p q
 lesser_agrees f a b None (Some h) p q = (λ below. or_from a b p (q.0 below), λ same. or_right a b (q.1 same))
 lesser_agrees f a b (Some g) None p q = (λ below. or_from a b (p.0 below) q, λ same. or_left a b (p.1 same))
@@ -86,7 +88,10 @@ on_each f (c ∷ cs) = join (on f c.0 c.1) (on_each f cs)
 
 fault_at : ℕ → SetupFault
 fault_at n =
-    if n == 1 then fault.NotToml else (if n == 2 then fault.Missing else (if n == 3 then fault.UnknownKey else (if n == 4 then fault.BadName else (if n == 5 then fault.WrongType else (if n == 6 then fault.OutOfRange else (if n == 7 then fault.OverCap else (if n == 8 then fault.TooMany else fault.NoMemory)))))))
+    if n == 1 then fault.NotToml else (if n == 2 then fault.Missing else
+    (if n == 3 then fault.UnknownKey else (if n == 4 then fault.BadName else
+    (if n == 5 then fault.WrongType else (if n == 6 then fault.OutOfRange else
+    (if n == 7 then fault.OverCap else (if n == 8 then fault.TooMany else fault.NoMemory)))))))
 
 at_number : (f : SetupFault) → fault_at (number_of f) ≡ f
 unfolding fault_at

@@ -1,5 +1,6 @@
 -- Names that stand twice.
-use Rattle.std.proofs.Common.{◌≡◌, ℕ, ◌+◌, ◌<◌, Bool, true, false, not, ◌||◌, List, [], ◌∷◌, ◌++◌, length, take, drop, get_or, map, Some, None, Bor, refl, ap, ◌∙◌, sym, append-nil, if◌then◌else◌}
+use Rattle.std.proofs.Common.{◌≡◌, ℕ, ◌+◌, ◌<◌, Bool, true, false, not, ◌||◌, List, [], ◌∷◌, ◌++◌, length, take, drop, get_or, map, Some}
+use Rattle.std.proofs.Common.{None, Bor, refl, ap, ◌∙◌, sym, append-nil, if◌then◌else◌}
 use Rattle.std.proofs.lemmas.Bool.{false≢true}
 use Rattle.std.proofs.lemmas.List.{take_more, map-append, take-append-drop}
 use Rattle.std.proofs.lemmas.List.Elements.{filter_map-append}
@@ -30,7 +31,8 @@ any_or false true true d = refl
 any_or false true false d = refl
 any_or false false c d = refl
 
-pub has_repeat-push : (names : List Name) (name : Name) → has_repeat (names ++ name ∷ []) ≡ (has_repeat names || list_any (bytes_eq name) names)
+pub has_repeat-push : (names : List Name) (name : Name)
+    → has_repeat (names ++ name ∷ []) ≡ (has_repeat names || list_any (bytes_eq name) names)
 has_repeat-push [] name = refl
 has_repeat-push (first ∷ names) name =
     rw (list_any-append (λ other. bytes_eq other first) names (name ∷ []), has_repeat-push names name)
@@ -46,7 +48,8 @@ pub has_repeat-front : (names more : List Name) → has_repeat names ≡ true �
 has_repeat-front [] more h = absurd (false≢true h)
 has_repeat-front (first ∷ names) more h =
     rw (list_any-append (λ other. bytes_eq other first) names more)
-    (or_kept (list_any (λ other. bytes_eq other first) names) (list_any (λ other. bytes_eq other first) more) (has_repeat names) (has_repeat (names ++ more)) (has_repeat-front names more) h)
+    (or_kept (list_any (λ other. bytes_eq other first) names) (list_any (λ other. bytes_eq other first) more) (has_repeat names)
+    (has_repeat (names ++ more)) (has_repeat-front names more) h)
 
 -- a test of the texts is one of the keys
 any_text : (p : Name → Bool) (keys : List (Bor Name)) → list_any p (texts keys) ≡ list_any (λ (key : Bor Name). p key.now) keys
@@ -64,7 +67,8 @@ stood_from false is_new e h = absurd (false≢true (sym h ∙ e))
 
 -- the names of an array in two parts
 names_of-append : (front back : List Value) → names_of (front ++ back) ≡ names_of front ++ names_of back
-names_of-append front back = ap (filter_map name_in) (map-append view front back) ∙ filter_map-append name_in (map view front) (map view back)
+names_of-append front back = ap (filter_map name_in) (map-append view front back)
+    ∙ filter_map-append name_in (map view front) (map view back)
 
 module _ (rows : List Value) (i : ℕ) (row : Value) (within : i < length rows) (here : row ≡ get_or rows i row) where
   one_more : take (i + 1) rows ≡ take i rows ++ row ∷ []
@@ -78,28 +82,35 @@ module _ (rows : List Value) (i : ℕ) (row : Value) (within : i < length rows) 
   pub names_of-named : (name : Name) → name_in (view row) ≡ Some name → names_of (take (i + 1) rows) ≡ names_of (take i rows) ++ name ∷ []
   names_of-named name some = ap names_of one_more ∙ names_of-append (take i rows) (row ∷ []) ∙ rw some
 
-  module _ (name : Bor Name) (keys : List (Bor Name)) (some : name_in (view row) ≡ Some name.now) (seen : texts keys ≡ names_of (take i rows)) where
+  module _ (name : Bor Name) (keys : List (Bor Name)) (some : name_in (view row) ≡ Some name.now)
+      (seen : texts keys ≡ names_of (take i rows)) where
     among_seen : list_any (bytes_eq name.now) (names_of (take i rows)) ≡ list_any (λ (key : Bor Name). bytes_eq name.now key.now) keys
     among_seen = ap (list_any (bytes_eq name.now)) (sym seen) ∙ any_text (bytes_eq name.now) keys
 
-    repeats_here : has_repeat (names_of (take (i + 1) rows)) ≡ (has_repeat (names_of (take i rows)) || list_any (λ (key : Bor Name). bytes_eq name.now key.now) keys)
-    repeats_here = ap has_repeat (names_of-named name.now some) ∙ has_repeat-push (names_of (take i rows)) name.now ∙ ap (λ b. has_repeat (names_of (take i rows)) || b) among_seen
+    repeats_here : has_repeat (names_of (take (i + 1) rows)) ≡
+        (has_repeat (names_of (take i rows)) || list_any (λ (key : Bor Name). bytes_eq name.now key.now) keys)
+    repeats_here = ap has_repeat (names_of-named name.now some) ∙ has_repeat-push (names_of (take i rows)) name.now
+        ∙ ap (λ b. has_repeat (names_of (take i rows)) || b) among_seen
 
     -- the name stood before
-    pub repeated : (is_new : Bool) → is_new ≡ not (list_any (λ (key : Bor Name). bytes_eq name.now key.now) keys) → is_new ≡ false → has_repeat (names_of rows) ≡ true
+    pub repeated : (is_new : Bool) → is_new ≡ not (list_any (λ (key : Bor Name). bytes_eq name.now key.now) keys) → is_new ≡ false
+        → has_repeat (names_of rows) ≡ true
     repeated is_new told old =
-        let front : has_repeat (names_of (take (i + 1) rows)) ≡ true = repeats_here ∙ rw (stood_from _ is_new told old) (or_true (has_repeat (names_of (take i rows)))) in
+        let front : has_repeat (names_of (take (i + 1) rows)) ≡ true = repeats_here
+        ∙ rw (stood_from _ is_new told old) (or_true (has_repeat (names_of (take i rows)))) in
         ap (λ all. has_repeat (names_of all)) (sym (take-append-drop (i + 1) rows))
         ∙ ap has_repeat (names_of-append (take (i + 1) rows) (drop (i + 1) rows))
         ∙ has_repeat-front (names_of (take (i + 1) rows)) (names_of (drop (i + 1) rows)) front
 
     -- the name is new
-    pub learned : (more : List (Bor Name)) (is_new : Bool) → is_new ≡ not (list_any (λ (key : Bor Name). bytes_eq name.now key.now) keys) → is_new ≡ true → has_repeat (names_of (take i rows)) ≡ false
+    pub learned : (more : List (Bor Name)) (is_new : Bool) → is_new ≡ not (list_any (λ (key : Bor Name). bytes_eq name.now key.now) keys)
+        → is_new ≡ true → has_repeat (names_of (take i rows)) ≡ false
         → more ≡ (if list_any (λ (key : Bor Name). bytes_eq name.now key.now) keys then keys else keys ++ name ∷ [])
         → (texts more ≡ names_of (take (i + 1) rows)) × (has_repeat (names_of (take (i + 1) rows)) ≡ false)
     learned more is_new told new once added =
         let fresh = fresh_from _ is_new told new in
         let last : more ≡ keys ++ name ∷ [] = added ∙ rw fresh in (
-          ap texts last ∙ map-append (λ (key : Bor Name). key.now) keys (name ∷ []) ∙ ap (λ front. front ++ name.now ∷ []) seen ∙ sym (names_of-named name.now some),
+          ap texts last ∙ map-append (λ (key : Bor Name). key.now) keys (name ∷ []) ∙ ap (λ front. front ++ name.now ∷ []) seen
+              ∙ sym (names_of-named name.now some),
           repeats_here ∙ rw (once, fresh),
         )

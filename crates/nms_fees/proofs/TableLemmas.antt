@@ -8,7 +8,8 @@ use Rattle.nms_quote.specs.Roster.{Name}
 use Rattle.nms_fees.specs.Places.{keys_in, listed}
 
 -- a test of a table's keys, as the map has them
-pub any_key-view : (p : Name → Bool) (entries : List (String Global × Value)) → list_any p (keys_in (members_view entries)) ≡ list_any (λ key. p (string_bytes key)) (keys_of entries)
+pub any_key-view : (p : Name → Bool) (entries : List (String Global × Value))
+    → list_any p (keys_in (members_view entries)) ≡ list_any (λ key. p (string_bytes key)) (keys_of entries)
 any_key-view p [] = refl
 any_key-view p (entry ∷ entries) = ap (λ rest. p (string_bytes entry.0) || rest) (any_key-view p entries)
 

@@ -1,5 +1,6 @@
 -- A text is read as the fault of least number that holds of it, or as a setup where none does.
-use Rattle.std.proofs.Common.{codes, ◌≡◌, ℕ, ◌+◌, ◌<◌, Bool, true, false, ◌||◌, List, [], ◌∷◌, ◌++◌, Option, Some, None, Result, Ok, Err, refl, sym, ap, ◌∙◌, lit<}
+use Rattle.std.proofs.Common.{codes, ◌≡◌, ℕ, ◌+◌, ◌<◌, Bool, true, false, ◌||◌, List, [], ◌∷◌, ◌++◌, Option, Some, None, Result, Ok, Err}
+use Rattle.std.proofs.Common.{refl, sym, ap, ◌∙◌, lit<}
 use Rattle.std.specs.Prelude.{is_none, IsOk}
 use Rattle.std.specs.Fmt.{decimal}
 use Rattle.std.specs.List.{list_any}
@@ -32,7 +33,8 @@ any_of_none [] = refl
 any_of_none (first ∷ tables) = any_of_none tables
 
 is_document : (document : Members) → document_has fault.NotToml document ≡ false
-is_document document = ap (λ b. b || list_any (λ _. false) (tables_at (codes "symbol") document)) (any_of_none (tables_at (codes "participant") document)) ∙ any_of_none (tables_at (codes "symbol") document)
+is_document document = ap (λ b. b || list_any (λ _. false) (tables_at (codes "symbol") document))
+    (any_of_none (tables_at (codes "participant") document)) ∙ any_of_none (tables_at (codes "symbol") document)
 
 parsed_agrees : (parsed : Option Members) (f : SetupFault) → Agrees f (holds_in parsed f) (found_in parsed)
 parsed_agrees None fault.NotToml = on fault.NotToml fault.NotToml true
@@ -79,14 +81,16 @@ least_fault text f e =
 
 fault_read : (text : Name) (f : SetupFault) → IsLeastFault text f → reading text ≡ Err f
 fault_read text f least =
-    refused_as (reading text) f (reading_told text ∙ least_found (text_has text) (found_in (parse_document text)) (text_agrees text) f least.holds least.least)
+    refused_as (reading text) f (reading_told text
+    ∙ least_found (text_has text) (found_in (parse_document text)) (text_agrees text) f least.holds least.least)
 
 faultless : (text : Name) → IsOk (reading text) → IsFaultless text
 faultless text ok f =
     none_holds (text_has text) (found_in (parse_document text)) (text_agrees text) f (sym (reading_told text) ∙ none_told (reading text) ok)
 
 setup_read : (text : Name) → IsFaultless text → IsOk (reading text)
-setup_read text none = is_ok (reading text) (reading_told text ∙ nothing_found (text_has text) (found_in (parse_document text)) (text_agrees text) none)
+setup_read text none = is_ok (reading text) (reading_told text
+    ∙ nothing_found (text_has text) (found_in (parse_document text)) (text_agrees text) none)
 
 -- ---- the codes
 

@@ -1,5 +1,6 @@
 -- The places of a setup's document, and the fault of each. This product's own rule.
-use Rattle.std.specs.Prelude.{codes, ◌≡◌, ℕ, ℤ, pos, neg_ℤ, Bool, false, not, ◌&&◌, ◌||◌, ◌==◌, nat_le, List, [], ◌∷◌, length, map, Option, Some, None, option_map, option_and_then, unwrap_or, if◌then◌else◌}
+use Rattle.std.specs.Prelude.{codes, ◌≡◌, ℕ, ℤ, pos, neg_ℤ, Bool, false, not, ◌&&◌, ◌||◌, ◌==◌, nat_le, nat_lt, find, unsigned_abs, List}
+use Rattle.std.specs.Prelude.{[], ◌∷◌, length, map, Option, Some, None, option_map, option_and_then, unwrap_or, if◌then◌else◌}
 use Rattle.std.specs.Ordering.{int_eq}
 use Rattle.std.specs.Int.RustNames.{int_le}
 use Rattle.std.specs.Option.{option_map_or}
@@ -8,12 +9,16 @@ use Rattle.std.specs.Str.{bytes_eq}
 use Rattle.toml.specs.Data.{Data, Items, no_items, item, Members, no_members, member, get_member, as_str, as_integer, as_array, as_table}
 use Rattle.nms_units.specs.declared.TheConstants.{MOST_LOT}
 use Rattle.nms_quote.specs.Roster.{Name, is_part_name, is_symbol_name}
-use Rattle.nms_quote.specs.declared.TheConstants.{MOST_CHANGES, MOST_PARTICIPANTS, MOST_SYMBOLS}
+use Rattle.nms_quote.specs.Merge.{feeds, place_of}
+use Rattle.nms_quote.specs.declared.TheConstants.{MOST_CHANGES, MOST_FEEDS, MOST_PARTICIPANTS, MOST_SYMBOLS}
+use Rattle.nms_quote.specs.declared.feed.Feed.{Feed}
+use Rattle.nms_quote.specs.declared.feed.Feed.TheVariants as feed
 use Rattle.nms_fee_book.specs.Fees.{fee_cap, rate_cap}
 use Rattle.nms_fee_book.specs.declared.TheConstants.{MOST_FEE, MOST_RATE}
 use Rattle.nms_fee_book.specs.declared.caps.Caps.{Caps}
 use Rattle.nms_fee_book.specs.declared.caps.Caps.TheVariants as caps
-use Rattle.nms_fees.specs.declared.TheConstants.{LEAST_QUEUE, MOST_DESKS, MOST_QUEUE}
+use Rattle.nms_fees.specs.declared.TheConstants.{LEAST_QUEUE, MOST_DESKS, MOST_QUEUE, USUAL_FEEDS}
+use Rattle.nms_fees.specs.declared.choices.Chosen.{Chosen}
 use Rattle.nms_fees.specs.Faults.{least}
 use Rattle.nms_fees.specs.declared.setup_fault.SetupFault.{SetupFault}
 use Rattle.nms_fees.specs.declared.setup_fault.SetupFault.TheVariants as fault
@@ -40,7 +45,7 @@ abbrev pub year_fault : Data → Option SetupFault
 year_fault value =
     option_map_or (λ year. option_map_or (λ _. None) (caps_of year) (Some fault.OutOfRange)) (as_integer value) (Some fault.WrongType)
 
--- the fault of the one key that may be absent
+-- the fault of a key that may be absent
 abbrev pub caps_fault : Members → Option SetupFault
 caps_fault document = option_map_or year_fault (get_member (codes "caps") document) None
 
@@ -48,10 +53,27 @@ caps_fault document = option_map_or year_fault (get_member (codes "caps") docume
 abbrev pub caps_in : Members → Caps
 caps_in document = unwrap_or (option_and_then caps_of (option_and_then as_integer (get_member (codes "caps") document))) caps.Of2005
 
+-- so many feeds, where there may be so many
+abbrev pub feeds_of : ℤ → Option ℕ
+feeds_of number = if int_le (pos 1) number && int_le number (pos MOST_FEEDS) then Some (unsigned_abs number) else None
+
+-- the fault of the other key that may be absent
+abbrev pub feeds_fault : Members → Option SetupFault
+feeds_fault document = option_map_or (range_fault (pos 1) (pos MOST_FEEDS)) (get_member (codes "feeds") document) None
+
+-- how many feeds a document has: two where it does not say
+abbrev pub feeds_in : Members → ℕ
+feeds_in document = unwrap_or (option_and_then feeds_of (option_and_then as_integer (get_member (codes "feeds") document))) USUAL_FEEDS
+
+-- what the keys that may be absent choose
+abbrev pub chosen_in : Members → Chosen
+chosen_in document = record { caps = caps_in document; feeds = feeds_in document }
+
 -- a number up to `most` either way, and not over its cap
 abbrev pub cap_fault : ℕ → ℕ → Data → Option SetupFault
 cap_fault most cap value =
-    option_map_or (λ n. if int_le (neg_ℤ (pos most)) n && int_le n (pos most) then (if int_le n (pos cap) then None else Some fault.OverCap) else Some fault.OutOfRange) (as_integer value) (Some fault.WrongType)
+    option_map_or (λ n. if int_le (neg_ℤ (pos most)) n && int_le n (pos most) then
+    (if int_le n (pos cap) then None else Some fault.OverCap) else Some fault.OutOfRange) (as_integer value) (Some fault.WrongType)
 
 abbrev pub is_name_in : Section → Name → Bool
 is_name_in section.Participant name = is_part_name name
@@ -61,13 +83,29 @@ is_name_in section.Symbol name = is_symbol_name name
 abbrev pub name_fault : (Name → Bool) → Data → Option SetupFault
 name_fault is_name value = option_map_or (λ name. if is_name name then None else Some fault.BadName) (as_str value) (Some fault.WrongType)
 
-abbrev pub is_feed : Name → Bool
-is_feed feed = bytes_eq feed (codes "A") || bytes_eq feed (codes "B")
+-- a feed's name: its letter
+abbrev pub letter_of : Feed → Name
+letter_of feed.A = codes "A"
+letter_of feed.B = codes "B"
+letter_of feed.C = codes "C"
+letter_of feed.D = codes "D"
+letter_of feed.E = codes "E"
+letter_of feed.F = codes "F"
+letter_of feed.G = codes "G"
+letter_of feed.H = codes "H"
+
+-- the feed that a text names
+abbrev pub feed_named : Name → Option Feed
+feed_named text = find (λ feed. bytes_eq text (letter_of feed)) feeds
+
+-- whether a text names one of the first so many feeds
+abbrev pub is_feed : ℕ → Name → Bool
+is_feed count text = option_map_or (λ feed. nat_lt (place_of feed) count) (feed_named text) false
 
 -- a text that names a feed
-abbrev pub feed_fault : Data → Option SetupFault
-feed_fault value =
-    option_map_or (λ feed. if is_feed feed then None else Some fault.OutOfRange) (as_str value) (Some fault.WrongType)
+abbrev pub feed_fault : ℕ → Data → Option SetupFault
+feed_fault count value =
+    option_map_or (λ text. if is_feed count text then None else Some fault.OutOfRange) (as_str value) (Some fault.WrongType)
 
 -- the keys of a table
 abbrev pub keys_in : Members → List Name
@@ -75,7 +113,8 @@ keys_in no_members = []
 keys_in (member key value rest) = key ∷ keys_in rest
 
 abbrev pub is_participant_key : Name → Bool
-is_participant_key key = bytes_eq key (codes "name") || bytes_eq key (codes "feed") || bytes_eq key (codes "fee") || bytes_eq key (codes "rate")
+is_participant_key key = bytes_eq key (codes "name") || bytes_eq key (codes "feed") || bytes_eq key (codes "fee")
+    || bytes_eq key (codes "rate")
 
 abbrev pub is_symbol_key : Name → Bool
 is_symbol_key key = bytes_eq key (codes "name") || bytes_eq key (codes "lot")
@@ -83,6 +122,7 @@ is_symbol_key key = bytes_eq key (codes "name") || bytes_eq key (codes "lot")
 abbrev pub is_top_key : Name → Bool
 is_top_key key =
     bytes_eq key (codes "tape_limit") || bytes_eq key (codes "queue") || bytes_eq key (codes "desks") || bytes_eq key (codes "caps")
+    || bytes_eq key (codes "feeds")
     || bytes_eq key (codes "participant") || bytes_eq key (codes "symbol")
 
 abbrev pub is_known : Level → Name → Bool
@@ -94,14 +134,14 @@ is_known level.Symbol key = is_symbol_key key
 abbrev pub other_key_fault : Level → Members → Option SetupFault
 other_key_fault table_of table = if list_any (λ key. not (is_known table_of key)) (keys_in table) then Some fault.UnknownKey else None
 
--- what each place finds in a table of the array `participant`, whose fees keep the caps
-abbrev pub participant_findings : Caps → Members → List (Option SetupFault)
-participant_findings keeps table =
+-- what each place finds in a table of the array `participant`, by what the document chooses
+abbrev pub participant_findings : Chosen → Members → List (Option SetupFault)
+participant_findings chosen table =
     other_key_fault level.Participant table
     ∷ key_fault (name_fault (is_name_in section.Participant)) (codes "name") table
-    ∷ key_fault feed_fault (codes "feed") table
-    ∷ key_fault (cap_fault MOST_FEE (fee_cap keeps)) (codes "fee") table
-    ∷ key_fault (cap_fault MOST_RATE (rate_cap keeps)) (codes "rate") table
+    ∷ key_fault (feed_fault chosen.feeds) (codes "feed") table
+    ∷ key_fault (cap_fault MOST_FEE (fee_cap chosen.caps)) (codes "fee") table
+    ∷ key_fault (cap_fault MOST_RATE (rate_cap chosen.caps)) (codes "rate") table
     ∷ []
 
 -- and in one of the array `symbol`
@@ -112,13 +152,13 @@ symbol_findings table =
     ∷ key_fault (range_fault (pos 1) (pos MOST_LOT)) (codes "lot") table
     ∷ []
 
-abbrev pub table_findings : Caps → Section → Members → List (Option SetupFault)
-table_findings keeps section.Participant table = participant_findings keeps table
-table_findings keeps section.Symbol table = symbol_findings table
+abbrev pub table_findings : Chosen → Section → Members → List (Option SetupFault)
+table_findings chosen section.Participant table = participant_findings chosen table
+table_findings chosen section.Symbol table = symbol_findings table
 
 -- an element of one of the two arrays, which has to be a table
-abbrev pub row_fault : Caps → Section → Data → Option SetupFault
-row_fault keeps rows_of row = option_map_or (λ table. least (table_findings keeps rows_of table)) (as_table row) (Some fault.WrongType)
+abbrev pub row_fault : Chosen → Section → Data → Option SetupFault
+row_fault chosen rows_of row = option_map_or (λ table. least (table_findings chosen rows_of table)) (as_table row) (Some fault.WrongType)
 
 -- the items of an array
 abbrev pub listed : Items → List Data
@@ -151,23 +191,23 @@ abbrev pub count_fault : ℕ → ℕ → Option SetupFault
 count_fault most count = if count == 0 then Some fault.OutOfRange else (if nat_le count most then None else Some fault.TooMany)
 
 -- what is found in the elements of one of the two arrays
-abbrev pub rows_findings : Caps → Section → List Data → List (Option SetupFault)
-rows_findings keeps rows_of rows =
-    count_fault (most_of rows_of) (length rows) ∷ repeat_fault rows ∷ least (map (row_fault keeps rows_of) rows) ∷ []
+abbrev pub rows_findings : Chosen → Section → List Data → List (Option SetupFault)
+rows_findings chosen rows_of rows =
+    count_fault (most_of rows_of) (length rows) ∷ repeat_fault rows ∷ least (map (row_fault chosen rows_of) rows) ∷ []
 
-abbrev pub rows_fault : Caps → Section → List Data → Option SetupFault
-rows_fault keeps rows_of rows = least (rows_findings keeps rows_of rows)
+abbrev pub rows_fault : Chosen → Section → List Data → Option SetupFault
+rows_fault chosen rows_of rows = least (rows_findings chosen rows_of rows)
 
--- no fault is found in an element, or in all of them: by some caps, where these are not asked for
+-- no fault is found in an element, or in all of them: by some choices, where these are not asked for
 abbrev pub IsSound : Section → Data → Type 0
-IsSound rows_of row = (keeps : Caps) × (row_fault keeps rows_of row ≡ None)
+IsSound rows_of row = (chosen : Chosen) × (row_fault chosen rows_of row ≡ None)
 
 abbrev pub AreSound : Section → List Data → Type 0
-AreSound rows_of rows = (keeps : Caps) × (rows_fault keeps rows_of rows ≡ None)
+AreSound rows_of rows = (chosen : Chosen) × (rows_fault chosen rows_of rows ≡ None)
 
 -- one of the two arrays
-abbrev pub array_fault : Caps → Section → Data → Option SetupFault
-array_fault keeps rows_of value = option_map_or (rows_fault keeps rows_of) (rows_in value) (Some fault.WrongType)
+abbrev pub array_fault : Chosen → Section → Data → Option SetupFault
+array_fault chosen rows_of value = option_map_or (rows_fault chosen rows_of) (rows_in value) (Some fault.WrongType)
 
 -- what is found in a whole document
 abbrev pub document_findings : Members → List (Option SetupFault)
@@ -177,8 +217,9 @@ document_findings document =
     ∷ key_fault (range_fault (pos LEAST_QUEUE) (pos MOST_QUEUE)) (codes "queue") document
     ∷ key_fault (range_fault (pos 1) (pos MOST_DESKS)) (codes "desks") document
     ∷ caps_fault document
-    ∷ key_fault (array_fault (caps_in document) section.Participant) (codes "participant") document
-    ∷ key_fault (array_fault (caps_in document) section.Symbol) (codes "symbol") document
+    ∷ feeds_fault document
+    ∷ key_fault (array_fault (chosen_in document) section.Participant) (codes "participant") document
+    ∷ key_fault (array_fault (chosen_in document) section.Symbol) (codes "symbol") document
     ∷ []
 
 -- the fault of least number anywhere in a document

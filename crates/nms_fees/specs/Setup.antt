@@ -1,14 +1,13 @@
 -- What the text of a setup reads as. This product's own rule.
-use Rattle.std.specs.Prelude.{codes, ℕ, ℤ, pos, List, [], map, Result, Ok, Err, option_and_then, unwrap_or, unsigned_abs, if◌then◌else◌}
+use Rattle.std.specs.Prelude.{codes, ℕ, ℤ, pos, List, [], map, Result, Ok, Err, option_and_then, unwrap_or, unsigned_abs}
 use Rattle.std.specs.Option.{option_map_or}
-use Rattle.std.specs.Str.{bytes_eq}
 use Rattle.toml.specs.Data.{Data, Members, no_members, get_member, as_str, as_integer, as_table}
 use Rattle.toml.specs.Parse.{parse_document}
 use Rattle.nms_quote.specs.Roster.{Name}
 use Rattle.nms_quote.specs.declared.feed.Feed.{Feed}
 use Rattle.nms_quote.specs.declared.feed.Feed.TheVariants as feed
 use Rattle.nms_fees.specs.Settings.{Settings}
-use Rattle.nms_fees.specs.Places.{caps_in, rows_in, document_fault}
+use Rattle.nms_fees.specs.Places.{caps_in, feed_named, feeds_in, rows_in, document_fault}
 use Rattle.nms_fee_book.specs.declared.fee_schedule.FeeSchedule.{FeeSchedule}
 use Rattle.nms_fees.specs.declared.setup_fault.SetupFault.{SetupFault}
 use Rattle.nms_fees.specs.declared.setup_fault.SetupFault.TheVariants as fault
@@ -32,12 +31,13 @@ rows_at key document = unwrap_or (option_and_then rows_in (get_member key docume
 abbrev pub table_of : Data → Members
 table_of row = unwrap_or (as_table row) no_members
 
-abbrev pub feed_named : Name → Feed
-feed_named text = if bytes_eq text (codes "B") then feed.B else feed.A
+-- the feed that a text names, the first where it names none
+abbrev pub feed_of_text : Name → Feed
+feed_of_text text = unwrap_or (feed_named text) feed.A
 
 -- a participant with its feed, and its fees
 abbrev pub participant_of : Data → Name × Feed
-participant_of row = (text_at (codes "name") (table_of row), feed_named (text_at (codes "feed") (table_of row)))
+participant_of row = (text_at (codes "name") (table_of row), feed_of_text (text_at (codes "feed") (table_of row)))
 
 abbrev pub schedule_of : Data → FeeSchedule
 schedule_of row = record { fee = number_at (codes "fee") (table_of row); rate = number_at (codes "rate") (table_of row) }
@@ -49,11 +49,16 @@ symbol_of row = (text_at (codes "name") (table_of row), count_at (codes "lot") (
 -- what a document without a fault says
 abbrev pub settings_of : Members → Settings
 settings_of document = record {
-  roster = record { parts = map participant_of (rows_at (codes "participant") document); syms = map symbol_of (rows_at (codes "symbol") document) };
+  roster = record {
+    parts = map participant_of (rows_at (codes "participant") document);
+    syms =
+        map symbol_of (rows_at (codes "symbol") document);
+  };
   fees = record { caps = caps_in document; schedules = map schedule_of (rows_at (codes "participant") document) };
   tape_limit = count_at (codes "tape_limit") document;
   queue = count_at (codes "queue") document;
   desks = count_at (codes "desks") document;
+  feeds = feeds_in document;
 }
 
 -- a document's fault of least number, or what it says

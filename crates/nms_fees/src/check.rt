@@ -2,16 +2,16 @@
 ghost use Rattle.std.specs.Prelude.{codes, ◌≡◌, map, IfOk, IfErr};
 ghost use Rattle.toml.specs.View.{view, table_view};
 ghost use Rattle.nms_fees.specs.Faults.{least, lesser};
-ghost use Rattle.nms_fees.specs.Places.{key_fault, range_fault, cap_fault, is_name_in, name_fault, feed_fault, other_key_fault, table_findings, row_fault, most_of, count_fault, rows_fault, array_fault, document_fault};
+ghost use Rattle.nms_fees.specs.Places.{key_fault, range_fault, cap_fault, is_name_in, name_fault, feed_fault, is_feed, other_key_fault, table_findings, row_fault, most_of, count_fault, rows_fault, array_fault, document_fault};
 
-use crate::caps_key::{caps_fault, caps_in};
+use crate::choices::{Chosen, caps_fault, chosen_in, feeds_fault};
+use crate::feed_name::feed_named;
 use crate::level::Level;
 use crate::repeat::has_repeat;
 use crate::section::Section;
 use crate::setup_fault::SetupFault;
 use crate::toml_table::{has_other_key, rows_in, value_at};
 use crate::{LEAST_QUEUE, MOST_DESKS, MOST_FEE, MOST_QUEUE, MOST_RATE};
-use nms_fee_book::Caps;
 use nms_quote::{MOST_CHANGES, MOST_PARTICIPANTS, MOST_SYMBOLS, is_part_name, is_symbol_name};
 use nms_units::MOST_LOT;
 use std::alloc::Global;
@@ -65,7 +65,8 @@ fn number_fault(table: &Table, key: &str, low: i64, high: i64) -> Option<SetupFa
     }
 }
 
-fn range_fault(value: &Value, low: i64, high: i64) -> Option<SetupFault>
+/// The fault of a number from `low` to `high`.
+pub(crate) fn range_fault(value: &Value, low: i64, high: i64) -> Option<SetupFault>
     ensures { result ≡ range_fault low high (view value.now) }
 {
     let Some(number) = value.as_integer() else {
@@ -104,20 +105,30 @@ fn cap_fault(value: &Value, most: u32, cap: u32) -> Option<SetupFault>
     }
 }
 
-/// The fault of a required feed.
-fn feed_fault(table: &Table, key: &str) -> Option<SetupFault>
-    ensures { result ≡ key_fault feed_fault key.now (table_view table.now) }
+/// The fault of a required feed, one of the first so many.
+fn feed_fault(table: &Table, key: &str, count: u8) -> Option<SetupFault>
+    ensures { result ≡ key_fault (feed_fault count) key.now (table_view table.now) }
 {
     let Some(value) = value_at(table, key) else {
         return Some(SetupFault::Missing);
     };
-    let Some(feed) = value.as_str() else {
+    let Some(text) = value.as_str() else {
         return Some(SetupFault::WrongType);
     };
-    if feed == "A" || feed == "B" {
+    if is_feed(count, text) {
         None
     } else {
         Some(SetupFault::OutOfRange)
+    }
+}
+
+/// Whether a text names one of the first so many feeds.
+fn is_feed(count: u8, text: &str) -> bool
+    ensures { result ≡ is_feed count text.now }
+{
+    match feed_named(text) {
+        Some(feed) => feed.place() < count,
+        None => false,
     }
 }
 
@@ -148,26 +159,26 @@ fn is_name_in(section: Section, name: &[u8]) -> bool
 }
 
 /// The fault of an element of one of the two arrays.
-fn row_fault(row: &Value, caps: Caps, section: Section) -> Option<SetupFault>
-    ensures { result ≡ row_fault caps section (view row.now) }
+fn row_fault(row: &Value, chosen: Chosen, section: Section) -> Option<SetupFault>
+    ensures { result ≡ row_fault chosen section (view row.now) }
 {
     match row.as_table() {
-        Some(table) => table_fault(table, caps, section),
+        Some(table) => table_fault(table, chosen, section),
         None => Some(SetupFault::WrongType),
     }
 }
 
-/// The fault of a table of one of the two arrays, whose fees keep the caps.
-fn table_fault(table: &Table, caps: Caps, section: Section) -> Option<SetupFault>
-    ensures { result ≡ least (table_findings caps section (table_view table.now)) }
+/// The fault of a table of one of the two arrays, by what the document chooses.
+fn table_fault(table: &Table, chosen: Chosen, section: Section) -> Option<SetupFault>
+    ensures { result ≡ least (table_findings chosen section (table_view table.now)) }
 {
     match section {
         Section::Participant => least(&[
             other_key_fault(table, Level::Participant),
             name_fault(table, section),
-            feed_fault(table, "feed"),
-            charge_fault(table, "fee", MOST_FEE, caps.fee()),
-            charge_fault(table, "rate", MOST_RATE, caps.rate()),
+            feed_fault(table, "feed", chosen.feeds),
+            charge_fault(table, "fee", MOST_FEE, chosen.caps.fee()),
+            charge_fault(table, "rate", MOST_RATE, chosen.caps.rate()),
         ]),
         Section::Symbol => least(&[
             other_key_fault(table, Level::Symbol),
@@ -178,12 +189,12 @@ fn table_fault(table: &Table, caps: Caps, section: Section) -> Option<SetupFault
 }
 
 /// The least fault of the elements of one of the two arrays.
-fn each_row_fault(rows: &[Value], caps: Caps, section: Section) -> Option<SetupFault>
-    ensures { result ≡ least (map (row_fault caps section) (map view rows.now)) }
+fn each_row_fault(rows: &[Value], chosen: Chosen, section: Section) -> Option<SetupFault>
+    ensures { result ≡ least (map (row_fault chosen section) (map view rows.now)) }
 {
     let mut least = None;
     for row in rows {
-        least = lesser(least, row_fault(row, caps, section));
+        least = lesser(least, row_fault(row, chosen, section));
     }
     least
 }
@@ -209,10 +220,10 @@ fn count_fault(section: Section, count: usize) -> Option<SetupFault>
 fn rows_fault(
     alloc: Global,
     rows: &[Value],
-    caps: Caps,
+    chosen: Chosen,
     section: Section,
 ) -> Result<Option<SetupFault>, SetupFault>
-    ensures found { IfOk result (λ found. found ≡ rows_fault caps section (map view rows.now)) }
+    ensures found { IfOk result (λ found. found ≡ rows_fault chosen section (map view rows.now)) }
     ensures memory { IfErr result (λ fault. fault ≡ SetupFault.NoMemory) }
 {
     let repeat_fault = if has_repeat(alloc, rows)? {
@@ -223,7 +234,7 @@ fn rows_fault(
     Ok(least(&[
         count_fault(section, rows.len()),
         repeat_fault,
-        each_row_fault(rows, caps, section),
+        each_row_fault(rows, chosen, section),
     ]))
 }
 
@@ -232,15 +243,15 @@ fn array_fault(
     alloc: Global,
     document: &Table,
     key: &str,
-    caps: Caps,
+    chosen: Chosen,
     section: Section,
 ) -> Result<Option<SetupFault>, SetupFault>
-    ensures found { IfOk result (λ found. found ≡ key_fault (array_fault caps section) key.now (table_view document.now)) }
+    ensures found { IfOk result (λ found. found ≡ key_fault (array_fault chosen section) key.now (table_view document.now)) }
     ensures memory { IfErr result (λ fault. fault ≡ SetupFault.NoMemory) }
 {
     match value_at(document, key) {
         Some(value) => match rows_in(value) {
-            Some(rows) => rows_fault(alloc, rows, caps, section),
+            Some(rows) => rows_fault(alloc, rows, chosen, section),
             None => Ok(Some(SetupFault::WrongType)),
         },
         None => Ok(Some(SetupFault::Missing)),
@@ -255,14 +266,15 @@ pub(crate) fn document_fault(
     ensures found { IfOk result (λ found. found ≡ document_fault (table_view document.now)) }
     ensures memory { IfErr result (λ fault. fault ≡ SetupFault.NoMemory) }
 {
-    let caps = caps_in(document);
+    let chosen = chosen_in(document);
     Ok(least(&[
         other_key_fault(document, Level::Top),
         number_fault(document, "tape_limit", 1, MOST_CHANGES as i64),
         number_fault(document, "queue", LEAST_QUEUE as i64, MOST_QUEUE as i64),
         number_fault(document, "desks", 1, MOST_DESKS as i64),
         caps_fault(document),
-        array_fault(alloc, document, "participant", caps, Section::Participant)?,
-        array_fault(alloc, document, "symbol", caps, Section::Symbol)?,
+        feeds_fault(document),
+        array_fault(alloc, document, "participant", chosen, Section::Participant)?,
+        array_fault(alloc, document, "symbol", chosen, Section::Symbol)?,
     ]))
 }

@@ -1,8 +1,9 @@
 //! A product's setup, read from a TOML document: roster, access fees, limits.
 #![tactic(auto)]
 
-mod caps_key;
 mod check;
+mod choices;
+mod feed_name;
 mod laws;
 mod level;
 mod repeat;
@@ -22,5 +23,7 @@ pub use setup_reading::read_setup;
 pub const LEAST_QUEUE: usize = 2;
 /// The most changes that a setup's queue may hold.
 pub const MOST_QUEUE: usize = 1024;
+/// The feeds of a setup that does not say how many it has.
+pub const USUAL_FEEDS: u8 = 2;
 /// The most desks that a setup may have.
 pub const MOST_DESKS: u8 = 16;

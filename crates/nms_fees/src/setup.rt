@@ -1,14 +1,16 @@
 //! What a setup's document says: `specs/Settings`.
-ghost use Rattle.std.specs.Prelude.{◌≡◌, ◌≤◌, length};
+ghost use Rattle.std.specs.Prelude.{◌≡◌, ◌<◌, ◌≤◌, length};
+ghost use Rattle.std.specs.List.{AllByRecursion};
+ghost use Rattle.nms_quote.specs.Merge.{place_of};
 ghost use Rattle.nms_fee_book.specs.Fees.{AreCapped};
 
 use crate::{LEAST_QUEUE, MOST_DESKS, MOST_QUEUE};
 use nms_fee_book::{Caps, FeeBook};
-use nms_quote::{MOST_CHANGES, Roster};
+use nms_quote::{MOST_CHANGES, MOST_FEEDS, Roster};
 use std::marker::Model;
 
 /// What a setup's document says: the roster with its round lots, the access fees, and the bounds of
-/// the tape, the queue and the desks.
+/// the tape, the queue, the desks and the feeds.
 #[derive(Drop)]
 pub struct Setup {
     pub(crate) roster: Roster,
@@ -16,6 +18,7 @@ pub struct Setup {
     pub(crate) tape_limit: u64,
     pub(crate) queue: usize,
     pub(crate) desks: u8,
+    pub(crate) feeds: u8,
 }
 
 impl Model for Setup {
@@ -23,9 +26,9 @@ impl Model for Setup {
 
     ghost Value = { Settings };
 
-    ghost view = { λ s. record { roster = s.roster; fees = s.fees; tape_limit = s.tape_limit; queue = s.queue; desks = s.desks } };
+    ghost view = { λ s. record { roster = s.roster; fees = s.fees; tape_limit = s.tape_limit; queue = s.queue; desks = s.desks; feeds = s.feeds } };
 
-    ghost invariant = { λ s. IsInRange (record { roster = s.roster; fees = s.fees; tape_limit = s.tape_limit; queue = s.queue; desks = s.desks }) };
+    ghost invariant = { λ s. IsInRange (record { roster = s.roster; fees = s.fees; tape_limit = s.tape_limit; queue = s.queue; desks = s.desks; feeds = s.feeds }) };
 }
 
 impl Setup {
@@ -77,5 +80,16 @@ impl Setup {
         ensures high { result ≤ MOST_DESKS }
     {
         self.desks
+    }
+
+    /// How many feeds there are, 1 to `MOST_FEEDS` (8): the first ones, and each participant sends on one of them.
+    /// Two, where the document does not say.
+    pub fn feeds(&self) -> u8
+        ensures value { result ≡ self.now.feeds }
+        ensures low { 1 ≤ result }
+        ensures high { result ≤ MOST_FEEDS }
+        ensures of_each { AllByRecursion (λ entry. place_of entry.1 < result) self.now.roster.parts }
+    {
+        self.feeds
     }
 }

@@ -5,14 +5,15 @@ ghost use Rattle.nms_quote.specs.Roster.{part_refusal, sym_refusal};
 ghost use Rattle.nms_fees.specs.declared.section.Section.TheVariants as section;
 ghost use Rattle.nms_fee_book.specs.Fees.{AreCapped};
 ghost use Rattle.nms_fees.specs.Places.{rows_fault, document_fault, IsSound, AreSound};
-ghost use Rattle.nms_fees.specs.Setup.{text_at, number_at, table_of, feed_named, participant_of, schedule_of, symbol_of, settings_of, reading};
+ghost use Rattle.nms_fees.specs.Setup.{text_at, number_at, table_of, participant_of, schedule_of, symbol_of, settings_of, reading};
 
-use crate::caps_key::caps_in;
 use crate::check::document_fault;
+use crate::choices::{Chosen, chosen_in};
+use crate::feed_name::feed_named;
 use crate::setup::Setup;
 use crate::setup_fault::SetupFault;
 use crate::toml_table::{count_at, number_at, rows_at, text_at};
-use nms_fee_book::{Caps, FeeBook, FeeSchedule};
+use nms_fee_book::{FeeBook, FeeSchedule};
 use nms_quote::{Feed, Roster};
 use nms_units::Lot;
 use std::alloc::Global;
@@ -51,12 +52,14 @@ fn settings_of(alloc: Global, document: &Table) -> Result<Setup, SetupFault>
 {
     let participants = rows_at(document, "participant");
     let symbols = rows_at(document, "symbol");
+    let chosen = chosen_in(document);
     Ok(Setup {
         roster: roster_of(alloc, participants, symbols)?,
-        fees: fees_of(alloc, caps_in(document), participants)?,
+        fees: fees_of(alloc, chosen, participants)?,
         tape_limit: count_at(document, "tape_limit"),
         queue: count_at(document, "queue") as usize,
         desks: count_at(document, "desks") as u8,
+        feeds: chosen.feeds,
     })
 }
 
@@ -126,7 +129,7 @@ fn add_participant(roster: &mut Roster, row: &Value) -> Result<(), SetupFault>
     ensures syms { OnOk result (roster.new.syms ≡ roster.old.syms) }
     ensures memory { IfErr result (λ fault. fault ≡ SetupFault.NoMemory) }
 {
-    let feed = feed_named(text_in(row, "feed"));
+    let feed = feed_named(text_in(row, "feed")).unwrap_or(Feed::A);
     match roster.add_participant(text_in(row, "name").as_bytes(), feed) {
         Ok(_) => Ok(()),
         Err(_) => Err(SetupFault::NoMemory),
@@ -154,10 +157,10 @@ fn lot_of(row: &Value) -> Lot
     Lot::new(number_in(row, "lot") as u16).unwrap()
 }
 
-/// The fees of each participant's row, which keep the caps.
-fn fees_of(alloc: Global, caps: Caps, rows: &[Value]) -> Result<FeeBook, SetupFault>
-    requires { rows_fault caps section.Participant (map view rows.now) ≡ None }
-    ensures value { IfOk result (λ fees. fees ≡ record { caps = caps; schedules = map schedule_of (map view rows.now) }) }
+/// The fees of each participant's row, which keep the caps that are chosen.
+fn fees_of(alloc: Global, chosen: Chosen, rows: &[Value]) -> Result<FeeBook, SetupFault>
+    requires { rows_fault chosen section.Participant (map view rows.now) ≡ None }
+    ensures value { IfOk result (λ fees. fees ≡ record { caps = chosen.caps; schedules = map schedule_of (map view rows.now) }) }
     ensures memory { IfErr result (λ fault. fault ≡ SetupFault.NoMemory) }
 {
     let mut schedules = Vec::new(alloc);
@@ -166,7 +169,7 @@ fn fees_of(alloc: Global, caps: Caps, rows: &[Value]) -> Result<FeeBook, SetupFa
             return Err(SetupFault::NoMemory);
         };
     }
-    Ok(FeeBook::new(caps, schedules))
+    Ok(FeeBook::new(chosen.caps, schedules))
 }
 
 /// The fees of a participant's row.
@@ -177,12 +180,6 @@ fn schedule_of(row: &Value) -> FeeSchedule
         fee: number_in(row, "fee"),
         rate: number_in(row, "rate"),
     }
-}
-
-fn feed_named(text: &str) -> Feed
-    ensures { result ≡ feed_named text.now }
-{
-    if text == "B" { Feed::B } else { Feed::A }
 }
 
 /// The text at a key of a row, or an empty one where there is none.

@@ -101,6 +101,7 @@ fn is_top_key(key: &str) -> bool
         || key == "queue"
         || key == "desks"
         || key == "caps"
+        || key == "feeds"
         || key == "participant"
         || key == "symbol"
 }

@@ -13,6 +13,7 @@ use Rattle.nms_quote.specs.declared.certificate.Cut.{Cut}
 use Rattle.nms_quote.specs.declared.certificate.CutKind.{CutKind}
 use Rattle.nms_quote.specs.declared.certificate.CutKind.TheVariants as kind
 use Rattle.nms_quote.specs.declared.plan.Plan.{Plan}
+use Rattle.nms_lines.specs.Named.{AreBelow}
 use Rattle.nms_lines.specs.PlanLaws.{FitsText, IsKindInRange, IsPriceInRange}
 use Rattle.nms_board.specs.View.{Seen, view_of}
 use Rattle.nms_board.proofs.Offered.{view_parts}
@@ -24,7 +25,8 @@ use Rattle.nms_sweep.specs.Choice.{IsInRange}
 use Rattle.nms_files.proofs.LegFacts.{legs_parts}
 
 -- what holds of the first, and of one more
-pub all_more : {X : Type 0} (P : X → Type 0) (xs : List X) (i : ℕ) (x : X) → i < length xs → x ≡ get_or xs i x → All P (take i xs) → P x → All P (take (i + 1) xs)
+pub all_more : {X : Type 0} (P : X → Type 0) (xs : List X) (i : ℕ) (x : X) → i < length xs → x ≡ get_or xs i x → All P (take i xs) → P x
+    → All P (take (i + 1) xs)
 all_more {X} P xs i x within is all holds =
     subst (All P) (sym (take_more xs i x within ∙ ap (λ (one : X). take i xs ++ one ∷ []) (sym is)))
     (All-append P (take i xs) (x ∷ []) all (All-cons P x [] holds (All-nil P)))
@@ -44,17 +46,21 @@ kind_fits kind.TooMuch range = tt
 kind_fits kind.TooLittle range = tt
 kind_fits (kind.Marginal money) range = (omega (arith, ints, range.0), omega (arith, ints, range.1))
 
-pub fits_text : (roster : Listing) (tape : Tape) (asked : Terms) (fees : Charges) (plan : Plan) (cuts : List Cut) → length tape ≤ MOST_CHANGES → asked.sym < length roster.syms
-    → AreTyped asked plan cuts → IsWithinBounds plan cuts → IsAccepted (view_of (sizes_of roster) tape asked.sym) asked fees plan cuts → FitsText roster plan cuts
-fits_text roster tape asked fees plan cuts few there typed bounds is =
+pub fits_text : (roster : Listing) (tape : Tape) (asked : Terms) (fees : Charges) (plan : Plan) (cuts : List Cut)
+    → length tape ≤ MOST_CHANGES → asked.sym < length roster.syms
+    → AreBelow (length roster.parts) asked.self_help → AreTyped asked plan cuts → IsWithinBounds plan cuts
+    → IsAccepted (view_of (sizes_of roster) tape asked.sym) asked fees plan cuts → FitsText roster plan cuts
+fits_text roster tape asked fees plan cuts few there named typed bounds is =
     let seen : Seen = view_of (sizes_of roster) tape asked.sym in
     let same : asked ≡ plan.order = sym is.faultless.order in
-    let parts = legs_parts (length roster.parts) (contra asked.side) seen plan.legs.items is.faultless.prices (λ side. view_parts (sizes_of roster) tape asked.sym side) in
+    let parts = legs_parts (length roster.parts) (contra asked.side) seen plan.legs.items is.faultless.prices
+    (λ side. view_parts (sizes_of roster) tape asked.sym side) in
     record {
       version = omega (arith, is.faultless.version, few);
       sym = subst (λ (order : Terms). order.sym < length roster.syms) same there;
       some = subst (λ (order : Terms). 1 ≤ order.shares) same typed.some;
       shares = subst (λ (order : Terms). order.shares ≤ MOST_SHARES) same typed.shares;
+      self_help = subst (λ (order : Terms). AreBelow (length roster.parts) order.self_help) same named;
       limit = subst (λ (order : Terms). IsPriceInRange order.limit) same typed.limit;
       filled = bounds.filled;
       cost = (omega (arith, ints, bounds.low, bounds.filled), omega (arith, ints, bounds.high, bounds.filled));

@@ -5,8 +5,10 @@ use Rattle.nms_lines.specs.Layout.{Record}
 use Rattle.nms_files.specs.LineFile.{HaveCome}
 
 -- a line behind a refused one
-pub stay_refused : {X F : Type 0} (AreTaken : List Record → List X → Type 0) (IsRefused : List X → Record → F → Type 0) (records : List Record) (line : Record) (items : List X) (before : Option F)
-    → is_some before ≡ true → HaveCome AreTaken IsRefused records items before → HaveCome AreTaken IsRefused (records ++ line ∷ []) items before
+pub stay_refused : {X F : Type 0} (AreTaken : List Record → List X → Type 0) (IsRefused : List X → Record → F → Type 0)
+    (records : List Record) (line : Record) (items : List X) (before : Option F)
+    → is_some before ≡ true → HaveCome AreTaken IsRefused records items before
+    → HaveCome AreTaken IsRefused (records ++ line ∷ []) items before
 stay_refused AreTaken IsRefused records line items None some come = absurd (cc)
 stay_refused AreTaken IsRefused records line items (Some why) some first = record {
   before = first.before;

@@ -21,8 +21,10 @@ use Rattle.nms_files.specs.ChangeFile.{IsFileTape, ReportsFile}
 use Rattle.nms_files.specs.PlanFile.{PlansOn}
 
 -- a first part of the report, which was made beside an empty text
-pub report_cut : (settings : Settings) (bytes old new : Option (List ℕ)) (sym : ℕ) (tape : Tape) (seen : Seen) (roster : Listing) (empty made shown : List ℕ) → IsFileTape settings bytes tape
-    → seen ≡ view_of (sizes_of settings.roster) tape sym → roster ≡ settings.roster → (text : List ℕ) × IsReport roster seen text × Appends (Some empty) (Some made) text
+pub report_cut : (settings : Settings) (bytes old new : Option (List ℕ)) (sym : ℕ) (tape : Tape) (seen : Seen) (roster : Listing)
+    (empty made shown : List ℕ) → IsFileTape settings bytes tape
+    → seen ≡ view_of (sizes_of settings.roster) tape sym → roster ≡ settings.roster
+    → (text : List ℕ) × IsReport roster seen text × Appends (Some empty) (Some made) text
     → empty ≡ [] → shown ≡ made → AppendsPart old new shown → WritesPart (ReportsFile settings bytes sym old) old new
 report_cut settings bytes old new sym tape seen roster empty made shown file is_seen same_roster told none all cut =
     let text = told.0 in
@@ -34,7 +36,8 @@ report_cut settings bytes old new sym tape seen roster empty made shown file is_
         tape = tape;
         file = file;
         text = text;
-        report = subst (λ (r : Listing). IsReport r (view_of (sizes_of settings.roster) tape sym) text) same_roster (subst (λ (s : Seen). IsReport roster s text) is_seen told.1);
+        report = subst (λ (r : Listing). IsReport r (view_of (sizes_of settings.roster) tape sym) text) same_roster
+            (subst (λ (s : Seen). IsReport roster s text) is_seen told.1);
         written = appended old text;
       };
       meant = appended old text;
@@ -42,8 +45,10 @@ report_cut settings bytes old new sym tape seen roster empty made shown file is_
     }
 
 -- a first part of a plan and its certificate
-pub plan_cut : (settings : Settings) (seen : Seen) (order : Terms) (old new : Option (List ℕ)) (plan : Plan) (cuts : List Cut) (fees : Charges) (roster : Listing) → fees ≡ settings.fees → roster ≡ settings.roster
-    → IsAccepted seen order fees plan cuts → IsOptimal (usable seen order fees) order.shares (given_by plan.legs.items) → AppendsPart old new (plan_text roster plan cuts) → WritesPart (PlansOn settings seen order old) old new
+pub plan_cut : (settings : Settings) (seen : Seen) (order : Terms) (old new : Option (List ℕ)) (plan : Plan) (cuts : List Cut)
+    (fees : Charges) (roster : Listing) → fees ≡ settings.fees → roster ≡ settings.roster
+    → IsAccepted seen order fees plan cuts → IsOptimal (usable seen order fees) order.shares (given_by plan.legs.items)
+    → AppendsPart old new (plan_text roster plan cuts) → WritesPart (PlansOn settings seen order old) old new
 plan_cut settings seen order old new plan cuts fees roster same_fees same_roster accepted optimal cut =
     let text = plan_text settings.roster plan cuts in
     record {

@@ -25,7 +25,8 @@ doubt_on settings tape plan cuts = doubt_of (seen_by settings tape plan) plan.or
 
 -- the plan is lawful there, no lawful one fills more, and none that fills as much costs less
 abbrev pub IsBest : Settings → Tape → Plan → Type 0
-IsBest settings tape plan = IsOptimal (usable (seen_by settings tape plan) plan.order settings.fees) plan.order.shares (given_by plan.legs.items)
+IsBest settings tape plan = IsOptimal (usable (seen_by settings tape plan) plan.order settings.fees) plan.order.shares
+    (given_by plan.legs.items)
 
 -- the version is longer than the changes, or else the doubt, or none. Want of memory says nothing of the plan
 abbrev pub IsFinding : Settings → Tape → Plan → List Cut → Result (Unit {0}) AuditFault → Type 0

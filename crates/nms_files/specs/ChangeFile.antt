@@ -57,8 +57,7 @@ IsRefusedBehind settings tape line why = IsRefusedAfter settings (length tape) (
 abbrev pub is_of_line : ChangesFault → Bool
 is_of_line (fault.Line own) = true
 is_of_line fault.TapeFull = true
-is_of_line fault.ReadFault = false
-is_of_line fault.NoMemory = false
+is_of_line (fault.Record own) = false
 
 -- the tape of a file
 abbrev pub IsFileTape : Settings → Option (List ℕ) → Tape → Type 0
@@ -67,7 +66,8 @@ IsFileTape settings bytes tape = (records : List Record) × AreAllRecords bytes 
 -- where a file is refused for a line, that is the first one that is refused
 abbrev pub IsFileFault : Settings → Option (List ℕ) → ChangesFault → Type 0
 IsFileFault settings bytes why =
-    is_of_line why ≡ true → (records : List Record) × AreAllRecords bytes records × IsFirstRefused (IsTapeOf settings) (λ tape line. IsRefusedBehind settings tape line why) records
+    is_of_line why ≡ true → (records : List Record) × AreAllRecords bytes records
+    × IsFirstRefused (IsTapeOf settings) (λ tape line. IsRefusedBehind settings tape line why) records
 
 -- the changes of the lines so far: a tape, of the roster, and within what any tape holds
 pub record AreChangesOf (settings : Settings) (records : List Record) (tape : Tape) : Type 0 where

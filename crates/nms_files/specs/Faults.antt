@@ -2,6 +2,8 @@
 -- 5 for memory, 6 for lines, plans and lengths. This product's own rule.
 use Rattle.std.specs.Prelude.{ℕ, List, codes}
 use Rattle.nms_lines.specs.Faults as line_faults
+use Rattle.nms_lines.specs.RecordFaults as record_faults
+use Rattle.nms_text.specs.Faults as text_faults
 use Rattle.nms_files.specs.declared.audit_fault.AuditFault.{AuditFault}
 use Rattle.nms_files.specs.declared.audit_fault.AuditFault.TheVariants as audit_fault
 use Rattle.nms_files.specs.declared.changes_fault.ChangesFault.{ChangesFault}
@@ -16,16 +18,14 @@ use Rattle.nms_files.specs.declared.plan_fault.PlanFault.{PlanFault}
 use Rattle.nms_files.specs.declared.plan_fault.PlanFault.TheVariants as plan_fault
 
 abbrev pub code_of_changes : ChangesFault → List ℕ
-code_of_changes changes_fault.ReadFault = codes "E1"
+code_of_changes (changes_fault.Record fault) = record_faults.code_of fault
 code_of_changes (changes_fault.Line fault) = line_faults.code_of fault
 code_of_changes changes_fault.TapeFull = codes "F4"
-code_of_changes changes_fault.NoMemory = codes "E4"
 
 abbrev pub status_of_changes : ChangesFault → ℕ
-status_of_changes changes_fault.ReadFault = 1
-status_of_changes (changes_fault.Line fault) = 6
+status_of_changes (changes_fault.Record fault) = record_faults.status_of fault
+status_of_changes (changes_fault.Line fault) = record_faults.refused_status
 status_of_changes changes_fault.TapeFull = 6
-status_of_changes changes_fault.NoMemory = 5
 
 abbrev pub code_of_report : ReportFault → List ℕ
 code_of_report (report_fault.Changes fault) = code_of_changes fault
@@ -42,14 +42,12 @@ status_of_report report_fault.NoMemory = 5
 abbrev pub code_of_plan : PlanFault → List ℕ
 code_of_plan (plan_fault.Changes fault) = code_of_changes fault
 code_of_plan (plan_fault.Board fault) = codes "B1"
-code_of_plan plan_fault.NoMemory = codes "L12"
-code_of_plan plan_fault.WriteFault = codes "L13"
+code_of_plan (plan_fault.Text fault) = text_faults.code_of_text fault
 
 abbrev pub status_of_plan : PlanFault → ℕ
 status_of_plan (plan_fault.Changes fault) = status_of_changes fault
 status_of_plan (plan_fault.Board fault) = 5
-status_of_plan plan_fault.NoMemory = 5
-status_of_plan plan_fault.WriteFault = 1
+status_of_plan (plan_fault.Text fault) = text_faults.status_of_text fault
 
 abbrev pub code_of_audit : AuditFault → List ℕ
 code_of_audit audit_fault.VersionBeyondTape = codes "A1"
@@ -57,21 +55,17 @@ code_of_audit (audit_fault.Doubt doubt) = codes "A2"
 code_of_audit audit_fault.NoMemory = codes "A3"
 
 abbrev pub code_of_orders : OrdersFault → List ℕ
-code_of_orders orders_fault.ReadFault = codes "E1"
+code_of_orders (orders_fault.Record fault) = record_faults.code_of fault
 code_of_orders (orders_fault.Line fault) = line_faults.code_of fault
-code_of_orders orders_fault.NoMemory = codes "E4"
 
 abbrev pub status_of_orders : OrdersFault → ℕ
-status_of_orders orders_fault.ReadFault = 1
-status_of_orders (orders_fault.Line fault) = 6
-status_of_orders orders_fault.NoMemory = 5
+status_of_orders (orders_fault.Record fault) = record_faults.status_of fault
+status_of_orders (orders_fault.Line fault) = record_faults.refused_status
 
 abbrev pub code_of_feed : FeedFault → List ℕ
-code_of_feed feed_fault.ReadFault = codes "E1"
+code_of_feed (feed_fault.Record fault) = record_faults.code_of fault
 code_of_feed feed_fault.TooLong = codes "E3"
-code_of_feed feed_fault.NoMemory = codes "E4"
 
 abbrev pub status_of_feed : FeedFault → ℕ
-status_of_feed feed_fault.ReadFault = 1
+status_of_feed (feed_fault.Record fault) = record_faults.status_of fault
 status_of_feed feed_fault.TooLong = 6
-status_of_feed feed_fault.NoMemory = 5

@@ -8,7 +8,8 @@ abbrev pub AreSaid : {X : Type 0} → (Record → Result X LineFault) → List R
 AreSaid reading records items = map reading records ≡ map (λ item. Ok item) items
 
 -- the first line that is refused: those before it were taken
-pub record IsFirstRefused {X : Type 0} (AreTaken : List Record → List X → Type 0) (IsRefused : List X → Record → Type 0) (records : List Record) : Type 0 where
+pub record IsFirstRefused {X : Type 0} (AreTaken : List Record → List X → Type 0) (IsRefused : List X → Record → Type 0)
+    (records : List Record) : Type 0 where
   pub before : List Record
   pub line : Record
   pub behind : List Record
@@ -18,6 +19,7 @@ pub record IsFirstRefused {X : Type 0} (AreTaken : List Record → List X → Ty
   pub refused : IsRefused items line
 
 -- what the lines so far came to: items, or why the first that was refused was
-abbrev pub HaveCome : {X F : Type 0} → (List Record → List X → Type 0) → (List X → Record → F → Type 0) → List Record → List X → Option F → Type 0
+abbrev pub HaveCome : {X F : Type 0} → (List Record → List X → Type 0) → (List X → Record → F → Type 0) → List Record → List X → Option F
+    → Type 0
 HaveCome AreTaken IsRefused records items None = AreTaken records items
 HaveCome AreTaken IsRefused records items (Some why) = IsFirstRefused AreTaken (λ taken line. IsRefused taken line why) records

@@ -5,6 +5,7 @@ use Rattle.nms_fees.specs.Settings.{Settings}
 use Rattle.nms_lines.specs.Faults.{◌>>=◌}
 use Rattle.nms_lines.specs.Layout.{Record}
 use Rattle.nms_lines.specs.Lines.{reading}
+use Rattle.nms_lines.specs.Named.{AreBelow}
 use Rattle.nms_lines.specs.Records.{AreAllRecords}
 use Rattle.nms_lines.specs.declared.line.Line.{Line}
 use Rattle.nms_lines.specs.declared.line.Line.TheVariants as line
@@ -35,9 +36,11 @@ order_reading settings fields = reading settings.roster (source.Orders settings.
 abbrev pub AreOrdersOf : Settings → List Record → List DeskOrder → Type 0
 AreOrdersOf settings records orders = AreSaid (order_reading settings) records orders
 
--- the order's desk is one of the setup's, and its symbol is of the roster
+-- the order's desk is one of the setup's, and its symbol and the participants that it names are of the roster
 abbrev pub IsOrderFor : Settings → DeskOrder → Type 0
-IsOrderFor settings order = (order.desk < settings.desks) × (order.order.sym < length settings.roster.syms)
+IsOrderFor settings order =
+    (order.desk < settings.desks) × (order.order.sym < length settings.roster.syms)
+    × AreBelow (length settings.roster.parts) order.order.self_help
 
 -- the orders of a file
 abbrev pub AreFileOrders : Settings → Option (List ℕ) → List DeskOrder → Type 0
@@ -46,9 +49,9 @@ AreFileOrders settings bytes orders = (records : List Record) × AreAllRecords b
 -- where a file is refused for a line, that is the first one that is refused
 abbrev pub IsOrdersFault : Settings → Option (List ℕ) → OrdersFault → Type 0
 IsOrdersFault settings bytes (fault.Line own) =
-    (records : List Record) × AreAllRecords bytes records × IsFirstRefused (AreOrdersOf settings) (λ orders line. order_reading settings line ≡ Err own) records
-IsOrdersFault settings bytes fault.ReadFault = ⊤
-IsOrdersFault settings bytes fault.NoMemory = ⊤
+    (records : List Record) × AreAllRecords bytes records
+    × IsFirstRefused (AreOrdersOf settings) (λ orders line. order_reading settings line ≡ Err own) records
+IsOrdersFault settings bytes (fault.Record own) = ⊤
 
 -- the orders of the lines so far, each of them for a desk and of the roster
 abbrev pub AreOrdersFor : Settings → List Record → List DeskOrder → Type 0
@@ -57,5 +60,4 @@ AreOrdersFor settings records orders = AreOrdersOf settings records orders × Al
 -- why one more line is refused
 abbrev pub IsLineFault : Settings → List DeskOrder → Record → OrdersFault → Type 0
 IsLineFault settings orders line (fault.Line own) = order_reading settings line ≡ Err own
-IsLineFault settings orders line fault.ReadFault = ⊤
-IsLineFault settings orders line fault.NoMemory = ⊤
+IsLineFault settings orders line (fault.Record own) = ⊤

@@ -1,22 +1,31 @@
 -- The order that the words of `plan` say: that of a script's record with these fields. This product's own rule.
 use Rattle.std.specs.Prelude.{ℕ, Bool, true, false, List, [], ◌∷◌, Option, Some, None, Result, Ok, Err, codes}
+use Rattle.nms_quote.specs.Members.{nobody}
 use Rattle.nms_quote.specs.Roster.{Listing}
 use Rattle.nms_quote.specs.Terms.{Terms}
 use Rattle.nms_lines.specs.Layout.{Record}
 use Rattle.nms_lines.specs.Lines.{reading}
+use Rattle.nms_lines.specs.Named.{named_in}
 use Rattle.nms_lines.specs.declared.line.Line.{Line}
 use Rattle.nms_lines.specs.declared.line.Line.TheVariants as line
 use Rattle.nms_lines.specs.declared.line.Reading.TheVariants as source
 use Rattle.nms_lines.specs.declared.line_fault.LineFault.{LineFault}
 
--- the seventh field of an order, where it has one
-abbrev pub flag_fields : Bool → Record
-flag_fields true = codes "M" ∷ []
-flag_fields false = []
+-- the fields of an order behind its limit: its flag, and the names that it has
+abbrev pub last_fields : Bool → Option (List ℕ) → Record
+last_fields true None = codes "M" ∷ []
+last_fields false None = []
+last_fields true (Some names) = codes "M" ∷ names ∷ []
+last_fields false (Some names) = [] ∷ names ∷ []
+
+-- the participants that names name: nobody where there are none
+abbrev pub named_by : Listing → Option (List ℕ) → Option ℕ
+named_by roster None = Some nobody
+named_by roster (Some names) = named_in roster names
 
 -- the record of desk 0 that has the words as its fields
-abbrev pub order_record : List ℕ → List ℕ → List ℕ → List ℕ → Bool → Record
-order_record side sym shares limit manual = codes "O" ∷ codes "0" ∷ side ∷ sym ∷ shares ∷ limit ∷ flag_fields manual
+abbrev pub order_record : List ℕ → List ℕ → List ℕ → List ℕ → Bool → Option (List ℕ) → Record
+order_record side sym shares limit manual names = codes "O" ∷ codes "0" ∷ side ∷ sym ∷ shares ∷ limit ∷ last_fields manual names
 
 -- the order of a line that is one
 abbrev pub order_said : Line → Option Terms
@@ -35,5 +44,6 @@ order_in (Ok line) = order_said line
 order_in (Err fault) = None
 
 -- the order that a script of one desk reads of it, or none
-abbrev pub order_asked : Listing → List ℕ → List ℕ → List ℕ → List ℕ → Bool → Option Terms
-order_asked roster side sym shares limit manual = order_in (reading roster (source.Script 1) (order_record side sym shares limit manual))
+abbrev pub order_asked : Listing → List ℕ → List ℕ → List ℕ → List ℕ → Bool → Option (List ℕ) → Option Terms
+order_asked roster side sym shares limit manual names =
+    order_in (reading roster (source.Script 1) (order_record side sym shares limit manual names))

@@ -34,8 +34,7 @@ pub fn read_changes<R: Read + Drop>(
 {
     match read_items::<R, Change>(alloc, setup, source) {
         Ok(taken) => outcome(taken),
-        Err(RecordFault::Failed) => Err(ChangesFault::ReadFault),
-        Err(RecordFault::NoMemory) => Err(ChangesFault::NoMemory),
+        Err(fault) => Err(ChangesFault::Record(fault)),
     }
 }
 
@@ -64,7 +63,7 @@ impl FileItem for Change {
         let _seen: Option<SideQuote> = None;
         match changes.push(change) {
             Ok(()) => Ok(()),
-            Err(_) => Err(ChangesFault::NoMemory),
+            Err(_) => Err(ChangesFault::Record(RecordFault::NoMemory)),
         }
     }
 }

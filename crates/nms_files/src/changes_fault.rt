@@ -3,24 +3,21 @@ ghost use Rattle.std.specs.Prelude.{◌≡◌};
 ghost use Rattle.nms_files.specs.Faults.{code_of_changes, code_of_report, status_of_changes, status_of_report};
 
 use nms_board::BoardFault;
-use nms_lines::LineFault;
+use nms_lines::{LineFault, RecordFault};
 use thiserror::Error;
 
 /// Why a file of changes is no tape. Nothing is left of it.
 #[derive(Clone, Copy, Debug, PartialEq, Eq, Error)]
 pub enum ChangesFault {
-    /// E1: the file could not be read.
-    #[error("E1: the input could not be read")]
-    ReadFault,
+    /// E1 or E4: the file could not be read, or memory ran out.
+    #[error("{0}")]
+    Record(RecordFault),
     /// L1 to L10, or L14: the first line that is refused, where every line before it was taken.
     #[error("{0}")]
     Line(LineFault),
     /// F4: a line says one change more than the setup's tape holds.
     #[error("F4: the tape is full")]
     TapeFull,
-    /// E4: out of memory.
-    #[error("E4: out of memory")]
-    NoMemory,
 }
 
 impl ChangesFault {
@@ -29,22 +26,20 @@ impl ChangesFault {
         ensures { result.now ≡ code_of_changes self }
     {
         match self {
-            ChangesFault::ReadFault => "E1",
+            ChangesFault::Record(fault) => fault.code(),
             ChangesFault::Line(fault) => fault.code(),
             ChangesFault::TapeFull => "F4",
-            ChangesFault::NoMemory => "E4",
         }
     }
 
-    /// The exit status of a program that it ends: 1 for the file, 6 for a line or the tape's length, 5 for
-    /// memory.
+    /// The exit status of a program that it ends: that of the file, or 6 for a line or the tape's length.
     pub fn status(self) -> u8
         ensures { result ≡ status_of_changes self }
     {
         match self {
-            ChangesFault::ReadFault => 1,
-            ChangesFault::Line(_) | ChangesFault::TapeFull => 6,
-            ChangesFault::NoMemory => 5,
+            ChangesFault::Record(fault) => fault.status(),
+            ChangesFault::Line(fault) => fault.status(),
+            ChangesFault::TapeFull => 6,
         }
     }
 }

@@ -2,6 +2,7 @@
 ghost use Rattle.std.specs.Prelude.{◌≡◌, ◌≢◌, ◌<◌, ◌≤◌, ◌-◌, ◌^◌, length, IfErr, IfOk, IfSome};
 
 use crate::feed_fault::FeedFault;
+use nms_lines::RecordFault;
 use std::alloc::Global;
 use std::io;
 use std::io::{ErrorKind, Read};
@@ -31,8 +32,8 @@ fn unread(error: &io::Error) -> FeedFault
     ensures { result ≢ FeedFault.TooLong }
 {
     if error.kind() == ErrorKind::OutOfMemory {
-        FeedFault::NoMemory
+        FeedFault::Record(RecordFault::NoMemory)
     } else {
-        FeedFault::ReadFault
+        FeedFault::Record(RecordFault::Failed)
     }
 }

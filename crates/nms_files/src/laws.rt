@@ -5,6 +5,7 @@ ghost use Rattle.nms_units.specs.declared.TheConstants.{MOST_SHARES};
 ghost use Rattle.nms_quote.specs.Roster.{sizes_of};
 ghost use Rattle.nms_quote.specs.Tape.{Tape};
 ghost use Rattle.nms_quote.specs.declared.TheConstants.{MOST_CHANGES};
+ghost use Rattle.nms_lines.specs.Named.{AreBelow};
 ghost use Rattle.nms_lines.specs.PlanLaws.{IsPriceInRange, IsReadBack};
 ghost use Rattle.nms_board.specs.View.{view_of};
 ghost use Rattle.nms_rules.specs.Accepted.{IsAccepted};
@@ -25,6 +26,7 @@ pub fn an_accepted_plan_reads_as_written(
     certificate: &Certificate,
 )
     ensures { (tape : Tape) → length tape ≤ MOST_CHANGES → order.now.sym < length roster.now.syms
+        → AreBelow (length roster.now.parts) order.now.self_help
         → IsAccepted (view_of (sizes_of roster.now) tape order.now.sym) order.now fees.now plan.now certificate.now.items
         → IsReadBack roster.now plan.now certificate.now.items }
 {
@@ -47,6 +49,7 @@ pub fn a_planned_order_reads_as_written(
     requires { order.now.sym ≡ view.now.sym }
     ensures accepted { IsAccepted view.now order.now fees.now result.0 result.1.items }
     ensures read { (tape : Tape) → length tape ≤ MOST_CHANGES → order.now.sym < length roster.now.syms
+        → AreBelow (length roster.now.parts) order.now.self_help
         → view.now ≡ view_of (sizes_of roster.now) tape order.now.sym → IsReadBack roster.now result.0 result.1.items }
 {
     let (plan, certificate) = plan(view, order, fees);

@@ -1,6 +1,7 @@
 //! Files of orders: `O` lines, each for a desk (specs/OrderFile).
 ghost use Rattle.std.specs.Prelude.{◌≡◌, ◌<◌, All, length, IfErr, IfOk};
 ghost use Rattle.csv.specs.Records.{fields_of};
+ghost use Rattle.nms_lines.specs.Named.{AreBelow};
 ghost use Rattle.nms_files.specs.OrderFile.{AreFileOrders, IsOrderFor, IsOrdersFault, order_reading};
 
 use crate::line_file::{FileItem, outcome, read_items};
@@ -23,12 +24,12 @@ pub fn read_orders<R: Read + Drop>(
     ensures orders { IfOk result (λ orders. AreFileOrders setup.now (R.remaining source) orders.items) }
     ensures desks { IfOk result (λ orders. All (λ order. order.desk < setup.now.desks) orders.items) }
     ensures syms { IfOk result (λ orders. All (λ order. order.order.sym < length setup.now.roster.syms) orders.items) }
+    ensures named { IfOk result (λ orders. All (λ order. AreBelow (length setup.now.roster.parts) order.order.self_help) orders.items) }
     ensures refused { IfErr result (IsOrdersFault setup.now (R.remaining source)) }
 {
     match read_items::<R, DeskOrder>(alloc, setup, source) {
         Ok(taken) => outcome(taken),
-        Err(RecordFault::Failed) => Err(OrdersFault::ReadFault),
-        Err(RecordFault::NoMemory) => Err(OrdersFault::NoMemory),
+        Err(fault) => Err(OrdersFault::Record(fault)),
     }
 }
 
@@ -52,7 +53,7 @@ impl FileItem for DeskOrder {
         };
         match orders.push(order) {
             Ok(()) => Ok(()),
-            Err(_) => Err(OrdersFault::NoMemory),
+            Err(_) => Err(OrdersFault::Record(RecordFault::NoMemory)),
         }
     }
 }

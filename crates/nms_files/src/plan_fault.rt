@@ -4,6 +4,7 @@ ghost use Rattle.nms_files.specs.Faults.{code_of_plan, status_of_plan};
 
 use crate::changes_fault::ChangesFault;
 use nms_board::BoardFault;
+use nms_text::TextFault;
 use thiserror::Error;
 
 /// Why a plan on a file of changes was not written.
@@ -15,12 +16,10 @@ pub enum PlanFault {
     /// B1: no board was made. Nothing was written.
     #[error("{0}")]
     Board(BoardFault),
-    /// L12: there was no memory for the text. Nothing was written.
-    #[error("L12: out of memory")]
-    NoMemory,
-    /// L13: the writer failed. A first part of the text was written, and nothing else.
-    #[error("L13: a write failed")]
-    WriteFault,
+    /// L12 or L13: there was no memory for the text, and nothing was written; or the writer failed, and a first
+    /// part of the text was written, and nothing else.
+    #[error("{0}")]
+    Text(TextFault),
 }
 
 impl PlanFault {
@@ -31,19 +30,18 @@ impl PlanFault {
         match self {
             PlanFault::Changes(fault) => fault.code(),
             PlanFault::Board(fault) => fault.code(),
-            PlanFault::NoMemory => "L12",
-            PlanFault::WriteFault => "L13",
+            PlanFault::Text(fault) => fault.code(),
         }
     }
 
-    /// The exit status of a program that it ends: that of the file's fault, 1 for the writer, 5 for memory.
+    /// The exit status of a program that it ends: that of the file's or the text's fault, 5 for the board.
     pub fn status(self) -> u8
         ensures { result ≡ status_of_plan self }
     {
         match self {
             PlanFault::Changes(fault) => fault.status(),
-            PlanFault::Board(BoardFault::NoMemory) | PlanFault::NoMemory => 5,
-            PlanFault::WriteFault => 1,
+            PlanFault::Board(BoardFault::NoMemory) => 5,
+            PlanFault::Text(fault) => fault.status(),
         }
     }
 }

@@ -2,6 +2,7 @@
 ghost use Rattle.std.specs.Prelude.{◌≡◌, ◌≢◌, ◌<◌, ℕ, List, All, Option, length, IfErr, OnOk};
 ghost use Rattle.nms_quote.specs.declared.side_quote.Side.{Side};
 ghost use Rattle.nms_board.specs.View.{rows_on};
+ghost use Rattle.nms_lines.specs.Named.{AreBelow};
 ghost use Rattle.nms_lines.specs.Written.{WritesPart};
 ghost use Rattle.nms_files.specs.PlanFile.{IsPlanFault, PlansFile, PlansOn};
 
@@ -12,6 +13,7 @@ use nms_fees::Setup;
 use nms_lines::{PlanTextFault, write_plan};
 use nms_quote::Order;
 use nms_sweep::plan;
+use nms_text::TextFault;
 use std::alloc::Global;
 use std::io::{Read, Write};
 
@@ -19,8 +21,8 @@ use std::io::{Read, Write};
 /// (17 CFR 242.600, "intermarket sweep order").
 ///
 /// The plan is accepted with its certificate on what the changes show, with the fees of the setup: no lawful plan
-/// fills more, or as much for less. The file is read first. Only `WriteFault` leaves something written: a first part of
-/// that text. The order's symbol is of the setup's roster.
+/// fills more, or as much for less. The file is read first. Only a writer that fails leaves something written: a first part of
+/// that text. The order's symbol is of the setup's roster, and so are the participants that it names.
 pub fn plan_changes<R: Read + Drop, W: Write>(
     alloc: Global,
     setup: &Setup,
@@ -28,11 +30,12 @@ pub fn plan_changes<R: Read + Drop, W: Write>(
     order: &Order,
     writer: &mut W,
 ) -> Result<(), PlanFault>
-    requires { order.now.sym < length setup.now.roster.syms }
+    requires sym { order.now.sym < length setup.now.roster.syms }
+    requires self_help { AreBelow (length setup.now.roster.parts) order.now.self_help }
     ensures written { OnOk result (PlansFile setup.now (R.remaining source) order.now (W.contents writer.old) (W.contents writer.new)) }
     ensures refused { IfErr result (IsPlanFault setup.now (R.remaining source)) }
-    ensures cut { IfErr result (λ fault. fault ≡ PlanFault.WriteFault → WritesPart (PlansFile setup.now (R.remaining source) order.now (W.contents writer.old)) (W.contents writer.old) (W.contents writer.new)) }
-    ensures unwritten { IfErr result (λ fault. fault ≢ PlanFault.WriteFault → W.contents writer.new ≡ W.contents writer.old) }
+    ensures cut { IfErr result (λ fault. fault ≡ PlanFault.Text TextFault.WriteFault → WritesPart (PlansFile setup.now (R.remaining source) order.now (W.contents writer.old)) (W.contents writer.old) (W.contents writer.new)) }
+    ensures unwritten { IfErr result (λ fault. fault ≢ PlanFault.Text TextFault.WriteFault → W.contents writer.new ≡ W.contents writer.old) }
 {
     let changes = match read_changes(alloc, setup, source) {
         Ok(changes) => changes,
@@ -54,21 +57,22 @@ fn plan_view<W: Write>(
 ) -> Result<(), PlanFault>
     requires same { order.now.sym ≡ view.now.sym }
     requires sym { order.now.sym < length setup.now.roster.syms }
+    requires self_help { AreBelow (length setup.now.roster.parts) order.now.self_help }
     requires parts { (side : Side) → All (λ row. row.part < length setup.now.roster.parts) (rows_on side view.now) }
     ensures written { OnOk result (PlansOn setup.now view.now order.now (W.contents writer.old) (W.contents writer.new)) }
     ensures refused { (bytes : Option (List ℕ)) → IfErr result (IsPlanFault setup.now bytes) }
-    ensures cut { IfErr result (λ fault. fault ≡ PlanFault.WriteFault → WritesPart (PlansOn setup.now view.now order.now (W.contents writer.old)) (W.contents writer.old) (W.contents writer.new)) }
-    ensures unwritten { IfErr result (λ fault. fault ≢ PlanFault.WriteFault → W.contents writer.new ≡ W.contents writer.old) }
+    ensures cut { IfErr result (λ fault. fault ≡ PlanFault.Text TextFault.WriteFault → WritesPart (PlansOn setup.now view.now order.now (W.contents writer.old)) (W.contents writer.old) (W.contents writer.new)) }
+    ensures unwritten { IfErr result (λ fault. fault ≢ PlanFault.Text TextFault.WriteFault → W.contents writer.new ≡ W.contents writer.old) }
 {
     let (plan, certificate) = plan(view, order, setup.fees());
     match write_plan(alloc, &plan, &certificate, setup.roster(), writer) {
         Ok(()) => {}
-        Err(PlanTextFault::NoMemory) => return Err(PlanFault::NoMemory),
-        Err(PlanTextFault::WriteFault) => return Err(PlanFault::WriteFault),
+        Err(PlanTextFault::NoMemory) => return Err(PlanFault::Text(TextFault::NoMemory)),
+        Err(PlanTextFault::WriteFault) => return Err(PlanFault::Text(TextFault::WriteFault)),
         Err(PlanTextFault::BadPlanText) => unreachable!(),
     }
     match writer.flush() {
         Ok(()) => Ok(()),
-        Err(_) => Err(PlanFault::WriteFault),
+        Err(_) => Err(PlanFault::Text(TextFault::WriteFault)),
     }
 }

@@ -1,6 +1,8 @@
 -- What follows of runs.
-use Rattle.std.proofs.Common.{ℕ, ◌≡◌, ◌≢◌, ◌+◌, ◌≤◌, Bool, true, false, AllPairs, List, [], ◌∷◌, ◌++◌, length, Option, Some, None, Ok, Err, refl, sym, ap, subst, ◌∙◌, arith, inl, inr, length-append, if◌then◌else◌, ◌==◌}
+use Rattle.std.proofs.Common.{ℕ, ◌≡◌, ◌≢◌, ◌+◌, ◌≤◌, Bool, true, false, AllPairs, List, [], ◌∷◌, ◌++◌, length, map, Option, Some, None, Ok}
+use Rattle.std.proofs.Common.{Err, refl, sym, ap, subst, ◌∙◌, arith, inl, inr, length-append, if◌then◌else◌, ◌==◌}
 use Rattle.std.specs.Prelude.{All, option_to_list}
+use Rattle.std.specs.Cmp.{nat_eq_equiv}
 use Rattle.std.specs.List.{cons_option}
 use Rattle.std.proofs.Math.ListN.{length-map}
 use Rattle.std.proofs.Math.Seq.{take-append_seam}
@@ -8,14 +10,15 @@ use Rattle.std.proofs.lemmas.Option.{slice_get_within}
 use Rattle.std.proofs.lemmas.List.Quantifiers.{all_pairs_push}
 use Rattle.std.proofs.lemmas.List.{append-nil, length-drop, length-take-le, take-append-drop, take-append-le}
 use Rattle.std.proofs.lemmas.List.Elements.{All-head, All-nil, All-push, All-tail}
-use Rattle.nms_quote.specs.Merge.{IsMerge, changes_of, is_of_feed, is_same_feed, of_feed}
+use Rattle.nms_quote.specs.Merge.{IsMerge, changes_of, feeds, is_of_feed, is_same_feed, of_feed, own_of, place_of}
 use Rattle.nms_quote.specs.Roster.{Listing, feed_of_change}
 use Rattle.nms_quote.specs.declared.change.Change.{Change}
 use Rattle.nms_quote.specs.declared.feed.Feed.{Feed}
 use Rattle.nms_quote.specs.declared.feed.Feed.TheVariants as feed
 use Rattle.nms_quote.specs.declared.marked.Marked.{Marked}
 use Rattle.nms_flow.specs.Laws.{IsOnOwnFeed, fed_by, sent_on, version_for, versions_of}
-use Rattle.nms_flow.specs.Run.{Answer, Event, IsAnswered, IsRun, Room, Standing, after, answer_to, answer_to_send, answer_to_take, changes_in, is_answered, queue_at, sent_by, sent_in, standing_after, tape_at, version_at}
+use Rattle.nms_flow.specs.Run.{Answer, Event, IsAnswered, IsRun, Room, Standing, after, answer_to, answer_to_send, answer_to_take}
+use Rattle.nms_flow.specs.Run.{changes_in, is_answered, queue_at, sent_by, sent_in, standing_after, tape_at, version_at}
 use Rattle.nms_flow.specs.declared.step.Step.{Step}
 use Rattle.nms_flow.specs.declared.step.Step.TheVariants as step
 use Rattle.nms_flow.specs.declared.reply.Reply.TheVariants as reply
@@ -28,11 +31,13 @@ given : Feed → Option Marked → Option Change
 given feed None = None
 given feed (Some marked) = if is_same_feed feed marked.feed then Some marked.change else None
 
-of_feed-cons : (feed : Feed) (first : Option Marked) (rest : List Marked) → of_feed feed (cons_option first rest) ≡ cons_option (given feed first) (of_feed feed rest)
+of_feed-cons : (feed : Feed) (first : Option Marked) (rest : List Marked)
+    → of_feed feed (cons_option first rest) ≡ cons_option (given feed first) (of_feed feed rest)
 unfolding of_feed given
 of_feed-cons feed None rest = refl
 of_feed-cons feed (Some marked) rest =
-    elim (is_same_feed feed marked.feed) as (λ b. (if b then marked.change ∷ of_feed feed rest else of_feed feed rest) ≡ cons_option (if b then Some marked.change else None) (of_feed feed rest)) [ true ↦ refl | false ↦ refl ]
+    elim (is_same_feed feed marked.feed) as (λ b. (if b then marked.change ∷ of_feed feed rest else of_feed feed rest)
+    ≡ cons_option (if b then Some marked.change else None) (of_feed feed rest)) [ true ↦ refl | false ↦ refl ]
 
 given-sent : (feed : Feed) (event : Event) → given feed (sent_in event) ≡ (if is_answered event.1 then sent_on feed event.0 else None)
 unfolding given
@@ -52,31 +57,44 @@ of_feed-sent_by feed (event ∷ events) =
     ∙ ap (λ o. cons_option o (of_feed feed (sent_by events))) (given-sent feed event)
     ∙ ap (cons_option (if is_answered event.1 then sent_on feed event.0 else None)) (of_feed-sent_by feed events)
 
-pub is_merge : (events : List Event) → IsMerge (fed_by feed.A events) (fed_by feed.B events) (sent_by events)
-is_merge events = record { of_a = of_feed-sent_by feed.A events; of_b = of_feed-sent_by feed.B events }
+-- of lists that are made for each feed, a feed's own is the one that is made for it
+own_of-each : {X : Type 0} (list : Feed → List X) (f : Feed) → own_of f (map list feeds) ≡ list f
+own_of-each list feed.A = refl
+own_of-each list feed.B = refl
+own_of-each list feed.C = refl
+own_of-each list feed.D = refl
+own_of-each list feed.E = refl
+own_of-each list feed.F = refl
+own_of-each list feed.G = refl
+own_of-each list feed.H = refl
 
-pub tape_and_queue : (events : List Event) → tape_at (standing_after events) ++ queue_at (standing_after events) ≡ changes_in (sent_by events)
+pub is_merge : (events : List Event) → IsMerge (map (λ f. fed_by f events) feeds) (sent_by events)
+is_merge events = λ f. of_feed-sent_by f events ∙ sym (own_of-each (λ g. fed_by g events) f)
+
+pub tape_and_queue : (events : List Event) → tape_at (standing_after events) ++ queue_at (standing_after events)
+    ≡ changes_in (sent_by events)
 tape_and_queue events = take-append-drop (standing_after events).taken (changes_in (sent_by events))
 
 -- two feeds are one either way round
 same_feed-sym : (one other : Feed) → is_same_feed one other ≡ is_same_feed other one
-same_feed-sym feed.A feed.A = refl
-same_feed-sym feed.A feed.B = refl
-same_feed-sym feed.B feed.A = refl
-same_feed-sym feed.B feed.B = refl
+same_feed-sym one other = nat_eq_equiv.symm (place_of one) (place_of other)
 
 -- a tape's changes that belong to a feed are those that bear its mark
-changes_of-marked : (roster : Listing) (feed : Feed) (marked : List Marked) → All (IsOnOwnFeed roster) marked → changes_of roster feed (changes_in marked) ≡ of_feed feed marked
+changes_of-marked : (roster : Listing) (feed : Feed) (marked : List Marked) → All (IsOnOwnFeed roster) marked
+    → changes_of roster feed (changes_in marked) ≡ of_feed feed marked
 unfolding of_feed
 changes_of-marked roster feed [] own = refl
 changes_of-marked roster feed (m ∷ ms) own =
     let first : feed_of_change roster m.change ≡ Some m.feed = All-head (IsOnOwnFeed roster) m ms own in
-    let rest : changes_of roster feed (changes_in ms) ≡ of_feed feed ms = changes_of-marked roster feed ms (All-tail (IsOnOwnFeed roster) m ms own) in
-    let test : is_of_feed (feed_of_change roster m.change) feed ≡ is_same_feed feed m.feed = ap (λ o. is_of_feed o feed) first ∙ same_feed-sym m.feed feed in
+    let rest : changes_of roster feed (changes_in ms) ≡ of_feed feed ms =
+    changes_of-marked roster feed ms (All-tail (IsOnOwnFeed roster) m ms own) in
+    let test : is_of_feed (feed_of_change roster m.change) feed ≡ is_same_feed feed m.feed = ap (λ o. is_of_feed o feed) first
+    ∙ same_feed-sym m.feed feed in
     ap (λ b. if b then m.change ∷ changes_of roster feed (changes_in ms) else changes_of roster feed (changes_in ms)) test
     ∙ ap (λ cs. if is_same_feed feed m.feed then m.change ∷ cs else cs) rest
 
-pub belonging : (roster : Listing) (events : List Event) (feed : Feed) → All (IsOnOwnFeed roster) (sent_by events) → changes_of roster feed (changes_in (sent_by events)) ≡ fed_by feed events
+pub belonging : (roster : Listing) (events : List Event) (feed : Feed) → All (IsOnOwnFeed roster) (sent_by events)
+    → changes_of roster feed (changes_in (sent_by events)) ≡ fed_by feed events
 belonging roster events feed own = changes_of-marked roster feed (sent_by events) own ∙ of_feed-sent_by feed events
 
 -- no more is published than was taken, and no more taken than sent
@@ -92,20 +110,25 @@ record GoesUp (at next : Standing) : Type 0 where
 same_place : (at next : Standing) → next ≡ at → IsSound at → GoesUp at next
 same_place at next same sound = rw same (record { sound = sound; up = omega arith })
 
-after_send : (room : Room) (at : Standing) (on : Feed) (change : Change) → IsSound at → GoesUp at (after at (step.Send on change, answer_to_send room at))
+after_send : (room : Room) (at : Standing) (on : Feed) (change : Change) → IsSound at
+    → GoesUp at (after at (step.Send on change, answer_to_send room at))
 after_send room at on change sound = by_room (length (queue_at at) == room.queue)
   where
     by_room : (full : Bool) → GoesUp at (after at (step.Send on change, if full then Err fault.QueueFull else Ok reply.Sent))
     by_room true = same_place at _ (after_nothing at (step.Send on change, Err fault.QueueFull) refl refl refl) sound
     by_room false = record {
-      sound = record { published = omega (arith, sound.published); taken = omega (arith, sound.taken, length-append at.sent ((record { feed = on; change = change }) ∷ [])) };
+      sound = record {
+        published = omega (arith, sound.published);
+        taken = omega (arith, sound.taken, length-append at.sent ((record { feed = on; change = change }) ∷ []));
+      };
       up = omega arith;
     }
 
 after_take : (room : Room) (at : Standing) → IsSound at → GoesUp at (after at (step.Take, answer_to_take room at))
 after_take room at sound = by_queue (length (queue_at at) == 0) refl
   where
-    by_tape : (full : Bool) → at.taken + 1 ≤ length at.sent → GoesUp at (after at (step.Take, if full then Err fault.TapeFull else Ok (reply.Taken (at.taken + 1))))
+    by_tape : (full : Bool) → at.taken + 1 ≤ length at.sent
+        → GoesUp at (after at (step.Take, if full then Err fault.TapeFull else Ok (reply.Taken (at.taken + 1))))
     by_tape true more = same_place at _ (after_nothing at (step.Take, Err fault.TapeFull) refl refl refl) sound
     by_tape false more = record {
       sound = record { published = omega (arith, sound.published); taken = omega (arith, more, length-append at.sent []) };
@@ -113,11 +136,19 @@ after_take room at sound = by_queue (length (queue_at at) == 0) refl
     }
 
     by_queue : (empty : Bool) → (length (queue_at at) == 0) ≡ empty
-        → GoesUp at (after at (step.Take, if empty then Err fault.QueueEmpty else (if at.taken == room.tape then Err fault.TapeFull else Ok (reply.Taken (at.taken + 1)))))
+        → GoesUp at (after at (
+          step.Take,
+          if empty then Err fault.QueueEmpty else (if at.taken == room.tape then Err fault.TapeFull else Ok (reply.Taken (at.taken + 1))),
+        ))
     by_queue true is = same_place at _ (after_nothing at (step.Take, Err fault.QueueEmpty) refl refl refl) sound
     by_queue false is =
         let some : length (queue_at at) ≢ 0 = λ e. cc (ap (λ n. n == 0) e) in
-        by_tape (at.taken == room.tape) (omega (arith, some, length-drop at.taken (changes_in at.sent), length-map at.sent (λ (m : Marked). m.change)))
+        by_tape (at.taken == room.tape) (omega (
+          arith,
+          some,
+          length-drop at.taken (changes_in at.sent),
+          length-map at.sent (λ (m : Marked). m.change),
+        ))
 
 after_answer : (room : Room) (at : Standing) (asked : Step) → IsSound at → GoesUp at (after at (asked, answer_to room at asked))
 after_answer room at (step.Send on change) sound = after_send room at on change sound
@@ -126,11 +157,14 @@ after_answer room at step.Publish sound = record {
   sound = record { published = omega arith; taken = omega (arith, sound.taken, length-append at.sent []) };
   up = sound.published;
 }
-after_answer room at (step.Tell desk) sound = same_place at _ (after_nothing at (step.Tell desk, answer_to room at (step.Tell desk)) refl refl refl) sound
-after_answer room at (step.Look desk symbol) sound = same_place at _ (after_nothing at (step.Look desk symbol, answer_to room at (step.Look desk symbol)) refl refl refl) sound
+after_answer room at (step.Tell desk) sound =
+    same_place at _ (after_nothing at (step.Tell desk, answer_to room at (step.Tell desk)) refl refl refl) sound
+after_answer room at (step.Look desk symbol) sound =
+    same_place at _ (after_nothing at (step.Look desk symbol, answer_to room at (step.Look desk symbol)) refl refl refl) sound
 
 after_event : (room : Room) (at : Standing) (event : Event) → IsSound at → IsAnswered room at event → GoesUp at (after at event)
-after_event room at (asked, answer) sound (inl is) = subst (λ (a : Answer). GoesUp at (after at (asked, a))) (sym is) (after_answer room at asked sound)
+after_event room at (asked, answer) sound (inl is) =
+    subst (λ (a : Answer). GoesUp at (after at (asked, a))) (sym is) (after_answer room at asked sound)
 after_event room at (asked, answer) sound (inr wants) =
     subst (λ (a : Answer). GoesUp at (after at (asked, a))) (sym wants.answer)
     (same_place at _ (after_nothing at (asked, Err fault.NoMemory) refl refl refl) sound)
@@ -138,11 +172,13 @@ after_event room at (asked, answer) sound (inr wants) =
 -- how long the published version is
 version_len : (at : Standing) → IsSound at → length (version_at at) ≡ at.published
 version_len at sound =
-    let taken : length (tape_at at) ≡ at.taken = length-take-le at.taken (changes_in at.sent) (omega (arith, sound.taken, length-map at.sent (λ (m : Marked). m.change))) in
+    let taken : length (tape_at at) ≡ at.taken =
+    length-take-le at.taken (changes_in at.sent) (omega (arith, sound.taken, length-map at.sent (λ (m : Marked). m.change))) in
     length-take-le at.published (tape_at at) (omega (arith, taken, sound.published))
 
 -- a desk is shown and told of the published version
-shown_is : (room : Room) (at : Standing) (desk : ℕ) (asked : Step) (v : ℕ) → IsSound at → version_for desk (asked, answer_to room at asked) ≡ Some v → v ≡ at.published
+shown_is : (room : Room) (at : Standing) (desk : ℕ) (asked : Step) (v : ℕ) → IsSound at
+    → version_for desk (asked, answer_to room at asked) ≡ Some v → v ≡ at.published
 shown_is room at desk (step.Send on change) v sound shown = by_answer (answer_to_send room at) shown
   where
     by_answer : (answer : Answer) → version_for desk (step.Send on change, answer) ≡ Some v → v ≡ at.published
@@ -160,9 +196,12 @@ shown_is room at desk (step.Look to symbol) v sound shown = by_desk (to == desk)
     by_desk true is = cc
     by_desk false is = absurd (cc)
 
-shown_now : (room : Room) (at : Standing) (desk : ℕ) (event : Event) (v : ℕ) → IsSound at → IsAnswered room at event → version_for desk event ≡ Some v → v ≡ at.published
-shown_now room at desk (asked, answer) v sound (inl is) shown = shown_is room at desk asked v sound (ap (λ (a : Answer). version_for desk (asked, a)) (sym is) ∙ shown)
-shown_now room at desk (asked, answer) v sound (inr wants) shown = absurd (refused asked (ap (λ (a : Answer). version_for desk (asked, a)) (sym wants.answer) ∙ shown))
+shown_now : (room : Room) (at : Standing) (desk : ℕ) (event : Event) (v : ℕ) → IsSound at → IsAnswered room at event
+    → version_for desk event ≡ Some v → v ≡ at.published
+shown_now room at desk (asked, answer) v sound (inl is) shown =
+    shown_is room at desk asked v sound (ap (λ (a : Answer). version_for desk (asked, a)) (sym is) ∙ shown)
+shown_now room at desk (asked, answer) v sound (inr wants) shown =
+    absurd (refused asked (ap (λ (a : Answer). version_for desk (asked, a)) (sym wants.answer) ∙ shown))
   where
     refused : (asked : Step) → version_for desk (asked, Err fault.NoMemory) ≡ Some v → ⊥
     refused (step.Send on change) is = cc
@@ -178,9 +217,11 @@ front_is_run room events event run place other at =
     subst (λ (before : List Event). IsAnswered room (standing_after before) other) (take-append-le place events (event ∷ []) (omega arith))
     (run place other (slice_get-front events (event ∷ []) place within ∙ at))
 
-last_is_answered : (room : Room) (events : List Event) (event : Event) → IsRun room (events ++ event ∷ []) → IsAnswered room (standing_after events) event
+last_is_answered : (room : Room) (events : List Event) (event : Event) → IsRun room (events ++ event ∷ [])
+    → IsAnswered room (standing_after events) event
 last_is_answered room events event run =
-    subst (λ (before : List Event). IsAnswered room (standing_after before) event) (take-append_seam events (event ∷ [])) (run (length events) event (slice_get-seam events event))
+    subst (λ (before : List Event). IsAnswered room (standing_after before) event) (take-append_seam events (event ∷ []))
+    (run (length events) event (slice_get-seam events event))
 
 -- what a run keeps: a desk's versions never fall and stay within the published one
 record Keeps (desk : ℕ) (events : List Event) : Type 0 where
@@ -188,34 +229,49 @@ record Keeps (desk : ℕ) (events : List Event) : Type 0 where
   rising : AllPairs (λ earlier later. earlier ≤ later) (versions_of desk events)
   below : All (λ v. v ≤ (standing_after events).published) (versions_of desk events)
 
-keeps_more : (room : Room) (desk : ℕ) (events : List Event) (event : Event) → Keeps desk events → IsAnswered room (standing_after events) event → Keeps desk (events ++ event ∷ [])
+keeps_more : (room : Room) (desk : ℕ) (events : List Event) (event : Event) → Keeps desk events
+    → IsAnswered room (standing_after events) event → Keeps desk (events ++ event ∷ [])
 keeps_more room desk events event kept answered =
     let at = standing_after events in
     let moved = after_event room at event kept.sound answered in
     let next : standing_after (events ++ event ∷ []) ≡ after at event = standing_after-push events event in
-    let longer : versions_of desk (events ++ event ∷ []) ≡ versions_of desk events ++ option_to_list (version_for desk event) = filter_map-push (version_for desk) events event in
-    let still : All (λ v. v ≤ (after at event).published) (versions_of desk events) = λ k d within. omega (arith, kept.below k d within, moved.up) in
+    let longer : versions_of desk (events ++ event ∷ []) ≡ versions_of desk events ++ option_to_list (version_for desk event) =
+    filter_map-push (version_for desk) events event in
+    let still : All (λ v. v ≤ (after at event).published) (versions_of desk events) =
+    λ k d within. omega (arith, kept.below k d within, moved.up) in
     let both = by_version (version_for desk event) refl (after at event).published moved.up still in
     record {
       sound = subst IsSound (sym next) moved.sound;
       rising = subst (AllPairs (λ earlier later. earlier ≤ later)) (sym longer) both.0;
-      below = subst (λ (at2 : Standing). All (λ v. v ≤ at2.published) (versions_of desk (events ++ event ∷ []))) (sym next) (subst (All (λ v. v ≤ (after at event).published)) (sym longer) both.1);
+      below = subst (λ (at2 : Standing). All (λ v. v ≤ at2.published) (versions_of desk (events ++ event ∷ []))) (sym next)
+          (subst (All (λ v. v ≤ (after at event).published)) (sym longer) both.1);
     }
   where
-    by_version : (o : Option ℕ) → version_for desk event ≡ o → (top : ℕ) → (standing_after events).published ≤ top → All (λ v. v ≤ top) (versions_of desk events)
-        → AllPairs (λ earlier later. earlier ≤ later) (versions_of desk events ++ option_to_list o) × All (λ v. v ≤ top) (versions_of desk events ++ option_to_list o)
-    by_version None is top up still =
-        (subst (AllPairs (λ earlier later. earlier ≤ later)) (sym (append-nil (versions_of desk events))) kept.rising, subst (All (λ v. v ≤ top)) (sym (append-nil (versions_of desk events))) still)
+    by_version : (o : Option ℕ) → version_for desk event ≡ o → (top : ℕ) → (standing_after events).published ≤ top
+        → All (λ v. v ≤ top) (versions_of desk events)
+        → AllPairs (λ earlier later. earlier ≤ later) (versions_of desk events ++ option_to_list o)
+        × All (λ v. v ≤ top) (versions_of desk events ++ option_to_list o)
+    by_version None is top up still = (
+      subst (AllPairs (λ earlier later. earlier ≤ later)) (sym (append-nil (versions_of desk events))) kept.rising,
+      subst (All (λ v. v ≤ top)) (sym (append-nil (versions_of desk events))) still,
+    )
     by_version (Some v) is top up still =
         let now : v ≡ (standing_after events).published = shown_now room (standing_after events) desk event v kept.sound answered is in (
-          all_pairs_push (λ earlier later. earlier ≤ later) (versions_of desk events) v kept.rising (λ k d within. omega (arith, kept.below k d within, now)),
+          all_pairs_push (λ earlier later. earlier ≤ later) (versions_of desk events) v kept.rising
+              (λ k d within. omega (arith, kept.below k d within, now)),
           All-push (λ w. w ≤ top) (versions_of desk events) v still (omega (arith, now, up)),
         )
 
-pub versions_rise : (room : Room) (events : List Event) (desk : ℕ) → IsRun room events → AllPairs (λ earlier later. earlier ≤ later) (versions_of desk events)
+pub versions_rise : (room : Room) (events : List Event) (desk : ℕ) → IsRun room events
+    → AllPairs (λ earlier later. earlier ≤ later) (versions_of desk events)
 versions_rise room events desk run = (keeps events run).rising
   where
     keeps : (events : List Event) → IsRun room events → Keeps desk events
     keeps events = by_last (λ (events : List Event). IsRun room events → Keeps desk events)
-        (λ run. record { sound = record { published = omega arith; taken = omega arith }; rising = λ i j d lt below. absurd (omega arith); below = All-nil (λ v. v ≤ 0) })
-        (λ events event kept run. keeps_more room desk events event (kept (front_is_run room events event run)) (last_is_answered room events event run)) events
+        (λ run. record {
+          sound = record { published = omega arith; taken = omega arith };
+          rising = λ i j d lt below. absurd (omega arith);
+          below = All-nil (λ v. v ≤ 0);
+        })
+        (λ events event kept run. keeps_more room desk events event (kept (front_is_run room events event run))
+        (last_is_answered room events event run)) events

@@ -1,5 +1,6 @@
 -- Facts of lists that the library lacks.
-use Rattle.std.proofs.Common.{ℕ, zero, suc, ◌≡◌, ◌-◌, ◌<◌, ◌≤◌, min, inl, inr, List, [], ◌∷◌, ◌++◌, length, take, drop, Option, Some, refl, sym, ap, subst, ◌∙◌, arith, append_assoc}
+use Rattle.std.proofs.Common.{ℕ, zero, suc, ◌≡◌, ◌-◌, ◌<◌, ◌≤◌, min, inl, inr, List, [], ◌∷◌, ◌++◌, length, take, drop, Option, Some, refl}
+use Rattle.std.proofs.Common.{sym, ap, subst, ◌∙◌, arith, append_assoc}
 use Rattle.std.specs.Prelude.{slice_get}
 use Rattle.std.specs.List.{last_or}
 use Rattle.std.proofs.Math.Nat.{sub_self}
@@ -34,20 +35,25 @@ by_last {X = X} P none more xs = from [] none xs
     from front holds (x ∷ rest) = subst P (append_assoc front (x ∷ []) rest) (from (front ++ x ∷ []) (more front x holds) rest)
 
 -- the first n of two lists, one behind the other, are the first of each
-pub first_of_two : {X : Type 0} (front back : List X) (n first : ℕ) → first ≡ min n (length front) → take first front ++ take (n - first) back ≡ take n (front ++ back)
+pub first_of_two : {X : Type 0} (front back : List X) (n first : ℕ) → first ≡ min n (length front)
+    → take first front ++ take (n - first) back ≡ take n (front ++ back)
 first_of_two front back n first least = elim (cases_lt (length front) n) [
   | inr within ↦
       let all : first ≡ n = omega (arith, least) in
       rw (all, sub_self n) (append-nil (take n front) ∙ sym (take-append-le n front back within))
   | inl past ↦
       let all : first ≡ length front = omega (arith, least) in
-      rw all (ap (λ t. t ++ take (n - length front) back) (take_all (length front) front (omega arith)) ∙ sym (take-append-add front back (n - length front)) ∙ ap (λ k. take k (front ++ back)) (omega arith))
+      rw all (ap (λ t. t ++ take (n - length front) back) (take_all (length front) front (omega arith))
+      ∙ sym (take-append-add front back (n - length front)) ∙ ap (λ k. take k (front ++ back)) (omega arith))
 ]
 
 -- what holds of two lists, one behind the other, holds of the first of each
-pub all_front : {X : Type 0} (P : X → Type 0) (front back whole : List X) (n : ℕ) → front ++ back ≡ whole → n ≤ length front → All P whole → All P (take n front)
-all_front P front back whole n is within all = subst (All P) (ap (take n) (sym is) ∙ take-append-le n front back within) (All-take P n whole all)
+pub all_front : {X : Type 0} (P : X → Type 0) (front back whole : List X) (n : ℕ) → front ++ back ≡ whole → n ≤ length front → All P whole
+    → All P (take n front)
+all_front P front back whole n is within all =
+    subst (All P) (ap (take n) (sym is) ∙ take-append-le n front back within) (All-take P n whole all)
 
 pub all_back : {X : Type 0} (P : X → Type 0) (front back whole : List X) (n : ℕ) → front ++ back ≡ whole → All P whole → All P (take n back)
 all_back P front back whole n is all =
-    subst (λ b. All P (take n b)) (ap (drop (length front)) (sym is) ∙ drop-append_seam front back) (All-take P n (drop (length front) whole) (All-drop P (length front) whole all))
+    subst (λ b. All P (take n b)) (ap (drop (length front)) (sym is) ∙ drop-append_seam front back)
+    (All-take P n (drop (length front) whole) (All-drop P (length front) whole all))

@@ -1,6 +1,7 @@
 -- The machine that consolidates. What it answers to a step is told by looking back over the steps before:
 -- no queue and no board stands here. This product's own rule.
-use Rattle.std.specs.Prelude.{ℕ, ◌≡◌, ◌+◌, ◌==◌, ◌⊎◌, Bool, true, false, IsOk, List, ◌++◌, length, map, option_to_list, take, drop, slice_get, count_by, unwrap_or, Option, Some, None, Result, Ok, Err, if◌then◌else◌}
+use Rattle.std.specs.Prelude.{ℕ, ◌≡◌, ◌+◌, ◌==◌, ◌⊎◌, Bool, true, false, IsOk, List, ◌++◌, length, map, option_to_list, take, drop}
+use Rattle.std.specs.Prelude.{slice_get, count_by, unwrap_or, Option, Some, None, Result, Ok, Err, if◌then◌else◌}
 use Rattle.std.specs.List.{filter_map, last_or}
 use Rattle.nms_quote.specs.Roster.{Sizes}
 use Rattle.nms_quote.specs.Tape.{Tape, version}
@@ -132,7 +133,8 @@ IsAnswered room at event = (event.1 ≡ answer_to room at event.0) ⊎ WantsMemo
 
 -- each answer is the machine's to the steps before it
 abbrev pub IsRun : Room → List Event → Type 0
-IsRun room events = (place : ℕ) (event : Event) → slice_get events place ≡ Some event → IsAnswered room (standing_after (take place events)) event
+IsRun room events = (place : ℕ) (event : Event) → slice_get events place ≡ Some event
+    → IsAnswered room (standing_after (take place events)) event
 
 -- what is counted with one more event
 abbrev pub after : Standing → Event → Standing

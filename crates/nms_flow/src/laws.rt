@@ -1,9 +1,8 @@
 //! Laws above runs of the machine (specs/Laws). Each function does nothing: its contract is the law.
-ghost use Rattle.std.specs.Prelude.{◌≡◌, ℕ, ◌≤◌, ◌++◌, All, AllPairs, List};
-ghost use Rattle.nms_quote.specs.Merge.{IsMerge, changes_of};
+ghost use Rattle.std.specs.Prelude.{◌≡◌, ℕ, ◌≤◌, ◌++◌, All, AllPairs, List, map};
+ghost use Rattle.nms_quote.specs.Merge.{IsMerge, changes_of, feeds};
 ghost use Rattle.nms_quote.specs.Roster.{Listing};
 ghost use Rattle.nms_quote.specs.declared.feed.Feed.{Feed};
-ghost use Rattle.nms_quote.specs.declared.feed.Feed.TheVariants as feed;
 ghost use Rattle.nms_flow.specs.Laws.{IsOnOwnFeed, ShowsPublished, fed_by, versions_of};
 ghost use Rattle.nms_flow.specs.Run.{Event, IsRun, Room, changes_in, queue_at, sent_by, standing_after, tape_at};
 
@@ -21,7 +20,7 @@ pub fn desks_versions_never_fall()
 /// The tape followed by the queue is what was sent, a merge of what the feeds sent. Where each change was
 /// sent on the feed that it belongs to, a tape alone tells what a feed sent: the changes that belong to it.
 pub fn tape_and_queue_are_a_merge()
-    ensures merge { (events : List Event) → IsMerge (fed_by feed.A events) (fed_by feed.B events) (sent_by events) }
+    ensures merge { (events : List Event) → IsMerge (map (λ feed. fed_by feed events) feeds) (sent_by events) }
     ensures whole { (events : List Event)
         → tape_at (standing_after events) ++ queue_at (standing_after events) ≡ changes_in (sent_by events) }
     ensures belonging { (roster : Listing) (events : List Event) (feed : Feed)

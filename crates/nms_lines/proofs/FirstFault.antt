@@ -1,5 +1,6 @@
 -- The first of all faults that holds is the one of least number that does.
-use Rattle.std.proofs.Common.{◌≡◌, ℕ, suc, ◌<◌, ◌≤◌, ◌⊎◌, inl, inr, true, false, Bool, cond, List, [], ◌∷◌, Option, Some, None, refl, sym, ap, subst, ◌∙◌, arith, lit≤}
+use Rattle.std.proofs.Common.{◌≡◌, ℕ, suc, ◌<◌, ◌≤◌, ◌⊎◌, inl, inr, true, false, Bool, cond, List, [], ◌∷◌, Option, Some, None, refl, sym}
+use Rattle.std.proofs.Common.{ap, subst, ◌∙◌, arith, lit≤}
 use Rattle.nms_lines.specs.Faults.{number_of}
 use Rattle.nms_lines.specs.declared.line_fault.LineFault.{LineFault}
 use Rattle.nms_lines.specs.declared.line_fault.LineFault.TheVariants as fault
@@ -66,7 +67,8 @@ same_number e = ap number_of e
 not_both : {b : Bool} → b ≡ true → b ≡ false → ⊥
 not_both p q = cc
 
-least_at : (has : LineFault → Bool) (x : LineFault) (xs : List LineFault) (f : LineFault) (b : Bool) → has x ≡ b → Rises (suc (number_of x)) xs
+least_at : (has : LineFault → Bool) (x : LineFault) (xs : List LineFault) (f : LineFault) (b : Bool) → has x ≡ b
+    → Rises (suc (number_of x)) xs
     → (first_of has xs ≡ Some f → IsLeastOf has xs f) → cond b (Some x) (first_of has xs) ≡ Some f → IsLeastOf has (x ∷ xs) f
 least_at has x xs f true here rises more e =
     let number : number_of x ≡ number_of f = same_number (same_fault e) in (
@@ -83,15 +85,18 @@ least_at has x xs f false here rises more e =
     )
 
 -- the first that holds is the least that does
-pub first_is_least : (has : LineFault → Bool) (low : ℕ) (xs : List LineFault) (f : LineFault) → Rises low xs → first_of has xs ≡ Some f → IsLeastOf has xs f
+pub first_is_least : (has : LineFault → Bool) (low : ℕ) (xs : List LineFault) (f : LineFault) → Rises low xs → first_of has xs ≡ Some f
+    → IsLeastOf has xs f
 first_is_least has low [] f rises e = absurd (cc)
 first_is_least has low (x ∷ xs) f rises e = least_at has x xs f (has x) refl rises.1 (first_is_least has (suc (number_of x)) xs f rises.1) e
 
-first_at : (has : LineFault → Bool) (x : LineFault) (xs : List LineFault) (f : LineFault) (b : Bool) → has x ≡ b → Rises (suc (number_of x)) xs
+first_at : (has : LineFault → Bool) (x : LineFault) (xs : List LineFault) (f : LineFault) (b : Bool) → has x ≡ b
+    → Rises (suc (number_of x)) xs
     → IsAmong f (x ∷ xs) → has f ≡ true → ((g : LineFault) → number_of g < number_of f → has g ≡ false)
     → (IsAmong f xs → first_of has xs ≡ Some f) → cond b (Some x) (first_of has xs) ≡ Some f
 first_at has x xs f true here rises (inl is_x) holds least more = ap Some (sym is_x)
-first_at has x xs f true here rises (inr later) holds least more = absurd (not_both here (least x (among_above (suc (number_of x)) xs f rises later)))
+first_at has x xs f true here rises (inr later) holds least more =
+    absurd (not_both here (least x (among_above (suc (number_of x)) xs f rises later)))
 first_at has x xs f false here rises (inl is_x) holds least more = absurd (not_both (subst (λ g. has g ≡ true) is_x holds) here)
 first_at has x xs f false here rises (inr later) holds least more = more later
 
@@ -100,7 +105,8 @@ pub least_is_first : (has : LineFault → Bool) (low : ℕ) (xs : List LineFault
     → ((g : LineFault) → number_of g < number_of f → has g ≡ false) → first_of has xs ≡ Some f
 least_is_first has low [] f rises among holds least = absurd among
 least_is_first has low (x ∷ xs) f rises among holds least =
-    first_at has x xs f (has x) refl rises.1 among holds least (λ later. least_is_first has (suc (number_of x)) xs f rises.1 later holds least)
+    first_at has x xs f (has x) refl rises.1 among holds least
+    (λ later. least_is_first has (suc (number_of x)) xs f rises.1 later holds least)
 
 none_at : (has : LineFault → Bool) (x : LineFault) (xs : List LineFault) (g : LineFault) (b : Bool) → has x ≡ b → IsAmong g (x ∷ xs)
     → (first_of has xs ≡ None → IsAmong g xs → has g ≡ false) → cond b (Some x) (first_of has xs) ≡ None → has g ≡ false

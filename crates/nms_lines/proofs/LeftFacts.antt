@@ -2,7 +2,8 @@
 use Rattle.std.proofs.Common.{◌≡◌, ℕ, true, false, List, [], ◌∷◌, refl, sym, ap, ◌∙◌}
 use Rattle.std.specs.Prelude.{Option, Some}
 use Rattle.csv.specs.Machine.{Read}
-use Rattle.csv.specs.Reading.{AreRecords, ReadRecord, Reached, Ready, default_config, reader_config, reader_state, reader_trim, source_of, strip_bom}
+use Rattle.csv.specs.Reading.{AreRecords, ReadRecord, Reached, Ready, default_config, reader_config, reader_state, reader_trim, source_of}
+use Rattle.csv.specs.Reading.{strip_bom}
 use Rattle.csv.specs.declared.parser.Config.{Config}
 use Rattle.csv.specs.declared.parser.State.{State}
 use Rattle.csv.specs.declared.reader.Reader.{Reader}
@@ -26,8 +27,11 @@ left_next cfg now after bytes rest (first ∷ more) fields all one =
     let same : all.2.0 ≡ one.0 = cc (sym all.2.1 ∙ one.1) in
     let state_is : all.2.0.1 ≡ after = ap (λ (read : Read). read.1) same ∙ one.3.0 in
     let rest_is : all.2.0.2 ≡ rest = ap (λ (read : Read). read.2) same ∙ one.3.1 in
-    let goes = all.2.3 in
-    (more, ap (λ (one : Record). one ∷ more) (all.2.2 ∙ ap (λ (read : Read). read.0) same ∙ sym one.2), (all.0, all.1, rw (state_is, rest_is) at goes, all.3))
+    let goes = all.2.3 in (
+      more,
+      ap (λ (one : Record). one ∷ more) (all.2.2 ∙ ap (λ (read : Read). read.0) same ∙ sym one.2),
+      (all.0, all.1, rw (state_is, rest_is) at goes, all.3),
+    )
 
 -- a record that is read is the first of those that were left
 pub left_more : {R : Type 0} (remaining : R → Option (List ℕ)) (old new : Reader R) (left : List Record) (fields : Record)
@@ -35,9 +39,20 @@ pub left_more : {R : Type 0} (remaining : R → Option (List ℕ)) (old new : Re
     → (more : List Record) × (left ≡ fields ∷ more) × AreLeft remaining new more
 unfolding Reached
 left_more remaining old new left fields was read ready =
-    let step = rows-more remaining old new fields default_config (reader_state old) was.bytes was.bytes [] was.config was.known (refl, refl) read in
-    let next = left_next default_config (reader_state old) (reader_state new) was.bytes step.0 left fields was.records step.2 in
-    (next.0, next.1, record { plain = read.3 ∙ was.plain; ready = ready; config = read.2 ∙ was.config; bytes = step.0; known = step.1; records = next.2 })
+    let step = rows-more remaining old new fields default_config (reader_state old) was.bytes was.bytes [] was.config was.known (refl, refl)
+    read in
+    let next = left_next default_config (reader_state old) (reader_state new) was.bytes step.0 left fields was.records step.2 in (
+      next.0,
+      next.1,
+      record {
+        plain = read.3 ∙ was.plain;
+        ready = ready;
+        config = read.2 ∙ was.config;
+        bytes = step.0;
+        known = step.1;
+        records = next.2;
+      },
+    )
 
 -- where none is read none was left
 pub left_none : {R : Type 0} (remaining : R → Option (List ℕ)) (old new : Reader R) (left : List Record) (fields : Record)

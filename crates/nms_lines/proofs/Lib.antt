@@ -3,12 +3,14 @@ pub mod FieldFacts
 pub mod FirstFault
 pub mod HeadFacts
 pub mod LeftFacts
+pub mod NamedFacts
 pub mod OneReading
 pub mod OneText
 pub mod PlanFacts
 pub mod PlanRoundTrip
 pub mod ReadFacts
 pub mod SideFacts
+pub mod SourceFacts
 pub mod TextFacts
 pub mod WrittenFacts
 pub mod Offered

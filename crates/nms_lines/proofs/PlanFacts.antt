@@ -1,5 +1,6 @@
 -- Reading a plan from records, step by step.
-use Rattle.std.proofs.Common.{arith, ◌≡◌, ◌<◌, ◌≤◌, ◌&&◌, ◌==◌, true, false, List, [], ◌∷◌, ◌++◌, refl, sym, ap, ◌∙◌, Option, Some, None, inl, inr, length, append_assoc}
+use Rattle.std.proofs.Common.{arith, ◌≡◌, ◌<◌, ◌≤◌, ◌&&◌, ◌==◌, true, false, List, [], ◌∷◌, ◌++◌, refl, sym, ap, ◌∙◌, Option, Some, None}
+use Rattle.std.proofs.Common.{inl, inr, length, append_assoc}
 use Rattle.std.specs.Option.{ok_or}
 use Rattle.std.specs.Prelude.{◌⊎◌, IfOk, IfSome, Result, codes, option_map}
 use Rattle.std.proofs.lemmas.Bool.{and_parts, eqb-true, le-leb, lt-leb, ne_eqb}
@@ -11,10 +12,12 @@ use Rattle.nms_quote.specs.Roster.{Listing}
 use Rattle.nms_quote.specs.declared.plan.Leg.{Leg}
 use Rattle.nms_quote.specs.declared.certificate.Cut.{Cut}
 use Rattle.nms_lines.specs.Layout.{Record}
-use Rattle.nms_lines.specs.PlanReading.{◌>>=◌, Head, Said, behind_legs, check, cut_in, cuts_in, head_in, is_end, is_few, is_record, leg_in, legs_of, plan_in, with_first}
+use Rattle.nms_lines.specs.PlanReading.{◌>>=◌, Head, Said, behind_legs, check, cut_in, cuts_in, head_in, is_end, is_few, is_record, leg_in}
+use Rattle.nms_lines.specs.PlanReading.{legs_of, plan_in, with_first}
 
 -- no plan without its record
-pub no_head : (roster : Listing) (left : List Record) (fields : Record) (more : List Record) → left ≡ fields ∷ more → head_in roster fields ≡ None → plan_in roster left ≡ None
+pub no_head : (roster : Listing) (left : List Record) (fields : Record) (more : List Record) → left ≡ fields ∷ more
+    → head_in roster fields ≡ None → plan_in roster left ≡ None
 no_head roster left fields more is none = rw (is, none) refl
 
 -- what is read of a thing that is there, where nothing else is said
@@ -28,11 +31,13 @@ none_after None more none = refl
 none_after (Some x) more none = none x
 
 -- none where the legs are not followed by cuts and an end, or are too many
-pub no_legs : (roster : Listing) (left : List Record) (fields : Record) (more : List Record) (head : Head) → left ≡ fields ∷ more → head_in roster fields ≡ Some head
+pub no_legs : (roster : Listing) (left : List Record) (fields : Record) (more : List Record) (head : Head) → left ≡ fields ∷ more
+    → head_in roster fields ≡ Some head
     → (behind_legs roster more ≡ []) ⊎ (is_few (legs_of roster more) ≡ false) → plan_in roster left ≡ None
 unfolding cuts_in
 no_legs roster left fields more head is one (inl nothing) = rw (is, one, nothing) refl
-no_legs roster left fields more head is one (inr many) = rw (is, one) (none_after (cuts_in (behind_legs roster more)) _ (λ cuts. rw many refl))
+no_legs roster left fields more head is one (inr many) =
+    rw (is, one) (none_after (cuts_in (behind_legs roster more)) _ (λ cuts. rw many refl))
 
 -- ---- legs
 
@@ -57,7 +62,8 @@ legs_end roster all left more legs fields was is none =
     let behind = rw (is, none) at was.1 in
     (sym before, behind)
 
-pub legs_out : (roster : Listing) (all left : List Record) (legs : List Leg) → LegsRead roster all legs left → left ≡ [] → behind_legs roster all ≡ []
+pub legs_out : (roster : Listing) (all left : List Record) (legs : List Leg) → LegsRead roster all legs left → left ≡ []
+    → behind_legs roster all ≡ []
 unfolding behind_legs
 legs_out roster all left legs was is = let behind = rw is at was.1 in behind
 
@@ -65,10 +71,12 @@ too_many : {A : Type 0} (list : List A) → 32 < length list → is_few list ≡
 too_many list many = lt-leb (length list) 32 many
 
 pub legs_many : (roster : Listing) (all left more : List Record) (legs : List Leg) (fields : Record) (leg : Leg)
-    → LegsRead roster all legs left → left ≡ fields ∷ more → leg_in roster fields ≡ Some leg → 32 ≤ length legs → is_few (legs_of roster all) ≡ false
+    → LegsRead roster all legs left → left ≡ fields ∷ more → leg_in roster fields ≡ Some leg → 32 ≤ length legs
+    → is_few (legs_of roster all) ≡ false
 legs_many roster all left more legs fields leg was is one full =
     let next = legs_more roster all left more legs fields leg was is one in
-    too_many (legs_of roster all) (rw next.0 (omega (arith, length-append (legs ++ leg ∷ []) (legs_of roster more), length-append legs (leg ∷ []))))
+    too_many (legs_of roster all) (rw next.0
+    (omega (arith, length-append (legs ++ leg ∷ []) (legs_of roster more), length-append legs (leg ∷ []))))
 
 pub legs_over : (roster : Listing) (all left : List Record) (legs : List Leg)
     → LegsRead roster all legs left → 33 ≤ length legs → is_few (legs_of roster all) ≡ false
@@ -93,7 +101,8 @@ together cuts cut None = refl
 together cuts cut (Some more) = ap (λ (list : List Cut). Some list) (sym (append_assoc cuts (cut ∷ []) more))
 
 pub cuts_more : (all left : List Record) (cuts : List Cut) (fields : Record) (cut : Cut)
-    → CutsRead all cuts (fields ∷ left) → is_record (codes "END") 1 fields ≡ false → cut_in fields ≡ Some cut → CutsRead all (cuts ++ cut ∷ []) left
+    → CutsRead all cuts (fields ∷ left) → is_record (codes "END") 1 fields ≡ false → cut_in fields ≡ Some cut
+    → CutsRead all (cuts ++ cut ∷ []) left
 unfolding cuts_in
 cuts_more all left cuts fields cut was other one =
     let before = rw (no_end fields left other, one) at was in
@@ -141,7 +150,8 @@ cuts_out all cuts left was is =
     none_is all before
 
 -- more cuts than fit
-over : (cuts : List Cut) (more : Option (List Cut)) → 32 < length cuts → IfSome (option_map (λ rest. cuts ++ rest) more) (λ list. is_few list ≡ false)
+over : (cuts : List Cut) (more : Option (List Cut)) → 32 < length cuts
+    → IfSome (option_map (λ rest. cuts ++ rest) more) (λ list. is_few list ≡ false)
 over cuts None many = tt
 over cuts (Some more) many = too_many (cuts ++ more) (omega (arith, length-append cuts more))
 
@@ -149,7 +159,8 @@ pub cuts_over : (all : List Record) (cuts : List Cut) (left : List Record) → C
 cuts_over all cuts left was many = rw was (over cuts (cuts_in left) many)
 
 pub cuts_many : (all left : List Record) (cuts : List Cut) (fields : Record) (cut : Cut)
-    → CutsRead all cuts (fields ∷ left) → is_record (codes "END") 1 fields ≡ false → cut_in fields ≡ Some cut → 32 ≤ length cuts → NoCuts all
+    → CutsRead all cuts (fields ∷ left) → is_record (codes "END") 1 fields ≡ false → cut_in fields ≡ Some cut → 32 ≤ length cuts
+    → NoCuts all
 cuts_many all left cuts fields cut was other one full =
     cuts_over all (cuts ++ cut ∷ []) left (cuts_more all left cuts fields cut was other one) (omega (arith, length-append cuts (cut ∷ [])))
 
@@ -171,10 +182,13 @@ made head legs cuts = do
   few ← check (is_few legs && is_few cuts)
   Some (record { head = head; legs = legs; cuts = cuts })
 
-after_cuts : (head : Head) (legs : List Leg) (found : Option (List Cut)) → IfSome found (λ cuts. is_few cuts ≡ false) → (found >>= made head legs) ≡ None
+after_cuts : (head : Head) (legs : List Leg) (found : Option (List Cut)) → IfSome found (λ cuts. is_few cuts ≡ false)
+    → (found >>= made head legs) ≡ None
 after_cuts head legs None many = refl
 after_cuts head legs (Some cuts) many = rw (many, and-false (is_few legs)) refl
 
 pub no_cuts : (roster : Listing) (all more rest : List Record) (fields row : Record) (head : Head)
-    → all ≡ fields ∷ more → head_in roster fields ≡ Some head → behind_legs roster more ≡ row ∷ rest → NoCuts (row ∷ rest) → plan_in roster all ≡ None
-no_cuts roster all more rest fields row head is one behind none = rw (is, one, behind) (after_cuts head (legs_of roster more) (cuts_in (row ∷ rest)) none)
+    → all ≡ fields ∷ more → head_in roster fields ≡ Some head → behind_legs roster more ≡ row ∷ rest → NoCuts (row ∷ rest)
+    → plan_in roster all ≡ None
+no_cuts roster all more rest fields row head is one behind none =
+    rw (is, one, behind) (after_cuts head (legs_of roster more) (cuts_in (row ∷ rest)) none)

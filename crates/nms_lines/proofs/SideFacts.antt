@@ -25,7 +25,8 @@ fault_test true number why is = refl
 fault_test false number why is = cc
 
 -- no price is unfit beside no shares
-pub unfit_alone : (number shares : Option ℕ) (why other : UnitFault) → above_zero number ≡ Err why → or_bad_shares shares ≡ Err other → is_unfit number shares ≡ true
+pub unfit_alone : (number shares : Option ℕ) (why other : UnitFault) → above_zero number ≡ Err why → or_bad_shares shares ≡ Err other
+    → is_unfit number shares ≡ true
 unfit_alone None shares why other is are = refl
 unfit_alone (Some n) None why other is are = ap (λ (zero : Bool). zero && true) (fault_test (n == 0) n why is)
 unfit_alone (Some n) (Some count) why other is are = cc

@@ -4,7 +4,8 @@
 -- them does not matter: L2 is answered.
 use Rattle.std.specs.Prelude.{◌||◌, not, Bool, true, false, length, Option, Some, None, is_none}
 use Rattle.nms_quote.specs.Roster.{Listing, place_in}
-use Rattle.nms_lines.specs.FieldFaults.{is_foreign_lot, is_foreign_name, is_no_average, is_no_average_price, is_no_desk, is_no_flag, is_no_lot, is_no_price, is_no_shares}
+use Rattle.nms_lines.specs.FieldFaults.{has_no_name, is_foreign_lot, is_foreign_name, is_no_average, is_no_average_price, is_no_desk}
+use Rattle.nms_lines.specs.FieldFaults.{is_no_flag, is_no_lot, is_no_price, is_no_shares}
 use Rattle.nms_lines.specs.Fields.{side_named, state_named}
 use Rattle.nms_lines.specs.Layout.{Record, field, is_count}
 use Rattle.nms_lines.specs.Sides.{has_bad_price, has_bad_shares, has_half_side}
@@ -67,8 +68,9 @@ through_has roster from fields fault.BadPrice = is_no_price (field fields 3)
 through_has roster from fields fault.BadDesk = is_no_desk from (field fields 1)
 through_has roster from fields _ = false
 
--- O,desk,side,sym,shares,limit, and the flag M where there are seven fields
+-- O,desk,side,sym,shares,limit, then the flag M, then the participants named
 abbrev pub sweep_has : Listing → Reading → Record → LineFault → Bool
+sweep_has roster from fields fault.UnknownParticipant = has_no_name roster fields
 sweep_has roster from fields fault.UnknownSymbol = is_none (place_in roster.syms (field fields 3))
 sweep_has roster from fields fault.BadState = is_none (side_named (field fields 2)) || is_no_flag fields
 sweep_has roster from fields fault.BadPrice = is_no_price (field fields 5)

@@ -1,11 +1,13 @@
 -- What is wrong with a field, apart from the two fields of a side. This product's own rule.
-use Rattle.std.specs.Prelude.{◌==◌, ◌&&◌, not, ℕ, Bool, false, List, length, codes, Some, is_none}
+use Rattle.std.specs.Prelude.{◌&&◌, not, ℕ, Bool, false, List, codes, Some, is_none}
 use Rattle.std.specs.Option.{option_map_or}
 use Rattle.nms_units.specs.Digits.{number_in}
 use Rattle.nms_units.specs.Price.{price_number}
 use Rattle.nms_quote.specs.Roster.{Listing, feed_at, place_in}
 use Rattle.nms_quote.specs.declared.feed.Feed.TheVariants as feed
+use Rattle.nms_lines.specs.Fields.{flag_of}
 use Rattle.nms_lines.specs.Layout.{Record, field, has_average, is_text}
+use Rattle.nms_lines.specs.Named.{named_at}
 use Rattle.nms_lines.specs.Numbers.{above_zero, below, lot_number, shares_number}
 use Rattle.nms_lines.specs.Sources.{desks_of, is_foreign}
 use Rattle.nms_lines.specs.declared.line.Reading.{Reading}
@@ -30,9 +32,13 @@ is_no_price text = is_none (above_zero (price_number text))
 abbrev pub is_no_shares : List ℕ → Bool
 is_no_shares text = is_none (above_zero (shares_number text))
 
+-- an eighth field of an order in which a name, or what stands in the place of one, is not on the roster
+abbrev pub has_no_name : Listing → Record → Bool
+has_no_name roster fields = is_none (named_at 7 roster fields)
+
 -- a seventh field of an order that is not the flag
 abbrev pub is_no_flag : Record → Bool
-is_no_flag fields = length fields == 7 && not (is_text (codes "M") (field fields 6))
+is_no_flag fields = is_none (flag_of fields)
 
 -- a third field of a round lot with a price that is not the word for an average
 abbrev pub is_no_average : Record → Bool

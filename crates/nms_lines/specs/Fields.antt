@@ -1,5 +1,5 @@
 -- What one field says, or its fault. This product's own rule.
-use Rattle.std.specs.Prelude.{ℕ, ◌==◌, Bool, true, false, List, length, codes, Option, Some, None, Result, Ok, Err, if◌then◌else◌}
+use Rattle.std.specs.Prelude.{ℕ, ◌==◌, Bool, true, false, List, [], length, codes, Option, Some, None, Result, Ok, Err, if◌then◌else◌}
 use Rattle.std.specs.Option.{ok_or}
 use Rattle.nms_units.specs.Price.{price_number}
 use Rattle.nms_units.specs.Digits.{number_in}
@@ -11,6 +11,7 @@ use Rattle.nms_quote.specs.declared.order.OrderSide.{OrderSide}
 use Rattle.nms_quote.specs.declared.order.OrderSide.TheVariants as side
 use Rattle.nms_lines.specs.Faults.{◌>>=◌}
 use Rattle.nms_lines.specs.Layout.{Record, field, has_average, is_text}
+use Rattle.nms_lines.specs.Named.{named_at}
 use Rattle.nms_lines.specs.Numbers.{above_zero, below, lot_number, shares_number}
 use Rattle.nms_lines.specs.declared.line_fault.LineFault.{LineFault}
 use Rattle.nms_lines.specs.declared.line_fault.LineFault.TheVariants as fault
@@ -44,12 +45,25 @@ side_named text =
 abbrev pub side_in : List ℕ → Result OrderSide LineFault
 side_in text = ok_or (side_named text) fault.BadState
 
--- the flag `M`, where there is a seventh field, allows manual quotations
-abbrev pub flag_in : Record → Result Bool LineFault
-flag_in fields =
+-- the participants that an order names under self-help, by the names in its eighth field, where it has one
+abbrev pub self_help_in : Listing → Record → Result ℕ LineFault
+self_help_in roster fields = ok_or (named_at 7 roster fields) fault.UnknownParticipant
+
+-- whether manual quotations may be traded with: the flag is `M`, or empty
+abbrev pub flag_named : List ℕ → Option Bool
+flag_named text = if is_text (codes "M") text then Some true else (if is_text [] text then Some false else None)
+
+-- whether an order allows manual quotations: as a record's last, its seventh field is `M`; before an eighth one it may be
+-- empty; a record without one does not
+abbrev pub flag_of : Record → Option Bool
+flag_of fields =
     if length fields == 7
-    then (if is_text (codes "M") (field fields 6) then Ok true else Err fault.BadState)
-    else Ok false
+    then (if is_text (codes "M") (field fields 6) then Some true else None)
+    else flag_named (field fields 6)
+
+-- that, or the fault
+abbrev pub flag_in : Record → Result Bool LineFault
+flag_in fields = ok_or (flag_of fields) fault.BadState
 
 -- a price that an order, a trade-through test or a round lot needs
 abbrev pub price_in : List ℕ → Result ℕ LineFault

@@ -31,8 +31,8 @@ kind_named text =
     else (if is_text (codes "E") text then Some kind.Through
     else (if is_text (codes "O") text then Some kind.Sweep else None))))))))))
 
--- how many fields a record of the kind has. An order may have one more, its flag, and so may a round lot, its
--- average price
+-- how many fields a record of the kind has. An order may have one more, its flag, and then one more, the participants
+-- that it names; a round lot may have one more, its average price
 abbrev pub is_count : Kind → ℕ → Bool
 is_count kind.Quote n = n == 8
 is_count kind.State n = n == 4
@@ -44,7 +44,7 @@ is_count kind.Publish n = n == 1
 is_count kind.Tell n = n == 2
 is_count kind.Best n = n == 3
 is_count kind.Through n = n == 4
-is_count kind.Sweep n = (n == 6) || (n == 7)
+is_count kind.Sweep n = (n == 6) || (n == 7) || (n == 8)
 
 -- a round lot is given by an average closing price
 abbrev pub has_average : Record → Bool

@@ -1,4 +1,5 @@
 pub use Rattle.csv.specs.Records as Rows
+pub use Rattle.nms_quote.specs.Members as Members
 pub use Rattle.nms_quote.specs.Roster as Roster
 pub mod FaultTable
 pub mod Faults
@@ -9,11 +10,13 @@ pub mod Layout
 pub mod Left
 pub mod LineOf
 pub mod Lines
+pub mod Named
 pub mod Numbers
 pub mod PlanFaults
 pub mod PlanLaws
 pub mod PlanReading
 pub mod PlanText
+pub mod RecordFaults
 pub mod Records
 pub mod Sides
 pub mod Sources

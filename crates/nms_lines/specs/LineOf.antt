@@ -3,6 +3,7 @@ use Rattle.std.specs.Prelude.{ℕ, ◌≡◌, ◌<◌, ⊤, true, length}
 use Rattle.nms_quote.specs.Roster.{Listing, Sizes, holds, sizes_of}
 use Rattle.nms_quote.specs.declared.change.Change.{Change}
 use Rattle.nms_quote.specs.declared.change.Change.TheVariants as change
+use Rattle.nms_lines.specs.Named.{AreBelow}
 use Rattle.nms_lines.specs.Sources.{IsSentBy, brings, desks_of}
 use Rattle.nms_lines.specs.declared.line.Kind.{Kind}
 use Rattle.nms_lines.specs.declared.line.Kind.TheVariants as kind
@@ -19,7 +20,7 @@ IsThere sizes desks line.Publish = ⊤
 IsThere sizes desks (line.Tell desk) = desk < desks
 IsThere sizes desks (line.Best desk sym) = (desk < desks) × (sym < length sizes.lots)
 IsThere sizes desks (line.Through desk sym price) = (desk < desks) × (sym < length sizes.lots)
-IsThere sizes desks (line.Sweep desk order) = (desk < desks) × (order.sym < length sizes.lots)
+IsThere sizes desks (line.Sweep desk order) = (desk < desks) × (order.sym < length sizes.lots) × AreBelow sizes.parts order.self_help
 
 -- the kind of a record that says a change
 abbrev pub kind_of_change : Change → Kind

@@ -6,7 +6,8 @@ use Rattle.nms_quote.specs.Roster.{Listing, feed_at}
 use Rattle.nms_quote.specs.declared.change.Change.TheVariants as change
 use Rattle.nms_lines.specs.Faults.{◌>>=◌, refuse_if}
 use Rattle.nms_lines.specs.FieldFaults.{is_foreign_lot}
-use Rattle.nms_lines.specs.Fields.{average_in, desk_below, flag_in, lot_in, part_in, price_in, shares_in, side_in, state_in, symbol_in}
+use Rattle.nms_lines.specs.Fields.{average_in, desk_below, flag_in, lot_in, part_in, price_in, self_help_in, shares_in, side_in, state_in}
+use Rattle.nms_lines.specs.Fields.{symbol_in}
 use Rattle.nms_lines.specs.Layout.{Record, field, is_count}
 use Rattle.nms_lines.specs.Sides.{sides_in}
 use Rattle.nms_lines.specs.Sources.{desks_of, is_foreign, kind_in}
@@ -74,16 +75,17 @@ through_reading roster from fields = do
   desk ← desk_below (desks_of from) (field fields 1)
   Ok (line.Through desk sym price)
 
--- O,desk,side,sym,shares,limit, and the flag M where there are seven fields
+-- O,desk,side,sym,shares,limit, then the flag M, then the participants named
 abbrev pub sweep_reading : Listing → Reading → Record → Result Line LineFault
 sweep_reading roster from fields = do
+  self_help ← self_help_in roster fields
   sym ← symbol_in roster (field fields 3)
   side ← side_in (field fields 2)
   manual ← flag_in fields
   limit ← price_in (field fields 5)
   shares ← shares_in (field fields 4)
   desk ← desk_below (desks_of from) (field fields 1)
-  Ok (line.Sweep desk (record { side = side; sym = sym; shares = shares; limit = limit; manual = manual }))
+  Ok (line.Sweep desk (record { side = side; sym = sym; shares = shares; limit = limit; manual = manual; self_help = self_help }))
 
 -- the fields of a record of the kind, of which it has as many as the kind
 abbrev pub kind_reading : Listing → Reading → Record → Kind → Result Line LineFault

@@ -8,6 +8,7 @@ use Rattle.nms_quote.specs.declared.plan.Plan.{Plan}
 use Rattle.nms_quote.specs.declared.certificate.Cut.{Cut}
 use Rattle.nms_quote.specs.declared.certificate.CutKind.{CutKind}
 use Rattle.nms_quote.specs.declared.certificate.CutKind.TheVariants as kind
+use Rattle.nms_lines.specs.Named.{AreBelow}
 use Rattle.nms_lines.specs.PlanReading.{plan_in, said_by}
 use Rattle.nms_lines.specs.PlanText.{plan_records, plan_text}
 use Rattle.nms_lines.specs.Records.{AreAllRecords}
@@ -38,6 +39,7 @@ pub record FitsText (roster : Listing) (plan : Plan) (certificate : List Cut) : 
   pub some : 1 ≤ plan.order.shares
   pub shares : plan.order.shares ≤ MOST_SHARES
   pub limit : IsPriceInRange plan.order.limit
+  pub self_help : AreBelow (length roster.parts) plan.order.self_help
   pub filled : plan.filled ≤ MOST_SHARES
   pub cost : IsMoneyInRange plan.cost
   pub legs : All (IsLegInRange roster) plan.legs.items

@@ -1,6 +1,7 @@
 -- The plan and the certificate that records are, where they have exactly the layout: one record of the plan,
 -- at most 32 legs, at most 32 cuts, an end, and nothing behind it. This product's own rule.
-use Rattle.std.specs.Prelude.{ℕ, ℤ, Bool, true, false, ◌==◌, ◌&&◌, List, [], ◌∷◌, codes, length, nat_le, Option, Some, None, option_map, if◌then◌else◌}
+use Rattle.std.specs.Prelude.{ℕ, ℤ, Bool, true, false, ◌==◌, ◌&&◌, ◌||◌, List, [], ◌∷◌, codes, length, nat_le, Option, Some, None}
+use Rattle.std.specs.Prelude.{option_map, if◌then◌else◌}
 use Rattle.nms_units.specs.Digits.{number_in}
 use Rattle.nms_units.specs.Price.{price_number}
 use Rattle.nms_units.specs.Money.{money_number}
@@ -11,8 +12,9 @@ use Rattle.nms_quote.specs.declared.plan.Plan.{Plan}
 use Rattle.nms_quote.specs.declared.certificate.Cut.{Cut}
 use Rattle.nms_quote.specs.declared.certificate.CutKind.{CutKind}
 use Rattle.nms_quote.specs.declared.certificate.CutKind.TheVariants as kind
-use Rattle.nms_lines.specs.Fields.{side_named}
+use Rattle.nms_lines.specs.Fields.{flag_named, side_named}
 use Rattle.nms_lines.specs.Layout.{Record, field, is_text}
+use Rattle.nms_lines.specs.Named.{named_at}
 use Rattle.nms_lines.specs.Numbers.{above_zero, shares_number}
 
 infixl 10 ◌>>=◌
@@ -30,10 +32,6 @@ check false = None
 abbrev pub is_record : List ℕ → ℕ → Record → Bool
 is_record word count fields = (length fields == count) && is_text word (field fields 0)
 
--- whether manual quotations may be traded with
-abbrev pub flag_named : List ℕ → Option Bool
-flag_named text = if is_text (codes "M") text then Some true else (if is_text [] text then Some false else None)
-
 -- what the record of a plan says
 pub record Head : Type 0 where
   pub version : ℕ
@@ -41,21 +39,32 @@ pub record Head : Type 0 where
   pub filled : ℕ
   pub cost : ℤ
 
--- PLAN,version,side,sym,shares,limit,flag,filled,cost: a version of 1 to 8 digits, an order of at least one share
+-- the record of a plan, with a tenth field or without one
+abbrev pub is_plan : Record → Bool
+is_plan fields = is_record (codes "PLAN") 9 fields || is_record (codes "PLAN") 10 fields
+
+-- PLAN,version,side,sym,shares,limit,flag,filled,cost, then the participants named: a version of 1 to 8 digits, an order
+-- of at least one share
 abbrev pub head_in : Listing → Record → Option Head
 head_in roster fields = do
-  plan ← check (is_record (codes "PLAN") 9 fields)
+  plan ← check (is_plan fields)
   version ← number_in 8 (field fields 1)
   side ← side_named (field fields 2)
   sym ← place_in roster.syms (field fields 3)
   shares ← above_zero (shares_number (field fields 4))
   limit ← above_zero (price_number (field fields 5))
   manual ← flag_named (field fields 6)
+  self_help ← named_at 9 roster fields
   filled ← shares_number (field fields 7)
   cost ← money_number (field fields 8)
-  Some (record { version = version; order = record { side = side; sym = sym; shares = shares; limit = limit; manual = manual }; filled = filled; cost = cost })
+  Some (record {
+    version = version;
+    order = record { side = side; sym = sym; shares = shares; limit = limit; manual = manual; self_help = self_help };
+    filled = filled;
+    cost = cost;
+  })
 
--- what the order of the plan asks for, in the fields side,sym,shares,limit,flag
+-- what the order of the plan asks for, in the fields side,sym,shares,limit,flag and in the one of the participants named
 abbrev pub order_in : Listing → Record → Option Terms
 order_in roster fields = do
   side ← side_named (field fields 2)
@@ -63,12 +72,13 @@ order_in roster fields = do
   shares ← above_zero (shares_number (field fields 4))
   limit ← above_zero (price_number (field fields 5))
   manual ← flag_named (field fields 6)
-  Some (record { side = side; sym = sym; shares = shares; limit = limit; manual = manual })
+  self_help ← named_at 9 roster fields
+  Some (record { side = side; sym = sym; shares = shares; limit = limit; manual = manual; self_help = self_help })
 
 -- the record of a plan, read with its order as one
 abbrev pub head_by_order : Listing → Record → Option Head
 head_by_order roster fields = do
-  plan ← check (is_record (codes "PLAN") 9 fields)
+  plan ← check (is_plan fields)
   version ← number_in 8 (field fields 1)
   order ← order_in roster fields
   filled ← shares_number (field fields 7)
@@ -159,4 +169,8 @@ plan_in roster (fields ∷ records) = do
 
 -- what a plan and its cuts say
 abbrev pub said_by : Plan → List Cut → Said
-said_by plan cuts = record { head = record { version = plan.version; order = plan.order; filled = plan.filled; cost = plan.cost }; legs = plan.legs.items; cuts = cuts }
+said_by plan cuts = record {
+  head = record { version = plan.version; order = plan.order; filled = plan.filled; cost = plan.cost };
+  legs = plan.legs.items;
+  cuts = cuts;
+}

@@ -13,6 +13,7 @@ use Rattle.nms_quote.specs.declared.certificate.Cut.{Cut}
 use Rattle.nms_quote.specs.declared.certificate.CutKind.{CutKind}
 use Rattle.nms_quote.specs.declared.certificate.CutKind.TheVariants as kind
 use Rattle.nms_lines.specs.Layout.{Record}
+use Rattle.nms_lines.specs.Named.{named_fields}
 use Rattle.nms_lines.specs.Text.{text_of}
 
 -- the letter of an order's side
@@ -30,10 +31,11 @@ abbrev pub order_fields : Listing → Terms → Record
 order_fields roster order =
     side_letter order.side ∷ symbol_text roster order.sym ∷ decimal order.shares ∷ price_text order.limit ∷ flag_text order.manual ∷ []
 
--- PLAN,version,side,sym,shares,limit,flag,filled,cost
+-- PLAN,version,side,sym,shares,limit,flag,filled,cost, and the participants named where there are any
 abbrev pub plan_record : Listing → Plan → Record
 plan_record roster plan =
-    codes "PLAN" ∷ decimal plan.version ∷ (order_fields roster plan.order ++ (decimal plan.filled ∷ money_text plan.cost ∷ []))
+    codes "PLAN" ∷ decimal plan.version ∷ (order_fields roster plan.order
+    ++ (decimal plan.filled ∷ money_text plan.cost ∷ named_fields roster plan.order.self_help))
 
 -- LEG,part,price,shares
 abbrev pub leg_record : Listing → Leg → Record
@@ -55,7 +57,8 @@ end_record = codes "END" ∷ []
 
 -- all of them, in order
 abbrev pub plan_records : Listing → Plan → List Cut → List Record
-plan_records roster plan cuts = plan_record roster plan ∷ (map (leg_record roster) plan.legs.items ++ (map cut_record cuts ++ (end_record ∷ [])))
+plan_records roster plan cuts = plan_record roster plan
+    ∷ (map (leg_record roster) plan.legs.items ++ (map cut_record cuts ++ (end_record ∷ [])))
 
 -- the text of a plan and its certificate
 abbrev pub plan_text : Listing → Plan → List Cut → List ℕ

@@ -1,7 +1,8 @@
 -- The records that `csv` finds in a text: comma, double quote, no header row, records of any length,
 -- nothing trimmed, a byte order mark at the start dropped, blank lines no records.
 use Rattle.std.specs.Prelude.{ℕ, ◌≡◌, true, List, Option, Some, None}
-use Rattle.csv.specs.Reading.{AreRecords, Reached, Ready, default_config, has_failed, is_flexible, reader_config, reader_state, reader_trim, source_of, strip_bom}
+use Rattle.csv.specs.Reading.{AreRecords, Reached, Ready, default_config, has_failed, is_flexible, reader_config, reader_state, reader_trim}
+use Rattle.csv.specs.Reading.{source_of, strip_bom}
 use Rattle.csv.specs.declared.parser.State.{State}
 use Rattle.csv.specs.declared.parser.State.TheVariants as state
 use Rattle.csv.specs.declared.reader.Reader.{Reader}
@@ -29,7 +30,8 @@ StandsAfter remaining reader (Some bytes) records =
     (rest : List ℕ) × (source_of remaining reader ≡ Some rest) × Begins bytes records (reader_state reader) rest
 
 -- a reader that has read these records, with which the text begins, and reads on as the layouts want it
-pub record ReadsFrom {R : Type 0} (remaining : R → Option (List ℕ)) (reader : Reader R) (bytes : Option (List ℕ)) (records : List Record) : Type 0 where
+pub record ReadsFrom {R : Type 0} (remaining : R → Option (List ℕ)) (reader : Reader R) (bytes : Option (List ℕ)) (records : List Record) :
+    Type 0 where
   pub plain : reader_trim reader ≡ trim.None
   pub ready : Ready reader
   pub flexible : is_flexible reader ≡ true

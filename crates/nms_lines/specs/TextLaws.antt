@@ -12,7 +12,8 @@ use Rattle.nms_lines.specs.Records.{AreAllRecords}
 -- a text has these records and no others
 abbrev pub HasOneList : List ℕ → Type 0
 HasOneList bytes =
-    (records : List Record) × AreAllRecords (Some bytes) records × ((others : List Record) → AreAllRecords (Some bytes) others → others ≡ records)
+    (records : List Record) × AreAllRecords (Some bytes) records
+    × ((others : List Record) → AreAllRecords (Some bytes) others → others ≡ records)
 
 -- records as `csv` writes them: commas, a line feed behind each, quotes where a field needs them
 abbrev pub csv_text : List Record → List ℕ
@@ -20,4 +21,5 @@ csv_text records = flat_map (row_text default_writer) records
 
 -- the text of a plan is what `csv` writes of its records
 abbrev pub NeedsNoQuote : Listing → Type 0
-NeedsNoQuote roster = (plan : Plan) (certificate : List Cut) → plan_text roster plan certificate ≡ csv_text (plan_records roster plan certificate)
+NeedsNoQuote roster = (plan : Plan) (certificate : List Cut) → plan_text roster plan certificate
+    ≡ csv_text (plan_records roster plan certificate)

@@ -11,6 +11,7 @@ use crate::letter::{flag_in, side_in};
 use crate::line::{Kind, Line, Reading};
 use crate::line_fault::LineFault;
 use crate::name::symbol_in;
+use crate::named::self_help_in;
 use crate::number::{desk_below, price_in, shares_in};
 use csv::ByteRecord;
 use nms_quote::{Order, Roster};
@@ -49,7 +50,7 @@ pub(crate) fn through_line(
     Ok(Line::Through { desk, sym, price })
 }
 
-/// `O,desk,side,sym,shares,limit`, and the flag `M` where there are seven fields
+/// `O,desk,side,sym,shares,limit`, then the flag `M`, then the participants named
 pub(crate) fn sweep_line(
     row: &ByteRecord,
     roster: &Roster,
@@ -58,13 +59,14 @@ pub(crate) fn sweep_line(
     ensures line { result ≡ sweep_reading roster.now from (fields_of row.now) }
     ensures of { brings from Kind.Sweep ≡ true → IfOk result (IsLineOf roster.now from) }
 {
+    let self_help = self_help_in(row, roster)?;
     let sym = symbol_in(roster, field(row, 3))?;
     let side = side_in(field(row, 2))?;
     let manual = flag_in(row)?;
     let limit = price_in(field(row, 5))?;
     let shares = shares_in(field(row, 4))?;
     let desk = desk_below(desks_of(from), field(row, 1))?;
-    let order = Order::new(side, sym, shares, limit, manual).unwrap();
+    let order = Order::new(side, sym, shares, limit, manual, self_help).unwrap();
     Ok(Line::Sweep { desk, order })
 }
 

@@ -74,7 +74,7 @@ pub(crate) fn is_count(kind: Kind, fields: usize) -> bool
         Kind::Best => fields == 3,
         Kind::Lot => fields == 3 || fields == 4,
         Kind::State | Kind::Through => fields == 4,
-        Kind::Sweep => fields == 6 || fields == 7,
+        Kind::Sweep => fields == 6 || fields == 7 || fields == 8,
         Kind::Quote => fields == 8,
     }
 }

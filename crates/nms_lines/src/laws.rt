@@ -22,6 +22,7 @@ pub fn a_plan_reads_as_written(roster: &Roster)
     ensures { ReadsAsWritten roster.now }
 {
     no_field_of_a_plan_needs_a_quote(roster);
+    part_names_are_formed(roster);
     digits_read_as_printed();
     Price::reads_what_it_prints();
     Money::reads_what_it_prints();

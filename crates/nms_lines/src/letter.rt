@@ -1,7 +1,7 @@
 //! The fields that are one letter: `specs/Fields`.
 ghost use Rattle.std.specs.Prelude.{◌≡◌};
 ghost use Rattle.csv.specs.Records.{fields_of};
-ghost use Rattle.nms_lines.specs.Fields.{flag_in, side_in, side_named, state_in, state_named};
+ghost use Rattle.nms_lines.specs.Fields.{flag_in, flag_named, flag_of, side_in, side_named, state_in, state_named};
 
 use crate::field::field;
 use crate::line_fault::LineFault;
@@ -44,16 +44,34 @@ pub fn side_of(text: &[u8]) -> Option<OrderSide>
     }
 }
 
-/// Whether an order's record has the flag that allows manual quotations; `BadState` where its seventh
-/// field is something else.
+/// Whether an order's record has the flag that allows manual quotations; `BadState` where its seventh field is
+/// something else. As the last field the flag is not empty.
 pub(crate) fn flag_in(row: &ByteRecord) -> Result<bool, LineFault>
     ensures { result ≡ flag_in (fields_of row.now) }
 {
+    flag_of(row).ok_or(LineFault::BadState)
+}
+
+fn flag_of(row: &ByteRecord) -> Option<bool>
+    ensures { result ≡ flag_of (fields_of row.now) }
+{
+    let flag = field(row, 6);
     if row.len() != 7 {
-        return Ok(false);
+        return flag_named(flag);
     }
-    match field(row, 6) {
-        b"M" => Ok(true),
-        _ => Err(LineFault::BadState),
+    match flag {
+        b"M" => Some(true),
+        _ => None,
+    }
+}
+
+/// Whether manual quotations may be traded with, where the flag is `M` or empty.
+pub(crate) fn flag_named(text: &[u8]) -> Option<bool>
+    ensures { result ≡ flag_named text.now }
+{
+    match text {
+        b"M" => Some(true),
+        b"" => Some(false),
+        _ => None,
     }
 }

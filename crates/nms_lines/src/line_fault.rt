@@ -1,6 +1,7 @@
 //! Why a record is refused: `specs/Faults`.
 ghost use Rattle.std.specs.Prelude.{◌≡◌};
 ghost use Rattle.nms_lines.specs.Faults.{code_of, refuse_if};
+ghost use Rattle.nms_lines.specs.RecordFaults.{refused_status};
 
 use std::fmt;
 use thiserror::Error;
@@ -50,6 +51,13 @@ impl LineFault {
             LineFault::BadDesk => "L10",
             LineFault::BadLot => "L14",
         }
+    }
+
+    /// The exit status of a program that ends at a record that it refuses, 6.
+    pub fn status(self) -> u8
+        ensures { result ≡ refused_status }
+    {
+        6
     }
 
     /// The message: the code, and what is wrong.

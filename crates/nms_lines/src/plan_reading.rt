@@ -3,6 +3,7 @@ ghost use Rattle.std.specs.Prelude.{◌⊎◌, ◌≡◌, ◌≢◌, ◌++◌, �
 ghost use Rattle.csv.specs.Records.{fields_of};
 ghost use Rattle.nms_lines.specs.Layout.{Record};
 ghost use Rattle.nms_lines.specs.Left.{AreLeft};
+ghost use Rattle.nms_lines.specs.Named.{AreBelow};
 ghost use Rattle.nms_lines.specs.PlanReading.{behind_legs, cuts_in, head_in, is_few, legs_of, plan_in, said_by};
 ghost use Rattle.nms_lines.specs.Records.{AreAllRecords};
 
@@ -18,7 +19,8 @@ use std::io::Read;
 
 /// Reads a plan and its certificate from text, which has to have exactly the layout: the record of the plan, at
 /// most 32 legs, at most 32 cuts, an end, and nothing behind it. Names are of the roster; prices, share counts and
-/// money are as their types read them, a version is 1 to 8 digits, and the order is of at least one share.
+/// money are as their types read them, a version is 1 to 8 digits, and the order is of at least one share. The participants
+/// that the order names stand in a tenth field of the plan's record, as in an order's eighth.
 ///
 /// What is read can be written by `write_plan` on the same roster. It need not be lawful: `nms_rules` and
 /// `nms_cert` judge that. Any other text is `BadPlanText`;
@@ -32,6 +34,7 @@ pub fn read_plan(
         → IfOk result (λ made. plan_in roster.now records ≡ Some (said_by made.0 made.1.items)) }
     ensures parts { IfOk result (λ made. All (λ leg. leg.part < length roster.now.parts) made.0.legs.items) }
     ensures sym { IfOk result (λ made. made.0.order.sym < length roster.now.syms) }
+    ensures self_help { IfOk result (λ made. AreBelow (length roster.now.parts) made.0.order.self_help) }
     ensures refused { (records : List Record) → AreAllRecords (Some text.now) records
         → result ≡ Err PlanTextFault.BadPlanText → plan_in roster.now records ≡ None }
     ensures faults { result ≢ Err PlanTextFault.WriteFault }
@@ -51,6 +54,7 @@ fn read_records<R: Read>(
         → IfOk result (λ made. plan_in roster.now left ≡ Some (said_by made.0 made.1.items)) }
     ensures parts { IfOk result (λ made. All (λ leg. leg.part < length roster.now.parts) made.0.legs.items) }
     ensures sym { IfOk result (λ made. made.0.order.sym < length roster.now.syms) }
+    ensures self_help { IfOk result (λ made. AreBelow (length roster.now.parts) made.0.order.self_help) }
     ensures refused { (left : List Record) → AreLeft R.remaining reader.old left
         → result ≡ Err PlanTextFault.BadPlanText → plan_in roster.now left ≡ None }
     ensures faults { result ≢ Err PlanTextFault.WriteFault }
@@ -77,6 +81,7 @@ fn read_head<R: Read>(
     ensures read { (left : List Record) → AreLeft R.remaining reader.old left
         → IfOk result (λ head. (fields : Record) × (more : List Record) × (left ≡ fields ∷ more) × (head_in roster.now fields ≡ Some head) × AreLeft R.remaining reader.new more) }
     ensures there { IfOk result (λ head. head.order.sym < length roster.now.syms) }
+    ensures named { IfOk result (λ head. AreBelow (length roster.now.parts) head.order.self_help) }
     ensures refused { (left : List Record) → AreLeft R.remaining reader.old left
         → result ≡ Err PlanTextFault.BadPlanText → plan_in roster.now left ≡ None }
     ensures faults { result ≢ Err PlanTextFault.WriteFault }

@@ -2,12 +2,14 @@
 ghost use Rattle.std.specs.Prelude.{◌≡◌, ◌<◌, IfSome, codes, length};
 ghost use Rattle.csv.specs.Records.{fields_of};
 ghost use Rattle.nms_lines.specs.Layout.{is_text};
+ghost use Rattle.nms_lines.specs.Named.{AreBelow};
 ghost use Rattle.nms_lines.specs.Numbers.{shares_number};
-ghost use Rattle.nms_lines.specs.PlanReading.{cut_in, flag_named, head_by_order, is_record, kind_in, leg_in, order_in, without_value};
+ghost use Rattle.nms_lines.specs.PlanReading.{cut_in, head_by_order, is_plan, is_record, kind_in, leg_in, order_in, without_value};
 ghost use Rattle.nms_units.specs.Money.{money_number};
 
 use crate::field::field;
-use crate::letter::side_of;
+use crate::letter::{flag_named, side_of};
+use crate::named::named_at;
 use crate::number::{price_of, some_shares_of};
 use csv::ByteRecord;
 use nms_quote::{Cut, CutKind, Leg, Order, Roster};
@@ -35,8 +37,9 @@ impl Model for PlanHead {
 pub(crate) fn head_in(row: &ByteRecord, roster: &Roster) -> Option<PlanHead>
     ensures head { result ≡ head_by_order roster.now (fields_of row.now) }
     ensures there { IfSome result (λ head. head.order.sym < length roster.now.syms) }
+    ensures named { IfSome result (λ head. AreBelow (length roster.now.parts) head.order.self_help) }
 {
-    if !is_record(row, b"PLAN", 9) {
+    if !is_plan(row) {
         return None;
     }
     let version = parse_digits(field(row, 1), 8)?;
@@ -55,13 +58,15 @@ pub(crate) fn head_in(row: &ByteRecord, roster: &Roster) -> Option<PlanHead>
 fn order_in(row: &ByteRecord, roster: &Roster) -> Option<Order>
     ensures order { result ≡ order_in roster.now (fields_of row.now) }
     ensures there { IfSome result (λ order. order.sym < length roster.now.syms) }
+    ensures named { IfSome result (λ order. AreBelow (length roster.now.parts) order.self_help) }
 {
     let side = side_of(field(row, 2))?;
     let sym = roster.find_sym(field(row, 3))?;
     let shares = some_shares_of(field(row, 4))?;
     let limit = price_of(field(row, 5))?;
     let manual = flag_named(field(row, 6))?;
-    Order::new(side, sym, shares, limit, manual)
+    let self_help = named_at(row, 9, roster)?;
+    Order::new(side, sym, shares, limit, manual, self_help)
 }
 
 /// The leg that the row is, where it is one.
@@ -92,6 +97,13 @@ pub(crate) fn cut_in(row: &ByteRecord) -> Option<Cut>
     let price = price_of(field(row, 1))?;
     let kind = kind_in(field(row, 2), field(row, 3))?;
     Some(Cut { price, kind })
+}
+
+/// Whether the row is the record of a plan, with a field of participants named or without one.
+fn is_plan(row: &ByteRecord) -> bool
+    ensures { result ≡ is_plan (fields_of row.now) }
+{
+    is_record(row, b"PLAN", 9) || is_record(row, b"PLAN", 10)
 }
 
 /// Whether the row is the end.
@@ -137,17 +149,6 @@ fn without_value(value: &[u8], kind: CutKind) -> Option<CutKind>
 {
     match value {
         b"" => Some(kind),
-        _ => None,
-    }
-}
-
-/// Whether manual quotations may be traded with, where the flag is `M` or empty.
-fn flag_named(text: &[u8]) -> Option<bool>
-    ensures { result ≡ flag_named text.now }
-{
-    match text {
-        b"M" => Some(true),
-        b"" => Some(false),
         _ => None,
     }
 }

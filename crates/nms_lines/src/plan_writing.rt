@@ -5,6 +5,7 @@ ghost use Rattle.std.specs.Io.KnownBytes.{Appends};
 ghost use Rattle.std.specs.List.{join_with_byte};
 ghost use Rattle.nms_units.specs.Money.{money_text};
 ghost use Rattle.nms_quote.specs.Roster.{part_text, symbol_text};
+ghost use Rattle.nms_lines.specs.Named.{AreBelow, named_fields, names_text};
 ghost use Rattle.nms_lines.specs.PlanText.{cut_record, end_record, flag_text, kind_fields, leg_record, order_fields, plan_record, plan_text, side_letter};
 ghost use Rattle.nms_lines.specs.Text.{later_fields, text_of};
 ghost use Rattle.nms_lines.specs.Written.{AppendsPart};
@@ -12,8 +13,9 @@ ghost use Rattle.nms_lines.specs.Written.{AppendsPart};
 use crate::field_writing::{end_record, push_money, push_number, push_price, push_text};
 use crate::plan_text_fault::PlanTextFault;
 use crate::text_writing::write_text;
-use nms_quote::{Certificate, Cut, CutKind, Leg, Order, OrderSide, Part, Plan, Roster, Sym};
-use nms_units::Money;
+use nms_quote::{
+    Certificate, Cut, CutKind, Leg, Order, OrderSide, Part, PartSet, Plan, Roster, Sym,
+};
 use std::alloc::{AllocError, Global};
 use std::io::Write;
 
@@ -31,6 +33,7 @@ pub fn write_plan<W: Write>(
 ) -> Result<(), PlanTextFault>
     requires parts { All (λ leg. leg.part < length roster.now.parts) plan.now.legs.items }
     requires sym { plan.now.order.sym < length roster.now.syms }
+    requires self_help { AreBelow (length roster.now.parts) plan.now.order.self_help }
     ensures written { OnOk result (Appends (W.contents out.old) (W.contents out.new) (plan_text roster.now plan.now certificate.now.items)) }
     ensures unwritten { result ≡ Err PlanTextFault.NoMemory → W.contents out.new ≡ W.contents out.old }
     ensures cut { result ≡ Err PlanTextFault.WriteFault → AppendsPart (W.contents out.old) (W.contents out.new) (plan_text roster.now plan.now certificate.now.items) }
@@ -81,7 +84,9 @@ fn append_head(out: &mut Vec<u8>, roster: &Roster, plan: &Plan) -> Result<(), Al
 {
     begin_plan(out, plan.version)?;
     push_order(out, roster, &plan.order)?;
-    push_sums(out, plan.filled, plan.cost)
+    push_sums(out, plan)?;
+    push_named(out, roster, &plan.order)?;
+    end_record(out)
 }
 
 /// Appends the first fields of a plan.
@@ -92,13 +97,39 @@ fn begin_plan(out: &mut Vec<u8>, version: u64) -> Result<(), AllocError>
     push_number(out, version)
 }
 
-/// Appends what a plan fills and what that costs, and ends the record.
-fn push_sums(out: &mut Vec<u8>, filled: u32, cost: Money) -> Result<(), AllocError>
-    ensures { OnOk result (out.new.items ≡ out.old.items ++ (later_fields (decimal filled ∷ money_text cost ∷ []) ++ 10 ∷ [])) }
+/// Appends what a plan fills and what that costs.
+fn push_sums(out: &mut Vec<u8>, plan: &Plan) -> Result<(), AllocError>
+    ensures { OnOk result (out.new.items ≡ out.old.items ++ later_fields (decimal plan.now.filled ∷ money_text plan.now.cost ∷ [])) }
 {
-    push_number(out, u64::from(filled))?;
-    push_money(out, cost)?;
-    end_record(out)
+    push_number(out, u64::from(plan.filled))?;
+    push_money(out, plan.cost)
+}
+
+/// Appends the participants that an order names, in a field of their own where there are any.
+fn push_named(out: &mut Vec<u8>, roster: &Roster, order: &Order) -> Result<(), AllocError>
+    ensures { OnOk result (out.new.items ≡ out.old.items ++ later_fields (named_fields roster.now order.now.self_help)) }
+{
+    if order.self_help.is_empty() {
+        return Ok(());
+    }
+    out.push(b',')?;
+    push_names(out, roster, order.self_help)
+}
+
+/// Appends the names of a set's participants by place, with a `+` between two.
+fn push_names(out: &mut Vec<u8>, roster: &Roster, set: PartSet) -> Result<(), AllocError>
+    ensures { OnOk result (out.new.items ≡ out.old.items ++ names_text roster.now set) }
+{
+    let mut between: &[u8] = b"";
+    for place in 0..roster.parts() {
+        let part = Part::new(place as u8).unwrap();
+        if set.has(part) {
+            out.extend_from_slice(between)?;
+            out.extend_from_slice(name_of_part(roster, part).as_bytes())?;
+            between = b"+";
+        }
+    }
+    Ok(())
 }
 
 /// Appends the fields of an order.

@@ -1,13 +1,38 @@
-//! Why no record was read.
+//! Why no record was read: the part that the faults of all files share.
+ghost use Rattle.std.specs.Prelude.{◌≡◌};
+ghost use Rattle.nms_lines.specs.RecordFaults.{code_of, status_of};
+
 use thiserror::Error;
 
-/// Why no record was read. The reader gives none from then on.
+/// Why a file or a stream was not read. Its reader gives nothing from then on.
 #[derive(Clone, Copy, Debug, PartialEq, Eq, Error)]
 pub enum RecordFault {
-    /// The source could not be read.
-    #[error("a read failed")]
+    /// E1: the source could not be read.
+    #[error("E1: the input could not be read")]
     Failed,
-    /// Memory ran out.
-    #[error("out of memory")]
+    /// E4: out of memory.
+    #[error("E4: out of memory")]
     NoMemory,
+}
+
+impl RecordFault {
+    /// The code of the fault, `E1` or `E4`.
+    pub fn code(self) -> &'static str
+        ensures { result.now ≡ code_of self }
+    {
+        match self {
+            RecordFault::Failed => "E1",
+            RecordFault::NoMemory => "E4",
+        }
+    }
+
+    /// The exit status of a program that it ends: 1 for the source, 5 for memory.
+    pub fn status(self) -> u8
+        ensures { result ≡ status_of self }
+    {
+        match self {
+            RecordFault::Failed => 1,
+            RecordFault::NoMemory => 5,
+        }
+    }
 }

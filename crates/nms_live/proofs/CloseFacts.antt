@@ -25,27 +25,35 @@ pub record AreSettled (published : Batches) (tape : Tape) (known : List Tape) : 
   pub published_them : AllByRecursion (λ earlier. Contains (publications published) (length earlier)) known
 
 best_at : (settings : Settings) (published : Batches) (listed : List ℕ) (tape earlier : Tape) (answer : Answer) → AreListed published listed
-    → IsPrefix earlier tape → Contains (publications published) (length earlier) → IsBestOn settings earlier answer → IsSound settings tape listed answer × (answer.plan.version ≤ length tape)
+    → IsPrefix earlier tape → Contains (publications published) (length earlier) → IsBestOn settings earlier answer
+    → IsSound settings tape listed answer × (answer.plan.version ≤ length tape)
 best_at settings published listed tape earlier answer listed_all begins among best =
     let is : answer.plan.version ≡ length earlier = best.accepted.faultless.version in
     let whole : version answer.plan.version tape ≡ earlier = ap (λ (n : ℕ). version n tape) is ∙ prefix_take earlier tape begins in
     let P : Tape → Type 0 = λ t. IsBestOn settings t answer in
-    let Q : ℕ → Type 0 = λ n. (n ≡ 0) ⊎ Contains listed n in
-    (record { published_it = subst Q (sym is) ((listed_all (length earlier)).0 among); best = subst P (sym whole) best }, omega (arith, is, prefix_length earlier tape begins))
+    let Q : ℕ → Type 0 = λ n. (n ≡ 0) ⊎ Contains listed n in (
+      record { published_it = subst Q (sym is) ((listed_all (length earlier)).0 among); best = subst P (sym whole) best },
+      omega (arith, is, prefix_length earlier tape begins),
+    )
 
-sound_one : (settings : Settings) (published : Batches) (listed : List ℕ) (tape : Tape) (known : List Tape) (answer : Answer) → AreListed published listed
-    → AllBegin tape known → AllByRecursion (λ earlier. Contains (publications published) (length earlier)) known → SomeOf (λ t. IsBestOn settings t answer) known
+sound_one : (settings : Settings) (published : Batches) (listed : List ℕ) (tape : Tape) (known : List Tape) (answer : Answer)
+    → AreListed published listed
+    → AllBegin tape known → AllByRecursion (λ earlier. Contains (publications published) (length earlier)) known
+    → SomeOf (λ t. IsBestOn settings t answer) known
     → IsSound settings tape listed answer × (answer.plan.version ≤ length tape)
 sound_one settings published listed tape [] answer listed_all begins among some = absurd some
-sound_one settings published listed tape (earlier ∷ known) answer listed_all begins among (inl best) = best_at settings published listed tape earlier answer listed_all begins.0 among.0 best
-sound_one settings published listed tape (earlier ∷ known) answer listed_all begins among (inr some) = sound_one settings published listed tape known answer listed_all begins.1 among.1 some
+sound_one settings published listed tape (earlier ∷ known) answer listed_all begins among (inl best) =
+    best_at settings published listed tape earlier answer listed_all begins.0 among.0 best
+sound_one settings published listed tape (earlier ∷ known) answer listed_all begins among (inr some) =
+    sound_one settings published listed tape known answer listed_all begins.1 among.1 some
 
 -- answers on versions that a settled desk knew
 record AreSound (settings : Settings) (listed : List ℕ) (tape : Tape) (answers : List Answer) : Type 0 where
   sound : AllByRecursion (IsSound settings tape listed) answers
   within : AllByRecursion (λ n. n ≤ length tape) (versions answers)
 
-sound_all : (settings : Settings) (published : Batches) (listed : List ℕ) (tape : Tape) (known : List Tape) (answers : List Answer) → AreListed published listed → AreSettled published tape known
+sound_all : (settings : Settings) (published : Batches) (listed : List ℕ) (tape : Tape) (known : List Tape) (answers : List Answer)
+    → AreListed published listed → AreSettled published tape known
     → AllByRecursion (λ answer. SomeOf (λ t. IsBestOn settings t answer) known) answers → AreSound settings listed tape answers
 sound_all settings published listed tape known [] listed_all settled best = record { sound = tt; within = tt }
 sound_all settings published listed tape known (answer ∷ answers) listed_all settled best =
@@ -57,18 +65,23 @@ some_later : {X : Type 0} (P : X → Type 0) (xs ys : List X) → SomeOf P ys �
 some_later P [] ys some = some
 some_later P (x ∷ xs) ys some = inr (some_later P xs ys some)
 
-rising_append : (xs ys : List ℕ) (m : ℕ) → IsRising xs → IsRising ys → AllByRecursion (λ n. n ≤ m) xs → AllByRecursion (λ n. m ≤ n) ys → IsRising (xs ++ ys)
+rising_append : (xs ys : List ℕ) (m : ℕ) → IsRising xs → IsRising ys → AllByRecursion (λ n. n ≤ m) xs → AllByRecursion (λ n. m ≤ n) ys
+    → IsRising (xs ++ ys)
 rising_append [] ys m one other low high = other
 rising_append (x ∷ xs) ys m one other low high =
-    let le = low.0 in
-    (all_append (λ n. x ≤ n) xs ys one.0 (all_weaker (λ n. m ≤ n) (λ n. x ≤ n) ys (λ n h. omega (arith, h, le)) high), rising_append xs ys m one.1 other low.1 high)
+    let le = low.0 in (
+      all_append (λ n. x ≤ n) xs ys one.0 (all_weaker (λ n. m ≤ n) (λ n. x ≤ n) ys (λ n h. omega (arith, h, le)) high),
+      rising_append xs ys m one.1 other low.1 high,
+    )
 
-all_equal : (answers : List Answer) (m : ℕ) → AllByRecursion (λ n. n ≤ m) (versions answers) → AllByRecursion (λ n. m ≤ n) (versions answers) → AllByRecursion (λ answer. answer.plan.version ≡ m) answers
+all_equal : (answers : List Answer) (m : ℕ) → AllByRecursion (λ n. n ≤ m) (versions answers)
+    → AllByRecursion (λ n. m ≤ n) (versions answers) → AllByRecursion (λ answer. answer.plan.version ≡ m) answers
 all_equal [] m low high = tt
 all_equal (answer ∷ answers) m low high = (omega (arith, low.0, high.0), all_equal answers m low.1 high.1)
 
 -- a desk that learnt of the whole tape, answered its orders again, and settled
-pub closed : (settings : Settings) (desk : ℕ) (orders : List DeskOrder) (published : Batches) (listed : List ℕ) (tape : Tape) (before after more : List Tape) (row : DeskRow)
+pub closed : (settings : Settings) (desk : ℕ) (orders : List DeskOrder) (published : Batches) (listed : List ℕ) (tape : Tape)
+    (before after more : List Tape) (row : DeskRow)
     → AreListed published listed → AreSettled published tape after → after ≡ more ++ tape ∷ before
     → IsWorked settings desk orders before row.answers.items → IsWorked settings desk orders after row.closing.items
     → AllByRecursion (λ n. longest_of (tape ∷ before) ≤ n) (versions row.closing.items)
@@ -77,7 +90,8 @@ closed settings desk orders published listed tape before after more row listed_a
     let answers = row.answers.items in
     let closing = row.closing.items in
     let known : AllByRecursion (λ answer. SomeOf (λ t. IsBestOn settings t answer) after) answers =
-    all_weaker (λ (a : Answer). SomeOf (λ t. IsBestOn settings t a) before) (λ (a : Answer). SomeOf (λ t. IsBestOn settings t a) after) answers
+    all_weaker (λ (a : Answer). SomeOf (λ t. IsBestOn settings t a) before) (λ (a : Answer). SomeOf (λ t. IsBestOn settings t a) after)
+    answers
     (λ a some. rw is (some_later (λ t. IsBestOn settings t a) more (tape ∷ before) (inr some))) worked.best in
     let one = sound_all settings published listed tape after answers listed_all settled known in
     let two = sound_all settings published listed tape after closing listed_all settled again.best in
@@ -88,6 +102,7 @@ closed settings desk orders published listed tape before after more row listed_a
       closing_matched = again.matched;
       sound = one.sound;
       closing_sound = two.sound;
-      rising = rw (map-append (λ (a : Answer). a.plan.version) answers closing) (rising_append (versions answers) (versions closing) (length tape) worked.rising again.rising one.within top);
+      rising = rw (map-append (λ (a : Answer). a.plan.version) answers closing)
+          (rising_append (versions answers) (versions closing) (length tape) worked.rising again.rising one.within top);
       last = all_equal closing (length tape) two.within top;
     }

@@ -1,5 +1,6 @@
 -- How a desk's work comes from one order to the next.
-use Rattle.std.proofs.Common.{ℕ, ◌≡◌, ◌==◌, ◌≤◌, ◌++◌, Bool, true, false, List, [], ◌∷◌, length, refl, ap, ◌∙◌, inl, inr, arith, if◌then◌else◌}
+use Rattle.std.proofs.Common.{ℕ, ◌≡◌, ◌==◌, ◌≤◌, ◌++◌, Bool, true, false, List, [], ◌∷◌, length, refl, ap, ◌∙◌, inl, inr, arith}
+use Rattle.std.proofs.Common.{if◌then◌else◌}
 use Rattle.std.specs.List.{AllByRecursion, AllZip}
 use Rattle.std.proofs.lemmas.List.{append-nil}
 use Rattle.std.proofs.lemmas.List.Elements.{filter-append}
@@ -15,7 +16,8 @@ use Rattle.nms_quote.specs.declared.desk_order.DeskOrder.{DeskOrder}
 use Rattle.nms_live.proofs.NumberFacts.{all_push, all_weaker, below_all, rising_push}
 
 -- a desk's work so far: what it knew first is still known, and its answers are on versions that it knows
-pub record IsSoFar (settings : Settings) (desk : ℕ) (orders : List (ℕ × DeskOrder)) (first known : List Tape) (answers : List Answer) : Type 0 where
+pub record IsSoFar (settings : Settings) (desk : ℕ) (orders : List (ℕ × DeskOrder)) (first known : List Tape) (answers : List Answer) : Type
+    0 where
   pub knows : (more : List Tape) × (known ≡ more ++ first)
   pub matched : AllZip IsFor (own desk orders) answers
   pub best : AllByRecursion (λ answer. SomeOf (λ tape. IsBestOn settings tape answer) known) answers
@@ -35,26 +37,31 @@ pub longest_append : (more first : List Tape) → longest_of first ≤ longest_o
 longest_append [] first = omega arith
 longest_append (tape ∷ more) first = omega (arith, longest_append more first)
 
-pub zip_push : {A B : Type 0} (R : A → B → Type 0) (xs : List A) (ys : List B) (x : A) (y : B) → AllZip R xs ys → R x y → AllZip R (xs ++ x ∷ []) (ys ++ y ∷ [])
+pub zip_push : {A B : Type 0} (R : A → B → Type 0) (xs : List A) (ys : List B) (x : A) (y : B) → AllZip R xs ys → R x y
+    → AllZip R (xs ++ x ∷ []) (ys ++ y ∷ [])
 zip_push R [] [] x y all here = (here, tt)
 zip_push R [] (b ∷ ys) x y all here = absurd all
 zip_push R (a ∷ xs) [] x y all here = absurd all
 zip_push R (a ∷ xs) (b ∷ ys) x y all here = (all.0, zip_push R xs ys x y all.1 here)
 
-pub own_mine : (desk : ℕ) (orders : List (ℕ × DeskOrder)) (order : ℕ × DeskOrder) → (order.1.desk == desk) ≡ true → own desk (orders ++ order ∷ []) ≡ own desk orders ++ order ∷ []
+pub own_mine : (desk : ℕ) (orders : List (ℕ × DeskOrder)) (order : ℕ × DeskOrder) → (order.1.desk == desk) ≡ true
+    → own desk (orders ++ order ∷ []) ≡ own desk orders ++ order ∷ []
 own_mine desk orders order is =
     filter-append (λ (o : ℕ × DeskOrder). o.1.desk == desk) orders (order ∷ [])
     ∙ ap (λ (b : Bool). own desk orders ++ (if b then order ∷ [] else [])) is
 
-pub own_other : (desk : ℕ) (orders : List (ℕ × DeskOrder)) (order : ℕ × DeskOrder) → (order.1.desk == desk) ≡ false → own desk (orders ++ order ∷ []) ≡ own desk orders
+pub own_other : (desk : ℕ) (orders : List (ℕ × DeskOrder)) (order : ℕ × DeskOrder) → (order.1.desk == desk) ≡ false
+    → own desk (orders ++ order ∷ []) ≡ own desk orders
 own_other desk orders order is =
     filter-append (λ (o : ℕ × DeskOrder). o.1.desk == desk) orders (order ∷ [])
     ∙ ap (λ (b : Bool). own desk orders ++ (if b then order ∷ [] else [])) is
     ∙ append-nil (own desk orders)
 
 -- an order of another desk
-pub so_far_other : (settings : Settings) (desk : ℕ) (orders : List (ℕ × DeskOrder)) (order : ℕ × DeskOrder) (first known : List Tape) (answers : List Answer)
-    → (order.1.desk == desk) ≡ false → IsSoFar settings desk orders first known answers → IsSoFar settings desk (orders ++ order ∷ []) first known answers
+pub so_far_other : (settings : Settings) (desk : ℕ) (orders : List (ℕ × DeskOrder)) (order : ℕ × DeskOrder) (first known : List Tape)
+    (answers : List Answer)
+    → (order.1.desk == desk) ≡ false → IsSoFar settings desk orders first known answers
+    → IsSoFar settings desk (orders ++ order ∷ []) first known answers
 so_far_other settings desk orders order first known answers other had = record {
   knows = had.knows;
   matched = rw (own_other desk orders order other) had.matched;
@@ -65,23 +72,28 @@ so_far_other settings desk orders order first known answers other had = record {
 }
 
 -- an order of its own, answered on a version that begins with all that it knows
-pub so_far_mine : (settings : Settings) (desk : ℕ) (orders : List (ℕ × DeskOrder)) (order : ℕ × DeskOrder) (first known new : List Tape) (answers : List Answer) (answer : Answer) (tape : Tape)
-    → (order.1.desk == desk) ≡ true → IsFor order answer → new ≡ tape ∷ known → AllBegin tape known → answer.plan.version ≡ length tape → IsBestOn settings tape answer
+pub so_far_mine : (settings : Settings) (desk : ℕ) (orders : List (ℕ × DeskOrder)) (order : ℕ × DeskOrder) (first known new : List Tape)
+    (answers : List Answer) (answer : Answer) (tape : Tape)
+    → (order.1.desk == desk) ≡ true → IsFor order answer → new ≡ tape ∷ known → AllBegin tape known → answer.plan.version ≡ length tape
+    → IsBestOn settings tape answer
     → IsSoFar settings desk orders first known answers → IsSoFar settings desk (orders ++ order ∷ []) first new (answers ++ answer ∷ [])
 so_far_mine settings desk orders order first known new answers answer tape mine for is begins version best had =
     let le : longest_of known ≤ length tape = longest_begins tape known begins in
     let low : longest_of first ≤ longest_of known = rw had.knows.1 (longest_append had.knows.0 first) in
     let top : length tape ≤ longest_of (tape ∷ known) = omega arith in
-    let all : versions (answers ++ answer ∷ []) ≡ versions answers ++ length tape ∷ [] = map-append (λ (a : Answer). a.plan.version) answers (answer ∷ []) ∙ ap (λ (n : ℕ). versions answers ++ n ∷ []) version in
+    let all : versions (answers ++ answer ∷ []) ≡ versions answers ++ length tape ∷ [] =
+    map-append (λ (a : Answer). a.plan.version) answers (answer ∷ []) ∙ ap (λ (n : ℕ). versions answers ++ n ∷ []) version in
     let below = below_all (versions answers) (longest_of known) (length tape) le had.within in
     rw is (record {
       knows = (tape ∷ had.knows.0, ap (λ (k : List Tape). tape ∷ k) had.knows.1);
       matched = rw (own_mine desk orders order mine) (zip_push IsFor (own desk orders) answers order answer had.matched for);
       best = all_push (λ (a : Answer). SomeOf (λ t. IsBestOn settings t a) (tape ∷ known)) answers answer
-          (all_weaker (λ (a : Answer). SomeOf (λ t. IsBestOn settings t a) known) (λ (a : Answer). SomeOf (λ t. IsBestOn settings t a) (tape ∷ known)) answers (λ a some. inr some) had.best)
+          (all_weaker (λ (a : Answer). SomeOf (λ t. IsBestOn settings t a) known)
+          (λ (a : Answer). SomeOf (λ t. IsBestOn settings t a) (tape ∷ known)) answers (λ a some. inr some) had.best)
           (inl best);
       rising = rw all (rising_push (versions answers) (length tape) had.rising below);
-      within = rw all (all_push (λ n. n ≤ longest_of (tape ∷ known)) (versions answers) (length tape) (below_all (versions answers) (length tape) (longest_of (tape ∷ known)) top below) top);
+      within = rw all (all_push (λ n. n ≤ longest_of (tape ∷ known)) (versions answers) (length tape)
+          (below_all (versions answers) (length tape) (longest_of (tape ∷ known)) top below) top);
       later = rw all (all_push (λ n. longest_of first ≤ n) (versions answers) (length tape) had.later (omega (arith, low, le)));
     })
 

@@ -12,7 +12,8 @@ use Rattle.nms_live.specs.Reading.{Says, feed_reading}
 
 -- one record more, that says a change
 pub says_more : (roster : Listing) (feed : Feed) (records : List Record) (fields : Record) (changes new : List Change) (change : Change)
-    → feed_reading roster feed fields ≡ Ok (line.Change change) → new ≡ changes ++ change ∷ [] → Says roster feed records changes → Says roster feed (records ++ fields ∷ []) new
+    → feed_reading roster feed fields ≡ Ok (line.Change change) → new ≡ changes ++ change ∷ [] → Says roster feed records changes
+    → Says roster feed (records ++ fields ∷ []) new
 says_more roster feed records fields changes new change says is had = rw is (
     map-append (feed_reading roster feed) records (fields ∷ [])
     ∙ both had (ap (λ (r : Result Line LineFault). r ∷ []) says)

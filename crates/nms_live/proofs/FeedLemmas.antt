@@ -28,7 +28,9 @@ marked_own roster [] own = tt
 marked_own roster (m ∷ ms) own = (subst (λ (o : Option Feed). o ≡ Some (unwrap_or o feed.A)) (sym own.0) refl, marked_own roster ms own.1)
 
 -- each change of the tape is sent on the feed that it belongs to
-pub own_feeds : (roster : Listing) (texts : List (List ℕ)) (tape : Tape) → IsTapeOf roster texts tape → All (IsOnOwnFeed roster) (map (marked_by roster) tape)
+pub own_feeds : (roster : Listing) (texts : List (List ℕ)) (tape : Tape) → IsTapeOf roster texts tape
+    → All (IsOnOwnFeed roster) (map (marked_by roster) tape)
 own_feeds roster texts tape of =
     let own = all_own roster of.marked (λ f. (of.gave f).reads.own) in
-    rw of.tape_is (All-from_recursion (IsOnOwnFeed roster) (map (marked_by roster) (changes_in of.marked)) (marked_own roster of.marked own))
+    rw of.tape_is (All-from_recursion (IsOnOwnFeed roster) (map (marked_by roster) (changes_in of.marked))
+    (marked_own roster of.marked own))

@@ -11,7 +11,8 @@ use Rattle.nms_live.specs.declared.live_fault.LiveFault.{LiveFault}
 use Rattle.nms_live.proofs.NumberFacts.{all_push, below_all, rising_push}
 
 -- while nothing is published all is kept, whatever it stops for
-pub kept_with : (old new : Taped) (listed : List ℕ) (stop other : Option LiveFault) → new.published ≡ old.published → IsNoLineIfAny other → IsKept old listed stop → IsKept new listed other
+pub kept_with : (old new : Taped) (listed : List ℕ) (stop other : Option LiveFault) → new.published ≡ old.published → IsNoLineIfAny other
+    → IsKept old listed stop → IsKept new listed other
 kept_with old new listed stop other same fine had = record {
   published = subst (λ (b : Batches). AreListed b listed) (sym same) had.published;
   rising = had.rising;
@@ -20,7 +21,8 @@ kept_with old new listed stop other same fine had = record {
 }
 
 -- a length more was published and listed
-listed_more : (old new : Batches) (listed : List ℕ) (n : ℕ) → ((m : ℕ) → Contains (publications new) m ↔ Contains (publications old) m ⊎ (m ≡ n)) → AreListed old listed
+listed_more : (old new : Batches) (listed : List ℕ) (n : ℕ)
+    → ((m : ℕ) → Contains (publications new) m ↔ Contains (publications old) m ⊎ (m ≡ n)) → AreListed old listed
     → AreListed new (listed ++ n ∷ [])
 listed_more old new listed n these had = λ m. (
   λ among. elim ((these m).0 among) as (λ (h : Contains (publications old) m ⊎ (m ≡ n)). (m ≡ 0) ⊎ Contains (listed ++ n ∷ []) m) [
@@ -64,6 +66,7 @@ kept_more old new listed more stop these whole is had =
     rw is (record {
       published = listed_more old.published new.published listed n these had.published;
       rising = rising_push listed n had.rising below;
-      within = all_push (λ k. k ≤ length (changes new.published)) listed n (below_all listed n (length (changes new.published)) top below) top;
+      within = all_push (λ k. k ≤ length (changes new.published)) listed n (below_all listed n (length (changes new.published)) top below)
+          top;
       stopped = had.stopped;
     })

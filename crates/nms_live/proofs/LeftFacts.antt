@@ -1,5 +1,6 @@
 -- How the desks' answers come into the order of the orders.
-use Rattle.std.proofs.Common.{ℕ, ◌≡◌, ◌≢◌, ◌==◌, ◌<◌, ◌≤◌, ◌+◌, ◌++◌, Bool, true, false, List, [], ◌∷◌, length, drop, get_or, nat_lt, suc, refl, ap, sym, subst, ◌∙◌, arith, append_assoc, if◌then◌else◌}
+use Rattle.std.proofs.Common.{ℕ, ◌≡◌, ◌≢◌, ◌==◌, ◌<◌, ◌≤◌, ◌+◌, ◌++◌, Bool, true, false, List, [], ◌∷◌, length, drop, get_or, nat_lt, suc}
+use Rattle.std.proofs.Common.{refl, ap, sym, subst, ◌∙◌, arith, append_assoc, if◌then◌else◌}
 use Rattle.std.specs.Prelude.{slice_index_or, All}
 use Rattle.std.specs.List.{AllZip, enumerate_from}
 use Rattle.std.proofs.Math.Seq.{drop-cons}
@@ -17,10 +18,12 @@ pub some_of : {X : Type 0} (xs : List X) → 0 < length xs → X
 some_of [] some = absurd (omega (arith, some))
 some_of (x ∷ xs) some = x
 
-own_front : (desk : ℕ) (order : ℕ × DeskOrder) (rest : List (ℕ × DeskOrder)) → (order.1.desk == desk) ≡ true → own desk (order ∷ rest) ≡ order ∷ own desk rest
+own_front : (desk : ℕ) (order : ℕ × DeskOrder) (rest : List (ℕ × DeskOrder)) → (order.1.desk == desk) ≡ true
+    → own desk (order ∷ rest) ≡ order ∷ own desk rest
 own_front desk order rest is = ap (λ (b : Bool). if b then order ∷ own desk rest else own desk rest) is
 
-own_later : (desk : ℕ) (order : ℕ × DeskOrder) (rest : List (ℕ × DeskOrder)) → (order.1.desk == desk) ≡ false → own desk (order ∷ rest) ≡ own desk rest
+own_later : (desk : ℕ) (order : ℕ × DeskOrder) (rest : List (ℕ × DeskOrder)) → (order.1.desk == desk) ≡ false
+    → own desk (order ∷ rest) ≡ own desk rest
 own_later desk order rest is = ap (λ (b : Bool). if b then order ∷ own desk rest else own desk rest) is
 
 zip_some : {A B : Type 0} (R : A → B → Type 0) (x : A) (xs : List A) (ys : List B) → AllZip R (x ∷ xs) ys → 0 < length ys
@@ -45,16 +48,20 @@ pub record Turn : Type 0 where
 abbrev pub put_now : Turn → List Answer
 put_now turn = turn.put ++ turn.answer ∷ []
 
-put_mine : (desk : ℕ) (put more first : List Answer) (answer : Answer) → answer.desk ≡ desk → of_desk desk put ++ (answer ∷ more) ≡ first → of_desk desk (put ++ answer ∷ []) ++ more ≡ first
+put_mine : (desk : ℕ) (put more first : List Answer) (answer : Answer) → answer.desk ≡ desk → of_desk desk put ++ (answer ∷ more) ≡ first
+    → of_desk desk (put ++ answer ∷ []) ++ more ≡ first
 put_mine desk put more first answer mine is =
     let test : (answer.desk == desk) ≡ true = grind (arith, nat_tests, mine) in
     let one : of_desk desk (put ++ answer ∷ []) ≡ of_desk desk put ++ answer ∷ [] =
-    filter-append (λ (a : Answer). a.desk == desk) put (answer ∷ []) ∙ ap (λ (b : Bool). of_desk desk put ++ (if b then answer ∷ [] else [])) test in
+    filter-append (λ (a : Answer). a.desk == desk) put (answer ∷ [])
+    ∙ ap (λ (b : Bool). of_desk desk put ++ (if b then answer ∷ [] else [])) test in
     ap (λ (l : List Answer). l ++ more) one ∙ append_assoc (of_desk desk put) (answer ∷ []) more ∙ is
 
-put_other : (desk : ℕ) (put : List Answer) (answer : Answer) → (answer.desk == desk) ≡ false → of_desk desk (put ++ answer ∷ []) ≡ of_desk desk put
+put_other : (desk : ℕ) (put : List Answer) (answer : Answer) → (answer.desk == desk) ≡ false
+    → of_desk desk (put ++ answer ∷ []) ≡ of_desk desk put
 put_other desk put answer test =
-    filter-append (λ (a : Answer). a.desk == desk) put (answer ∷ []) ∙ ap (λ (b : Bool). of_desk desk put ++ (if b then answer ∷ [] else [])) test ∙ append-nil (of_desk desk put)
+    filter-append (λ (a : Answer). a.desk == desk) put (answer ∷ [])
+    ∙ ap (λ (b : Bool). of_desk desk put ++ (if b then answer ∷ [] else [])) test ∙ append-nil (of_desk desk put)
 
 -- the next of what is left of the order's own desk answers the order, and the others are left
 left_mine : (IsWanted : Answer → Type 0) (desk : ℕ) (turn : Turn) (first new : List Answer) → turn.order.1.desk ≡ desk
@@ -96,12 +103,15 @@ zip_none R [] all = refl
 zip_none R (y ∷ ys) all = absurd all
 
 -- where no order is left, all answers of the desk are put
-pub all_put : (IsWanted : Answer → Type 0) (desk : ℕ) (put first now : List Answer) → IsLeft IsWanted desk [] put first now → of_desk desk put ≡ first
+pub all_put : (IsWanted : Answer → Type 0) (desk : ℕ) (put first now : List Answer) → IsLeft IsWanted desk [] put first now
+    → of_desk desk put ≡ first
 all_put IsWanted desk put first now left =
-    sym (append-nil (of_desk desk put)) ∙ ap (λ (l : List Answer). of_desk desk put ++ l) (sym (zip_none IsFor now left.matched)) ∙ left.parted
+    sym (append-nil (of_desk desk put)) ∙ ap (λ (l : List Answer). of_desk desk put ++ l) (sym (zip_none IsFor now left.matched))
+    ∙ left.parted
 
 -- nobody answered for a desk that is not there
-none_of : (orders : List DeskOrder) (place desks desk : ℕ) (answers : List Answer) → All (λ order. order.desk < desks) orders → desks ≤ desk → AllZip IsFor (enumerate_from place orders) answers → of_desk desk answers ≡ []
+none_of : (orders : List DeskOrder) (place desks desk : ℕ) (answers : List Answer) → All (λ order. order.desk < desks) orders → desks ≤ desk
+    → AllZip IsFor (enumerate_from place orders) answers → of_desk desk answers ≡ []
 none_of [] place desks desk [] below le all = refl
 none_of [] place desks desk (answer ∷ answers) below le all = absurd all
 none_of (order ∷ orders) place desks desk [] below le all = absurd all
@@ -138,18 +148,22 @@ left_step part IsWanted turn first old new same below others one left =
     (here.0, here.1, λ k d k_below. cases k d k_below here.0.0 (turn.order.1.desk == k) refl)
   where
     mine : (d : DeskRow) → IsFor turn.order turn.answer × IsWanted turn.answer
-        × IsLeft IsWanted turn.order.1.desk turn.rest (put_now turn) (part (slice_index_or first turn.order.1.desk d)) (part (slice_index_or new turn.order.1.desk d))
+        × IsLeft IsWanted turn.order.1.desk turn.rest (put_now turn) (part (slice_index_or first turn.order.1.desk d))
+        (part (slice_index_or new turn.order.1.desk d))
     mine d =
         let desk = turn.order.1.desk in
         let P : List Answer → Type 0 = λ l. IsLeft IsWanted desk (turn.order ∷ turn.rest) turn.put (part (slice_index_or first desk d)) l in
-        left_mine IsWanted desk turn (part (slice_index_or first desk d)) (part (slice_index_or new desk d)) refl (subst P (one d) (left desk d below))
+        left_mine IsWanted desk turn (part (slice_index_or first desk d)) (part (slice_index_or new desk d)) refl
+        (subst P (one d) (left desk d below))
 
     cases : (k : ℕ) (d : DeskRow) → k < length new → turn.answer.desk ≡ turn.order.1.desk → (b : Bool) → (turn.order.1.desk == k) ≡ b
         → IsLeft IsWanted k turn.rest (put_now turn) (part (slice_index_or first k d)) (part (slice_index_or new k d))
     cases k d k_below of true is =
-        let P : ℕ → Type 0 = λ j. IsLeft IsWanted j turn.rest (put_now turn) (part (slice_index_or first j d)) (part (slice_index_or new j d)) in
+        let P : ℕ → Type 0 = λ j. IsLeft IsWanted j turn.rest (put_now turn) (part (slice_index_or first j d))
+        (part (slice_index_or new j d)) in
         subst P (grind (arith, nat_tests, is)) (mine d).2
     cases k d k_below of false is =
         let k_old : k < length old = omega (arith, k_below, same) in
         let apart : k ≢ turn.order.1.desk = grind (arith, nat_tests, is) in
-        rw (others k d k_old apart) (left_other IsWanted k turn (part (slice_index_or first k d)) (part (slice_index_or old k d)) is of (left k d k_old))
+        rw (others k d k_old apart) (left_other IsWanted k turn (part (slice_index_or first k d)) (part (slice_index_or old k d)) is of
+        (left k d k_old))

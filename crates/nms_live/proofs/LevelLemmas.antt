@@ -1,5 +1,6 @@
 -- Lists whose numbers never fall, level by level.
-use Rattle.std.proofs.Common.{ℕ, zero, suc, ◌≡◌, ◌+◌, ◌<◌, ◌≤◌, Bool, true, false, inl, inr, List, [], ◌∷◌, ◌++◌, map, Option, Some, refl, sym, ap, subst, ◌∙◌, arith}
+use Rattle.std.proofs.Common.{ℕ, zero, suc, ◌≡◌, ◌+◌, ◌<◌, ◌≤◌, Bool, true, false, inl, inr, List, [], ◌∷◌, ◌++◌, map, Option, Some, refl}
+use Rattle.std.proofs.Common.{sym, ap, subst, ◌∙◌, arith}
 use Rattle.std.specs.Prelude.{filter, nat_eq, nat_lt, unwrap_or}
 use Rattle.std.specs.List.{AllByRecursion, Contains, last_or}
 use Rattle.std.proofs.lemmas.Bool.{cases_lt, eq-eqb, le-ltb, lt-ltb, ne_eqb}
@@ -42,8 +43,10 @@ module _ {X : Type 0} (key : X → ℕ) where
           rw (le-ltb (key x) level (omega arith), le-ltb (key x) (level + 1) (omega arith), ne_eqb (key x) level (λ e. omega (arith, e)))
           (next_level level xs rising.1)
       | inr most ↦
-          let none : below key level xs ≡ [] = none_below level xs (all_weaker (λ n. key x ≤ n) (λ n. level ≤ n) (map key xs) (λ n h. omega (arith, h, least)) rising.0) in
-          let rest : on key level xs ≡ below key (level + 1) xs = ap (λ l. l ++ on key level xs) (sym none) ∙ next_level level xs rising.1 in
+          let none : below key level xs ≡ [] = none_below level xs (all_weaker (λ n. key x ≤ n) (λ n. level
+          ≤ n) (map key xs) (λ n h. omega (arith, h, least)) rising.0) in
+          let rest : on key level xs ≡ below key (level + 1) xs = ap (λ l. l ++ on key level xs) (sym none)
+          ∙ next_level level xs rising.1 in
           rw (le-ltb (key x) level least, lt-ltb (key x) (level + 1) (omega arith), eq-eqb (key x) level (omega arith))
           (ap (λ l. l ++ x ∷ on key level xs) none ∙ ap (λ l. x ∷ l) rest)
     ]
@@ -54,7 +57,8 @@ pub filter-swap : {X : Type 0} (p q : X → Bool) (xs : List X) → filter p (fi
 filter-swap p q [] = refl
 filter-swap {X = X} p q (x ∷ xs) = by_tests (p x) (q x) refl refl (filter-swap p q xs)
   where
-    by_tests : (b d : Bool) → p x ≡ b → q x ≡ d → filter p (filter q xs) ≡ filter q (filter p xs) → filter p (filter q (x ∷ xs)) ≡ filter q (filter p (x ∷ xs))
+    by_tests : (b d : Bool) → p x ≡ b → q x ≡ d → filter p (filter q xs) ≡ filter q (filter p xs)
+        → filter p (filter q (x ∷ xs)) ≡ filter q (filter p (x ∷ xs))
     by_tests true true by_p by_q rest = rw (by_p, by_q) (rw by_p (ap (λ l. x ∷ l) rest))
     by_tests true false by_p by_q rest = rw (by_p, by_q) rest
     by_tests false true by_p by_q rest = rw (by_p, by_q) (rw by_p rest)

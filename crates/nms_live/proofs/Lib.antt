@@ -3,6 +3,7 @@ pub mod CloseFacts
 pub mod CrewFacts
 pub mod DeskFacts
 pub mod FaultFacts
+pub mod FedFacts
 pub mod FeedFacts
 pub mod KeeperFacts
 pub mod LeftFacts

@@ -36,7 +36,8 @@ seen_in settings tape answer = view_of (sizes_of settings.roster) tape answer.pl
 -- on this version the plan is accepted with its certificate; so it is optimal
 pub record IsBestOn (settings : Settings) (tape : Tape) (answer : Answer) : Type 0 where
   pub accepted : IsAccepted (seen_in settings tape answer) answer.plan.order settings.fees answer.plan answer.certificate.items
-  pub optimal : IsOptimal (usable (seen_in settings tape answer) answer.plan.order settings.fees) answer.plan.order.shares (given_by answer.plan.legs.items)
+  pub optimal : IsOptimal (usable (seen_in settings tape answer) answer.plan.order settings.fees) answer.plan.order.shares
+      (given_by answer.plan.legs.items)
 
 -- the versions that answers were made on
 abbrev pub versions : List Answer → List ℕ
@@ -66,16 +67,18 @@ pub record IsSound (settings : Settings) (tape : Tape) (published : List ℕ) (a
   pub best : IsBestOn settings (version answer.plan.version tape) answer
 
 -- a desk's answers once it has settled: those of the run and the closing ones
-pub record IsClosed (settings : Settings) (desk : ℕ) (orders : List DeskOrder) (tape : Tape) (published : List ℕ) (row : DeskRow) : Type 0 where
-  pub matched : AllZip IsFor (own desk (numbered orders)) row.answers.items
-  pub closing_matched : AllZip IsFor (own desk (numbered orders)) row.closing.items
-  pub sound : AllByRecursion (IsSound settings tape published) row.answers.items
-  pub closing_sound : AllByRecursion (IsSound settings tape published) row.closing.items
-  pub rising : IsRising (versions (row.answers.items ++ row.closing.items))
-  pub last : AllByRecursion (λ answer. answer.plan.version ≡ length tape) row.closing.items
+pub record IsClosed (settings : Settings) (desk : ℕ) (orders : List DeskOrder) (tape : Tape) (published : List ℕ) (row : DeskRow) : Type 0
+  where
+    pub matched : AllZip IsFor (own desk (numbered orders)) row.answers.items
+    pub closing_matched : AllZip IsFor (own desk (numbered orders)) row.closing.items
+    pub sound : AllByRecursion (IsSound settings tape published) row.answers.items
+    pub closing_sound : AllByRecursion (IsSound settings tape published) row.closing.items
+    pub rising : IsRising (versions (row.answers.items ++ row.closing.items))
+    pub last : AllByRecursion (λ answer. answer.plan.version ≡ length tape) row.closing.items
 
 -- the answers of a run to all its orders, in order: one to each, and one on the whole tape
-pub record IsAnswered (settings : Settings) (orders : List DeskOrder) (tape : Tape) (published : List ℕ) (answers closing : List Answer) : Type 0 where
+pub record IsAnswered (settings : Settings) (orders : List DeskOrder) (tape : Tape) (published : List ℕ) (answers closing : List Answer) :
+    Type 0 where
   pub matched : AllZip IsFor (numbered orders) answers
   pub closing_matched : AllZip IsFor (numbered orders) closing
   pub sound : AllByRecursion (IsSound settings tape published) answers

@@ -1,17 +1,17 @@
 -- The workers of the feeds and of the desks as they start and as they come back, and what all came to. This product's
 -- own rule.
-use Rattle.std.specs.Prelude.{ℕ, ◌≡◌, ◌<◌, List, [], ◌∷◌, length, slice_index_or, Option, None}
+use Rattle.std.specs.Prelude.{ℕ, ◌≡◌, ◌<◌, List, [], length, map, slice_index_or, Option, None}
+use Rattle.std.specs.List.{AllByRecursion}
 use Rattle.std.specs.declared.thread.PromisedHandle.{PromisedHandle}
 use Rattle.nms_quote.specs.Roster.{Listing, sizes_of}
-use Rattle.nms_quote.specs.declared.feed.Feed.{Feed}
-use Rattle.nms_feed.specs.Lane.{Sending, Taking}
+use Rattle.nms_feed.specs.Lane.{AreSendersOf, Sending, Taking}
 use Rattle.nms_fees.specs.Settings.{Settings}
 use Rattle.nms_versions.specs.Taped.{Knowing, tape_of}
 use Rattle.nms_versions.specs.Pages.{Book}
 use Rattle.nms_live.specs.Answering.{IsDesked, IsWorked}
-use Rattle.nms_live.specs.Faults.{IsNoLineIfAny, first_fault}
+use Rattle.nms_live.specs.Faults.{IsNoLineIfAny, first_among}
 use Rattle.nms_live.specs.Keeping.{IsWhole, Keeping}
-use Rattle.nms_live.specs.Reading.{IsFed, IsTapeOf}
+use Rattle.nms_live.specs.Reading.{IsFed, IsTapeOf, text_of}
 use Rattle.nms_quote.specs.declared.desk_order.DeskOrder.{DeskOrder}
 use Rattle.nms_live.specs.declared.desk_work.DeskJob.{DeskJob}
 use Rattle.nms_live.specs.declared.desk_work.Desked.{Desked}
@@ -22,32 +22,46 @@ use Rattle.nms_live.specs.declared.live_fault.LiveFault.{LiveFault}
 
 -- the feeds' texts, in order of place
 abbrev pub texts_of : Given → List (List ℕ)
-texts_of given = given.a.text.items ∷ given.b.text.items ∷ []
+texts_of given = map (λ text. text.items) given.feeds.items
 
--- the feed's own end of the taker's lane, by which nothing was sent
-pub record IsFreshEnd (feed : Feed) (taker : Taking) (sender : Sending) : Type 0 where
-  pub lane_is : sender.lane ≡ taker.lane
-  pub feed_is : sender.feed ≡ feed
-  pub fresh : sender.sent ≡ []
+-- nothing was sent by it
+abbrev pub IsFresh : Sending → Type 0
+IsFresh sender = sender.sent ≡ []
+
+-- the ends of a lane that has a sender for each text, in order of place; nothing was sent, and nothing taken
+pub record AreFreshEnds (texts : List (List ℕ)) (taker : Taking) (senders : List Sending) : Type 0 where
+  pub of_lane : AreSendersOf taker senders
+  pub all : taker.senders ≡ length texts
+  pub fresh : AllByRecursion IsFresh senders
+  pub none_taken : taker.taken ≡ []
 
 -- a feed's worker gave back its end of the lane; it sent what its text says, or tells why it stopped
-pub record IsFedBy (roster : Listing) (feed : Feed) (text : List ℕ) (before : Sending) (back : Fed) : Type 0 where
+pub record IsFedBy (roster : Listing) (texts : List (List ℕ)) (before : Sending) (back : Fed) : Type 0 where
   pub lane_is : back.sender.lane ≡ before.lane
-  pub feed_is : back.sender.feed ≡ feed
-  pub fed : IsFed roster feed text back.sender.sent back.stop
+  pub feed_is : back.sender.feed ≡ before.feed
+  pub fed : IsFed roster before.feed (text_of before.feed texts) back.sender.sent back.stop
 
 -- what a feed's worker gives back keeps this promise
 abbrev pub KeepsFeedJob : FeedJob → Fed → Type 0
-KeepsFeedJob job back = IsFedBy job.setup.value.roster job.feed job.text.value.items job.sender.value back
+KeepsFeedJob job back = IsFedBy job.setup.value.roster (map (λ text. text.items) job.feeds.value.items) job.sender.value back
+
+-- what a started worker of a feed gave back keeps its promise
+abbrev pub HasKept : PromisedHandle Fed FeedJob → Fed → Type 0
+HasKept handle back = KeepsFeedJob handle.promise back
 
 -- whatever the worker of a feed gives back, it is so
-abbrev pub WillBeFed : Listing → Feed → List ℕ → Sending → PromisedHandle Fed FeedJob → Type 0
-WillBeFed roster feed text before handle = (back : Fed) → KeepsFeedJob handle.promise back → IsFedBy roster feed text before back
+abbrev pub WillBeFed : Listing → List (List ℕ) → Sending → PromisedHandle Fed FeedJob → Type 0
+WillBeFed roster texts before handle = (back : Fed) → HasKept handle back → IsFedBy roster texts before back
+
+-- the first of the faults that the feeds' workers stopped with
+abbrev pub first_stop : List Fed → Option LiveFault
+first_stop fed = first_among (λ back. back.stop) None fed
 
 -- each desk is of the opening and the roster
 abbrev pub AreReady : Settings → Book → List Knowing → Type 0
 AreReady settings opening desks =
-    (k : ℕ) (d : Knowing) → k < length desks → ((slice_index_or desks k d).opening ≡ opening) × ((slice_index_or desks k d).sizes ≡ sizes_of settings.roster)
+    (k : ℕ) (d : Knowing) → k < length desks → ((slice_index_or desks k d).opening ≡ opening)
+    × ((slice_index_or desks k d).sizes ≡ sizes_of settings.roster)
 
 -- what a desk's worker gives back keeps this promise
 abbrev pub KeepsJob : DeskJob → Desked → Type 0
@@ -60,7 +74,8 @@ WillBeDesked settings orders desk place handle = (back : Desked) → KeepsJob ha
 -- each desk's worker was started
 abbrev pub AreStarted : Settings → List DeskOrder → List Knowing → List (PromisedHandle Desked DeskJob) → Type 0
 AreStarted settings orders desks handles =
-    (k : ℕ) (d : Knowing) (h : PromisedHandle Desked DeskJob) → k < length handles → WillBeDesked settings orders (slice_index_or desks k d) k (slice_index_or handles k h)
+    (k : ℕ) (d : Knowing) (h : PromisedHandle Desked DeskJob) → k < length handles
+    → WillBeDesked settings orders (slice_index_or desks k d) k (slice_index_or handles k h)
 
 -- a worker's desk is of the opening and the roster, and unless it stopped early, its work is done
 pub record IsBack (settings : Settings) (orders : List DeskOrder) (opening : Book) (place : ℕ) (back : Desked) : Type 0 where
@@ -73,11 +88,6 @@ pub record IsBack (settings : Settings) (orders : List DeskOrder) (opening : Boo
 abbrev pub AreBack : Settings → List DeskOrder → Book → List Desked → Type 0
 AreBack settings orders opening desks =
     (k : ℕ) (d : Desked) → k < length desks → IsBack settings orders opening k (slice_index_or desks k d)
-
--- the first of a fault and those that the desks' workers stopped with
-abbrev pub first_among : Option LiveFault → List Desked → Option LiveFault
-first_among fault [] = fault
-first_among fault (desk ∷ desks) = first_among (first_fault fault desk.stop) desks
 
 -- all workers came back and none stopped: the tape is a merge of the feeds, all of it is published, and each desk
 -- answered its orders

@@ -1,8 +1,8 @@
 -- The codes of a live run's faults, the exit status of a program that one of them ends, and which of several is answered.
 -- This product's own rule.
-use Rattle.std.specs.Prelude.{ℕ, ⊤, List, codes, nat_lt, Option, Some, None, if◌then◌else◌}
+use Rattle.std.specs.Prelude.{ℕ, ⊤, ◌+◌, List, [], ◌∷◌, codes, nat_lt, Option, Some, None, if◌then◌else◌}
 use Rattle.nms_quote.specs.declared.feed.Feed.{Feed}
-use Rattle.nms_quote.specs.declared.feed.Feed.TheVariants as feed
+use Rattle.nms_quote.specs.Merge.{place_of}
 use Rattle.nms_lines.specs.declared.line_fault.LineFault.{LineFault}
 use Rattle.nms_live.specs.declared.live_fault.LiveFault.{LiveFault}
 use Rattle.nms_live.specs.declared.live_fault.LiveFault.TheVariants as fault
@@ -24,21 +24,25 @@ status_of fault.Desk = 7
 status_of fault.GateLimit = 7
 status_of fault.NoMemory = 5
 
--- of several faults the one of least rank is answered
+-- of several faults the one of least rank is answered; of the records that are refused, that of the first feed
 abbrev pub rank_of : LiveFault → ℕ
 rank_of fault.Open = 0
-rank_of (fault.Line feed.A number why) = 1
-rank_of (fault.Line feed.B number why) = 2
-rank_of fault.Append = 3
-rank_of fault.Desk = 4
-rank_of fault.GateLimit = 5
-rank_of fault.NoMemory = 6
+rank_of (fault.Line of number why) = 1 + place_of of
+rank_of fault.Append = 9
+rank_of fault.Desk = 10
+rank_of fault.GateLimit = 11
+rank_of fault.NoMemory = 12
 
 -- of two faults the one of the lower rank, of equal ranks the first; else the one that there is
 abbrev pub first_fault : Option LiveFault → Option LiveFault → Option LiveFault
 first_fault None other = other
 first_fault (Some one) None = Some one
 first_fault (Some one) (Some other) = if nat_lt (rank_of other) (rank_of one) then Some other else Some one
+
+-- the first of a fault and those that workers stopped with
+abbrev pub first_among : {Worker : Type 0} → (Worker → Option LiveFault) → Option LiveFault → List Worker → Option LiveFault
+first_among stop fault [] = fault
+first_among stop fault (worker ∷ workers) = first_among stop (first_fault fault (stop worker)) workers
 
 -- where it is the fault of a record, this holds of the feed, the record's number and its fault
 abbrev pub IfLine : (Feed → ℕ → LineFault → Type 0) → LiveFault → Type 0

@@ -62,5 +62,6 @@ pub record IsBestOfItsVersion (settings : Settings) (live : Live) (answer : Answ
 -- the closing ones are on the whole tape, of which their desk was told
 pub record AreBestOfTheirVersions (settings : Settings) (live : Live) : Type 0 where
   pub each : AllByRecursion (IsBestOfItsVersion settings live) (live.answers.items ++ live.closing.items)
-  pub no_older : (desk : ℕ) → AllPairs (λ earlier later. earlier ≤ later) (versions (of_desk desk (live.answers.items ++ live.closing.items)))
+  pub no_older : (desk : ℕ) → AllPairs (λ earlier later. earlier ≤ later)
+      (versions (of_desk desk (live.answers.items ++ live.closing.items)))
   pub told : AllByRecursion (λ answer. answer.plan.version ≡ length live.tape.items) live.closing.items

@@ -1,6 +1,6 @@
 -- What the records of a feed say, and the first of them that is refused. This product's own rule.
-use Rattle.std.specs.Prelude.{ℕ, ◌≡◌, ◌+◌, ◌++◌, ◌∷◌, List, [], length, map, slice_index_or, Option, Some, None, Result, Ok, Err}
-use Rattle.nms_quote.specs.Merge.{changes_of, of_feed, place_of}
+use Rattle.std.specs.Prelude.{ℕ, ◌≡◌, ◌+◌, ◌++◌, ◌∷◌, List, [], length, map, Option, Some, None, Result, Ok, Err}
+use Rattle.nms_quote.specs.Merge.{changes_of, of_feed, own_of}
 use Rattle.std.specs.List.{AllByRecursion}
 use Rattle.nms_quote.specs.Roster.{Listing, feed_of_change}
 use Rattle.nms_quote.specs.Tape.{Tape}
@@ -60,9 +60,9 @@ abbrev pub IsFed : Listing → Feed → List ℕ → List Change → Option Live
 IsFed roster feed text sent None = IsRead roster feed text sent
 IsFed roster feed text sent (Some why) = IsFeedFault roster feed text why
 
--- the text of a feed: the texts stand in order of place
+-- the text of a feed: the texts stand in order of place, and a feed beyond them has no bytes
 abbrev pub text_of : Feed → List (List ℕ) → List ℕ
-text_of feed texts = slice_index_or texts (place_of feed) []
+text_of feed texts = own_of feed texts
 
 -- why a run gave nothing, as far as the feeds' texts are the cause: the first refused record of a feed
 abbrev pub IsLiveFault : Listing → List (List ℕ) → LiveFault → Type 0

@@ -5,8 +5,8 @@ ghost use Rattle.std.specs.declared.thread.PromisedHandle.{PromisedHandle};
 ghost use Rattle.nms_quote.specs.Roster.{sizes_of};
 ghost use Rattle.nms_versions.specs.Taped.{Knowing};
 ghost use Rattle.nms_live.specs.Answering.{IsDesked};
-ghost use Rattle.nms_live.specs.Crew.{AreStarted, KeepsJob, WillBeDesked, first_among};
-ghost use Rattle.nms_live.specs.Faults.{IsNoLine, IsNoLineIfAny};
+ghost use Rattle.nms_live.specs.Crew.{AreStarted, KeepsJob, WillBeDesked};
+ghost use Rattle.nms_live.specs.Faults.{IsNoLine, IsNoLineIfAny, first_among};
 ghost use Rattle.nms_live.specs.declared.desk_work.DeskJob.{DeskJob};
 ghost use Rattle.nms_live.specs.declared.desk_work.Desked.{Desked};
 
@@ -149,7 +149,7 @@ pub(crate) fn join_desks<R: Threads>(
 /// The fault that is answered, of those that the desks' workers stopped with and one more.
 pub(crate) fn fault_among(fault: Option<LiveFault>, desks: &[Desked]) -> Option<LiveFault>
     requires no_line { (k : ℕ) (d : Desked) → k < length desks.now → IsNoLineIfAny (slice_index_or desks.now k d).stop }
-    ensures first { result ≡ first_among fault desks.now }
+    ensures first { result ≡ first_among (λ d. d.stop) fault desks.now }
     ensures none { result ≡ None → (fault ≡ None) × ((k : ℕ) (d : Desked) → k < length desks.now → (slice_index_or desks.now k d).stop ≡ None) }
     ensures some { (result ≡ fault) ⊎ IsNoLineIfAny result }
 {

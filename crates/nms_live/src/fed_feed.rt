@@ -1,5 +1,5 @@
 //! A feed's worker: it reads its text and sends the changes (specs/Reading).
-ghost use Rattle.std.specs.Prelude.{◌≡◌, ◌<◌, ◌+◌, ◌++◌, ◌∷◌, ℕ, List, [], length, Ok, Err, Some, IfErr, IfOk, OnOk};
+ghost use Rattle.std.specs.Prelude.{◌≡◌, ◌<◌, ◌+◌, ◌++◌, ◌∷◌, ℕ, List, [], length, map, Ok, Err, Some, IfErr, IfOk, OnOk};
 ghost use Rattle.nms_lines.specs.Records.{ReadsFrom};
 ghost use Rattle.nms_lines.specs.Rows.{fields_of};
 ghost use Rattle.nms_quote.specs.declared.change.Change.{Change};
@@ -8,8 +8,9 @@ ghost use Rattle.nms_feed.specs.declared.TheConstants.{MOST_SENT};
 ghost use Rattle.nms_live.specs.Crew.{IsFedBy};
 ghost use Rattle.nms_live.specs.Reading.{IsFeedFault, IsOwn, IsRead, IsRefusal, feed_reading};
 
+use crate::ended::Ended;
 use crate::gate::{Gate, GatePoint, passes};
-use crate::given::{Means, Source};
+use crate::given::{Means, text_of};
 use crate::live_fault::LiveFault;
 use nms_feed::{MOST_SENT, Sender};
 use nms_fees::Setup;
@@ -31,8 +32,7 @@ pub struct Fed {
 #[derive(Drop)]
 pub struct FeedJob {
     pub(crate) setup: Snapshot<Setup>,
-    pub(crate) feed: Feed,
-    pub(crate) text: Snapshot<Vec<u8>>,
+    pub(crate) feeds: Snapshot<Vec<Vec<u8>>>,
     pub(crate) sender: Snapshot<Sender>,
 }
 
@@ -42,23 +42,24 @@ impl Promise<Fed> for FeedJob {
     ghost kept_by = { KeepsFeedJob };
 }
 
-/// Reads the text of a feed, sends its changes in order, and says that it has ended.
+/// Reads the text of a sender's feed, sends its changes in order, and says that it has ended.
 pub(crate) fn feed_all<R: Wait, G: Gate>(
     means: &Means<'_, R, G>,
     setup: &Setup,
-    feed: Feed,
-    source: &Source,
+    feeds: &[Vec<u8>],
+    ended: &Ended,
     mut sender: Sender,
 ) -> Fed
     requires fresh { sender.sent ≡ [] }
-    requires feed { sender.feed ≡ feed }
-    ensures fed { IsFedBy setup.now.roster feed source.now.text.items sender result }
+    ensures fed { IsFedBy setup.now.roster (map (λ text. text.items) feeds.now) sender result }
 {
-    let stop = match send_all(means, setup, feed, source.text.as_slice(), &mut sender) {
+    let feed = sender.feed();
+    let text = text_of(feeds, feed);
+    let stop = match send_all(means, setup, feed, text, &mut sender) {
         Ok(()) => None,
         Err(fault) => Some(fault),
     };
-    source.end();
+    ended.add(feed);
     Fed { sender, stop }
 }
 

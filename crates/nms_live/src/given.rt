@@ -1,27 +1,21 @@
 //! What a live run is given, and what it works with: two values, which its threads share.
-ghost use Rattle.std.specs.Prelude.{◌≡◌};
+ghost use Rattle.std.specs.Prelude.{◌≡◌, map};
+ghost use Rattle.nms_live.specs.Reading.{text_of};
 
+use crate::ended::Ended;
 use nms_fees::Setup;
-use nms_quote::DeskOrder;
+use nms_quote::{DeskOrder, Feed};
 use std::alloc::Global;
-use std::sync::atomic::{AtomicBool, Ordering};
 
 /// What a live run is given.
 #[derive(Drop)]
 pub struct Given<'g> {
     pub(crate) setup: &'g Setup,
-    /// Feed A.
-    pub(crate) a: Source,
-    /// Feed B.
-    pub(crate) b: Source,
+    /// The text of each feed, in order of place.
+    pub(crate) feeds: Vec<Vec<u8>>,
+    /// Which feeds' workers have ended.
+    pub(crate) ended: Ended,
     pub(crate) orders: Vec<DeskOrder>,
-}
-
-/// A feed of a live run: its text, and whether its worker has ended.
-#[derive(Drop)]
-pub struct Source {
-    pub(crate) text: Vec<u8>,
-    has_ended: AtomicBool,
 }
 
 /// What a live run works with.
@@ -35,27 +29,16 @@ pub struct Means<'m, R, G> {
 impl<'g> Given<'g> {
     /// Whether the workers of all feeds have ended.
     pub(crate) fn feeds_have_ended(&self) -> bool {
-        self.a.has_ended() && self.b.has_ended()
+        self.ended.have_first(self.feeds.len())
     }
 }
 
-impl Source {
-    /// A feed whose worker has not ended.
-    pub(crate) fn new(text: Vec<u8>) -> Self
-        ensures { result.text ≡ text }
-    {
-        Source {
-            text,
-            has_ended: AtomicBool::new(false),
-        }
-    }
-
-    /// Says that the feed's worker has ended, or that none was started.
-    pub(crate) fn end(&self) {
-        self.has_ended.store(true, Ordering::SeqCst);
-    }
-
-    fn has_ended(&self) -> bool {
-        self.has_ended.load(Ordering::SeqCst)
+/// The text of a feed, of those that stand in order of place. A feed beyond them has no bytes.
+pub(crate) fn text_of(feeds: &[Vec<u8>], feed: Feed) -> &[u8]
+    ensures { result.now ≡ text_of feed (map (λ text. text.items) feeds.now) }
+{
+    match feeds.get(usize::from(feed.place())) {
+        Some(text) => text.as_slice(),
+        None => &[],
     }
 }

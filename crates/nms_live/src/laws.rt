@@ -1,5 +1,5 @@
 //! The laws above a live run. Each function does nothing: its contract is the law.
-ghost use Rattle.std.specs.Prelude.{◌∷◌, []};
+ghost use Rattle.std.specs.Prelude.{map};
 ghost use Rattle.nms_live.specs.Headline.{AreBestOfTheirVersions};
 ghost use Rattle.nms_live.specs.Living.{IsLive};
 ghost use Rattle.nms_live.specs.RunOf.{IsSomeRun};
@@ -18,12 +18,11 @@ use nms_rules::a_lawful_plan_never_trades_through;
 /// (17 CFR 242.600, 242.611(a), (b)(5) and (6); what is best is this product's own rule).
 pub fn each_answer_is_the_best_of_its_version(
     setup: &Setup,
-    feed_a: &[u8],
-    feed_b: &[u8],
+    feeds: &[Vec<u8>],
     orders: &[DeskOrder],
     live: &Live,
 )
-    requires { IsLive setup.now (feed_a.now ∷ feed_b.now ∷ []) orders.now live.now }
+    requires { IsLive setup.now (map (λ text. text.items) feeds.now) orders.now live.now }
     ensures { AreBestOfTheirVersions setup.now live.now }
 {
     one_best_row();
@@ -37,13 +36,12 @@ pub fn each_answer_is_the_best_of_its_version(
 /// answers were made on, the closing ones last. This product's own rule.
 pub fn a_live_run_is_a_run_of_the_machine(
     setup: &Setup,
-    feed_a: &[u8],
-    feed_b: &[u8],
+    feeds: &[Vec<u8>],
     orders: &[DeskOrder],
     live: &Live,
 )
-    requires { IsLive setup.now (feed_a.now ∷ feed_b.now ∷ []) orders.now live.now }
-    ensures { IsSomeRun setup.now (feed_a.now ∷ feed_b.now ∷ []) live.now }
+    requires { IsLive setup.now (map (λ text. text.items) feeds.now) orders.now live.now }
+    ensures { IsSomeRun setup.now (map (λ text. text.items) feeds.now) live.now }
 {
     let _room = setup.queue();
     tape_and_queue_are_a_merge();

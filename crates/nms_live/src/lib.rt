@@ -1,10 +1,11 @@
-//! The live run: two feeds send, a taker publishes, desks plan on what is published, each in its own thread; and
+//! The live run: one to eight feeds send, a taker publishes, desks plan on what is published, each in its own thread; and
 //! of all that they did together it is proved what it was worth.
 #![tactic(auto)]
 
 mod closing;
 mod desk_work;
 mod desk_workers;
+mod ended;
 mod fed_feed;
 mod feed_workers;
 mod first_fault;

@@ -4,7 +4,7 @@ use nms_quote::{Answer, Change};
 /// What a live run came to.
 #[derive(Debug, Drop)]
 pub struct Live {
-    /// All changes of both feeds, in the order in which they were taken.
+    /// All changes of all feeds, in the order in which they were taken.
     pub tape: Vec<Change>,
     /// The length of the tape at each publishing, in order.
     pub published: Vec<u64>,

@@ -68,12 +68,11 @@ impl LiveFault {
     {
         match self {
             LiveFault::Open => 0,
-            LiveFault::Line { feed: Feed::A, .. } => 1,
-            LiveFault::Line { feed: Feed::B, .. } => 2,
-            LiveFault::Append => 3,
-            LiveFault::Desk => 4,
-            LiveFault::GateLimit => 5,
-            LiveFault::NoMemory => 6,
+            LiveFault::Line { feed, .. } => 1 + feed.place(),
+            LiveFault::Append => 9,
+            LiveFault::Desk => 10,
+            LiveFault::GateLimit => 11,
+            LiveFault::NoMemory => 12,
         }
     }
 }

@@ -1,5 +1,5 @@
 //! The live run (specs/Living).
-ghost use Rattle.std.specs.Prelude.{◌≡◌, ◌<◌, ◌∷◌, [], All, IfErr, IfOk};
+ghost use Rattle.std.specs.Prelude.{◌≡◌, ◌<◌, All, length, map, IfErr, IfOk};
 ghost use Rattle.nms_live.specs.Crew.{IsDone, texts_of};
 ghost use Rattle.nms_live.specs.Faults.{IsNoLine};
 ghost use Rattle.nms_live.specs.Living.{IsLive};
@@ -7,9 +7,10 @@ ghost use Rattle.nms_live.specs.Reading.{IsLiveFault};
 
 use crate::closing::close_desks;
 use crate::desk_work::Desked;
+use crate::ended::Ended;
 use crate::gate::Gate;
 use crate::gathering::{Gathered, gather};
-use crate::given::{Given, Means, Source};
+use crate::given::{Given, Means};
 use crate::keeper::Keeper;
 use crate::live::Live;
 use crate::live_fault::LiveFault;
@@ -22,9 +23,9 @@ use std::alloc::Global;
 use std::sync::Wait;
 use std::thread::Threads;
 
-/// Reads two feeds, each in a thread of its own, and appends their changes to one tape, which is published from
-/// time to time; each desk answers its orders meanwhile, in a thread of its own, on what is published. Then each
-/// desk answers them again on the whole tape.
+/// Reads the setup's feeds, given in order of letter, each in a thread of its own, and appends their changes to one
+/// tape, which is published from time to time; each desk answers its orders meanwhile, in a thread of its own, on
+/// what is published. Then each desk answers them again on the whole tape.
 ///
 /// Each answer is the best lawful plan on its version of the tape, which was published, and no desk goes back to an
 /// older version. `Line` names the first refused record of a feed. After a fault all threads have ended.
@@ -32,19 +33,19 @@ pub fn run_live<R: Threads + Wait + Sync, G: Gate>(
     rt: &R,
     alloc: Global,
     setup: &Setup,
-    feed_a: Vec<u8>,
-    feed_b: Vec<u8>,
+    feeds: Vec<Vec<u8>>,
     orders: Vec<DeskOrder>,
     gate: &G,
 ) -> Result<Live, LiveFault>
+    requires feeds { length feeds.items ≡ setup.now.feeds }
     requires desks { All (λ order. order.desk < setup.now.desks) orders.items }
-    ensures live { IfOk result (IsLive setup.now (feed_a.items ∷ feed_b.items ∷ []) orders.items) }
-    ensures refused { IfErr result (IsLiveFault setup.now.roster (feed_a.items ∷ feed_b.items ∷ [])) }
+    ensures live { IfOk result (IsLive setup.now (map (λ text. text.items) feeds.items) orders.items) }
+    ensures refused { IfErr result (IsLiveFault setup.now.roster (map (λ text. text.items) feeds.items)) }
 {
     let given = Given {
         setup,
-        a: Source::new(feed_a),
-        b: Source::new(feed_b),
+        feeds,
+        ended: Ended::none(),
         orders,
     };
     run_over(&Means { rt, alloc, gate }, &given)
@@ -55,11 +56,12 @@ fn run_over<R: Threads + Wait + Sync, G: Gate>(
     means: &Means<'_, R, G>,
     given: &Given<'_>,
 ) -> Result<Live, LiveFault>
+    requires feeds { length given.now.feeds.items ≡ given.now.setup.now.feeds }
     requires desks { All (λ order. order.desk < given.now.setup.now.desks) given.now.orders.items }
     ensures live { IfOk result (IsLive given.now.setup.now (texts_of given.now) given.now.orders.items) }
     ensures refused { IfErr result (IsLiveFault given.now.setup.now.roster (texts_of given.now)) }
 {
-    let Ok(ends) = open_lane(means.alloc, given.setup.queue()) else {
+    let Ok(ends) = open_lane(means.alloc, given.setup.queue(), given.setup.feeds()) else {
         return Err(LiveFault::Open);
     };
     let Ok((publisher, desks)) = open_tape(means.alloc, means.rt, given.setup) else {

@@ -1,8 +1,8 @@
 //! The taker's two loops: while the feeds run, and once they have ended (specs/Keeping).
-ghost use Rattle.std.specs.Prelude.{◌≡◌, List, None};
+ghost use Rattle.std.specs.Prelude.{◌≡◌, List, map, None};
 ghost use Rattle.nms_quote.specs.Merge.{IsMerge};
-ghost use Rattle.nms_quote.specs.declared.feed.Feed.TheVariants as feed;
 ghost use Rattle.nms_quote.specs.declared.marked.Marked.{Marked};
+ghost use Rattle.nms_feed.specs.Lane.{AreSendersOf};
 ghost use Rattle.nms_flow.specs.Run.{changes_in};
 ghost use Rattle.nms_versions.specs.Taped.{tape_of};
 ghost use Rattle.nms_live.specs.Keeping.{HasTaken, IsSameKeeping, IsWhole};
@@ -20,7 +20,7 @@ fn take_one<R: Wait, G: Gate>(
     keeper: &mut Keeper,
     taker: &mut Taker,
 ) -> bool
-    ensures lane { taker.new.lane ≡ taker.old.lane }
+    ensures lane { (taker.new.lane ≡ taker.old.lane) × (taker.new.senders ≡ taker.old.senders) }
     ensures same { IsSameKeeping keeper.old keeper.new }
     ensures taken { HasTaken keeper.old taker.old.taken → HasTaken keeper.new taker.new.taken }
 {
@@ -40,7 +40,7 @@ pub(crate) fn take_until_ended<R: Wait, G: Gate>(
     keeper: &mut Keeper,
     taker: &mut Taker,
 )
-    ensures lane { taker.new.lane ≡ taker.old.lane }
+    ensures lane { (taker.new.lane ≡ taker.old.lane) × (taker.new.senders ≡ taker.old.senders) }
     ensures same { IsSameKeeping keeper.old keeper.new }
     ensures taken { HasTaken keeper.old taker.old.taken → HasTaken keeper.new taker.new.taken }
 {
@@ -59,34 +59,33 @@ pub(crate) fn take_until_ended<R: Wait, G: Gate>(
     unreachable!()
 }
 
-/// Takes what is left once both feeds have sent all, and publishes the whole tape.
+/// Takes what is left once all feeds have sent all, and publishes the whole tape.
 pub(crate) fn take_rest<R: Wait, G: Gate>(
     means: &Means<'_, R, G>,
     keeper: &mut Keeper,
-    a: Sender,
-    b: Sender,
+    senders: Vec<Sender>,
     taker: Taker,
 )
-    requires one_lane { (a.lane ≡ taker.lane) × (b.lane ≡ taker.lane) }
-    requires feeds { (a.feed ≡ feed.A) × (b.feed ≡ feed.B) }
+    requires ends { AreSendersOf taker senders.items }
     requires taken { HasTaken keeper.old taker.taken }
     ensures same { IsSameKeeping keeper.old keeper.new }
     ensures whole { keeper.new.stop ≡ None → IsWhole keeper.new }
-    ensures merged { keeper.new.stop ≡ None → (marked : List Marked) × IsMerge a.sent b.sent marked × (tape_of keeper.new.taped ≡ changes_in marked) }
+    ensures merged { keeper.new.stop ≡ None
+        → (marked : List Marked) × IsMerge (map (λ s. s.sent) senders.items) marked × (tape_of keeper.new.taped ≡ changes_in marked) }
 {
-    let mut ends = (a, b, taker);
+    let mut ends = (senders, taker);
     for _ in means.rt.forever() {
-        let (a, b, taker) = ends;
-        match close(a, b, taker) {
+        let (senders, taker) = ends;
+        match close(senders, taker) {
             Ok(_) => {
                 keeper.publish(means);
                 return;
             }
-            Err(NotEmpty { a, b, mut taker }) => {
+            Err(NotEmpty { senders, mut taker }) => {
                 if !take_one(means, keeper, &mut taker) {
                     thread::yield_now();
                 }
-                ends = (a, b, taker);
+                ends = (senders, taker);
             }
         }
     }

@@ -1,8 +1,7 @@
 //! The threads of a live run, and what all of them came to (specs/Crew).
 ghost use Rattle.std.specs.Prelude.{◌≡◌, [], length, IfErr, IfOk};
-ghost use Rattle.nms_quote.specs.declared.feed.Feed.TheVariants as feed;
 ghost use Rattle.nms_versions.specs.Taped.{tape_of};
-ghost use Rattle.nms_live.specs.Crew.{AreReady, IsDone, IsFreshEnd, texts_of};
+ghost use Rattle.nms_live.specs.Crew.{AreFreshEnds, AreReady, IsDone, texts_of};
 ghost use Rattle.nms_live.specs.Keeping.{IsSameKeeping};
 ghost use Rattle.nms_live.specs.Reading.{IsLiveFault};
 
@@ -25,12 +24,10 @@ pub(crate) fn run_in_threads<R: Threads + Wait + Sync, G: Gate>(
     means: &Means<'_, R, G>,
     given: &Given<'_>,
     keeper: &mut Keeper,
-    ends: (Sender, Sender, Taker),
+    ends: (Vec<Sender>, Taker),
     desks: Vec<Desk>,
 ) -> Result<Vec<Desked>, LiveFault>
-    requires a { IsFreshEnd feed.A ends.2 ends.0 }
-    requires b { IsFreshEnd feed.B ends.2 ends.1 }
-    requires fresh { ends.2.taken ≡ [] }
+    requires ends { AreFreshEnds (texts_of given.now) ends.1 ends.0.items }
     requires empty { tape_of keeper.old.taped ≡ [] }
     requires desks { length desks.items ≡ given.now.setup.now.desks }
     requires ready { AreReady given.now.setup.now keeper.old.taped.opening desks.items }
@@ -42,9 +39,7 @@ pub(crate) fn run_in_threads<R: Threads + Wait + Sync, G: Gate>(
         thread::scope_env(),
         means.rt,
         move |scope| -> (&mut Keeper, Result<Vec<Desked>, LiveFault>)
-            requires a { IsFreshEnd feed.A ends.2 ends.0 }
-            requires b { IsFreshEnd feed.B ends.2 ends.1 }
-            requires fresh { ends.2.taken ≡ [] }
+            requires ends { AreFreshEnds (texts_of given.now) ends.1 ends.0.items }
             requires empty { tape_of keeper.now.taped ≡ [] }
             requires desks { length desks.items ≡ given.now.setup.now.desks }
             requires ready { AreReady given.now.setup.now keeper.now.taped.opening desks.items }
@@ -67,12 +62,10 @@ fn run_workers<'s, E, R: Threads + Wait + Sync, G: Gate>(
     means: &'s Means<'s, R, G>,
     given: &'s Given<'s>,
     keeper: &mut Keeper,
-    ends: (Sender, Sender, Taker),
+    ends: (Vec<Sender>, Taker),
     desks: Vec<Desk>,
 ) -> Result<Vec<Desked>, LiveFault>
-    requires a { IsFreshEnd feed.A ends.2 ends.0 }
-    requires b { IsFreshEnd feed.B ends.2 ends.1 }
-    requires fresh { ends.2.taken ≡ [] }
+    requires ends { AreFreshEnds (texts_of given.now) ends.1 ends.0.items }
     requires empty { tape_of keeper.old.taped ≡ [] }
     requires desks { length desks.items ≡ given.now.setup.now.desks }
     requires ready { AreReady given.now.setup.now keeper.old.taped.opening desks.items }

@@ -1,5 +1,6 @@
 -- Lists: what is found in one, and what a list of answers holds.
-use Rattle.std.proofs.Common.{◌≡◌, ℕ, zero, suc, ◌+◌, ◌<◌, ◌≤◌, Bool, true, false, cond, List, [], ◌∷◌, All, Contains, arith, Option, Some, None, IfSome, refl, sym, ◌∙◌, ap, inl, inr, zero-add, add-zero, suc-add}
+use Rattle.std.proofs.Common.{◌≡◌, ℕ, zero, suc, ◌+◌, ◌<◌, ◌≤◌, Bool, true, false, cond, List, [], ◌∷◌, All, Contains, arith, Option, Some}
+use Rattle.std.proofs.Common.{None, IfSome, refl, sym, ◌∙◌, ap, inl, inr, zero-add, add-zero, suc-add}
 use Rattle.std.specs.List.{count_by, find, filter_map, cons_option, range_with_len}
 use Rattle.std.proofs.lemmas.Bool.{cases_Bool}
 use Rattle.std.proofs.lemmas.List.Elements.{All-nil, All-cons}
@@ -32,7 +33,8 @@ none_counted passes (x ∷ xs) none =
     ]
 
 -- a front at which nothing is found may be left out
-pub filter_map-past : {Y : Type 0} (f : ℕ → Option Y) (n m low : ℕ) → ((k : ℕ) → low ≤ k → k < low + n → f k ≡ None) → filter_map f (range_with_len low (n + m)) ≡ filter_map f (range_with_len (low + n) m)
+pub filter_map-past : {Y : Type 0} (f : ℕ → Option Y) (n m low : ℕ) → ((k : ℕ) → low ≤ k → k < low + n → f k ≡ None)
+    → filter_map f (range_with_len low (n + m)) ≡ filter_map f (range_with_len (low + n) m)
 filter_map-past f zero m low none = rw (zero-add, add-zero) refl
 filter_map-past f (suc n) m low none =
     let first : f low ≡ None = none low (omega arith) (omega arith) in
@@ -54,7 +56,8 @@ Contains-cons_option None ys y stands = stands
 Contains-cons_option (Some z) ys y stands = in_rest z ys y stands
 
 -- an answer is listed
-pub Contains-filter_map : {X Y : Type 0} (f : X → Option Y) (xs : List X) (x : X) (y : Y) → Contains xs x → f x ≡ Some y → Contains (filter_map f xs) y
+pub Contains-filter_map : {X Y : Type 0} (f : X → Option Y) (xs : List X) (x : X) (y : Y) → Contains xs x → f x ≡ Some y
+    → Contains (filter_map f xs) y
 Contains-filter_map f [] x y (k, below, at) is = absurd (omega arith)
 Contains-filter_map f (z ∷ zs) x y (zero, below, at) is =
     let first : f z ≡ Some y = ap f at ∙ is in

@@ -1,5 +1,6 @@
 -- What stands at each place of a view, and that a walk's first pair leads the pairs from a place on.
-use Rattle.std.proofs.Common.{◌≡◌, ℕ, suc, ◌+◌, ◌-◌, ◌<◌, ◌≤◌, ◌/◌, ◌%◌, ◌||◌, Bool, true, false, cond, List, [], ◌∷◌, Contains, get_or, arith, Option, Some, None, IfSome, refl, sym, ◌∙◌, ap, inl, inr, eqb, ltb, zero-add}
+use Rattle.std.proofs.Common.{◌≡◌, ℕ, suc, ◌+◌, ◌-◌, ◌<◌, ◌≤◌, ◌/◌, ◌%◌, ◌||◌, Bool, true, false, cond, List, [], ◌∷◌, Contains, get_or}
+use Rattle.std.proofs.Common.{arith, Option, Some, None, IfSome, refl, sym, ◌∙◌, ap, inl, inr, eqb, ltb, zero-add}
 use Rattle.std.specs.List.{find, range_with_len}
 use Rattle.std.proofs.lemmas.Bool.{cases_lt, cases_order, eq-eqb, eqb-false, eqb-true, le-ltb, ltb-false, ne_eqb}
 use Rattle.std.proofs.lemmas.List.{get_or_default}
@@ -16,26 +17,34 @@ use Rattle.nms_board.proofs.Offered.{found_alone}
 use Rattle.nms_nbbo.proofs.ListLemmas.{All-filter_map, Contains-filter_map, filter_map-past, found}
 use Rattle.nms_nbbo.proofs.WalkLemmas.{part_rises}
 
-pair_between-none : (bid offer : Option Row) → ((b o : Row) → bid ≡ Some b → offer ≡ Some o → pair_between (Some b) (Some o) ≡ None) → pair_between bid offer ≡ None
+pair_between-none : (bid offer : Option Row) → ((b o : Row) → bid ≡ Some b → offer ≡ Some o → pair_between (Some b) (Some o) ≡ None)
+    → pair_between bid offer ≡ None
 pair_between-none None offer none = refl
 pair_between-none (Some b) None none = refl
 pair_between-none (Some b) (Some o) none = none b o refl refl
 
 -- at a place whose rows are no pair there is none
-pair_at-none : (seen : Seen) (place low high : ℕ) → NoPair seen.bids seen.offers low high → low ≤ place → place < high → pair_at seen place ≡ None
+pair_at-none : (seen : Seen) (place low high : ℕ) → NoPair seen.bids seen.offers low high → low ≤ place → place < high
+    → pair_at seen place ≡ None
 pair_at-none seen place low high none from to =
     pair_between-none (row_of Bid (place / 32) seen) (row_of Offer (place % 32) seen) (λ bid offer bid_is offer_is.
     let (in_bids, bid_part) = found (λ row. eqb row.part (place / 32)) seen.bids bid bid_is in
     let (in_offers, offer_part) = found (λ row. eqb row.part (place % 32)) seen.offers offer offer_is in
-    let here : place_of bid offer ≡ place = omega (arith, eqb-true bid.part (place / 32) bid_part, eqb-true offer.part (place % 32) offer_part) in
+    let here : place_of bid offer ≡ place = omega (
+      arith,
+      eqb-true bid.part (place / 32) bid_part,
+      eqb-true offer.part (place % 32) offer_part,
+    ) in
     none bid offer in_bids in_offers (omega arith) (omega arith))
 
 -- the pairs from two places on are the same where none stands between them
-pairs_from-past : (seen : Seen) (low high : ℕ) → low ≤ high → high ≤ 1024 → NoPair seen.bids seen.offers low high → pairs_from low seen ≡ pairs_from high seen
+pairs_from-past : (seen : Seen) (low high : ℕ) → low ≤ high → high ≤ 1024 → NoPair seen.bids seen.offers low high
+    → pairs_from low seen ≡ pairs_from high seen
 pairs_from-past seen low high le within none =
     let between : low + (high - low) ≡ high = omega arith in
     let rest : (high - low) + (1024 - high) ≡ 1024 - low = omega arith in
-    let past = filter_map-past (pair_at seen) (high - low) (1024 - high) low (λ k from to. pair_at-none seen k low high none from (omega arith)) in
+    let past = filter_map-past (pair_at seen) (high - low) (1024 - high) low
+    (λ k from to. pair_at-none seen k low high none from (omega arith)) in
     rw between at (rw rest at past)
 
 -- where there is no pair any more, none is listed
@@ -47,7 +56,8 @@ pairs_from-none seen low none =
     ]
 
 -- one participant has one row
-same_part : (rows : List Row) (row other : Row) → AreByPart rows → Contains rows row → Contains rows other → other.part ≡ row.part → other ≡ row
+same_part : (rows : List Row) (row other : Row) → AreByPart rows → Contains rows row → Contains rows other → other.part ≡ row.part
+    → other ≡ row
 same_part rows row other rising (i, below, at) (k, there, at_k) same =
     let row_part : (get_or rows i row).part ≡ row.part = ap (λ (r : Row). r.part) at in
     let other_part : (get_or rows k row).part ≡ other.part = ap (λ (r : Row). r.part) (get_or_default rows k row other there ∙ at_k) in
@@ -64,34 +74,40 @@ row_found rows row rising stands =
     same_part rows row other rising stands there (eqb-true other.part row.part same))
 
 -- at the place of two rows stands what they make
-pair_at-rows : (seen : Seen) (bid offer : Row) → AreByPart seen.bids → AreByPart seen.offers → Contains seen.bids bid → Contains seen.offers offer → offer.part < 32 → pair_at seen (place_of bid offer) ≡ pair_between (Some bid) (Some offer)
+pair_at-rows : (seen : Seen) (bid offer : Row) → AreByPart seen.bids → AreByPart seen.offers → Contains seen.bids bid
+    → Contains seen.offers offer → offer.part < 32 → pair_at seen (place_of bid offer) ≡ pair_between (Some bid) (Some offer)
 pair_at-rows seen bid offer bids offers in_bids in_offers narrow =
     let bid_part : place_of bid offer / 32 ≡ bid.part = omega arith in
     let offer_part : place_of bid offer % 32 ≡ offer.part = omega arith in
     let bid_is : row_of Bid (place_of bid offer / 32) seen ≡ Some bid = rw bid_part (row_found seen.bids bid bids in_bids) in
-    let offer_is : row_of Offer (place_of bid offer % 32) seen ≡ Some offer = rw offer_part (row_found seen.offers offer offers in_offers) in
+    let offer_is : row_of Offer (place_of bid offer % 32) seen ≡ Some offer =
+    rw offer_part (row_found seen.offers offer offers in_offers) in
     rw (bid_is, offer_is) refl
 
 -- the pair at a place leads the list from there on
-pairs_from-here : (seen : Seen) (place : ℕ) (pair : Pair) → place < 1024 → pair_at seen place ≡ Some pair → pairs_from place seen ≡ pair ∷ pairs_from (place + 1) seen
+pairs_from-here : (seen : Seen) (place : ℕ) (pair : Pair) → place < 1024 → pair_at seen place ≡ Some pair
+    → pairs_from place seen ≡ pair ∷ pairs_from (place + 1) seen
 pairs_from-here seen place pair below here =
     let count : 1024 - place ≡ suc (1024 - (place + 1)) = omega arith in
     rw (count, here) refl
 
 -- the first pair leads the list, and those behind its place follow
-pub pairs_from-first : (seen : Seen) (low : ℕ) (pair : Pair) → AreByPart seen.bids → AreByPart seen.offers → IsFirstPair seen.bids seen.offers low pair → pairs_from low seen ≡ pair ∷ pairs_from (place_of pair.bid pair.offer + 1) seen
+pub pairs_from-first : (seen : Seen) (low : ℕ) (pair : Pair) → AreByPart seen.bids → AreByPart seen.offers
+    → IsFirstPair seen.bids seen.offers low pair → pairs_from low seen ≡ pair ∷ pairs_from (place_of pair.bid pair.offer + 1) seen
 pairs_from-first seen low pair bids offers first =
     let here = pair_at-rows seen pair.bid pair.offer bids offers first.bid first.offer first.narrow ∙ first.is in
     pairs_from-past seen low (place_of pair.bid pair.offer) first.from (omega arith) first.first
     ∙ pairs_from-here seen (place_of pair.bid pair.offer) pair first.before_end here
 
 -- what stands at a place is a pair of the view's rows
-pair_between-in : (seen : Seen) (bid offer : Option Row) → ((b : Row) → bid ≡ Some b → Contains seen.bids b) → ((o : Row) → offer ≡ Some o → Contains seen.offers o) → IfSome (pair_between bid offer) (IsPairIn seen)
+pair_between-in : (seen : Seen) (bid offer : Option Row) → ((b : Row) → bid ≡ Some b → Contains seen.bids b)
+    → ((o : Row) → offer ≡ Some o → Contains seen.offers o) → IfSome (pair_between bid offer) (IsPairIn seen)
 pair_between-in seen None offer in_bids in_offers = tt
 pair_between-in seen (Some bid) None in_bids in_offers = tt
 pair_between-in seen (Some bid) (Some offer) in_bids in_offers = by_tests (eqb bid.part offer.part) (ltb bid.price offer.price) refl refl
   where
-    by_tests : (one below : Bool) → eqb bid.part offer.part ≡ one → ltb bid.price offer.price ≡ below → IfSome (cond (one || below) None (Some (pair_of bid offer))) (IsPairIn seen)
+    by_tests : (one below : Bool) → eqb bid.part offer.part ≡ one → ltb bid.price offer.price ≡ below
+        → IfSome (cond (one || below) None (Some (pair_of bid offer))) (IsPairIn seen)
     by_tests true below is_one is_below = tt
     by_tests false true is_one is_below = tt
     by_tests false false is_one is_below =

@@ -1,6 +1,7 @@
 -- That rows are ranked in a strict order, and what follows for the best of them.
 use Rattle.std.specs.Prelude.{All, IfSome, MatchOption}
-use Rattle.std.proofs.Common.{◌≡◌, ◌≢◌, ◌<◌, ◌≤◌, ℕ, false, cond, AllPairs, List, [], ◌∷◌, length, get_or, refl, arith, Option, Some, None, sym, ap, ◌∙◌, subst, inl, inr, ltb, eqb}
+use Rattle.std.proofs.Common.{◌≡◌, ◌≢◌, ◌<◌, ◌≤◌, ℕ, false, cond, AllPairs, List, [], ◌∷◌, length, get_or, refl, arith, Option, Some, None}
+use Rattle.std.proofs.Common.{sym, ap, ◌∙◌, subst, inl, inr, ltb, eqb}
 use Rattle.std.specs.List.{IsFirstBest}
 use Rattle.std.specs.Option.{option_map}
 use Rattle.std.specs.Cmp.{IsStrictWeakOrder}
@@ -30,7 +31,8 @@ pub above_is_order : (side : Side) → IsStrictWeakOrder (ranks_above side)
 above_is_order side = record { one_way = above_one_way side; chain = above_chain side }
 
 -- the first of the rows that none ranks above is the best
-best_from_first_best : (side : Side) (rows : List Row) (place : ℕ) (row : Row) → IsFirstBest (ranks_above side) rows (length rows) place → get_or rows place row ≡ row → IsBest side rows row
+best_from_first_best : (side : Side) (rows : List Row) (place : ℕ) (row : Row) → IsFirstBest (ranks_above side) rows (length rows) place
+    → get_or rows place row ≡ row → IsBest side rows row
 best_from_first_best side rows place row h is =
     record {
       among = (place, h.0, is);
@@ -38,7 +40,8 @@ best_from_first_best side rows place row h is =
     }
 
 -- the row at the first place is the best
-pub first_is_best : (side : Side) (rows : List Row) (best : Option Row) → best ≡ ranked_at side rows 0 → MatchOption best (length rows ≤ 0) (λ row. 0 < length rows) → IsBestOf side rows best
+pub first_is_best : (side : Side) (rows : List Row) (best : Option Row) → best ≡ ranked_at side rows 0
+    → MatchOption best (length rows ≤ 0) (λ row. 0 < length rows) → IsBestOf side rows best
 first_is_best side [] None first there = refl
 first_is_best side (row ∷ rows) None first there = absurd (omega (arith, there))
 first_is_best side rows (Some row) first there =
@@ -49,7 +52,8 @@ first_is_best side rows (Some row) first there =
     }
 
 -- two rows of which neither ranks above the other rank alike
-pub unranked_alike : (side : Side) (row other : Row) → ranks_above side row other ≡ false → ranks_above side other row ≡ false → RankAlike row other
+pub unranked_alike : (side : Side) (row other : Row) → ranks_above side row other ≡ false → ranks_above side other row ≡ false
+    → RankAlike row other
 unranked_alike Bid row other h k = record {
   price = grind (arith, nat_tests);
   size = grind (arith, nat_tests);
@@ -73,7 +77,8 @@ pub none_best : (side : Side) (row : Row) → IsBest side [] row → ⊥
 none_best side row best = omega (arith, best.among.1)
 
 -- two best rows of a side, or none twice, have one price
-IsBestOf-price : (side : Side) (rows : List Row) (best best' : Option Row) → IsBestOf side rows best → IsBestOf side rows best' → option_map (λ row. row.price) best ≡ option_map (λ row. row.price) best'
+IsBestOf-price : (side : Side) (rows : List Row) (best best' : Option Row) → IsBestOf side rows best → IsBestOf side rows best'
+    → option_map (λ row. row.price) best ≡ option_map (λ row. row.price) best'
 IsBestOf-price side rows None None empty empty' = refl
 IsBestOf-price side rows None (Some row) empty is = absurd (none_best side row (subst (λ r. IsBest side r row) empty is))
 IsBestOf-price side rows (Some row) None is empty = absurd (none_best side row (subst (λ r. IsBest side r row) empty is))
@@ -86,7 +91,8 @@ market_at None (Some offer) = market.OneSided
 market_at (Some bid) None = market.OneSided
 market_at (Some bid) (Some offer) = cond (ltb bid offer) market.Normal (cond (eqb bid offer) market.Locked market.Crossed)
 
-market_of-market_at : (bid offer : Option Row) → market_of bid offer ≡ market_at (option_map (λ row. row.price) bid) (option_map (λ row. row.price) offer)
+market_of-market_at : (bid offer : Option Row) → market_of bid offer
+    ≡ market_at (option_map (λ row. row.price) bid) (option_map (λ row. row.price) offer)
 unfolding market_at
 market_of-market_at None None = refl
 market_of-market_at None (Some offer) = refl
@@ -94,9 +100,15 @@ market_of-market_at (Some bid) None = refl
 market_of-market_at (Some bid) (Some offer) = refl
 
 -- so it is the same whichever best rows are looked at
-pub market_of-best : (bids offers : List Row) (bid bid' offer offer' : Option Row) → IsBestOf Bid bids bid → IsBestOf Bid bids bid' → IsBestOf Offer offers offer → IsBestOf Offer offers offer' → market_of bid offer ≡ market_of bid' offer'
+pub market_of-best : (bids offers : List Row) (bid bid' offer offer' : Option Row) → IsBestOf Bid bids bid → IsBestOf Bid bids bid'
+    → IsBestOf Offer offers offer → IsBestOf Offer offers offer' → market_of bid offer ≡ market_of bid' offer'
 market_of-best bids offers bid bid' offer offer' b b' o o' =
-    rw (market_of-market_at bid offer, market_of-market_at bid' offer', IsBestOf-price Bid bids bid bid' b b', IsBestOf-price Offer offers offer offer' o o') refl
+    rw (
+      market_of-market_at bid offer,
+      market_of-market_at bid' offer',
+      IsBestOf-price Bid bids bid bid' b b',
+      IsBestOf-price Offer offers offer offer' o o',
+    ) refl
 
 -- a side with rows has a best one
 pub some_best : (side : Side) (rows : List Row) → rows ≢ [] → (row : Row) × IsBest side rows row
@@ -106,13 +118,15 @@ some_best side (row ∷ rows) some =
     (_, best_from_first_best side (row ∷ rows) place _ first (get_or_default (row ∷ rows) place _ row first.0 ∙ is))
 
 -- where no two rows have one receipt, one row is best
-pub one_best : (side : Side) (rows : List Row) (row other : Row) → AllPairs (λ row other. row.receipt ≢ other.receipt) rows → IsBest side rows row → IsBest side rows other → row ≡ other
+pub one_best : (side : Side) (rows : List Row) (row other : Row) → AllPairs (λ row other. row.receipt ≢ other.receipt) rows
+    → IsBest side rows row → IsBest side rows other → row ≡ other
 one_best side rows row other differ best best' =
     let receipts : row.receipt ≡ other.receipt = (best_alike side rows row other best best').receipt in
     let (i, in_rows, at) = best.among in
     let (j, in_rows', at') = best'.among in
     let row_receipt : (get_or rows i row).receipt ≡ row.receipt = ap (λ (r : Row). r.receipt) at in
-    let other_receipt : (get_or rows j row).receipt ≡ other.receipt = ap (λ (r : Row). r.receipt) (get_or_default rows j row other in_rows' ∙ at') in
+    let other_receipt : (get_or rows j row).receipt ≡ other.receipt =
+    ap (λ (r : Row). r.receipt) (get_or_default rows j row other in_rows' ∙ at') in
     elim (cases_order i j) [
       | inl e ↦ sym at ∙ ap (λ n. get_or rows n row) e ∙ get_or_default rows j row other in_rows' ∙ at'
       | inr (inl before) ↦ absurd (differ i j row before in_rows' (row_receipt ∙ receipts ∙ sym other_receipt))
@@ -120,6 +134,7 @@ one_best side rows row other differ best best' =
     ]
 
 -- the best row is of one of the participants that the rows are of
-pub best_part : (side : Side) (rows : List Row) (best : Option Row) (parts : ℕ) → IsBestOf side rows best → All (λ (row : Row). row.part < parts) rows → IfSome best (λ row. row.part < parts)
+pub best_part : (side : Side) (rows : List Row) (best : Option Row) (parts : ℕ) → IsBestOf side rows best
+    → All (λ (row : Row). row.part < parts) rows → IfSome best (λ row. row.part < parts)
 best_part side rows None parts is all = tt
 best_part side rows (Some row) parts is all = All-contains (λ (r : Row). r.part < parts) rows row all is.among

@@ -70,10 +70,25 @@ pub record ExamplesHold : Type 0 where
   pub best_of_a_normal_market : IsBest Offer normal.offers (row n 100000 300 1)
   pub below_is_normal : market_of (Some (row n 99800 100 1)) (Some (row n 100000 300 1)) ≡ market.Normal
   pub equal_prices_lock : market_of (Some bid_of_n) (Some locking_offer) ≡ market.Locked
-  pub locking_pair : pairs_from 0 locked ≡ record { bid = bid_of_n; offer = locking_offer; crossed = false; later = z; clause = clause.Protected } ∷ []
-  pub at_its_place : pair_at locked 3 ≡ Some (record { bid = bid_of_n; offer = locking_offer; crossed = false; later = z; clause = clause.Protected })
+  pub locking_pair : pairs_from 0 locked ≡ record {
+    bid = bid_of_n;
+    offer = locking_offer;
+    crossed = false;
+    later = z;
+    clause =
+        clause.Protected;
+  } ∷ []
+  pub at_its_place : pair_at locked 3 ≡ Some (record {
+    bid = bid_of_n;
+    offer = locking_offer;
+    crossed = false;
+    later = z;
+    clause =
+        clause.Protected;
+  })
   pub higher_bid_crosses : market_of (Some bid_of_n) (Some crossing_offer) ≡ market.Crossed
-  pub crossing_pair : pairs_from 0 crossed ≡ record { bid = bid_of_n; offer = crossing_offer; crossed = true; later = z; clause = clause.Protected } ∷ []
+  pub crossing_pair : pairs_from 0 crossed
+      ≡ record { bid = bid_of_n; offer = crossing_offer; crossed = true; later = z; clause = clause.Protected } ∷ []
   pub one_participant_crosses : market_of (Some own_bid) (Some own_offer) ≡ market.Crossed
   pub and_makes_no_pair : pairs_from 0 one_participant ≡ []
   pub a_manual_one_is_not_protected : protected_among locked.offers ≡ []

@@ -35,7 +35,8 @@ abbrev pub SaysOf : Market → List Row → List Row → Type 0
 SaysOf market.Empty bids offers = (bids ≡ []) × (offers ≡ [])
 SaysOf market.OneSided bids offers = ((bids ≡ []) × (offers ≢ [])) ⊎ ((bids ≢ []) × (offers ≡ []))
 SaysOf market.Normal bids offers = (bids ≢ []) × (offers ≢ []) × OfEach (λ bid offer. bid.price < offer.price) bids offers
-SaysOf market.Locked bids offers = OfEach (λ bid offer. bid.price ≤ offer.price) bids offers × OfSome (λ bid offer. bid.price ≡ offer.price) bids offers
+SaysOf market.Locked bids offers = OfEach (λ bid offer. bid.price ≤ offer.price) bids offers
+    × OfSome (λ bid offer. bid.price ≡ offer.price) bids offers
 SaysOf market.Crossed bids offers = OfSome (λ bid offer. offer.price < bid.price) bids offers
 
 -- quotations of two participants, the bid's price at the offer's or above
@@ -58,4 +59,5 @@ pub record IsOfRoster (rows : List Row) : Type 0 where
 -- the pairs from the first place on are those of the view, and no other
 pub record ListsPairs (seen : Seen) : Type 0 where
   pub each_is : All (IsPairIn seen) (pairs_from 0 seen)
-  pub each_is_there : (bid offer : Row) → Contains seen.bids bid → Contains seen.offers offer → LockOrCross bid offer → Contains (pairs_from 0 seen) (pair_of bid offer)
+  pub each_is_there : (bid offer : Row) → Contains seen.bids bid → Contains seen.offers offer → LockOrCross bid offer
+      → Contains (pairs_from 0 seen) (pair_of bid offer)

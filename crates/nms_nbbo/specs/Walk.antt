@@ -12,7 +12,8 @@ AreByPart rows = IsStrictlyIncreasing (map (λ row. row.part) rows)
 -- no pair of those bids and offers at a place from `low` up to `high`
 abbrev pub NoPair : List Row → List Row → ℕ → ℕ → Type 0
 NoPair bids offers low high =
-    (bid offer : Row) → Contains bids bid → Contains offers offer → low ≤ place_of bid offer → place_of bid offer < high → pair_between (Some bid) (Some offer) ≡ None
+    (bid offer : Row) → Contains bids bid → Contains offers offer → low ≤ place_of bid offer → place_of bid offer < high
+    → pair_between (Some bid) (Some offer) ≡ None
 
 -- the pair at the least place from `low` on
 pub record IsFirstPair (bids offers : List Row) (low : ℕ) (pair : Pair) : Type 0 where

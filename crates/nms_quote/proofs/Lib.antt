@@ -1,3 +1,4 @@
+pub mod MemberLemmas
 pub mod MergeLemmas
 mod TableLemmas
 pub mod Offered

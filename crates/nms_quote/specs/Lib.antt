@@ -4,4 +4,5 @@ pub mod Merge
 pub mod Tape
 pub mod Roster
 pub mod Names
+pub mod Members
 pub mod Terms

@@ -1,6 +1,6 @@
--- Changes with the feeds that brought them, and what it is to merge the lists of two feeds. This product's
+-- Changes with the feeds that brought them, and what it is to merge the lists of the feeds. This product's
 -- own rule.
-use Rattle.std.specs.Prelude.{ℕ, ◌≡◌, Bool, false, List, [], ◌∷◌, nat_eq, filter, Option, Some, None, if◌then◌else◌}
+use Rattle.std.specs.Prelude.{ℕ, ◌≡◌, Bool, false, List, [], ◌∷◌, nat_eq, filter, slice_index_or, Option, Some, None, if◌then◌else◌}
 use Rattle.nms_quote.specs.Roster.{Listing, feed_of_change}
 use Rattle.nms_quote.specs.Tape.{Tape}
 use Rattle.nms_quote.specs.declared.change.Change.{Change}
@@ -12,10 +12,16 @@ use Rattle.nms_quote.specs.declared.marked.Marked.{Marked}
 abbrev pub place_of : Feed → ℕ
 place_of feed.A = 0
 place_of feed.B = 1
+place_of feed.C = 2
+place_of feed.D = 3
+place_of feed.E = 4
+place_of feed.F = 5
+place_of feed.G = 6
+place_of feed.H = 7
 
 -- all feeds, in order of place
 abbrev pub feeds : List Feed
-feeds = feed.A ∷ feed.B ∷ []
+feeds = feed.A ∷ feed.B ∷ feed.C ∷ feed.D ∷ feed.E ∷ feed.F ∷ feed.G ∷ feed.H ∷ []
 
 -- whether two feeds are one
 abbrev pub is_same_feed : Feed → Feed → Bool
@@ -35,7 +41,10 @@ unfoldable pub of_feed : Feed → List Marked → List Change
 of_feed feed [] = []
 of_feed feed (marked ∷ more) = if is_same_feed feed marked.feed then marked.change ∷ of_feed feed more else of_feed feed more
 
--- a merge of two lists: the changes marked A are the first list in order, those marked B the second
-pub record IsMerge (a b : List Change) (marked : List Marked) : Type 0 where
-  pub of_a : of_feed feed.A marked ≡ a
-  pub of_b : of_feed feed.B marked ≡ b
+-- of lists that stand in order of place, a feed's own: an empty one beyond the last
+abbrev pub own_of : {X : Type 0} → Feed → List (List X) → List X
+own_of feed lists = slice_index_or lists (place_of feed) []
+
+-- a merge of lists, one for each feed: the changes that bear a feed's mark are that feed's list, in order
+abbrev pub IsMerge : List (List Change) → List Marked → Type 0
+IsMerge lists marked = (feed : Feed) → of_feed feed marked ≡ own_of feed lists

@@ -1,5 +1,6 @@
 -- Who is on the roster, and under which place. This product's own rule.
-use Rattle.std.specs.Prelude.{◌≡◌, ◌≤◌, ℕ, true, ◌&&◌, ◌||◌, Bool, List, [], length, map, nat_lt, nat_le, position, slice_get, unwrap_or, option_map, Option, Some, None, if◌then◌else◌, is_some}
+use Rattle.std.specs.Prelude.{◌≡◌, ◌≤◌, ℕ, true, ◌&&◌, ◌||◌, Bool, List, [], length, map, nat_lt, nat_le, position, slice_get, unwrap_or}
+use Rattle.std.specs.Prelude.{option_map, Option, Some, None, if◌then◌else◌, is_some}
 use Rattle.std.specs.List.{list_all}
 use Rattle.std.specs.Str.{bytes_eq}
 use Rattle.nms_quote.specs.declared.TheConstants.{MOST_PARTICIPANTS, MOST_SYMBOLS}

@@ -11,6 +11,7 @@ mod marked;
 mod name;
 mod name_table;
 mod order;
+mod part_set;
 mod participant;
 mod plan;
 mod roster;
@@ -22,6 +23,8 @@ mod symbol;
 pub const MOST_PARTICIPANTS: u8 = 32;
 /// The most symbols of a roster: their places are 0 to 999. This product's own rule.
 pub const MOST_SYMBOLS: u16 = 1000;
+/// The most feeds: their places are 0 to 7. This product's own rule.
+pub const MOST_FEEDS: u8 = 8;
 /// The most changes of a tape. This product's own rule.
 pub const MOST_CHANGES: u64 = 10_000_000;
 
@@ -33,6 +36,7 @@ pub use feed::Feed;
 pub use marked::Marked;
 pub use name::{is_part_name, is_symbol_name};
 pub use order::{Order, OrderSide};
+pub use part_set::PartSet;
 pub use participant::Part;
 pub use plan::{Leg, Plan};
 pub use roster::Roster;

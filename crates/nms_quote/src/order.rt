@@ -2,6 +2,7 @@
 ghost use Rattle.std.specs.Prelude.{◌≡◌, ℕ, ◌≤◌};
 ghost use Rattle.std.specs.Option.{SomeIff};
 
+use crate::part_set::PartSet;
 use crate::symbol::Sym;
 use nms_units::{Price, Shares};
 use std::marker::Model;
@@ -28,6 +29,9 @@ pub struct Order {
     pub limit: Price,
     /// Whether it may also trade with manual quotations.
     pub manual: bool,
+    /// Participants whose quotations are neither usable nor binding for it: self-help against trading centers whose
+    /// systems fail or answer too late (17 CFR 242.611(b)(1)).
+    pub self_help: PartSet,
 }
 
 impl Model for Order {
@@ -36,11 +40,11 @@ impl Model for Order {
 
     ghost Value = { Terms };
 
-    ghost view = { λ o. record { side = o.side; sym = o.sym; shares = o.shares; limit = o.limit; manual = o.manual } };
+    ghost view = { λ o. record { side = o.side; sym = o.sym; shares = o.shares; limit = o.limit; manual = o.manual; self_help = o.self_help } };
 
     ghost invariant = { λ o. 1 ≤ o.shares };
 
-    ghost inverse = { λ t. record { side = t.side; sym = t.sym; shares = t.shares; limit = t.limit; manual = t.manual } };
+    ghost inverse = { λ t. record { side = t.side; sym = t.sym; shares = t.shares; limit = t.limit; manual = t.manual; self_help = t.self_help } };
 }
 
 impl Order {
@@ -53,8 +57,9 @@ impl Order {
         shares: Shares,
         limit: Price,
         manual: bool,
+        self_help: PartSet,
     ) -> Option<Self>
-        ensures { SomeIff result (1 ≤ shares) (record { side = side; sym = sym; shares = shares; limit = limit; manual = manual }) }
+        ensures { SomeIff result (1 ≤ shares) (record { side = side; sym = sym; shares = shares; limit = limit; manual = manual; self_help = self_help }) }
     {
         if 1 <= shares.get() {
             Some(Order {
@@ -63,6 +68,7 @@ impl Order {
                 shares,
                 limit,
                 manual,
+                self_help,
             })
         } else {
             None

@@ -1,5 +1,6 @@
 -- Elements with numbers that differ: rows by participant place, and legs of which no two go to one.
-use Rattle.std.proofs.Common.{ℕ, suc, ◌≡◌, ◌<◌, Bool, true, false, List, [], ◌∷◌, map, ◌⊎◌, inl, inr, refl, ap, sym, ◌∙◌, arith, add-one, nat_eq}
+use Rattle.std.proofs.Common.{ℕ, suc, ◌≡◌, ◌<◌, Bool, true, false, List, [], ◌∷◌, map, ◌⊎◌, inl, inr, refl, ap, sym, ◌∙◌, arith, add-one}
+use Rattle.std.proofs.Common.{nat_eq}
 use Rattle.std.specs.List.{filter, AllByRecursion, IsDistinct}
 use Rattle.std.specs.List.Sorted.{IsStrictlyIncreasing}
 use Rattle.std.proofs.lemmas.Bool.{cases_Bool, eqb-false, ne_eqb}
@@ -19,7 +20,8 @@ Apart-same part (z ∷ zs) apart x y (inl a) (inr b) e = absurd (apart.0 y b (ap
 Apart-same part (z ∷ zs) apart x y (inr a) (inl b) e = absurd (apart.0 x a (ap part (sym b) ∙ sym e))
 Apart-same part (z ∷ zs) apart x y (inr a) (inr b) e = Apart-same part zs apart.1 x y a b e
 
-Apart-filter-step : {X : Type 0} (part : X → ℕ) (p : X → Bool) (x : X) (xs : List X) → ((y : X) → In y xs → part x ≡ part y → ⊥) → Apart part (filter p xs) → (p x ≡ true) ⊎ (p x ≡ false) → Apart part (filter p (x ∷ xs))
+Apart-filter-step : {X : Type 0} (part : X → ℕ) (p : X → Bool) (x : X) (xs : List X) → ((y : X) → In y xs → part x ≡ part y → ⊥)
+    → Apart part (filter p xs) → (p x ≡ true) ⊎ (p x ≡ false) → Apart part (filter p (x ∷ xs))
 Apart-filter-step part p x xs first rest (inl e) = rw e ((λ y within. first y (filter-In p xs y within).0), rest)
 Apart-filter-step part p x xs first rest (inr e) = rw e rest
 
@@ -28,16 +30,20 @@ Apart-filter part p [] apart = tt
 Apart-filter part p (x ∷ xs) apart = Apart-filter-step part p x xs apart.0 (Apart-filter part p xs apart.1) (cases_Bool (p x))
 
 -- a map that keeps the numbers
-pub Apart-map : {X Y : Type 0} (part : X → ℕ) (number : Y → ℕ) (f : X → Y) → ((x : X) → number (f x) ≡ part x) → (xs : List X) → Apart part xs → Apart number (map f xs)
+pub Apart-map : {X Y : Type 0} (part : X → ℕ) (number : Y → ℕ) (f : X → Y) → ((x : X) → number (f x) ≡ part x) → (xs : List X)
+    → Apart part xs → Apart number (map f xs)
 Apart-map part number f keeps [] apart = tt
-Apart-map {Y = Y} part number f keeps (x ∷ xs) apart =
-    ((λ y within e. let from = map-In f xs y within in apart.0 from.0 from.1 (sym (keeps x) ∙ e ∙ ap number from.2 ∙ keeps from.0)), Apart-map part number f keeps xs apart.1)
+Apart-map {Y = Y} part number f keeps (x ∷ xs) apart = (
+  (λ y within e. let from = map-In f xs y within in apart.0 from.0 from.1 (sym (keeps x) ∙ e ∙ ap number from.2 ∙ keeps from.0)),
+  Apart-map part number f keeps xs apart.1,
+)
 
 -- numbers that rise
 rising-tail : (n : ℕ) (ns : List ℕ) → IsStrictlyIncreasing (n ∷ ns) → IsStrictlyIncreasing ns
 rising-tail n ns rising k below = let next = rising (suc k) (omega arith) in rw add-one (rw add-one at next)
 
-below-all : {X : Type 0} (part : X → ℕ) (low : ℕ) (xs : List X) → IsStrictlyIncreasing (low ∷ map part xs) → (y : X) → In y xs → low < part y
+below-all : {X : Type 0} (part : X → ℕ) (low : ℕ) (xs : List X) → IsStrictlyIncreasing (low ∷ map part xs) → (y : X) → In y xs
+    → low < part y
 below-all part low [] rising y within = absurd within
 below-all part low (x ∷ xs) rising y (inl e) = let first = rising 0 (omega arith) in rw e first
 below-all part low (x ∷ xs) rising y (inr within) =
@@ -47,11 +53,14 @@ below-all part low (x ∷ xs) rising y (inr within) =
 
 pub Apart-rising : {X : Type 0} (part : X → ℕ) (xs : List X) → IsStrictlyIncreasing (map part xs) → Apart part xs
 Apart-rising part [] rising = tt
-Apart-rising part (x ∷ xs) rising =
-    ((λ y within e. let less = below-all part (part x) xs rising y within in omega (arith, less, e)), Apart-rising part xs (rising-tail (part x) (map part xs) rising))
+Apart-rising part (x ∷ xs) rising = (
+  (λ y within e. let less = below-all part (part x) xs rising y within in omega (arith, less, e)),
+  Apart-rising part xs (rising-tail (part x) (map part xs) rising),
+)
 
 -- `IsDistinct`
-differs : {X : Type 0} (part : X → ℕ) (low : ℕ) (xs : List X) → ((y : X) → In y xs → low ≡ part y → ⊥) → AllByRecursion (λ n. nat_eq low n ≡ false) (map part xs)
+differs : {X : Type 0} (part : X → ℕ) (low : ℕ) (xs : List X) → ((y : X) → In y xs → low ≡ part y → ⊥)
+    → AllByRecursion (λ n. nat_eq low n ≡ false) (map part xs)
 differs part low [] each = tt
 differs part low (x ∷ xs) each = (ne_eqb low (part x) (each x (inl refl)), differs part low xs (λ y within. each y (inr within)))
 
@@ -61,13 +70,18 @@ IsDistinct-none = tt
 
 pub IsDistinct-Apart : {X : Type 0} (part : X → ℕ) (xs : List X) → Apart part xs → IsDistinct nat_eq (map part xs)
 IsDistinct-Apart part [] apart = IsDistinct-none
-IsDistinct-Apart part (x ∷ xs) apart = IsDistinct-cons nat_eq (part x) (map part xs) (differs part (part x) xs apart.0) (IsDistinct-Apart part xs apart.1)
+IsDistinct-Apart part (x ∷ xs) apart =
+    IsDistinct-cons nat_eq (part x) (map part xs) (differs part (part x) xs apart.0) (IsDistinct-Apart part xs apart.1)
 
-apart-from : {X : Type 0} (part : X → ℕ) (low : ℕ) (xs : List X) → AllByRecursion (λ n. nat_eq low n ≡ false) (map part xs) → (y : X) → In y xs → low ≡ part y → ⊥
+apart-from : {X : Type 0} (part : X → ℕ) (low : ℕ) (xs : List X) → AllByRecursion (λ n. nat_eq low n ≡ false) (map part xs) → (y : X)
+    → In y xs → low ≡ part y → ⊥
 apart-from part low [] each y within e = absurd within
 apart-from part low (x ∷ xs) each y (inl same) e = eqb-false low (part x) each.0 (e ∙ ap part same)
 apart-from part low (x ∷ xs) each y (inr within) e = apart-from part low xs each.1 y within e
 
 pub Apart-IsDistinct : {X : Type 0} (part : X → ℕ) (xs : List X) → IsDistinct nat_eq (map part xs) → Apart part xs
 Apart-IsDistinct part [] distinct = tt
-Apart-IsDistinct part (x ∷ xs) distinct = (apart-from part (part x) xs (IsDistinct-head nat_eq (part x) (map part xs) distinct), Apart-IsDistinct part xs (IsDistinct-tail nat_eq (part x) (map part xs) distinct))
+Apart-IsDistinct part (x ∷ xs) distinct = (
+  apart-from part (part x) xs (IsDistinct-head nat_eq (part x) (map part xs) distinct),
+  Apart-IsDistinct part xs (IsDistinct-tail nat_eq (part x) (map part xs) distinct),
+)

@@ -22,9 +22,19 @@ pub record Passes (cutoff : ℤ) (row : Usable) : Type 0 where
   pub pooled : is_pooled cutoff row ≡ false
   pub beyond : cutoff <ℤ row.rank
 
-places-step : (cutoff : ℤ) (row : Usable) → (is_swept cutoff row ≡ true) ⊎ (is_swept cutoff row ≡ false) → (int_le row.rank cutoff ≡ true) ⊎ (int_le row.rank cutoff ≡ false) → Sweeps cutoff row ⊎ (Pools cutoff row ⊎ Passes cutoff row)
-places-step cutoff row (inl is) le = inl (record { is = is; pooled = and_right (int_le row.rank cutoff) (not (is_swept cutoff row)) (not_from_true (is_swept cutoff row) is) })
-places-step cutoff row (inr is) (inl le) = inr (inl (record { is = is; pooled = and_from (int_le row.rank cutoff) (not (is_swept cutoff row)) le (not_from_false (is_swept cutoff row) is) }))
+places-step : (cutoff : ℤ) (row : Usable) → (is_swept cutoff row ≡ true) ⊎ (is_swept cutoff row ≡ false)
+    → (int_le row.rank cutoff ≡ true) ⊎ (int_le row.rank cutoff ≡ false) → Sweeps cutoff row ⊎ (Pools cutoff row ⊎ Passes cutoff row)
+places-step cutoff row (inl is) le = inl (record {
+  is = is;
+  pooled =
+      and_right (int_le row.rank cutoff) (not (is_swept cutoff row)) (not_from_true (is_swept cutoff row) is);
+})
+places-step cutoff row (inr is) (inl le) =
+    inr (inl (record {
+      is = is;
+      pooled =
+          and_from (int_le row.rank cutoff) (not (is_swept cutoff row)) le (not_from_false (is_swept cutoff row) is);
+    }))
 places-step cutoff row (inr is) (inr le) = inr (inr (record { is = is; pooled = rw le refl; beyond = le-false row.rank cutoff le }))
 
 pub places : (cutoff : ℤ) (row : Usable) → Sweeps cutoff row ⊎ (Pools cutoff row ⊎ Passes cutoff row)
@@ -49,7 +59,8 @@ cost-is cutoff row is = cond-true (is_swept cutoff row) (row.cost *ℤ pos row.s
 pub cost-not : (cutoff : ℤ) (row : Usable) → is_swept cutoff row ≡ false → swept_cost_part cutoff row ≡ pos 0
 cost-not cutoff row is = cond-false (is_swept cutoff row) (row.cost *ℤ pos row.size) (pos 0) is
 
-pub savings-is : (cutoff marginal : ℤ) (row : Usable) → is_pooled cutoff row ≡ true → savings_part cutoff marginal row ≡ int_max (marginal -ℤ row.cost) (pos 0) *ℤ pos row.size
+pub savings-is : (cutoff marginal : ℤ) (row : Usable) → is_pooled cutoff row ≡ true
+    → savings_part cutoff marginal row ≡ int_max (marginal -ℤ row.cost) (pos 0) *ℤ pos row.size
 savings-is cutoff marginal row is = cond-true (is_pooled cutoff row) (int_max (marginal -ℤ row.cost) (pos 0) *ℤ pos row.size) (pos 0) is
 
 pub savings-not : (cutoff marginal : ℤ) (row : Usable) → is_pooled cutoff row ≡ false → savings_part cutoff marginal row ≡ pos 0

@@ -12,7 +12,8 @@ pub cost_of-none : (fees : Charges) (side : OrderSide) → cost_of fees side [] 
 unfolding cost_of
 cost_of-none fees side = refl
 
-pub cost_of-push : (fees : Charges) (side : OrderSide) (legs : List Leg) (leg : Leg) → cost_of fees side (legs ++ leg ∷ []) ≡ cost_of fees side legs +ℤ leg_cost fees side leg
+pub cost_of-push : (fees : Charges) (side : OrderSide) (legs : List Leg) (leg : Leg)
+    → cost_of fees side (legs ++ leg ∷ []) ≡ cost_of fees side legs +ℤ leg_cost fees side leg
 unfolding cost_of
 cost_of-push fees side [] leg = omega (arith, ints)
 cost_of-push fees side (first ∷ legs) leg = omega (arith, ints, cost_of-push fees side legs leg)

@@ -5,6 +5,7 @@ pub mod GivenLemmas
 pub mod LawfulLemmas
 pub mod LegLemmas
 pub mod MemberLemmas
+mod NamedLemmas
 mod NeverLemmas
 mod NoneLemmas
 pub mod OptimalLemmas

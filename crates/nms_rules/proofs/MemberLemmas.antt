@@ -1,5 +1,6 @@
 -- Membership by recursion, and the words on lists said by it.
-use Rattle.std.proofs.Common.{ℕ, zero, suc, ◌≡◌, ◌<◌, Bool, true, false, List, [], ◌∷◌, length, map, get_or, Option, Some, None, All, Any, ◌⊎◌, inl, inr, refl, ap, sym, ◌∙◌, subst, arith, cond}
+use Rattle.std.proofs.Common.{ℕ, zero, suc, ◌≡◌, ◌<◌, Bool, true, false, List, [], ◌∷◌, length, map, get_or, Option, Some, None, All, Any}
+use Rattle.std.proofs.Common.{◌⊎◌, inl, inr, refl, ap, sym, ◌∙◌, subst, arith, cond}
 use Rattle.std.specs.List.{find, list_any, filter, AllByRecursion}
 use Rattle.std.specs.Option.{is_some}
 use Rattle.std.proofs.lemmas.Bool.{cases_Bool, both_ways, false≢true, or_parts, or_from, or_cases}
@@ -52,7 +53,8 @@ pub list_any-false : {X : Type 0} (p : X → Bool) (xs : List X) → ((x : X) �
 list_any-false p [] each = refl
 list_any-false p (y ∷ ys) each = or_from (p y) (list_any p ys) (each y (inl refl)) (list_any-false p ys (λ x within. each x (inr within)))
 
-list_any-step : {X : Type 0} (p : X → Bool) (y : X) (ys : List X) → (list_any p ys ≡ true → (x : X) × In x ys × (p x ≡ true)) → (p y ≡ true) ⊎ (list_any p ys ≡ true) → (x : X) × In x (y ∷ ys) × (p x ≡ true)
+list_any-step : {X : Type 0} (p : X → Bool) (y : X) (ys : List X) → (list_any p ys ≡ true → (x : X) × In x ys × (p x ≡ true))
+    → (p y ≡ true) ⊎ (list_any p ys ≡ true) → (x : X) × In x (y ∷ ys) × (p x ≡ true)
 list_any-step p y ys later (inl holds) = (y, inl refl, holds)
 list_any-step p y ys later (inr some) = let rest = later some in (rest.0, inr rest.1, rest.2)
 
@@ -73,7 +75,8 @@ some-none b y more holds e = none-some y (sym (rw holds at e))
 skipped : {X : Type 0} (b : Bool) (o y more : Option X) → b ≡ false → cond b y more ≡ o → more ≡ o
 skipped b o y more fails e = rw fails at e
 
-find-step : {X : Type 0} (p : X → Bool) (y : X) (ys : List X) (x : X) → (find p ys ≡ Some x → In x ys × (p x ≡ true)) → find p (y ∷ ys) ≡ Some x → (p y ≡ true) ⊎ (p y ≡ false) → In x (y ∷ ys) × (p x ≡ true)
+find-step : {X : Type 0} (p : X → Bool) (y : X) (ys : List X) (x : X) → (find p ys ≡ Some x → In x ys × (p x ≡ true))
+    → find p (y ∷ ys) ≡ Some x → (p y ≡ true) ⊎ (p y ≡ false) → In x (y ∷ ys) × (p x ≡ true)
 find-step p y ys x later e (inl holds) = let same = some-same (p y) x y (find p ys) holds e in (inl (sym same), ap p (sym same) ∙ holds)
 find-step p y ys x later e (inr fails) = let rest = later (skipped (p y) (Some x) (Some y) (find p ys) fails e) in (inr rest.0, rest.1)
 
@@ -81,7 +84,8 @@ pub find-is : {X : Type 0} (p : X → Bool) (xs : List X) (x : X) → find p xs 
 find-is p [] x e = absurd (none-some x e)
 find-is p (y ∷ ys) x e = find-step p y ys x (find-is p ys x) e (cases_Bool (p y))
 
-find-none-step : {X : Type 0} (p : X → Bool) (y : X) (ys : List X) → find p (y ∷ ys) ≡ None → (p y ≡ true) ⊎ (p y ≡ false) → (p y ≡ false) × (find p ys ≡ None)
+find-none-step : {X : Type 0} (p : X → Bool) (y : X) (ys : List X) → find p (y ∷ ys) ≡ None → (p y ≡ true) ⊎ (p y ≡ false)
+    → (p y ≡ false) × (find p ys ≡ None)
 find-none-step p y ys e (inl holds) = absurd (some-none (p y) y (find p ys) holds e)
 find-none-step p y ys e (inr fails) = (fails, skipped (p y) None (Some y) (find p ys) fails e)
 
@@ -95,7 +99,8 @@ find-nothing p [] each = refl
 find-nothing p (y ∷ ys) each = let fails = each y (inl refl) in rw fails (find-nothing p ys (λ x within. each x (inr within)))
 
 -- a filter and a map
-In-filter-step : {X : Type 0} (p : X → Bool) (y : X) (ys : List X) (x : X) → (In x ys → In x (filter p ys)) → p x ≡ true → (p y ≡ true) ⊎ (p y ≡ false) → In x (y ∷ ys) → In x (filter p (y ∷ ys))
+In-filter-step : {X : Type 0} (p : X → Bool) (y : X) (ys : List X) (x : X) → (In x ys → In x (filter p ys)) → p x ≡ true
+    → (p y ≡ true) ⊎ (p y ≡ false) → In x (y ∷ ys) → In x (filter p (y ∷ ys))
 In-filter-step p y ys x later holds (inl e) (inl same) = rw e (inl same)
 In-filter-step p y ys x later holds (inl e) (inr within) = rw e (inr (later within))
 In-filter-step p y ys x later holds (inr e) (inl same) = absurd (both_ways (p y) e (ap p (sym same) ∙ holds))
@@ -111,11 +116,13 @@ In-cond b x y ys e within = rw e at within
 In-skipped : {X : Type 0} (b : Bool) (x y : X) (ys : List X) → b ≡ false → In x (cond b (y ∷ ys) ys) → In x ys
 In-skipped b x y ys e within = rw e at within
 
-kept-step : {X : Type 0} (p : X → Bool) (y : X) (ys : List X) (x : X) → (In x (filter p ys) → In x ys × (p x ≡ true)) → p y ≡ true → (x ≡ y) ⊎ In x (filter p ys) → In x (y ∷ ys) × (p x ≡ true)
+kept-step : {X : Type 0} (p : X → Bool) (y : X) (ys : List X) (x : X) → (In x (filter p ys) → In x ys × (p x ≡ true)) → p y ≡ true
+    → (x ≡ y) ⊎ In x (filter p ys) → In x (y ∷ ys) × (p x ≡ true)
 kept-step p y ys x later e (inl same) = (inl same, ap p same ∙ e)
 kept-step p y ys x later e (inr within) = let rest = later within in (inr rest.0, rest.1)
 
-filter-In-step : {X : Type 0} (p : X → Bool) (y : X) (ys : List X) (x : X) → (In x (filter p ys) → In x ys × (p x ≡ true)) → (p y ≡ true) ⊎ (p y ≡ false) → In x (filter p (y ∷ ys)) → In x (y ∷ ys) × (p x ≡ true)
+filter-In-step : {X : Type 0} (p : X → Bool) (y : X) (ys : List X) (x : X) → (In x (filter p ys) → In x ys × (p x ≡ true))
+    → (p y ≡ true) ⊎ (p y ≡ false) → In x (filter p (y ∷ ys)) → In x (y ∷ ys) × (p x ≡ true)
 filter-In-step p y ys x later (inl e) within = kept-step p y ys x later e (In-cond (p y) x y (filter p ys) e within)
 filter-In-step p y ys x later (inr e) within = let rest = later (In-skipped (p y) x y (filter p ys) e within) in (inr rest.0, rest.1)
 

@@ -1,7 +1,8 @@
 -- A plan without a breach leaves no quotation of its side that it trades through.
 use Rattle.std.proofs.Common.{ℕ, ◌≡◌, ◌≤◌, ◌&&◌, Bool, true, false, List, [], ◌∷◌, ◌++◌, ◌⊎◌, inl, inr, refl, sym, subst, ◌∙◌, nat_lt}
 use Rattle.std.specs.List.{filter}
-use Rattle.std.proofs.lemmas.Bool.{and_parts, cases_Bool, false≢true, ltb-false}
+use Rattle.std.specs.Prelude.{not}
+use Rattle.std.proofs.lemmas.Bool.{and_from, and_parts, cases_Bool, false≢true, ltb-false, not_from_false}
 use Rattle.nms_quote.specs.declared.order.OrderSide.{OrderSide}
 use Rattle.nms_quote.specs.declared.plan.Leg.{Leg}
 use Rattle.nms_quote.specs.declared.side_quote.Side.{Side}
@@ -13,7 +14,7 @@ use Rattle.nms_rules.specs.Breach.{has_leg_beyond, is_beyond_limit, is_traded_th
 use Rattle.nms_rules.specs.Faultless.{given_by}
 use Rattle.nms_rules.specs.Laws.{KeepsLimit, LawfulPlansNeverTradeThrough, SweepsThroughOnItsSide}
 use Rattle.nms_rules.specs.Through.{is_through, through_on, traded_through_at}
-use Rattle.nms_rules.specs.Usable.{contra, is_better}
+use Rattle.nms_rules.specs.Usable.{contra, is_better, is_binding, is_named}
 use Rattle.nms_rules.proofs.MemberLemmas.{All-In, In, filter-In, find-none, list_any-none, map-In}
 use Rattle.nms_rules.proofs.NoneLemmas.{passes-none}
 
@@ -27,9 +28,11 @@ In-either (y ∷ xs) ys x (inr within) = elim (In-either xs ys x within) [
 
 -- what is traded through is a row of its side, protected and at a better price
 abbrev IsThrough : Seen → ℕ → Side × Row → Type 0
-IsThrough seen price found = In found.1 (rows_on found.0 seen) × (found.1.protected ≡ true) × (better_price found.0 found.1.price price ≡ true)
+IsThrough seen price found = In found.1 (rows_on found.0 seen) × (found.1.protected ≡ true)
+    × (better_price found.0 found.1.price price ≡ true)
 
-through_side : (seen : Seen) (side : Side) (rows : List Row) (price : ℕ) → rows ≡ rows_on side seen → (found : Side × Row) → In found (through_on side rows price) → IsThrough seen price found
+through_side : (seen : Seen) (side : Side) (rows : List Row) (price : ℕ) → rows ≡ rows_on side seen → (found : Side × Row)
+    → In found (through_on side rows price) → IsThrough seen price found
 through_side seen side rows price is found within =
     let made = map-In (λ (row : Row). (side, row)) (filter (is_through side price) rows) found within in
     let kept = filter-In (is_through side price) rows made.0 made.1 in
@@ -43,13 +46,14 @@ through_is seen price found within = elim (In-either (through_on Bid seen.bids p
 ]
 
 -- some leg is beyond a price that is better than that leg's
-beyond : (side : OrderSide) (legs : List Leg) (price : ℕ) (leg : Leg) → In leg legs → is_better side price leg.price ≡ true → has_leg_beyond side price legs ≡ true
+beyond : (side : OrderSide) (legs : List Leg) (price : ℕ) (leg : Leg) → In leg legs → is_better side price leg.price ≡ true
+    → has_leg_beyond side price legs ≡ true
 beyond side legs price leg within better = elim (cases_Bool (has_leg_beyond side price legs)) [
   | inl yes_it_is ↦ yes_it_is
   | inr none ↦ absurd (false≢true (sym (list_any-none (λ (leg : Leg). is_better side price leg.price) legs none leg within) ∙ better))
 ]
 
-swept : (protected below behind : Bool) → protected ≡ true → behind ≡ true → (protected && below && behind) ≡ false → below ≡ false
+swept : (binding below behind : Bool) → binding ≡ true → behind ≡ true → (binding && below && behind) ≡ false → below ≡ false
 swept true false true p b e = refl
 swept true true true p b e = absurd (false≢true (sym e))
 swept true below false p b e = absurd (false≢true b)
@@ -62,12 +66,15 @@ never_through seen order fees plan none =
     let legs : List Leg = plan.legs.items in
     All-In (λ leg. KeepsLimit order leg.price × SweepsThroughOnItsSide seen order legs leg.price) legs (λ leg within. (
       list_any-none (is_beyond_limit order) legs passes.limit leg within,
-      All-In (λ found. found.0 ≡ contra order.side → found.1.size ≤ given_by legs found.1.part) (traded_through_at seen leg.price) (λ found there same.
+      All-In (λ found. found.0 ≡ contra order.side → is_named order found.1 ≡ false → found.1.size ≤ given_by legs found.1.part)
+          (traded_through_at seen leg.price) (λ found there same unnamed.
           let through = through_is seen leg.price found there in
           let row : Row = found.1 in
           let here = subst (λ side. In row (rows_on side seen)) same through.0 in
           let better = subst (λ side. better_price side row.price leg.price ≡ true) same through.2 in
-          let kept = find-none (is_traded_through order.side legs) (rows_on (contra order.side) seen) passes.through row here in
+          let kept = find-none (is_traded_through order legs) (rows_on (contra order.side) seen) passes.through row here in
+          let binding = and_from (not (is_named order row)) row.protected (not_from_false (is_named order row) unnamed) through.1 in
           ltb-false (given_by legs row.part) row.size
-          (swept row.protected (nat_lt (given_by legs row.part) row.size) (has_leg_beyond order.side row.price legs) through.1 (beyond order.side legs row.price leg within better) kept)),
+          (swept (is_binding order row) (nat_lt (given_by legs row.part) row.size) (has_leg_beyond order.side row.price legs) binding
+          (beyond order.side legs row.price leg within better) kept)),
     ))

@@ -31,25 +31,47 @@ flag-to : (flag : Bool) → is_same_flag flag flag ≡ true
 flag-to true = refl
 flag-to false = refl
 
-same-terms : (one other : Terms) → one.side ≡ other.side → one.sym ≡ other.sym → one.shares ≡ other.shares → one.limit ≡ other.limit → one.manual ≡ other.manual → one ≡ other
-same-terms one other a b c d e =
-    let made : record { side = one.side; sym = one.sym; shares = one.shares; limit = one.limit; manual = one.manual } ≡ other = rw (a, b, c, d, e) refl in made
+same-terms : (one other : Terms) → one.side ≡ other.side → one.sym ≡ other.sym → one.shares ≡ other.shares → one.limit ≡ other.limit
+    → one.manual ≡ other.manual → one.self_help ≡ other.self_help
+    → one ≡ other
+same-terms one other a b c d e f =
+    let made : record {
+      side = one.side;
+      sym = one.sym;
+      shares = one.shares;
+      limit = one.limit;
+      manual = one.manual;
+      self_help = one.self_help;
+    } ≡ other =
+    rw (a, b, c, d, e, f) refl in made
 
-five-from : (a b c d e : Bool) → (a && b && c && d && e) ≡ true → (a ≡ true) × (b ≡ true) × (c ≡ true) × (d ≡ true) × (e ≡ true)
-five-from a b c d e all =
-    let last = and_parts (a && b && c && d) e all in
-    let fourth = and_parts (a && b && c) d last.0 in
+six-from : (a b c d e f : Bool) → (a && b && c && d && e && f) ≡ true
+    → (a ≡ true) × (b ≡ true) × (c ≡ true) × (d ≡ true) × (e ≡ true) × (f ≡ true)
+six-from a b c d e f all =
+    let last = and_parts (a && b && c && d && e) f all in
+    let fifth = and_parts (a && b && c && d) e last.0 in
+    let fourth = and_parts (a && b && c) d fifth.0 in
     let third = and_parts (a && b) c fourth.0 in
     let first = and_parts a b third.0 in
-    (first.0, first.1, third.1, fourth.1, last.1)
+    (first.0, first.1, third.1, fourth.1, fifth.1, last.1)
 
 pub order-from : (one other : Terms) → is_same_order one other ≡ true → one ≡ other
 order-from one other e =
-    let all = five-from (is_same_side one.side other.side) (one.sym == other.sym) (one.shares == other.shares) (one.limit == other.limit) (is_same_flag one.manual other.manual) e in
-    same-terms one other (side-from one.side other.side all.0) (eqb-true one.sym other.sym all.1) (eqb-true one.shares other.shares all.2) (eqb-true one.limit other.limit all.3) (flag-from one.manual other.manual all.4)
+    let all = six-from (is_same_side one.side other.side) (one.sym == other.sym) (one.shares == other.shares) (one.limit == other.limit)
+    (is_same_flag one.manual other.manual) (one.self_help == other.self_help) e in
+    same-terms one other (side-from one.side other.side all.0) (eqb-true one.sym other.sym all.1) (eqb-true one.shares other.shares all.2)
+    (eqb-true one.limit other.limit all.3) (flag-from one.manual other.manual all.4) (eqb-true one.self_help other.self_help all.5)
 
 pub order-to : (terms : Terms) → is_same_order terms terms ≡ true
-order-to terms = rw (side-to terms.side, eq-eqb terms.sym terms.sym refl, eq-eqb terms.shares terms.shares refl, eq-eqb terms.limit terms.limit refl, flag-to terms.manual) refl
+order-to terms =
+    rw (
+      side-to terms.side,
+      eq-eqb terms.sym terms.sym refl,
+      eq-eqb terms.shares terms.shares refl,
+      eq-eqb terms.limit terms.limit refl,
+      flag-to terms.manual,
+      eq-eqb terms.self_help terms.self_help refl,
+    ) refl
 
 -- ---- prices
 
@@ -62,6 +84,9 @@ rank-from-better Buy price other better = omega (arith, ints, ltb-true price oth
 rank-from-better Sell price other better = omega (arith, ints, ltb-true other price better)
 
 -- a price that is better than one within the limit is within it
-pub within-limit : (side : OrderSide) (limit price other : ℕ) → is_better side limit other ≡ false → is_better side price other ≡ true → is_better side limit price ≡ false
-within-limit Buy limit price other within better = le-ltb limit price (omega (arith, ltb-false limit other within, ltb-true price other better))
-within-limit Sell limit price other within better = le-ltb price limit (omega (arith, ltb-false other limit within, ltb-true other price better))
+pub within-limit : (side : OrderSide) (limit price other : ℕ) → is_better side limit other ≡ false → is_better side price other ≡ true
+    → is_better side limit price ≡ false
+within-limit Buy limit price other within better =
+    le-ltb limit price (omega (arith, ltb-false limit other within, ltb-true price other better))
+within-limit Sell limit price other within better =
+    le-ltb price limit (omega (arith, ltb-false other limit within, ltb-true other price better))

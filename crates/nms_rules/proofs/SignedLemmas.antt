@@ -39,7 +39,14 @@ times-suc z n = *ℤ_comm z (pos (suc n)) ∙ suc_ℤ-*ℤ (pos n) z ∙ ap (λ 
 pub times-plus : (z : ℤ) (m n : ℕ) → z *ℤ pos (m + n) ≡ z *ℤ pos m +ℤ z *ℤ pos n
 times-plus z m zero = omega (arith, ints, *ℤ-zero z, ap (λ k. z *ℤ pos k) (let e : m + 0 ≡ m = omega arith in e))
 times-plus z m (suc n) =
-    omega (arith, ints, times-plus z m n, times-suc z n, times-suc z (m + n), ap (λ k. z *ℤ pos k) (let e : m + suc n ≡ suc (m + n) = omega arith in e))
+    omega (
+      arith,
+      ints,
+      times-plus z m n,
+      times-suc z n,
+      times-suc z (m + n),
+      ap (λ k. z *ℤ pos k) (let e : m + suc n ≡ suc (m + n) = omega arith in e),
+    )
 
 -- a sum of two for each
 pub plus-times : (y z : ℤ) (n : ℕ) → (y +ℤ z) *ℤ pos n ≡ y *ℤ pos n +ℤ z *ℤ pos n
@@ -59,12 +66,26 @@ zero-times (suc n) = omega (arith, ints, times-suc (pos 0) n, zero-times n)
 pub times-grow : (z : ℤ) (m n : ℕ) → pos 0 ≤ℤ z → m ≤ n → (z *ℤ pos m) ≤ℤ (z *ℤ pos n)
 times-grow z m n some less =
     let rest = times-more (pos 0) z (n - m) some in
-    omega (arith, ints, rest, zero-times (n - m), times-plus z m (n - m), ap (λ k. z *ℤ pos k) (let e : m + (n - m) ≡ n = omega (arith, less) in e))
+    omega (
+      arith,
+      ints,
+      rest,
+      zero-times (n - m),
+      times-plus z m (n - m),
+      ap (λ k. z *ℤ pos k) (let e : m + (n - m) ≡ n = omega (arith, less) in e),
+    )
 
 -- a share costs its unit cost, or the marginal less what it saves
-pub saves : (marginal cost : ℤ) (given size : ℕ) → given ≤ size → (marginal *ℤ pos given) ≤ℤ (cost *ℤ pos given +ℤ int_max (marginal -ℤ cost) (pos 0) *ℤ pos size)
+pub saves : (marginal cost : ℤ) (given size : ℕ) → given ≤ size
+    → (marginal *ℤ pos given) ≤ℤ (cost *ℤ pos given +ℤ int_max (marginal -ℤ cost) (pos 0) *ℤ pos size)
 saves marginal cost given size within =
     let saved : ℤ = int_max (marginal -ℤ cost) (pos 0) in
     let some : pos 0 ≤ℤ saved = omega (arith, ints, clamps) in
     let enough : marginal ≤ℤ (cost +ℤ saved) = omega (arith, ints, clamps) in
-    omega (arith, ints, times-more marginal (cost +ℤ saved) given enough, plus-times cost saved given, times-grow saved given size some within)
+    omega (
+      arith,
+      ints,
+      times-more marginal (cost +ℤ saved) given enough,
+      plus-times cost saved given,
+      times-grow saved given size some within,
+    )

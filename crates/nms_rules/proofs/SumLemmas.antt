@@ -28,8 +28,10 @@ amount_push part (first ∷ rows) row = omega (arith, ints, amount_push part row
 more : (rows : List Usable) (i : ℕ) (row : Usable) → i < length rows → row ≡ get_or rows i row → take (i + 1) rows ≡ take i rows ++ row ∷ []
 more rows i row within is = take_more rows i row within ∙ ap (λ (one : Usable). take i rows ++ one ∷ []) (sym is)
 
-pub total_more : (part : Usable → ℕ) (rows : List Usable) (i : ℕ) (row : Usable) → i < length rows → row ≡ get_or rows i row → total part (take (i + 1) rows) ≡ total part (take i rows) + part row
+pub total_more : (part : Usable → ℕ) (rows : List Usable) (i : ℕ) (row : Usable) → i < length rows → row ≡ get_or rows i row
+    → total part (take (i + 1) rows) ≡ total part (take i rows) + part row
 total_more part rows i row within is = ap (total part) (more rows i row within is) ∙ total_push part (take i rows) row
 
-pub amount_more : (part : Usable → ℤ) (rows : List Usable) (i : ℕ) (row : Usable) → i < length rows → row ≡ get_or rows i row → amount part (take (i + 1) rows) ≡ amount part (take i rows) +ℤ part row
+pub amount_more : (part : Usable → ℤ) (rows : List Usable) (i : ℕ) (row : Usable) → i < length rows → row ≡ get_or rows i row
+    → amount part (take (i + 1) rows) ≡ amount part (take i rows) +ℤ part row
 amount_more part rows i row within is = ap (amount part) (more rows i row within is) ∙ amount_push part (take i rows) row

@@ -20,4 +20,5 @@ pub record IsAccepted (seen : Seen) (asked : Terms) (fees : Charges) (plan : Pla
   pub each_price : All (λ row. Any (λ cut. cut.price ≡ row.price) cuts) (usable seen asked fees)
   pub no_other : All (λ cut. Any (λ row. row.price ≡ cut.price) (usable seen asked fees)) cuts
   pub best_first : AllPairs (λ cut later. is_better asked.side cut.price later.price ≡ true) cuts
-  pub holds : All (λ cut. KindHolds (usable seen asked fees) (fillable (usable seen asked fees) asked.shares) plan.cost (rank_of asked.side cut.price) cut.kind) cuts
+  pub holds : All (λ cut. KindHolds (usable seen asked fees) (fillable (usable seen asked fees) asked.shares) plan.cost
+      (rank_of asked.side cut.price) cut.kind) cuts

@@ -1,6 +1,7 @@
 -- How shares may be spread over the usable rows of an order (17 CFR 242.600, "intermarket sweep order": the
--- full displayed size of every protected quotation that is priced better than one it trades at). What is
--- filled and what it costs are this product's own words.
+-- full displayed size of every protected quotation that is priced better than one it trades at). Rows of participants
+-- that the order names under self-help are not usable, so none of them is swept (242.611(b)(1)). What is filled and
+-- what it costs are this product's own words.
 use Rattle.std.specs.Prelude.{ℕ, ℤ, pos, ◌≡◌, ◌<◌, ◌≤◌, ◌+◌, ◌+ℤ◌, ◌*ℤ◌, ◌<ℤ◌, ◌≤ℤ◌, true, min, List, [], ◌∷◌, All, Any}
 use Rattle.nms_rules.specs.Usable.{Usable}
 
@@ -48,4 +49,5 @@ pub record IsLawful (rows : List Usable) (asked : ℕ) (given : Assignment) : Ty
 pub record IsOptimal (rows : List Usable) (asked : ℕ) (given : Assignment) : Type 0 where
   pub lawful : IsLawful rows asked given
   pub most : (other : Assignment) → IsLawful rows asked other → filled other rows ≤ filled given rows
-  pub cheapest : (other : Assignment) → IsLawful rows asked other → filled other rows ≡ filled given rows → total_cost given rows ≤ℤ total_cost other rows
+  pub cheapest : (other : Assignment) → IsLawful rows asked other → filled other rows ≡ filled given rows
+      → total_cost given rows ≤ℤ total_cost other rows

@@ -1,5 +1,6 @@
 -- What breaks a plan. Each breach says by itself when it holds; of those that hold the first is told. This
--- product's own rule, after 17 CFR 242.600, "intermarket sweep order" and "trade-through", and 242.611.
+-- product's own rule, after 17 CFR 242.600, "intermarket sweep order" and "trade-through", and 242.611. An order's
+-- self-help is a part of it (242.611(b)(1)).
 use Rattle.std.specs.Prelude.{ℕ, ◌==◌, ◌&&◌, ◌||◌, Bool, true, false, not, nat_lt, List, [], ◌∷◌, Option, Some, None, option_map}
 use Rattle.std.specs.List.{find, list_any}
 use Rattle.std.specs.Ordering.{int_eq}
@@ -13,7 +14,7 @@ use Rattle.nms_board.specs.declared.row.Row.{Row}
 use Rattle.nms_fee_book.specs.Fees.{Charges}
 use Rattle.nms_rules.specs.Faultless.{cost_of, given_by, sum_of}
 use Rattle.nms_rules.specs.First.{when, ◌or_else◌}
-use Rattle.nms_rules.specs.Usable.{contra_rows, is_allowed, is_better}
+use Rattle.nms_rules.specs.Usable.{contra_rows, is_allowed, is_better, is_binding}
 use Rattle.nms_rules.specs.declared.breach_kind.Breach.{Breach}
 use Rattle.nms_rules.specs.declared.breach_kind.Breach.TheVariants as breach
 
@@ -31,7 +32,9 @@ is_same_flag false flag = not flag
 
 abbrev pub is_same_order : Terms → Terms → Bool
 is_same_order one other =
-    is_same_side one.side other.side && one.sym == other.sym && one.shares == other.shares && one.limit == other.limit && is_same_flag one.manual other.manual
+    is_same_side one.side other.side && one.sym == other.sym && one.shares == other.shares && one.limit == other.limit
+    && is_same_flag one.manual other.manual
+    && one.self_help == other.self_help
 
 -- the plan is of another version than the view
 abbrev pub is_other_version : Seen → Plan → Bool
@@ -47,7 +50,7 @@ is_other_order seen order plan = not (is_same_order plan.order order) || not (pl
 abbrev pub row_for : Seen → OrderSide → Leg → Option Row
 row_for seen side leg = find (λ row. row.part == leg.part) (contra_rows side seen)
 
--- it goes to no quotation, or to a manual one without the order's leave
+-- it goes to no quotation, to one of a participant that the order names, or to a manual one without the order's leave
 abbrev pub lacks_quotation : Terms → Option Row → Bool
 lacks_quotation order None = true
 lacks_quotation order (Some row) = not (is_allowed order row)
@@ -98,15 +101,15 @@ has_repeat (leg ∷ legs) = goes_to leg.part legs || has_repeat legs
 abbrev pub has_leg_beyond : OrderSide → ℕ → List Leg → Bool
 has_leg_beyond side price legs = list_any (λ leg. is_better side price leg.price) legs
 
--- a protected quotation that is strictly better than the price of some leg gets less than its full size: the
--- legs trade through it (17 CFR 242.600, "trade-through")
-unfoldable pub is_traded_through : OrderSide → List Leg → Row → Bool
-is_traded_through side legs row =
-    row.protected && nat_lt (given_by legs row.part) row.size && has_leg_beyond side row.price legs
+-- a protected quotation, of nobody named, that is strictly better than the price of some leg gets less than its full
+-- size: the legs trade through it (17 CFR 242.600, "trade-through"; 242.611(b)(1))
+unfoldable pub is_traded_through : Terms → List Leg → Row → Bool
+is_traded_through order legs row =
+    is_binding order row && nat_lt (given_by legs row.part) row.size && has_leg_beyond order.side row.price legs
 
 -- the first of them, by participant place
-abbrev pub first_traded_through : Seen → OrderSide → List Leg → Option Row
-first_traded_through seen side legs = find (is_traded_through side legs) (contra_rows side seen)
+abbrev pub first_traded_through : Seen → Terms → List Leg → Option Row
+first_traded_through seen order legs = find (is_traded_through order legs) (contra_rows order.side seen)
 
 abbrev pub is_over_asked : Terms → List Leg → Bool
 is_over_asked order legs = nat_lt order.shares (sum_of legs)
@@ -127,7 +130,7 @@ leg_breach seen order legs =
 abbrev pub sum_breach : Seen → Terms → List Leg → Option Breach
 sum_breach seen order legs =
     when (is_over_asked order legs) breach.OverAsked
-    or_else option_map (λ row. breach.TradedThrough row.part) (first_traded_through seen order.side legs)
+    or_else option_map (λ row. breach.TradedThrough row.part) (first_traded_through seen order legs)
 
 -- what breaks a plan first, and none where nothing does
 abbrev pub breach_of : Seen → Terms → Charges → Plan → Option Breach

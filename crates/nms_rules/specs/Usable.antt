@@ -1,7 +1,9 @@
 -- The quotations that an order may trade with, and how shares are spread over them. A buyer trades with offers
--- and a seller with bids, at the limit or better (17 CFR 242.600, "intermarket sweep order"). That a manual
--- quotation may be used where the order says so is this product's own rule.
+-- and a seller with bids, at the limit or better (17 CFR 242.600, "intermarket sweep order"). What the participants
+-- quote that an order names under self-help is passed over (17 CFR 242.611(b)(1)). That a manual quotation may be used
+-- where the order says so is this product's own rule.
 use Rattle.std.specs.Prelude.{ℕ, ℤ, pos, neg_ℤ, ◌&&◌, ◌||◌, Bool, not, List, filter, map}
+use Rattle.nms_quote.specs.Members.{has_part}
 use Rattle.nms_quote.specs.Terms.{Terms}
 use Rattle.nms_quote.specs.declared.order.OrderSide.{OrderSide}
 use Rattle.nms_quote.specs.declared.order.OrderSide.TheVariants.{Buy, Sell}
@@ -29,9 +31,17 @@ abbrev pub rank_of : OrderSide → ℕ → ℤ
 rank_of Buy price = pos price
 rank_of Sell price = neg_ℤ (pos price)
 
--- a quotation that the order may trade with, but for its price: a protected one, or a manual one by its leave
+-- a quotation of a participant that the order names under self-help
+abbrev pub is_named : Terms → Row → Bool
+is_named order row = has_part order.self_help row.part
+
+-- a quotation that the order may trade with, but for its price: of nobody named, and protected, or manual by its leave
 abbrev pub is_allowed : Terms → Row → Bool
-is_allowed order row = row.protected || order.manual
+is_allowed order row = not (is_named order row) && (row.protected || order.manual)
+
+-- a quotation that is swept before a worse price is traded: a protected one, of nobody named
+abbrev pub is_binding : Terms → Row → Bool
+is_binding order row = not (is_named order row) && row.protected
 
 -- and at its price: not beyond the limit
 abbrev pub is_usable : Terms → Row → Bool

@@ -17,7 +17,7 @@ use nms_fee_book::FeeBook;
 use nms_quote::{Leg, Order, Plan};
 
 /// What breaks a plan for an order on a view: the breach of least number that holds, and `None` exactly where
-/// the plan is lawful and summed rightly (17 CFR 242.600, "intermarket sweep order"; 242.611(b)(5) and (6)).
+/// the plan is lawful and summed rightly (17 CFR 242.600, "intermarket sweep order"; 242.611(b)(1), (5) and (6)).
 ///
 /// Takes no memory. Costs are in nanodollars, with the fees of the book.
 pub fn breach(view: &View, order: &Order, fees: &FeeBook, plan: &Plan) -> Option<Breach>
@@ -74,7 +74,7 @@ fn check_sums(view: &View, order: &Order, legs: &ArrayVec<Leg, MOST_ROWS>) -> Re
         sum_of(legs.as_slice()) > u64::from(order.shares.get()),
         Breach::OverAsked,
     )?;
-    match first_traded_through(view, order.side, legs) {
+    match first_traded_through(view, order, legs) {
         Some(row) => Err(Breach::TradedThrough { part: row.part }),
         None => Ok(()),
     }

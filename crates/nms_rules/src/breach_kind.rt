@@ -8,8 +8,8 @@ pub enum Breach {
     OtherVersion,
     /// P2: the plan is for another order than the one given, or for another symbol than the view's.
     OtherOrder,
-    /// P3: a leg's participant has no quotation on the contra side, or a manual one that the order does not
-    /// allow.
+    /// P3: a leg's participant has no quotation on the contra side, is named by the order, or has a manual one that the
+    /// order does not allow.
     NoSuchQuotation,
     /// P4: a leg's price is not that of the quotation.
     PriceDiffers,
@@ -23,8 +23,8 @@ pub enum Breach {
     BeyondLimit,
     /// P9: the legs have more shares than were asked for.
     OverAsked,
-    /// P10: a protected quotation at a strictly better price than some leg's gets less than its full displayed
-    /// size (17 CFR 242.611).
+    /// P10: a protected quotation, of a participant that the order does not name, at a strictly better price than some
+    /// leg's gets less than its full displayed size (17 CFR 242.611).
     TradedThrough {
         /// Its participant, the least place where several are traded through.
         part: Part,

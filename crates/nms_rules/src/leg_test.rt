@@ -4,14 +4,15 @@ ghost use Rattle.nms_rules.specs.Breach.{first_traded_through, goes_to, has_leg_
 ghost use Rattle.nms_rules.specs.Faultless.{cost_of, given_by, leg_cost, sum_of};
 ghost use Rattle.nms_rules.specs.Usable.{contra, is_better};
 
+use crate::self_help::{is_allowed, is_binding};
 use arrayvec::ArrayVec;
 use nms_board::{MOST_ROWS, Row, View, is_better_price};
 use nms_fee_book::FeeBook;
 use nms_quote::{Leg, Order, OrderSide, Part, Side};
 use nms_units::{Money, Price};
 
-/// The side that an order trades with.
-pub(crate) fn contra(side: OrderSide) -> Side
+/// The side that an order trades with: offers for a buyer, bids for a seller.
+pub fn contra(side: OrderSide) -> Side
     ensures { result ≡ contra side }
 {
     match side {
@@ -34,13 +35,14 @@ fn row_for(view: &View, side: OrderSide, leg: &Leg) -> Option<Row>
     view.row(contra(side), leg.part)
 }
 
-/// Whether a leg goes to no quotation, or to a manual one without the order's leave.
+/// Whether a leg goes to no quotation, to one of a participant that the order names, or to a manual one without the
+/// order's leave.
 fn lacks_quotation(view: &View, order: &Order, leg: &Leg) -> bool
     ensures { result ≡ lacks_quotation order.now (row_for view.now order.now.side leg.now) }
 {
     match row_for(view, order.side, leg) {
         None => true,
-        Some(row) => !(row.protected || order.manual),
+        Some(row) => !is_allowed(order, &row),
     }
 }
 
@@ -78,7 +80,8 @@ fn is_beyond_limit(order: &Order, leg: &Leg) -> bool
     is_better(order.side, order.limit, leg.price)
 }
 
-/// Whether some leg goes to no quotation, or to a manual one without the order's leave.
+/// Whether some leg goes to no quotation, to one of a participant that the order names, or to a manual one without the
+/// order's leave.
 #[tactic(auto, unfolding(crate::specs::Breach::some_lacks_quotation))]
 pub(crate) fn some_lacks_quotation(view: &View, order: &Order, legs: &[Leg]) -> bool
     ensures { result ≡ some_lacks_quotation view.now order.now legs.now }
@@ -155,35 +158,35 @@ fn given_to(legs: &ArrayVec<Leg, MOST_ROWS>, part: Part) -> u64
     given
 }
 
-/// The first protected quotation that the legs trade through, by participant place.
+/// The first protected quotation of nobody named that the legs trade through, by participant place.
 pub(crate) fn first_traded_through(
     view: &View,
-    side: OrderSide,
+    order: &Order,
     legs: &ArrayVec<Leg, MOST_ROWS>,
 ) -> Option<Row>
-    ensures { result ≡ first_traded_through view.now side legs.now.items }
+    ensures { result ≡ first_traded_through view.now order.now legs.now.items }
 {
-    for row in view.rows(contra(side)) {
-        if is_traded_through(side, legs, row) {
+    for row in view.rows(contra(order.side)) {
+        if is_traded_through(order, legs, row) {
             return Some(*row);
         }
     }
     None
 }
 
-/// Whether the legs trade through a quotation: it is protected, gets less than its full size, and some leg has a
-/// worse price.
+/// Whether the legs trade through a quotation: it is protected and of nobody named, gets less than its full size, and
+/// some leg has a worse price.
 #[tactic(auto, unfolding(crate::specs::Breach::is_traded_through))]
-fn is_traded_through(side: OrderSide, legs: &ArrayVec<Leg, MOST_ROWS>, row: &Row) -> bool
-    ensures { result ≡ is_traded_through side legs.now.items row.now }
+fn is_traded_through(order: &Order, legs: &ArrayVec<Leg, MOST_ROWS>, row: &Row) -> bool
+    ensures { result ≡ is_traded_through order.now legs.now.items row.now }
 {
-    if !row.protected {
+    if !is_binding(order, row) {
         return false;
     }
     if given_to(legs, row.part) >= u64::from(row.size) {
         return false;
     }
-    has_leg_beyond(side, legs.as_slice(), row.price)
+    has_leg_beyond(order.side, legs.as_slice(), row.price)
 }
 
 /// Whether some leg has a worse price than this one.

@@ -8,6 +8,7 @@ mod cutoff;
 mod laws;
 mod leg_test;
 mod rank;
+mod self_help;
 mod through;
 mod usable_row;
 
@@ -18,9 +19,11 @@ pub use breach_finding::breach;
 pub use breach_kind::Breach;
 pub use cutoff::{fillable, is_pooled, is_swept, least_cost, pool, swept};
 pub use laws::{
-    a_lawful_plan_never_trades_through, an_accepted_plan_is_best, an_accepted_plan_is_optimal,
+    a_lawful_plan_never_trades_through, a_lawful_plan_passes_over_the_named,
+    an_accepted_plan_is_best, an_accepted_plan_is_optimal, naming_nobody_changes_nothing,
+    naming_one_leaves_the_others,
 };
-pub use leg_test::is_better;
+pub use leg_test::{contra, is_better};
 pub use rank::Rank;
 pub use through::traded_through;
-pub use usable_row::{UsableRow, usable_rows};
+pub use usable_row::{UsableRow, is_usable, usable_rows};

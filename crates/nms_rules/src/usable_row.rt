@@ -1,10 +1,11 @@
 //! The quotations that an order may trade with, as they stand in a view: `specs/Usable`.
 ghost use Rattle.std.specs.Prelude.{◌≡◌, map};
 ghost use Rattle.std.specs.List.Sorted.{IsStrictlyIncreasing};
-ghost use Rattle.nms_rules.specs.Usable.{contra_rows, is_usable, usable, usable_row};
+ghost use Rattle.nms_rules.specs.Usable.{contra_rows, is_usable, usable};
 
 use crate::leg_test::{contra, is_better};
 use crate::rank::Rank;
+use crate::self_help::is_allowed;
 use arrayvec::ArrayVec;
 use nms_board::{MOST_ROWS, Row, View};
 use nms_fee_book::FeeBook;
@@ -12,8 +13,9 @@ use nms_quote::{Order, OrderSide, Part};
 use nms_units::{Money, Price};
 use std::marker::Model;
 
-/// A quotation that an order may trade with: protected, or manual where the order allows it, and not beyond the
-/// limit (17 CFR 242.600, "intermarket sweep order"; manual ones are this product's own rule).
+/// A quotation that an order may trade with: protected, or manual where the order allows it, of a participant that the
+/// order does not name, and not beyond the limit (17 CFR 242.600, "intermarket sweep order"; 242.611(b)(1); manual ones
+/// are this product's own rule).
 #[derive(Clone, Copy, Debug)]
 pub struct UsableRow {
     /// Whose it is.
@@ -57,6 +59,25 @@ impl Model for UsableRow {
     } };
 }
 
+impl UsableRow {
+    ghost use Rattle.std.specs.Prelude.{◌≡◌};
+    ghost use Rattle.nms_rules.specs.Usable.{usable_row};
+
+    /// A row as an order may trade with it: with its rank, and what a share costs there with the fee.
+    pub fn of(order: &Order, fees: &FeeBook, row: &Row) -> Self
+        ensures { result ≡ usable_row order.now fees.now row.now }
+    {
+        UsableRow {
+            part: row.part,
+            rank: Rank::of(order.side, row.price),
+            price: row.price,
+            size: row.size,
+            protected: row.protected,
+            cost: fees.unit_cost(row.part, order.side, row.price),
+        }
+    }
+}
+
 /// The row that stands in a list's unused places.
 impl Default for UsableRow {
     fn default() -> Self {
@@ -80,32 +101,16 @@ pub fn usable_rows(view: &View, order: &Order, fees: &FeeBook) -> ArrayVec<Usabl
     let mut usable = ArrayVec::new_in(());
     for row in view.rows(contra(order.side)) {
         if is_usable(order, row) {
-            usable.push(usable_row(order, fees, row));
+            usable.push(UsableRow::of(order, fees, row));
         }
     }
     usable
 }
 
-/// Whether an order may trade with a row.
-fn is_usable(order: &Order, row: &Row) -> bool
+/// Whether an order may trade with a row: of a participant that it does not name, protected or, by its leave, manual,
+/// and within the limit.
+pub fn is_usable(order: &Order, row: &Row) -> bool
     ensures { result ≡ is_usable order.now row.now }
 {
-    if !row.protected && !order.manual {
-        return false;
-    }
-    !is_better(order.side, order.limit, row.price)
-}
-
-/// A row as an order may trade with it.
-fn usable_row(order: &Order, fees: &FeeBook, row: &Row) -> UsableRow
-    ensures { result ≡ usable_row order.now fees.now row.now }
-{
-    UsableRow {
-        part: row.part,
-        rank: Rank::of(order.side, row.price),
-        price: row.price,
-        size: row.size,
-        protected: row.protected,
-        cost: fees.unit_cost(row.part, order.side, row.price),
-    }
+    is_allowed(order, row) && !is_better(order.side, order.limit, row.price)
 }

@@ -12,7 +12,8 @@ no_cut : (cuts : List Cut) → count_by is_refusal (map cut_record cuts ++ (end_
 no_cut [] = refl
 no_cut (cut ∷ cuts) = no_cut cuts
 
-no_leg : (roster : Listing) (legs : List Leg) (cuts : List Cut) → count_by is_refusal (map (leg_record roster) legs ++ (map cut_record cuts ++ (end_record ∷ []))) ≡ 0
+no_leg : (roster : Listing) (legs : List Leg) (cuts : List Cut)
+    → count_by is_refusal (map (leg_record roster) legs ++ (map cut_record cuts ++ (end_record ∷ []))) ≡ 0
 no_leg roster [] cuts = no_cut cuts
 no_leg roster (leg ∷ legs) cuts = no_leg roster legs cuts
 

@@ -1,5 +1,6 @@
 -- How the answer to a script grows by one record.
-use Rattle.std.proofs.Common.{ℕ, ◌≡◌, ◌≢◌, ◌++◌, Bool, cond, true, false, List, [], ◌∷◌, Option, Some, Ok, Err, refl, ap, sym, subst, ◌∙◌, append_assoc}
+use Rattle.std.proofs.Common.{ℕ, ◌≡◌, ◌≢◌, ◌++◌, Bool, cond, true, false, List, [], ◌∷◌, Option, Some, Ok, Err, refl, ap, sym, subst, ◌∙◌}
+use Rattle.std.proofs.Common.{append_assoc}
 use Rattle.std.proofs.lemmas.List.Elements.{All-push}
 use Rattle.std.specs.Prelude.{IfOk, Result, count_by}
 use Rattle.std.specs.declared.alloc.AllocError.{AllocError}
@@ -60,53 +61,86 @@ refuses_one number asked why old new before after (Ok refused) went some h =
     failed e = cc
 
 -- a change is sent on the feed that it belongs to
-pub sends : (roster : Listing) (number : ℕ) (change : Change) (feed : Feed) (old new : State) (before after : Option (List ℕ)) (is_refused : Bool)
-    → feed_of_change roster change ≡ Some feed → Serves (AsksOne number (step.Send feed change)) old new before after is_refused → Serves (Sends roster number change) old new before after is_refused
+pub sends : (roster : Listing) (number : ℕ) (change : Change) (feed : Feed) (old new : State) (before after : Option (List ℕ))
+    (is_refused : Bool)
+    → feed_of_change roster change ≡ Some feed → Serves (AsksOne number (step.Send feed change)) old new before after is_refused
+    → Serves (Sends roster number change) old new before after is_refused
 sends roster number change feed old new before after is_refused own serves events h =
     let served = serves events h in
     (served.0, served.1, (feed, own, served.2), served.3, served.4, served.5)
 
-pub sends_all : (roster : Listing) (number : ℕ) (change : Change) (feed : Feed) (old new : State) (before after : Option (List ℕ)) (told : Result Bool AllocError)
-    → feed_of_change roster change ≡ Some feed → IfOk told (Serves (AsksOne number (step.Send feed change)) old new before after) → IfOk told (Serves (Sends roster number change) old new before after)
-sends_all roster number change feed old new before after (Ok refused) own serves = sends roster number change feed old new before after refused own serves
+pub sends_all : (roster : Listing) (number : ℕ) (change : Change) (feed : Feed) (old new : State) (before after : Option (List ℕ))
+    (told : Result Bool AllocError)
+    → feed_of_change roster change ≡ Some feed → IfOk told (Serves (AsksOne number (step.Send feed change)) old new before after)
+    → IfOk told (Serves (Sends roster number change) old new before after)
+sends_all roster number change feed old new before after (Ok refused) own serves =
+    sends roster number change feed old new before after refused own serves
 sends_all roster number change feed old new before after (Err e) own serves = tt
 
 -- a look at the best bid and offer
 pub shows_best : (roster : Listing) (old new : State) (desk sym : ℕ) (seen : Seen) (bid offer : Option Row) (before after : List ℕ)
-    → WentOn old new (step.Look desk sym, Ok (reply.Seen seen)) → IsBestOf Bid (rows_on Bid seen) bid → IsBestOf Offer (rows_on Offer seen) offer
-    → after ≡ before ++ text_of (best_record roster desk seen bid offer ∷ []) → Serves (ShowsBest roster desk sym) old new (Some before) (Some after) false
-shows_best roster old new desk sym seen bid offer before after went best_bid best_offer text events h =
-    ((step.Look desk sym, Ok (reply.Seen seen)) ∷ [], best_record roster desk seen bid offer ∷ [], (seen, bid, offer, refl, best_bid, best_offer, refl), goes_on old new events (step.Look desk sym, Ok (reply.Seen seen)) went h, text, refl)
+    → WentOn old new (step.Look desk sym, Ok (reply.Seen seen)) → IsBestOf Bid (rows_on Bid seen) bid
+    → IsBestOf Offer (rows_on Offer seen) offer
+    → after ≡ before ++ text_of (best_record roster desk seen bid offer ∷ [])
+    → Serves (ShowsBest roster desk sym) old new (Some before) (Some after) false
+shows_best roster old new desk sym seen bid offer before after went best_bid best_offer text events h = (
+  (step.Look desk sym, Ok (reply.Seen seen)) ∷ [],
+  best_record roster desk seen bid offer ∷ [],
+  (seen, bid, offer, refl, best_bid, best_offer, refl),
+  goes_on old new events (step.Look desk sym, Ok (reply.Seen seen)) went h,
+  text,
+  refl,
+)
 
 -- a look at what a price trades through
 pub shows_through : (roster : Listing) (old new : State) (desk sym price : ℕ) (seen : Seen) (before after : List ℕ)
-    → WentOn old new (step.Look desk sym, Ok (reply.Seen seen)) → after ≡ before ++ text_of (through_records roster desk seen price (traded_through_at seen price))
+    → WentOn old new (step.Look desk sym, Ok (reply.Seen seen)) → after ≡ before
+    ++ text_of (through_records roster desk seen price (traded_through_at seen price))
     → Serves (ShowsThrough roster desk sym price) old new (Some before) (Some after) false
 shows_through roster old new desk sym price seen before after went text events h =
-    let told = through_records roster desk seen price (traded_through_at seen price) in
-    ((step.Look desk sym, Ok (reply.Seen seen)) ∷ [], told, (seen, refl, refl), goes_on old new events (step.Look desk sym, Ok (reply.Seen seen)) went h, text, through_refuses_none roster desk seen price (traded_through_at seen price))
+    let told = through_records roster desk seen price (traded_through_at seen price) in (
+      (step.Look desk sym, Ok (reply.Seen seen)) ∷ [],
+      told,
+      (seen, refl, refl),
+      goes_on old new events (step.Look desk sym, Ok (reply.Seen seen)) went h,
+      text,
+      through_refuses_none roster desk seen price (traded_through_at seen price),
+    )
 
 -- a look at a price that trades through nothing
 pub shows_nothing_through : (roster : Listing) (old new : State) (desk symbol price : ℕ) (seen : Seen) (before after : List ℕ)
-    → WentOn old new (step.Look desk symbol, Ok (reply.Seen seen)) → traded_through_at seen price ≡ [] → after ≡ before ++ text_of (through_head roster desk seen price 0 ∷ [])
+    → WentOn old new (step.Look desk symbol, Ok (reply.Seen seen)) → traded_through_at seen price ≡ []
+    → after ≡ before ++ text_of (through_head roster desk seen price 0 ∷ [])
     → Serves (ShowsThrough roster desk symbol price) old new (Some before) (Some after) false
 shows_nothing_through roster old new desk symbol price seen before after went none text =
     shows_through roster old new desk symbol price seen before after went
-    (subst (λ (quotations : List (Side × Row)). after ≡ before ++ text_of (through_records roster desk seen price quotations)) (sym none) text)
+    (subst (λ (quotations : List (Side × Row)). after ≡ before ++ text_of (through_records roster desk seen price quotations)) (sym none)
+    text)
 
 -- a look, and a plan of what it showed
-pub shows_plan : (settings : Settings) (old new : State) (desk : ℕ) (order : Terms) (seen : Seen) (plan : Plan) (cuts : List Cut) (before after : List ℕ)
+pub shows_plan : (settings : Settings) (old new : State) (desk : ℕ) (order : Terms) (seen : Seen) (plan : Plan) (cuts : List Cut)
+    (before after : List ℕ)
     → WentOn old new (step.Look desk order.sym, Ok (reply.Seen seen)) → IsAccepted seen order settings.fees plan cuts
-    → after ≡ before ++ text_of (plan_records settings.roster plan cuts) → Serves (ShowsPlan settings desk order) old new (Some before) (Some after) false
-shows_plan settings old new desk order seen plan cuts before after went accepted text events h =
-    ((step.Look desk order.sym, Ok (reply.Seen seen)) ∷ [], plan_records settings.roster plan cuts, (seen, plan, cuts, refl, accepted, refl), goes_on old new events (step.Look desk order.sym, Ok (reply.Seen seen)) went h, text, plan_refuses_none settings.roster plan cuts)
+    → after ≡ before ++ text_of (plan_records settings.roster plan cuts)
+    → Serves (ShowsPlan settings desk order) old new (Some before) (Some after) false
+shows_plan settings old new desk order seen plan cuts before after went accepted text events h = (
+  (step.Look desk order.sym, Ok (reply.Seen seen)) ∷ [],
+  plan_records settings.roster plan cuts,
+  (seen, plan, cuts, refl, accepted, refl),
+  goes_on old new events (step.Look desk order.sym, Ok (reply.Seen seen)) went h,
+  text,
+  plan_refuses_none settings.roster plan cuts,
+)
 
 -- one more was taken
 pub takes_more : (old now new : State) (r : Reply) → TakesSome old now → WentOn now new (step.Take, Ok r) → TakesSome old new
 takes_more old now new r some went before h =
     let so_far = some before h in
-    let event : Event = (step.Take, Ok r) in
-    (so_far.0 ++ event ∷ [], All-push (λ (e : Event). took e ≡ true) so_far.0 event so_far.1 refl, subst (IsAfter new) (append_assoc before so_far.0 (event ∷ [])) (goes_on now new (before ++ so_far.0) event went so_far.2))
+    let event : Event = (step.Take, Ok r) in (
+      so_far.0 ++ event ∷ [],
+      All-push (λ (e : Event). took e ≡ true) so_far.0 event so_far.1 refl,
+      subst (IsAfter new) (append_assoc before so_far.0 (event ∷ [])) (goes_on now new (before ++ so_far.0) event went so_far.2),
+    )
 
 -- a taking was refused
 pub takes_until : (old now new : State) (why : StepFault) → TakesSome old now → WentOn now new (step.Take, Err why) → TakesUntil why old new
@@ -119,27 +153,45 @@ pub takes_full : (number : ℕ) (old new : State) (before after : List ℕ) → 
     → after ≡ before ++ text_of (told_by number (Err fault.TapeFull)) → Serves (AsksAll number) old new (Some before) (Some after) true
 takes_full number old new before after until text events h =
     let so_far = until events h in
-    let last : Event = (step.Take, Err fault.TapeFull) in
-    (so_far.0 ++ last ∷ [], told_by number (Err fault.TapeFull), (Err fault.TapeFull, (so_far.0, so_far.1, refl), refl), subst (IsAfter new) (append_assoc events so_far.0 (last ∷ [])) so_far.2, text, refl)
+    let last : Event = (step.Take, Err fault.TapeFull) in (
+      so_far.0 ++ last ∷ [],
+      told_by number (Err fault.TapeFull),
+      (Err fault.TapeFull, (so_far.0, so_far.1, refl), refl),
+      subst (IsAfter new) (append_assoc events so_far.0 (last ∷ [])) so_far.2,
+      text,
+      refl,
+    )
 
 -- the queue was empty, and the tape was published
-pub takes_all : (number : ℕ) (old drained new : State) (r : Reply) (before after : List ℕ) → TakesUntil fault.QueueEmpty old drained → WentOn drained new (step.Publish, Ok r)
-    → after ≡ before ++ text_of (told_by number (Ok r)) → count_by is_refusal (told_by number (Ok r)) ≡ 0 → Serves (AsksAll number) old new (Some before) (Some after) false
+pub takes_all : (number : ℕ) (old drained new : State) (r : Reply) (before after : List ℕ) → TakesUntil fault.QueueEmpty old drained
+    → WentOn drained new (step.Publish, Ok r)
+    → after ≡ before ++ text_of (told_by number (Ok r)) → count_by is_refusal (told_by number (Ok r)) ≡ 0
+    → Serves (AsksAll number) old new (Some before) (Some after) false
 takes_all number old drained new r before after until went text none events h =
     let so_far = until events h in
     let empty : Event = (step.Take, Err fault.QueueEmpty) in
     let shown : Event = (step.Publish, Ok r) in
-    let after_all : IsAfter new (((events ++ so_far.0) ++ empty ∷ []) ++ shown ∷ []) = goes_on drained new ((events ++ so_far.0) ++ empty ∷ []) shown went so_far.2 in
-    let joined : ((events ++ so_far.0) ++ empty ∷ []) ++ shown ∷ [] ≡ events ++ (so_far.0 ++ empty ∷ shown ∷ []) = append_assoc (events ++ so_far.0) (empty ∷ []) (shown ∷ []) ∙ append_assoc events so_far.0 (empty ∷ shown ∷ []) in
-    (so_far.0 ++ empty ∷ shown ∷ [], told_by number (Ok r), (Ok r, (so_far.0, so_far.1, refl), refl), subst (IsAfter new) joined after_all, text, none)
+    let after_all : IsAfter new (((events ++ so_far.0) ++ empty ∷ []) ++ shown ∷ []) =
+    goes_on drained new ((events ++ so_far.0) ++ empty ∷ []) shown went so_far.2 in
+    let joined : ((events ++ so_far.0) ++ empty ∷ []) ++ shown ∷ [] ≡ events ++ (so_far.0 ++ empty ∷ shown ∷ []) =
+    append_assoc (events ++ so_far.0) (empty ∷ []) (shown ∷ []) ∙ append_assoc events so_far.0 (empty ∷ shown ∷ []) in (
+      so_far.0 ++ empty ∷ shown ∷ [],
+      told_by number (Ok r),
+      (Ok r, (so_far.0, so_far.1, refl), refl),
+      subst (IsAfter new) joined after_all,
+      text,
+      none,
+    )
 
 -- a taking was refused, and not for an empty queue or want of memory
-pub takes_refused : (number : ℕ) (old new : State) (before after : List ℕ) (why : StepFault) (told : Result Bool AllocError) → TakesUntil why old new
+pub takes_refused : (number : ℕ) (old new : State) (before after : List ℕ) (why : StepFault) (told : Result Bool AllocError)
+    → TakesUntil why old new
     → why ≢ fault.QueueEmpty → why ≢ fault.QueueFull → why ≢ fault.NoMemory
     → IfOk told (λ refused. (refused ≡ true) × (after ≡ before ++ text_of (told_by number (Err why))))
     → IfOk told (Serves (AsksAll number) old new (Some before) (Some after))
 takes_refused number old new before after fault.QueueFull told until a b c h = absurd (b refl)
 takes_refused number old new before after fault.QueueEmpty told until a b c h = absurd (a refl)
 takes_refused number old new before after fault.TapeFull (Err e) until a b c h = tt
-takes_refused number old new before after fault.TapeFull (Ok refused) until a b c h = subst (Serves (AsksAll number) old new (Some before) (Some after)) (sym h.0) (takes_full number old new before after until h.1)
+takes_refused number old new before after fault.TapeFull (Ok refused) until a b c h =
+    subst (Serves (AsksAll number) old new (Some before) (Some after)) (sym h.0) (takes_full number old new before after until h.1)
 takes_refused number old new before after fault.NoMemory told until a b c h = absurd (c refl)

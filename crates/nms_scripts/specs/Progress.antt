@@ -29,7 +29,8 @@ pub record HasAnswered (settings : Settings) (machine : State) (old new : Option
   pub refusals : count_by is_refusal told ≡ refused
 
 -- those are the records that were read, and the reader stands behind them
-pub record HasCome {R : Type 0} (remaining : R → Option (List ℕ)) (settings : Settings) (bytes : Option (List ℕ)) (reader : Reader R) (machine : State) (old new : Option (List ℕ)) (done refused : ℕ) : Type 0 where
+pub record HasCome {R : Type 0} (remaining : R → Option (List ℕ)) (settings : Settings) (bytes : Option (List ℕ)) (reader : Reader R)
+    (machine : State) (old new : Option (List ℕ)) (done refused : ℕ) : Type 0 where
   pub so_far : HasAnswered settings machine old new done refused
   pub reads : ReadsFrom remaining reader bytes so_far.records
 
@@ -45,15 +46,18 @@ pub record IsEnd (settings : Settings) (bytes old new : Option (List ℕ)) (done
   pub cut : fault ≡ script_fault.WriteFault → AnswersInPart settings bytes old new
 
 -- where one record more leads
-abbrev pub AdvancesTo : {R : Type 0} (remaining : R → Option (List ℕ)) (settings : Settings) (bytes : Option (List ℕ)) (reader : Reader R) (machine : State) (old new : Option (List ℕ)) (done refused : ℕ) → Result Progress ScriptFault → Type 0
-AdvancesTo remaining settings bytes reader machine old new done refused (Ok (progress.Answered more)) = HasCome remaining settings bytes reader machine old new (done + 1) (refused + (if more then 1 else 0))
+abbrev pub AdvancesTo : {R : Type 0} (remaining : R → Option (List ℕ)) (settings : Settings) (bytes : Option (List ℕ)) (reader : Reader R)
+    (machine : State) (old new : Option (List ℕ)) (done refused : ℕ) → Result Progress ScriptFault → Type 0
+AdvancesTo remaining settings bytes reader machine old new done refused (Ok (progress.Answered more)) =
+    HasCome remaining settings bytes reader machine old new (done + 1) (refused + (if more then 1 else 0))
 AdvancesTo remaining settings bytes reader machine old new done refused (Ok progress.Ended) =
     (so_far : HasAnswered settings machine old new done refused) × AreAllRecords bytes so_far.records
 AdvancesTo remaining settings bytes reader machine old new done refused (Err fault) = IsEnd settings bytes old new done refused fault
 
 -- the machine went on by some takes
 abbrev pub TakesSome : State → State → Type 0
-TakesSome old new = (before : List Event) → IsAfter old before → (takes : List Event) × All (λ event. took event ≡ true) takes × IsAfter new (before ++ takes)
+TakesSome old new = (before : List Event) → IsAfter old before
+    → (takes : List Event) × All (λ event. took event ≡ true) takes × IsAfter new (before ++ takes)
 
 -- the machine went on by some takes and by one that was refused
 abbrev pub TakesUntil : StepFault → State → State → Type 0

@@ -1,6 +1,7 @@
 -- The answer to a script: a run of the machine whose steps are those that the records ask for, in order,
 -- and the records that it is told. This product's own rule.
-use Rattle.std.specs.Prelude.{ℕ, ◌≡◌, ◌≢◌, ◌≤◌, ◌+◌, All, Bool, true, List, [], ◌∷◌, ◌++◌, length, Option, Some, Result, Ok, Err, count_by, codes, if◌then◌else◌}
+use Rattle.std.specs.Prelude.{ℕ, ◌≡◌, ◌≢◌, ◌≤◌, ◌+◌, All, Bool, true, List, [], ◌∷◌, ◌++◌, length, Option, Some, Result, Ok, Err, count_by}
+use Rattle.std.specs.Prelude.{codes, if◌then◌else◌}
 use Rattle.std.specs.Str.{bytes_eq}
 use Rattle.std.specs.Io.KnownBytes.{Appends}
 use Rattle.nms_quote.specs.Roster.{Listing, feed_of_change}
@@ -46,7 +47,8 @@ script_reading settings fields = reading settings.roster (source.Script settings
 
 -- one step, and what its answer tells. Want of memory is no answer: it ends the script
 abbrev pub AsksOne : ℕ → Step → List Event → List Record → Type 0
-AsksOne number asked events told = (answer : Answer) × (answer ≢ Err fault.NoMemory) × (events ≡ (asked, answer) ∷ []) × (told ≡ told_by number answer)
+AsksOne number asked events told = (answer : Answer) × (answer ≢ Err fault.NoMemory) × (events ≡ (asked, answer) ∷ [])
+    × (told ≡ told_by number answer)
 
 -- a change is sent on the feed that it belongs to
 abbrev pub Sends : Listing → ℕ → Change → List Event → List Record → Type 0
@@ -56,8 +58,10 @@ Sends roster number change events told =
 -- taking all: changes are taken until the queue is empty, and the tape is published. A full tape ends it
 abbrev pub TakesAll : Answer → List Event → Type 0
 TakesAll (Ok reply) events =
-    (takes : List Event) × All (λ event. took event ≡ true) takes × (events ≡ takes ++ (step.Take, Err fault.QueueEmpty) ∷ (step.Publish, Ok reply) ∷ [])
-TakesAll (Err fault.TapeFull) events = (takes : List Event) × All (λ event. took event ≡ true) takes × (events ≡ takes ++ (step.Take, Err fault.TapeFull) ∷ [])
+    (takes : List Event) × All (λ event. took event ≡ true) takes
+    × (events ≡ takes ++ (step.Take, Err fault.QueueEmpty) ∷ (step.Publish, Ok reply) ∷ [])
+TakesAll (Err fault.TapeFull) events = (takes : List Event) × All (λ event. took event ≡ true) takes
+    × (events ≡ takes ++ (step.Take, Err fault.TapeFull) ∷ [])
 TakesAll (Err _) events = ⊥
 
 -- all was taken and published, or the tape was full
@@ -74,7 +78,8 @@ ShowsBest roster desk sym events told =
 -- a desk looked, and is told the protected quotations that a trade at the price trades through (17 CFR 242.611)
 abbrev pub ShowsThrough : Listing → ℕ → ℕ → ℕ → List Event → List Record → Type 0
 ShowsThrough roster desk sym price events told =
-    (seen : Seen) × (events ≡ (step.Look desk sym, Ok (reply.Seen seen)) ∷ []) × (told ≡ through_records roster desk seen price (traded_through_at seen price))
+    (seen : Seen) × (events ≡ (step.Look desk sym, Ok (reply.Seen seen)) ∷ [])
+    × (told ≡ through_records roster desk seen price (traded_through_at seen price))
 
 -- a desk looked, and is told a plan of what it saw with a certificate that is accepted there: no lawful plan fills
 -- more, or as much for less with fees (17 CFR 242.600, "intermarket sweep order")
@@ -163,5 +168,6 @@ AnswersInPart settings bytes old new = WritesPart (λ whole. AnswersBeginning se
 -- it was a refusal is told too
 abbrev pub Serves : (List Event → List Record → Type 0) → State → State → Option (List ℕ) → Option (List ℕ) → Bool → Type 0
 Serves Asked old new text_before text_after refused =
-    (before : List Event) → IsAfter old before → (events : List Event) × (told : List Record) × Asked events told × IsAfter new (before ++ events)
+    (before : List Event) → IsAfter old before → (events : List Event) × (told : List Record) × Asked events told
+    × IsAfter new (before ++ events)
     × Appends text_before text_after (text_of told) × (count_by is_refusal told ≡ (if refused then 1 else 0))

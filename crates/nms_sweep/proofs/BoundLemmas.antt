@@ -35,7 +35,8 @@ within-none fees side =
 
 -- and with one more
 pub within-push : (fees : Charges) (side : OrderSide) (legs : List Leg) (leg : Leg) → AreWithin fees side legs
-    → negsuc 10000000009999999 ≤ℤ unit_cost_of fees leg.part side leg.price → unit_cost_of fees leg.part side leg.price ≤ℤ pos 10000000010000000
+    → negsuc 10000000009999999 ≤ℤ unit_cost_of fees leg.part side leg.price
+    → unit_cost_of fees leg.part side leg.price ≤ℤ pos 10000000010000000
     → AreWithin fees side (legs ++ leg ∷ [])
 within-push fees side legs leg before low high =
     let unit : ℤ = unit_cost_of fees leg.part side leg.price in
@@ -64,5 +65,6 @@ within_bounds seen asked fees plan cuts few costs is =
       filled = omega (arith, is.full, few);
       low = omega (arith, ints, costs.low, filled, cost);
       high = omega (arith, ints, costs.high, filled, cost);
-      marginals = λ i d below. in-range rows (fillable rows asked.shares) plan.cost (rank_of asked.side (get_or cuts i d).price) (get_or cuts i d).kind (is.holds i d below);
+      marginals = λ i d below. in-range rows (fillable rows asked.shares) plan.cost (rank_of asked.side (get_or cuts i d).price)
+          (get_or cuts i d).kind (is.holds i d below);
     }

@@ -19,14 +19,16 @@ use Rattle.nms_sweep.proofs.PlanLemmas.{in_other, usable_is}
 use Rattle.nms_sweep.proofs.TotalLemmas.{amount_same, total_same}
 
 -- the sums at a row's price are the same in any order of the rows
-sums-at : (side : OrderSide) (rows by_price : List Usable) → IsPermutation rows by_price → (row : Usable) → row.rank ≡ rank_of side row.price → IsCutoffOf side rows (cutoff_at by_price row)
+sums-at : (side : OrderSide) (rows by_price : List Usable) → IsPermutation rows by_price → (row : Usable)
+    → row.rank ≡ rank_of side row.price → IsCutoffOf side rows (cutoff_at by_price row)
 sums-at side rows by_price same row is = record {
   swept = total_same (swept_part row.rank) rows by_price same ∙ ap (λ rank. swept rank rows) is;
   swept_cost = amount_same (swept_cost_part row.rank) rows by_price same ∙ ap (λ rank. swept_cost rank rows) is;
   pool = total_same (pool_part row.rank) rows by_price same ∙ ap (λ rank. pool rank rows) is;
 }
 
-are_cutoffs : (side : OrderSide) (rows by_price : List Usable) → IsPermutation rows by_price → IsOrdered Price by_price → ((row : Usable) → In row by_price → row.rank ≡ rank_of side row.price) → AreCutoffs side rows (cutoffs_of by_price by_price)
+are_cutoffs : (side : OrderSide) (rows by_price : List Usable) → IsPermutation rows by_price → IsOrdered Price by_price
+    → ((row : Usable) → In row by_price → row.rank ≡ rank_of side row.price) → AreCutoffs side rows (cutoffs_of by_price by_price)
 are_cutoffs side rows by_price same ordered ranks =
     let all : List Cutoff = cutoffs_of by_price by_price in
     record {
@@ -35,26 +37,33 @@ are_cutoffs side rows by_price same ordered ranks =
           Any-In (λ (cutoff : Cutoff). cutoff.price ≡ row.price) all (cutoff_at by_price at.0) at.1 at.2);
       no_other = All-In (λ (cutoff : Cutoff). Any (λ (row : Usable). row.price ≡ cutoff.price) rows) all (λ cutoff within.
           let at = made_of (cutoff_at by_price) by_price cutoff within in
-          Any-In (λ (row : Usable). row.price ≡ cutoff.price) rows at.0 (in_other by_price rows (IsPermutation-sym rows by_price same) at.0 at.1) (ap (λ (one : Cutoff). one.price) (sym at.2)));
-      best_first = best_first (λ (cutoff : Cutoff). cutoff.price) (cutoff_at by_price) (λ row. refl) side by_price ranks (ordered_from Price by_price (in_order_from Price by_price ordered));
+          Any-In (λ (row : Usable). row.price ≡ cutoff.price) rows at.0
+          (in_other by_price rows (IsPermutation-sym rows by_price same) at.0 at.1) (ap (λ (one : Cutoff). one.price) (sym at.2)));
+      best_first = best_first (λ (cutoff : Cutoff). cutoff.price) (cutoff_at by_price) (λ row. refl) side by_price ranks
+          (ordered_from Price by_price (in_order_from Price by_price ordered));
       sums = All-In (λ (cutoff : Cutoff). IsCutoffOf side rows cutoff) all (λ cutoff within.
           let at = made_of (cutoff_at by_price) by_price cutoff within in
           subst (IsCutoffOf side rows) (sym at.2) (sums-at side rows by_price same at.0 (ranks at.0 at.1)));
     }
 
 -- the usable rows have the ranks of their prices, in any order
-pub usable_ranks : (seen : Seen) (asked : Terms) (fees : Charges) (rows by_price : List Usable) → rows ≡ usable seen asked fees → IsPermutation rows by_price → (row : Usable) → In row by_price → row.rank ≡ rank_of asked.side row.price
+pub usable_ranks : (seen : Seen) (asked : Terms) (fees : Charges) (rows by_price : List Usable) → rows ≡ usable seen asked fees
+    → IsPermutation rows by_price → (row : Usable) → In row by_price → row.rank ≡ rank_of asked.side row.price
 usable_ranks seen asked fees rows by_price are same row within =
-    let at = usable_is seen asked fees row (subst (In row) are (in_other by_price rows (IsPermutation-sym rows by_price same) row within)) in
+    let at = usable_is seen asked fees row (subst (In row) are (in_other by_price rows (IsPermutation-sym rows by_price same) row within))
+    in
     rw at.1.is refl
 
-pub usable_cutoffs : (seen : Seen) (asked : Terms) (fees : Charges) (rows by_price : List Usable) → rows ≡ usable seen asked fees → IsPermutation rows by_price → IsOrdered Price by_price
+pub usable_cutoffs : (seen : Seen) (asked : Terms) (fees : Charges) (rows by_price : List Usable) → rows ≡ usable seen asked fees
+    → IsPermutation rows by_price → IsOrdered Price by_price
     → AreCutoffs asked.side (usable seen asked fees) (cutoffs_of by_price by_price)
 usable_cutoffs seen asked fees rows by_price are same ordered =
-    are_cutoffs asked.side (usable seen asked fees) by_price (subst (λ (one : List Usable). IsPermutation one by_price) are same) ordered (usable_ranks seen asked fees rows by_price are same)
+    are_cutoffs asked.side (usable seen asked fees) by_price (subst (λ (one : List Usable). IsPermutation one by_price) are same) ordered
+    (usable_ranks seen asked fees rows by_price are same)
 
 -- and in the order of their costs they tell the same sums
-pub sums_by_cost : (side : OrderSide) (rows by_price by_cost costs : List Usable) (cutoffs : List Cutoff) → IsPermutation rows by_price → IsPermutation by_price by_cost → costs ≡ by_cost → AreCutoffs side rows cutoffs
+pub sums_by_cost : (side : OrderSide) (rows by_price by_cost costs : List Usable) (cutoffs : List Cutoff) → IsPermutation rows by_price
+    → IsPermutation by_price by_cost → costs ≡ by_cost → AreCutoffs side rows cutoffs
     → All (λ cutoff. IsCutoffOf side costs cutoff) cutoffs
 sums_by_cost side rows by_price by_cost costs cutoffs one two cheap are =
     let same = IsPermutation-trans rows by_price by_cost one two in

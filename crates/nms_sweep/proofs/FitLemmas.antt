@@ -28,16 +28,19 @@ none-swept row [] each = refl
 none-swept row (other ∷ rows) each = omega (arith, swept_far row.rank other each.0, none-swept row rows each.1)
 
 -- rows at the price or better are swept or in the pool
-pub all-within : (cutoff : ℤ) (rows : List Usable) → AllByRecursion (λ row. row.rank ≤ℤ cutoff) rows → shown rows ≡ swept cutoff rows + pool cutoff rows
+pub all-within : (cutoff : ℤ) (rows : List Usable) → AllByRecursion (λ row. row.rank ≤ℤ cutoff) rows
+    → shown rows ≡ swept cutoff rows + pool cutoff rows
 unfolding total
 all-within cutoff [] each = refl
 all-within cutoff (row ∷ rows) each = omega (arith, within_parts cutoff row each.0, all-within cutoff rows each.1)
 
-within-more : (near far : ℤ) (rows : List Usable) → near ≤ℤ far → AllByRecursion (λ row. row.rank ≤ℤ near) rows → AllByRecursion (λ row. row.rank ≤ℤ far) rows
+within-more : (near far : ℤ) (rows : List Usable) → near ≤ℤ far → AllByRecursion (λ row. row.rank ≤ℤ near) rows
+    → AllByRecursion (λ row. row.rank ≤ℤ far) rows
 within-more near far [] order each = tt
 within-more near far (row ∷ rows) order each = (omega (arith, ints, order, each.0), within-more near far rows order each.1)
 
-pub within-push : (cutoff : ℤ) (rows : List Usable) (row : Usable) → AllByRecursion (λ one. one.rank ≤ℤ cutoff) rows → row.rank ≤ℤ cutoff → AllByRecursion (λ one. one.rank ≤ℤ cutoff) (rows ++ row ∷ [])
+pub within-push : (cutoff : ℤ) (rows : List Usable) (row : Usable) → AllByRecursion (λ one. one.rank ≤ℤ cutoff) rows → row.rank ≤ℤ cutoff
+    → AllByRecursion (λ one. one.rank ≤ℤ cutoff) (rows ++ row ∷ [])
 within-push cutoff [] row each last = (last, tt)
 within-push cutoff (first ∷ rows) row each last = (each.0, within-push cutoff rows row each.1 last)
 
@@ -46,7 +49,8 @@ append-assoc [] row other = refl
 append-assoc (first ∷ one) row other = ap (λ (rest : List Usable). first ∷ rest) (append-assoc one row other)
 
 -- the row at which the sizes so far reach it
-at-row : (before : List Usable) (row : Usable) (rows : List Usable) (most : ℕ) → AllByRecursion (λ one. one.rank ≤ℤ row.rank) before → NoLess Price row rows
+at-row : (before : List Usable) (row : Usable) (rows : List Usable) (most : ℕ) → AllByRecursion (λ one. one.rank ≤ℤ row.rank) before
+    → NoLess Price row rows
     → shown before ≤ most → most ≤ shown before + row.size → Fits (before ++ row ∷ rows) most row
 unfolding total
 at-row before row rows most within no_less less enough =
@@ -61,18 +65,25 @@ at-row before row rows most within no_less less enough =
       reaches = omega (arith, sweeps, pools, all, own, enough);
     }
 
-fits-from : (before : List Usable) (row : Usable) (rows : List Usable) (most : ℕ) → AllByRecursion (λ one. one.rank ≤ℤ row.rank) before → Ordered Price (row ∷ rows)
-    → shown before ≤ most → most ≤ shown before + shown (row ∷ rows) → (shown before + row.size < most) ⊎ (most ≤ shown before + row.size) → (one : Usable) × In one (row ∷ rows) × Fits (before ++ row ∷ rows) most one
+fits-from : (before : List Usable) (row : Usable) (rows : List Usable) (most : ℕ) → AllByRecursion (λ one. one.rank ≤ℤ row.rank) before
+    → Ordered Price (row ∷ rows)
+    → shown before ≤ most → most ≤ shown before + shown (row ∷ rows) → (shown before + row.size < most) ⊎ (most ≤ shown before + row.size)
+    → (one : Usable) × In one (row ∷ rows) × Fits (before ++ row ∷ rows) most one
 unfolding total
-fits-from before row rows most within ordered less enough (inr here) = (row, inl refl, at-row before row rows most within ordered.0 less here)
+fits-from before row rows most within ordered less enough (inr here) =
+    (row, inl refl, at-row before row rows most within ordered.0 less here)
 fits-from before row [] most within ordered less enough (inl more) = absurd (omega (arith, more, enough))
 fits-from before row (next ∷ rows) most within ordered less enough (inl more) =
-    let grown : shown (before ++ row ∷ []) ≡ shown before + row.size = omega (arith, total_append (λ (one : Usable). one.size) before (row ∷ [])) in
+    let grown : shown (before ++ row ∷ []) ≡ shown before + row.size =
+    omega (arith, total_append (λ (one : Usable). one.size) before (row ∷ [])) in
     let rest = fits-from (before ++ row ∷ []) next rows most
-    (within-push next.rank before row (within-more row.rank next.rank before ordered.0.0 within) ordered.0.0) ordered.1 (omega (arith, grown, more)) (omega (arith, grown, enough))
+    (within-push next.rank before row (within-more row.rank next.rank before ordered.0.0 within) ordered.0.0) ordered.1
+    (omega (arith, grown, more)) (omega (arith, grown, enough))
     (cases_lt (shown (before ++ row ∷ []) + next.size) most) in
     (rest.0, inr rest.1, subst (λ (all : List Usable). Fits all most rest.0) (append-assoc before row (next ∷ rows)) rest.2)
 
-pub fits : (row : Usable) (rows : List Usable) (most : ℕ) → Ordered Price (row ∷ rows) → most ≤ shown (row ∷ rows) → (one : Usable) × In one (row ∷ rows) × Fits (row ∷ rows) most one
+pub fits : (row : Usable) (rows : List Usable) (most : ℕ) → Ordered Price (row ∷ rows) → most ≤ shown (row ∷ rows)
+    → (one : Usable) × In one (row ∷ rows) × Fits (row ∷ rows) most one
 unfolding total
-fits row rows most ordered enough = fits-from [] row rows most tt ordered (omega arith) (omega (arith, enough)) (cases_lt (shown [] + row.size) most)
+fits row rows most ordered enough = fits-from [] row rows most tt ordered (omega arith) (omega (arith, enough)) (cases_lt (shown []
+    + row.size) most)

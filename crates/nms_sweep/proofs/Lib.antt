@@ -8,6 +8,7 @@ mod FitLemmas
 mod LegLemmas
 mod MarginalLemmas
 mod OrderLemmas
+mod PlaceLemmas
 mod PlanLemmas
 mod SameLemmas
 mod StandLemmas

@@ -1,5 +1,6 @@
 -- The plan is lawful, fills all that can be filled, and is accepted with its certificate.
-use Rattle.std.proofs.Common.{ℕ, ◌≡◌, ◌<◌, ◌≤◌, ◌+◌, ◌-◌, true, List, [], ◌∷◌, map, All, Any, Option, Some, None, nat_eq, ◌⊎◌, inl, inr, refl, ap, sym, ◌∙◌, subst, arith}
+use Rattle.std.proofs.Common.{ℕ, ◌≡◌, ◌<◌, ◌≤◌, ◌+◌, ◌-◌, true, List, [], ◌∷◌, map, All, Any, Option, Some, None, nat_eq, ◌⊎◌, inl, inr}
+use Rattle.std.proofs.Common.{refl, ap, sym, ◌∙◌, subst, arith}
 use Rattle.std.specs.Prelude.{ℤ, pos, ◌*ℤ◌, ◌<ℤ◌, ◌≤ℤ◌, AllPairs}
 use Rattle.std.specs.Int.RustNames.{int_lt}
 use Rattle.std.specs.List.{filter}
@@ -25,8 +26,10 @@ use Rattle.nms_rules.specs.Assignment.{IsLawful, SweepsBetter, fillable, total}
 use Rattle.nms_rules.specs.Cutoff.{IsBounded, KindHolds, least_cost, pool, pool_part, savings_part, swept, swept_cost_part, swept_part}
 use Rattle.nms_rules.specs.Faultless.{IsFaultless, cost_of, given_by, sum_of}
 use Rattle.nms_rules.specs.Usable.{Usable, contra_rows, is_better, is_usable, rank_of, usable, usable_row}
-use Rattle.nms_rules.proofs.Offered.{Apart, Apart-IsDistinct, Apart-filter, Apart-map, Apart-rising, IsDistinct-Apart, filled-given, given-by, leg_part, row_part, All-In, Any-In, In, In-All, filter-In, map-In, times-plus, true-lt}
-use Rattle.nms_sweep.specs.Choice.{IsInRange, below, below_part, candidate, chosen, cost_chosen, cut_by, kind_by, legs_chosen, legs_of, share_cost}
+use Rattle.nms_rules.proofs.Offered.{Apart, Apart-IsDistinct, Apart-filter, Apart-map, Apart-rising, IsDistinct-Apart, filled-given}
+use Rattle.nms_rules.proofs.Offered.{given-by, leg_part, row_part, All-In, Any-In, In, In-All, filter-In, map-In, times-plus, true-lt}
+use Rattle.nms_sweep.specs.Choice.{IsInRange, below, below_part, candidate, chosen, cost_chosen, cut_by, kind_by, legs_chosen, legs_of}
+use Rattle.nms_sweep.specs.Choice.{share_cost}
 use Rattle.nms_sweep.specs.Cutoffs.{cutoff_at, cutoffs_of}
 use Rattle.nms_sweep.specs.Order.{IsByPrice, IsOrdered}
 use Rattle.nms_sweep.specs.declared.choice.Choice.{Choice}
@@ -46,14 +49,16 @@ use Rattle.nms_sweep.proofs.TotalLemmas.{amount_same, total_same}
 
 pub in_other : {X : Type 0} (one other : List X) → IsPermutation one other → (x : X) → In x one → In x other
 in_other {X} one other same =
-    In-All (λ (x : X). In x other) one (All-permutation (λ (x : X). In x other) other one (IsPermutation-sym one other same) (All-In (λ (x : X). In x other) other (λ x within. within)))
+    In-All (λ (x : X). In x other) one (All-permutation (λ (x : X). In x other) other one (IsPermutation-sym one other same)
+    (All-In (λ (x : X). In x other) other (λ x within. within)))
 
 eq-flips : (m n : ℕ) → nat_eq m n ≡ nat_eq n m
 eq-flips m n = grind arith
 
 pub apart_other : (one other : List Usable) → IsPermutation one other → Apart row_part one → Apart row_part other
 apart_other one other same apart =
-    Apart-IsDistinct row_part other (IsDistinct-IsPermutation nat_eq eq-flips (map row_part one) (map row_part other) (IsPermutation-map row_part one other same) (IsDistinct-Apart row_part one apart))
+    Apart-IsDistinct row_part other (IsDistinct-IsPermutation nat_eq eq-flips (map row_part one) (map row_part other)
+    (IsPermutation-map row_part one other same) (IsDistinct-Apart row_part one apart))
 
 -- ---- the usable rows
 
@@ -65,12 +70,14 @@ pub record IsOf (seen : Seen) (asked : Terms) (fees : Charges) (row : Usable) (q
   pub within : In quoted (contra_rows asked.side seen)
   pub is : row ≡ usable_row asked fees quoted
 
-pub usable_is : (seen : Seen) (asked : Terms) (fees : Charges) (row : Usable) → In row (usable seen asked fees) → (quoted : Row) × IsOf seen asked fees row quoted
+pub usable_is : (seen : Seen) (asked : Terms) (fees : Charges) (row : Usable) → In row (usable seen asked fees)
+    → (quoted : Row) × IsOf seen asked fees row quoted
 usable_is seen asked fees row within =
     let from = map-In (usable_row asked fees) (filter (is_usable asked) (contra_rows asked.side seen)) row within in
     (from.0, record { within = (filter-In (is_usable asked) (contra_rows asked.side seen) from.0 from.1).0; is = from.2 })
 
-pub usable_apart : (seen : Seen) (asked : Terms) (fees : Charges) → IsStrictlyIncreasing (map (λ row. row.part) (contra_rows asked.side seen)) → Apart row_part (usable seen asked fees)
+pub usable_apart : (seen : Seen) (asked : Terms) (fees : Charges)
+    → IsStrictlyIncreasing (map (λ row. row.part) (contra_rows asked.side seen)) → Apart row_part (usable seen asked fees)
 unfolding place
 usable_apart seen asked fees rising =
     Apart-map place row_part (usable_row asked fees) (λ row. refl) (filter (is_usable asked) (contra_rows asked.side seen))
@@ -87,8 +94,10 @@ pub record Table (side : OrderSide) (fees : Charges) (rows by_price by_cost : Li
   pub ranks : (row : Usable) → In row rows → row.rank ≡ rank_of side row.price
   pub costs : (row : Usable) → In row rows → row.cost ≡ unit_cost_of fees row.part side row.price
 
-pub table : (seen : Seen) (asked : Terms) (fees : Charges) (by_price by_cost : List Usable) → IsStrictlyIncreasing (map (λ row. row.part) (contra_rows asked.side seen))
-    → IsPermutation (usable seen asked fees) by_price → IsOrdered Price by_price → IsPermutation by_price by_cost → IsOrdered Cost by_cost → Table asked.side fees (usable seen asked fees) by_price by_cost
+pub table : (seen : Seen) (asked : Terms) (fees : Charges) (by_price by_cost : List Usable)
+    → IsStrictlyIncreasing (map (λ row. row.part) (contra_rows asked.side seen))
+    → IsPermutation (usable seen asked fees) by_price → IsOrdered Price by_price → IsPermutation by_price by_cost → IsOrdered Cost by_cost
+    → Table asked.side fees (usable seen asked fees) by_price by_cost
 table seen asked fees by_price by_cost rising same ordered again cheapest = record {
   same_price = same;
   same_cost = IsPermutation-trans (usable seen asked fees) by_price by_cost same again;
@@ -113,15 +122,28 @@ Kinds rows by_cost most cutoff =
     (most < swept cutoff rows) × (kind_at rows by_cost most cutoff ≡ TooMuch)
     ⊎ ((swept cutoff rows + pool cutoff rows < most) × (kind_at rows by_cost most cutoff ≡ TooLittle) ⊎ IsFit rows by_cost most cutoff)
 
-kinds-step : (rows by_cost : List Usable) (most : ℕ) (cutoff : ℤ) → (most < swept cutoff rows) ⊎ (swept cutoff rows ≤ most) → (swept cutoff rows + pool cutoff rows < most) ⊎ (most ≤ swept cutoff rows + pool cutoff rows) → Kinds rows by_cost most cutoff
+kinds-step : (rows by_cost : List Usable) (most : ℕ) (cutoff : ℤ) → (most < swept cutoff rows) ⊎ (swept cutoff rows ≤ most)
+    → (swept cutoff rows + pool cutoff rows < most) ⊎ (most ≤ swept cutoff rows + pool cutoff rows) → Kinds rows by_cost most cutoff
 unfolding Kinds
 kinds-step rows by_cost most cutoff (inl much) little = inl (much, rw (lt-ltb most (swept cutoff rows) much) refl)
-kinds-step rows by_cost most cutoff (inr right) (inl little) = inr (inl (little, rw (le-ltb most (swept cutoff rows) right, lt-ltb (pool cutoff rows) (most - swept cutoff rows) (omega (arith, little, right))) refl))
+kinds-step rows by_cost most cutoff (inr right) (inl little) =
+    inr (inl (
+      little,
+      rw (
+        le-ltb most (swept cutoff rows) right,
+        lt-ltb (pool cutoff rows) (most - swept cutoff rows) (omega (arith, little, right)),
+      ) refl,
+    ))
 kinds-step rows by_cost most cutoff (inr right) (inr enough) =
-    inr (inr (record { sweeps = right; reaches = enough; is = rw (le-ltb most (swept cutoff rows) right, le-ltb (pool cutoff rows) (most - swept cutoff rows) (omega (arith, enough))) refl }))
+    inr (inr (record {
+      sweeps = right;
+      reaches = enough;
+      is = rw (le-ltb most (swept cutoff rows) right, le-ltb (pool cutoff rows) (most - swept cutoff rows) (omega (arith, enough))) refl;
+    }))
 
 pub kinds : (rows by_cost : List Usable) (most : ℕ) (cutoff : ℤ) → Kinds rows by_cost most cutoff
-kinds rows by_cost most cutoff = kinds-step rows by_cost most cutoff (cases_lt most (swept cutoff rows)) (cases_lt (swept cutoff rows + pool cutoff rows) most)
+kinds rows by_cost most cutoff = kinds-step rows by_cost most cutoff (cases_lt most (swept cutoff rows)) (cases_lt (swept cutoff rows
+    + pool cutoff rows) most)
 
 -- ---- a cutoff that can be filled at
 
@@ -136,7 +158,8 @@ record Right (rows : List Usable) (most : ℕ) (choice : Choice) : Type 0 where
 choice_at : List Usable → ℕ → ℤ → ℤ → Choice
 choice_at rows most cutoff marginal = record { cutoff = cutoff; marginal = marginal; cost = least_cost rows most cutoff marginal }
 
-right-fit : (side : OrderSide) (fees : Charges) (rows by_price by_cost : List Usable) → Table side fees rows by_price by_cost → (most : ℕ) (cutoff : ℤ) → (row : Usable) × In row rows × (row.rank ≡ cutoff) → IsFit rows by_cost most cutoff
+right-fit : (side : OrderSide) (fees : Charges) (rows by_price by_cost : List Usable) → Table side fees rows by_price by_cost
+    → (most : ℕ) (cutoff : ℤ) → (row : Usable) × In row rows × (row.rank ≡ cutoff) → IsFit rows by_cost most cutoff
     → Right rows most (choice_at rows most cutoff (share_cost cutoff (most - swept cutoff rows) (pos 0) by_cost))
 unfolding choice_at
 right-fit side fees rows by_price by_cost table' most cutoff at fit =
@@ -158,13 +181,18 @@ some-same : (one other : Choice) → Some one ≡ Some other → one ≡ other
 some-same one other e = ap (λ found. unwrap_or found one) e
 
 -- what a cutoff offers is right
-right-offer : (side : OrderSide) (fees : Charges) (rows by_price by_cost : List Usable) → Table side fees rows by_price by_cost → (most : ℕ) (cutoff : ℤ) (choice : Choice)
-    → (row : Usable) × In row rows × (row.rank ≡ cutoff) → Kinds rows by_cost most cutoff → candidate rows most cutoff (kind_at rows by_cost most cutoff) ≡ Some choice → Right rows most choice
+right-offer : (side : OrderSide) (fees : Charges) (rows by_price by_cost : List Usable) → Table side fees rows by_price by_cost
+    → (most : ℕ) (cutoff : ℤ) (choice : Choice)
+    → (row : Usable) × In row rows × (row.rank ≡ cutoff) → Kinds rows by_cost most cutoff
+    → candidate rows most cutoff (kind_at rows by_cost most cutoff) ≡ Some choice → Right rows most choice
 unfolding Kinds choice_at
-right-offer side fees rows by_price by_cost table' most cutoff choice at (inl much) e = absurd (false≢true (ap is_some (ap (candidate rows most cutoff) (sym much.1) ∙ e)))
-right-offer side fees rows by_price by_cost table' most cutoff choice at (inr (inl little)) e = absurd (false≢true (ap is_some (ap (candidate rows most cutoff) (sym little.1) ∙ e)))
+right-offer side fees rows by_price by_cost table' most cutoff choice at (inl much) e =
+    absurd (false≢true (ap is_some (ap (candidate rows most cutoff) (sym much.1) ∙ e)))
+right-offer side fees rows by_price by_cost table' most cutoff choice at (inr (inl little)) e =
+    absurd (false≢true (ap is_some (ap (candidate rows most cutoff) (sym little.1) ∙ e)))
 right-offer side fees rows by_price by_cost table' most cutoff choice at (inr (inr fit)) e =
-    subst (Right rows most) (some-same (choice_at rows most cutoff (share_cost cutoff (most - swept cutoff rows) (pos 0) by_cost)) choice (ap (candidate rows most cutoff) (sym fit.is) ∙ e))
+    subst (Right rows most) (some-same (choice_at rows most cutoff (share_cost cutoff (most - swept cutoff rows) (pos 0) by_cost)) choice
+    (ap (candidate rows most cutoff) (sym fit.is) ∙ e))
     (right-fit side fees rows by_price by_cost table' most cutoff at fit)
 
 -- ---- the cuts, and what they offer
@@ -176,7 +204,8 @@ pub record RowOf (side : OrderSide) (rows by_cost : List Usable) (most : ℕ) (c
   pub rank : rank_of side cut.price ≡ row.rank
   pub kind : cut.kind ≡ kind_at rows by_cost most row.rank
 
-pub row-of : (side : OrderSide) (fees : Charges) (rows by_price by_cost : List Usable) → Table side fees rows by_price by_cost → (most : ℕ) (cut : Cut) → In cut (cuts_of (kind_at rows by_cost most) by_price)
+pub row-of : (side : OrderSide) (fees : Charges) (rows by_price by_cost : List Usable) → Table side fees rows by_price by_cost
+    → (most : ℕ) (cut : Cut) → In cut (cuts_of (kind_at rows by_cost most) by_price)
     → (row : Usable) × RowOf side rows by_cost most cut row
 row-of side fees rows by_price by_cost table' most cut within =
     let at = row_of_cut (kind_at rows by_cost most) by_price cut within in
@@ -192,16 +221,20 @@ row-of side fees rows by_price by_cost table' most cut within =
     )
 
 -- what it offers is what its row's rank does
-offers-as : (side : OrderSide) (rows by_cost : List Usable) (most : ℕ) (cut : Cut) (row : Usable) → RowOf side rows by_cost most cut row → offer side rows most cut ≡ candidate rows most row.rank (kind_at rows by_cost most row.rank)
-offers-as side rows by_cost most cut row is = ap (λ rank. candidate rows most rank cut.kind) is.rank ∙ ap (candidate rows most row.rank) is.kind
+offers-as : (side : OrderSide) (rows by_cost : List Usable) (most : ℕ) (cut : Cut) (row : Usable) → RowOf side rows by_cost most cut row
+    → offer side rows most cut ≡ candidate rows most row.rank (kind_at rows by_cost most row.rank)
+offers-as side rows by_cost most cut row is = ap (λ rank. candidate rows most rank cut.kind) is.rank
+    ∙ ap (candidate rows most row.rank) is.kind
 
 -- the chosen one is right
-right-step : (side : OrderSide) (fees : Charges) (rows by_price by_cost : List Usable) → Table side fees rows by_price by_cost → (most : ℕ) (choice : Choice)
+right-step : (side : OrderSide) (fees : Charges) (rows by_price by_cost : List Usable) → Table side fees rows by_price by_cost
+    → (most : ℕ) (choice : Choice)
     → Offered side rows most None (cuts_of (kind_at rows by_cost most) by_price) choice → Right rows most choice
 right-step side fees rows by_price by_cost table' most choice (inl none) = absurd (false≢true (ap is_some none))
 right-step side fees rows by_price by_cost table' most choice (inr at) =
     let row = row-of side fees rows by_price by_cost table' most at.0 at.1 in
-    right-offer side fees rows by_price by_cost table' most row.0.rank choice (row.0, row.1.within, refl) (kinds rows by_cost most row.0.rank) (sym (offers-as side rows by_cost most at.0 row.0 row.1) ∙ at.2)
+    right-offer side fees rows by_price by_cost table' most row.0.rank choice (row.0, row.1.within, refl)
+    (kinds rows by_cost most row.0.rank) (sym (offers-as side rows by_cost most at.0 row.0 row.1) ∙ at.2)
 
 -- ---- what the legs fill and cost
 
@@ -215,7 +248,8 @@ pub record Fills (side : OrderSide) (fees : Charges) (by_price : List Usable) (m
   pub sum : sum_of legs ≡ most
   pub pays : cost_of fees side legs ≡ cost
 
-fills-right : (side : OrderSide) (fees : Charges) (rows by_price by_cost : List Usable) → Table side fees rows by_price by_cost → (most : ℕ) (choice : Choice) → Right rows most choice
+fills-right : (side : OrderSide) (fees : Charges) (rows by_price by_cost : List Usable) → Table side fees rows by_price by_cost
+    → (most : ℕ) (choice : Choice) → Right rows most choice
     → Fills side fees by_price most choice.cost (legs_chosen rows most (Some choice) by_price)
 fills-right side fees rows by_price by_cost table' most choice right =
     let cutoff = choice.cutoff in
@@ -226,8 +260,18 @@ fills-right side fees rows by_price by_cost table' most choice right =
     let sweeps = total_same (swept_part cutoff) rows by_price same in
     let belows = total_same (below_part cutoff marginal) rows by_price same in
     let levels = total_same (level_part cutoff marginal) rows by_price same in
-    let sum : sum_of legs ≡ most = omega (arith, sum_legs cutoff marginal left by_price, sweeps, belows, levels, right.sweeps, right.covers, right.reaches) in
-    let costs = cost_legs fees side cutoff marginal left by_price (λ row within. table'.costs row (in_other by_price rows (IsPermutation-sym rows by_price same) row within)) in
+    let sum : sum_of legs ≡ most = omega (
+      arith,
+      sum_legs cutoff marginal left by_price,
+      sweeps,
+      belows,
+      levels,
+      right.sweeps,
+      right.covers,
+      right.reaches,
+    ) in
+    let costs = cost_legs fees side cutoff marginal left by_price
+    (λ row within. table'.costs row (in_other by_price rows (IsPermutation-sym rows by_price same) row within)) in
     let swept_costs = amount_same (swept_cost_part cutoff) rows by_price same in
     let saves = amount_same (savings_part cutoff marginal) rows by_price same in
     let whole : swept cutoff rows + (most - swept cutoff rows) ≡ most = omega (arith, right.sweeps) in
@@ -235,7 +279,8 @@ fills-right side fees rows by_price by_cost table' most choice right =
       cutoff = cutoff;
       marginal = marginal;
       left = left;
-      at = λ some. Any-In (λ (row : Usable). row.rank ≡ cutoff) by_price right.at.0 (in_other rows by_price same right.at.0 right.at.1) right.at.2;
+      at = λ some. Any-In (λ (row : Usable). row.rank ≡ cutoff) by_price right.at.0 (in_other rows by_price same right.at.0 right.at.1)
+          right.at.2;
       is = refl;
       sum = sum;
       pays = omega (
@@ -253,26 +298,32 @@ fills-right side fees rows by_price by_cost table' most choice right =
     }
 
 -- where there is a usable row, some cut offers something
-fit-is : (rows by_cost : List Usable) (most : ℕ) (cutoff : ℤ) → swept cutoff rows ≤ most → most ≤ swept cutoff rows + pool cutoff rows → Kinds rows by_cost most cutoff → IsFit rows by_cost most cutoff
+fit-is : (rows by_cost : List Usable) (most : ℕ) (cutoff : ℤ) → swept cutoff rows ≤ most → most ≤ swept cutoff rows + pool cutoff rows
+    → Kinds rows by_cost most cutoff → IsFit rows by_cost most cutoff
 unfolding Kinds
 fit-is rows by_cost most cutoff sweeps reaches (inl much) = absurd (omega (arith, sweeps, much.0))
 fit-is rows by_cost most cutoff sweeps reaches (inr (inl little)) = absurd (omega (arith, reaches, little.0))
 fit-is rows by_cost most cutoff sweeps reaches (inr (inr fit)) = fit
 
-some-offer : (side : OrderSide) (fees : Charges) (rows by_price by_cost : List Usable) → Table side fees rows by_price by_cost → (most : ℕ) (row : Usable) → In row by_price → Fits by_price most row
+some-offer : (side : OrderSide) (fees : Charges) (rows by_price by_cost : List Usable) → Table side fees rows by_price by_cost
+    → (most : ℕ) (row : Usable) → In row by_price → Fits by_price most row
     → (choice : Choice) × Offered side rows most None (cuts_of (kind_at rows by_cost most) by_price) choice
 unfolding choice_at
 some-offer side fees rows by_price by_cost table' most row within fits' =
     let same = table'.same_price in
     let sweeps = total_same (swept_part row.rank) rows by_price same in
     let pools = total_same (pool_part row.rank) rows by_price same in
-    let fit = fit-is rows by_cost most row.rank (omega (arith, sweeps, fits'.sweeps)) (omega (arith, sweeps, pools, fits'.reaches)) (kinds rows by_cost most row.rank) in
+    let fit = fit-is rows by_cost most row.rank (omega (arith, sweeps, fits'.sweeps)) (omega (arith, sweeps, pools, fits'.reaches))
+    (kinds rows by_cost most row.rank) in
     let cut = cut_of_row (kind_at rows by_cost most) by_price row within in
     let other = row-of side fees rows by_price by_cost table' most cut.0 cut.1 in
     let rank : other.0.rank ≡ row.rank =
-    sym other.1.rank ∙ ap (rank_of side) cut.2 ∙ sym (table'.ranks row (in_other by_price rows (IsPermutation-sym rows by_price same) row within)) in
-    let made : offer side rows most cut.0 ≡ Some (choice_at rows most row.rank (share_cost row.rank (most - swept row.rank rows) (pos 0) by_cost)) =
-    offers-as side rows by_cost most cut.0 other.0 other.1 ∙ ap (λ rank. candidate rows most rank (kind_at rows by_cost most rank)) rank ∙ ap (candidate rows most row.rank) fit.is in
+    sym other.1.rank ∙ ap (rank_of side) cut.2
+    ∙ sym (table'.ranks row (in_other by_price rows (IsPermutation-sym rows by_price same) row within)) in
+    let made : offer side rows most cut.0 ≡ Some (choice_at rows most row.rank (share_cost row.rank (most
+    - swept row.rank rows) (pos 0) by_cost)) =
+    offers-as side rows by_cost most cut.0 other.0 other.1 ∙ ap (λ rank. candidate rows most rank (kind_at rows by_cost most rank)) rank
+    ∙ ap (candidate rows most row.rank) fit.is in
     (choice_at rows most row.rank (share_cost row.rank (most - swept row.rank rows) (pos 0) by_cost), inr (cut.0, cut.1, made))
 
 -- nothing of nothing
@@ -292,16 +343,26 @@ none-some : (found : Option Choice) (choice : Choice) → found ≡ None → fou
 none-some found choice none some = absurd (false≢true (ap is_some (sym none ∙ some)))
 
 -- so the legs fill what can be filled
-fills-found : (side : OrderSide) (fees : Charges) (rows by_price by_cost : List Usable) → Table side fees rows by_price by_cost → (asked : ℕ) (found : Option Choice)
+fills-found : (side : OrderSide) (fees : Charges) (rows by_price by_cost : List Usable) → Table side fees rows by_price by_cost
+    → (asked : ℕ) (found : Option Choice)
     → chosen side rows (fillable rows asked) None (cuts_of (kind_at rows by_cost (fillable rows asked)) by_price) ≡ found
     → Fills side fees by_price (fillable rows asked) (cost_chosen found) (legs_chosen rows (fillable rows asked) found by_price)
 fills-found side fees rows by_price by_cost table' asked (Some choice) e =
     let most = fillable rows asked in
     fills-right side fees rows by_price by_cost table' most choice
-    (right-step side fees rows by_price by_cost table' most choice (chosen_offered side rows most None (cuts_of (kind_at rows by_cost most) by_price) choice e))
+    (right-step side fees rows by_price by_cost table' most choice
+    (chosen_offered side rows most None (cuts_of (kind_at rows by_cost most) by_price) choice e))
 fills-found side fees rows [] by_cost table' asked None e =
     let none : total (λ row. row.size) rows ≡ 0 = total-nothing rows table'.same_price in
-    record { cutoff = pos 0; marginal = pos 0; left = 0; at = λ some. absurd (omega (arith, none, some)); is = legs-nothing; sum = omega (arith, none); pays = cost-nothing fees side }
+    record {
+      cutoff = pos 0;
+      marginal = pos 0;
+      left = 0;
+      at = λ some. absurd (omega (arith, none, some));
+      is = legs-nothing;
+      sum = omega (arith, none);
+      pays = cost-nothing fees side;
+    }
 fills-found side fees rows (row ∷ by_price) by_cost table' asked None e =
     let most = fillable rows asked in
     let all = total_same (λ (one : Usable). one.size) rows (row ∷ by_price) table'.same_price in
@@ -311,27 +372,33 @@ fills-found side fees rows (row ∷ by_price) by_cost table' asked None e =
     none-some (chosen side rows most None (cuts_of (kind_at rows by_cost most) (row ∷ by_price))) found.choice e found.is
 
 pub fills : (side : OrderSide) (fees : Charges) (rows by_price by_cost : List Usable) → Table side fees rows by_price by_cost → (asked : ℕ)
-    → Fills side fees by_price (fillable rows asked) (cost_chosen (chosen side rows (fillable rows asked) None (cuts_of (kind_at rows by_cost (fillable rows asked)) by_price)))
-    (legs_chosen rows (fillable rows asked) (chosen side rows (fillable rows asked) None (cuts_of (kind_at rows by_cost (fillable rows asked)) by_price)) by_price)
+    → Fills side fees by_price (fillable rows asked)
+    (cost_chosen (chosen side rows (fillable rows asked) None (cuts_of (kind_at rows by_cost (fillable rows asked)) by_price)))
+    (legs_chosen rows (fillable rows asked) (chosen side rows (fillable rows asked) None
+    (cuts_of (kind_at rows by_cost (fillable rows asked)) by_price)) by_price)
 fills side fees rows by_price by_cost table' asked =
-    fills-found side fees rows by_price by_cost table' asked (chosen side rows (fillable rows asked) None (cuts_of (kind_at rows by_cost (fillable rows asked)) by_price)) refl
+    fills-found side fees rows by_price by_cost table' asked
+    (chosen side rows (fillable rows asked) None (cuts_of (kind_at rows by_cost (fillable rows asked)) by_price)) refl
 
 -- ---- a lawful plan
 
 -- a leg's quotation
-quoted : (seen : Seen) (asked : Terms) (fees : Charges) (row : Usable) → In row (usable seen asked fees) → (leg : Leg) → GoesTo row leg → Any (λ (one : Row). (one.part ≡ leg.part) × (one.price ≡ leg.price)) (contra_rows asked.side seen)
+quoted : (seen : Seen) (asked : Terms) (fees : Charges) (row : Usable) → In row (usable seen asked fees) → (leg : Leg) → GoesTo row leg
+    → Any (λ (one : Row). (one.part ≡ leg.part) × (one.price ≡ leg.price)) (contra_rows asked.side seen)
 quoted seen asked fees row within leg goes =
     let at = usable_is seen asked fees row within in
     Any-In (λ (one : Row). (one.part ≡ leg.part) × (one.price ≡ leg.price)) (contra_rows asked.side seen) at.0 at.1.within
     (ap (λ (one : Usable). one.part) (sym at.1.is) ∙ sym goes.part, ap (λ (one : Usable). one.price) (sym at.1.is) ∙ sym goes.price)
 
-lawful : (side : OrderSide) (fees : Charges) (rows by_price by_cost : List Usable) → Table side fees rows by_price by_cost → (asked : ℕ) (cost : ℤ) (legs : List Leg)
+lawful : (side : OrderSide) (fees : Charges) (rows by_price by_cost : List Usable) → Table side fees rows by_price by_cost
+    → (asked : ℕ) (cost : ℤ) (legs : List Leg)
     → Fills side fees by_price (fillable rows asked) cost legs → IsLawful rows asked (given_by legs)
 lawful side fees rows by_price by_cost table' asked cost legs fills' =
     let same = table'.same_price in
     let apart = apart_other rows by_price same table'.apart in
     let gets : (row : Usable) → In row rows → Gets fills'.cutoff row (given_by legs row.part) =
-    λ row within. subst (λ (all : List Leg). Gets fills'.cutoff row (given_by all row.part)) (sym fills'.is) (given_gets fills'.cutoff fills'.marginal fills'.left by_price apart row (in_other rows by_price same row within)) in
+    λ row within. subst (λ (all : List Leg). Gets fills'.cutoff row (given_by all row.part)) (sym fills'.is)
+    (given_gets fills'.cutoff fills'.marginal fills'.left by_price apart row (in_other rows by_price same row within)) in
     let goes : (leg : Leg) → In leg legs → (row : Usable) × In row rows × (leg.part ≡ row.part) =
     λ leg within.
     let at = goes_to_row fills'.cutoff fills'.marginal fills'.left by_price leg (subst (In leg) fills'.is within) in
@@ -344,13 +411,17 @@ lawful side fees rows by_price by_cost table' asked cost legs fills' =
       within = All-In (λ (row : Usable). given_by legs row.part ≤ row.size) rows (λ row within. (gets row within).within);
       at_most = omega (arith, filled-given legs rows table'.apart goes, fills'.sum);
       swept = All-In (λ (row : Usable). 0 < given_by legs row.part → SweepsBetter rows (given_by legs) row) rows (λ row within some.
-          All-In (λ (other : Usable). other.protected ≡ true → other.rank <ℤ row.rank → given_by legs other.part ≡ other.size) rows (λ other also protected less.
-          (gets other also).sweeps (and_from other.protected (int_lt other.rank fills'.cutoff) protected (true-lt other.rank fills'.cutoff (omega (arith, ints, less, (gets row within).beyond some))))));
+          All-In (λ (other : Usable). other.protected ≡ true → other.rank <ℤ row.rank → given_by legs other.part ≡ other.size) rows
+          (λ other also protected less.
+          (gets other also).sweeps (and_from other.protected (int_lt other.rank fills'.cutoff) protected
+          (true-lt other.rank fills'.cutoff (omega (arith, ints, less, (gets row within).beyond some))))));
     }
 
-pub faultless : (seen : Seen) (asked : Terms) (fees : Charges) (plan : Plan) (by_price by_cost : List Usable) → Table asked.side fees (usable seen asked fees) by_price by_cost
+pub faultless : (seen : Seen) (asked : Terms) (fees : Charges) (plan : Plan) (by_price by_cost : List Usable)
+    → Table asked.side fees (usable seen asked fees) by_price by_cost
     → plan.version ≡ seen.version → plan.order ≡ asked → asked.sym ≡ seen.sym → plan.filled ≡ fillable (usable seen asked fees) asked.shares
-    → Fills asked.side fees by_price (fillable (usable seen asked fees) asked.shares) plan.cost plan.legs.items → IsFaultless seen asked fees plan
+    → Fills asked.side fees by_price (fillable (usable seen asked fees) asked.shares) plan.cost plan.legs.items
+    → IsFaultless seen asked fees plan
 faultless seen asked fees plan by_price by_cost table' version order symbol filled' fills' =
     let rows : List Usable = usable seen asked fees in
     let legs : List Leg = plan.legs.items in
@@ -365,8 +436,10 @@ faultless seen asked fees plan by_price by_cost table' version order symbol fill
       order = order;
       symbol = symbol;
       shares = All-In (λ (leg : Leg). 1 ≤ leg.shares) legs (λ leg within. (goes leg within).2.shares);
-      prices = All-In (λ (leg : Leg). Any (λ (row : Row). (row.part ≡ leg.part) × (row.price ≡ leg.price)) (contra_rows asked.side seen)) legs (λ leg within. let at = goes leg within in quoted seen asked fees at.0 at.1 leg at.2);
-      once = IsDistinct-Apart leg_part legs (subst (Apart leg_part) (sym fills'.is) (legs_apart fills'.cutoff fills'.marginal fills'.left by_price apart));
+      prices = All-In (λ (leg : Leg). Any (λ (row : Row). (row.part ≡ leg.part) × (row.price ≡ leg.price)) (contra_rows asked.side seen))
+          legs (λ leg within. let at = goes leg within in quoted seen asked fees at.0 at.1 leg at.2);
+      once = IsDistinct-Apart leg_part legs (subst (Apart leg_part) (sym fills'.is)
+          (legs_apart fills'.cutoff fills'.marginal fills'.left by_price apart));
       lawful = lawful asked.side fees rows by_price by_cost table' asked.shares plan.cost legs fills';
       filled = filled' ∙ sym fills'.sum;
       cost = sym fills'.pays;
@@ -375,11 +448,14 @@ faultless seen asked fees plan by_price by_cost table' version order symbol fill
 -- ---- the cuts
 
 -- what the cut of a row says holds
-kind-holds : (rows by_cost : List Usable) (most : ℕ) (cost cutoff : ℤ) (kind : CutKind) → kind ≡ kind_at rows by_cost most cutoff → IsInRange kind
-    → ((choice : Choice) → candidate rows most cutoff kind ≡ Some choice → cost ≤ℤ choice.cost) → Kinds rows by_cost most cutoff → KindHolds rows most cost cutoff kind
+kind-holds : (rows by_cost : List Usable) (most : ℕ) (cost cutoff : ℤ) (kind : CutKind) → kind ≡ kind_at rows by_cost most cutoff
+    → IsInRange kind
+    → ((choice : Choice) → candidate rows most cutoff kind ≡ Some choice → cost ≤ℤ choice.cost) → Kinds rows by_cost most cutoff
+    → KindHolds rows most cost cutoff kind
 unfolding Kinds choice_at
 kind-holds rows by_cost most cost cutoff kind is range least (inl much) = subst (KindHolds rows most cost cutoff) (sym (is ∙ much.1)) much.0
-kind-holds rows by_cost most cost cutoff kind is range least (inr (inl little)) = subst (KindHolds rows most cost cutoff) (sym (is ∙ little.1)) little.0
+kind-holds rows by_cost most cost cutoff kind is range least (inr (inl little)) =
+    subst (KindHolds rows most cost cutoff) (sym (is ∙ little.1)) little.0
 kind-holds rows by_cost most cost cutoff kind is range least (inr (inr fit)) =
     let marginal = share_cost cutoff (most - swept cutoff rows) (pos 0) by_cost in
     let same : kind ≡ Marginal marginal = is ∙ fit.is in
@@ -396,22 +472,28 @@ kind-holds rows by_cost most cost cutoff kind is range least (inr (inr fit)) =
 least-paid : (found : Option Choice) (other : Choice) → IsNoDearer found other → cost_chosen found ≤ℤ other.cost
 least-paid found other least = subst (λ (one : Option Choice). cost_chosen one ≤ℤ other.cost) (sym least.is) least.cost
 
-cut-holds : (side : OrderSide) (fees : Charges) (rows by_price by_cost : List Usable) → Table side fees rows by_price by_cost → (most : ℕ) (cut : Cut) → In cut (cuts_of (kind_at rows by_cost most) by_price) → IsInRange cut.kind
-    → KindHolds rows most (cost_chosen (chosen side rows most None (cuts_of (kind_at rows by_cost most) by_price))) (rank_of side cut.price) cut.kind
+cut-holds : (side : OrderSide) (fees : Charges) (rows by_price by_cost : List Usable) → Table side fees rows by_price by_cost
+    → (most : ℕ) (cut : Cut) → In cut (cuts_of (kind_at rows by_cost most) by_price) → IsInRange cut.kind
+    → KindHolds rows most (cost_chosen (chosen side rows most None (cuts_of (kind_at rows by_cost most) by_price))) (rank_of side cut.price)
+    cut.kind
 cut-holds side fees rows by_price by_cost table' most cut within range =
     let cuts = cuts_of (kind_at rows by_cost most) by_price in
     let found = chosen side rows most None cuts in
     let row = row-of side fees rows by_price by_cost table' most cut within in
-    kind-holds rows by_cost most (cost_chosen found) (rank_of side cut.price) cut.kind (row.1.kind ∙ ap (kind_at rows by_cost most) (sym row.1.rank)) range
+    kind-holds rows by_cost most (cost_chosen found) (rank_of side cut.price) cut.kind
+    (row.1.kind ∙ ap (kind_at rows by_cost most) (sym row.1.rank)) range
     (λ choice e. least-paid found choice (chosen_least side rows most None cuts choice (inr (cut, within, e))))
     (kinds rows by_cost most (rank_of side cut.price))
 
 -- ---- accepted
 
-pub accepted : (seen : Seen) (asked : Terms) (fees : Charges) (plan : Plan) (by_price by_cost : List Usable) (cuts : List Cut) → Table asked.side fees (usable seen asked fees) by_price by_cost
+pub accepted : (seen : Seen) (asked : Terms) (fees : Charges) (plan : Plan) (by_price by_cost : List Usable) (cuts : List Cut)
+    → Table asked.side fees (usable seen asked fees) by_price by_cost
     → IsFaultless seen asked fees plan → plan.filled ≡ fillable (usable seen asked fees) asked.shares
-    → cuts ≡ cuts_of (kind_at (usable seen asked fees) by_cost (fillable (usable seen asked fees) asked.shares)) by_price → All (λ cut. IsInRange cut.kind) cuts
-    → plan.cost ≡ cost_chosen (chosen asked.side (usable seen asked fees) (fillable (usable seen asked fees) asked.shares) None cuts) → IsAccepted seen asked fees plan cuts
+    → cuts ≡ cuts_of (kind_at (usable seen asked fees) by_cost (fillable (usable seen asked fees) asked.shares)) by_price
+    → All (λ cut. IsInRange cut.kind) cuts
+    → plan.cost ≡ cost_chosen (chosen asked.side (usable seen asked fees) (fillable (usable seen asked fees) asked.shares) None cuts)
+    → IsAccepted seen asked fees plan cuts
 accepted seen asked fees plan by_price by_cost cuts table' is full made range paid =
     let rows : List Usable = usable seen asked fees in
     let most : ℕ = fillable rows asked.shares in
@@ -427,23 +509,29 @@ accepted seen asked fees plan by_price by_cost cuts table' is full made range pa
           let row = row-of asked.side fees rows by_price by_cost table' most cut (subst (In cut) made within) in
           Any-In (λ (one : Usable). one.price ≡ cut.price) rows row.0 row.1.within (sym row.1.price));
       best_first = subst (AllPairs (λ (cut later : Cut). is_better asked.side cut.price later.price ≡ true)) (sym made)
-          (best_first (λ (cut : Cut). cut.price) (cut_at kind) (λ row. refl) asked.side by_price (λ row within. table'.ranks row (in_other by_price rows (IsPermutation-sym rows by_price same) row within)) table'.ordered_price);
+          (best_first (λ (cut : Cut). cut.price) (cut_at kind) (λ row. refl) asked.side by_price
+          (λ row within. table'.ranks row (in_other by_price rows (IsPermutation-sym rows by_price same) row within))
+          table'.ordered_price);
       holds = All-In (λ (cut : Cut). KindHolds rows most plan.cost (rank_of asked.side cut.price) cut.kind) cuts (λ cut within.
-          subst (λ cost. KindHolds rows most cost (rank_of asked.side cut.price) cut.kind) (sym (paid ∙ ap (λ (all : List Cut). cost_chosen (chosen asked.side rows most None all)) made))
-          (cut-holds asked.side fees rows by_price by_cost table' most cut (subst (In cut) made within) (In-All (λ (one : Cut). IsInRange one.kind) cuts range cut within)));
+          subst (λ cost. KindHolds rows most cost (rank_of asked.side cut.price) cut.kind)
+          (sym (paid ∙ ap (λ (all : List Cut). cost_chosen (chosen asked.side rows most None all)) made))
+          (cut-holds asked.side fees rows by_price by_cost table' most cut (subst (In cut) made within)
+          (In-All (λ (one : Cut). IsInRange one.kind) cuts range cut within)));
     }
 
 -- ---- what the planner goes through, of one view
 
 -- the rows in both orders, the cuts and the choice
-pub record Found (seen : Seen) (asked : Terms) (fees : Charges) (by_price by_cost : List Usable) (cuts : List Cut) (most : ℕ) (found : Option Choice) : Type 0 where
+pub record Found (seen : Seen) (asked : Terms) (fees : Charges) (by_price by_cost : List Usable) (cuts : List Cut) (most : ℕ)
+    (found : Option Choice) : Type 0 where
   pub rows : Table asked.side fees (usable seen asked fees) by_price by_cost
   pub fillable_is : most ≡ fillable (usable seen asked fees) asked.shares
   pub cuts_are : cuts ≡ cuts_of (kind_at (usable seen asked fees) by_cost (fillable (usable seen asked fees) asked.shares)) by_price
   pub found_is : found ≡ chosen asked.side (usable seen asked fees) (fillable (usable seen asked fees) asked.shares) None cuts
 
 -- by place they rise
-pub rising : (side : OrderSide) (seen : Seen) → AreRows seen.bids → AreRows seen.offers → IsStrictlyIncreasing (map (λ row. row.part) (contra_rows side seen))
+pub rising : (side : OrderSide) (seen : Seen) → AreRows seen.bids → AreRows seen.offers
+    → IsStrictlyIncreasing (map (λ row. row.part) (contra_rows side seen))
 rising Buy seen bids offers = offers.rising
 rising Sell seen bids offers = bids.rising
 
@@ -464,32 +552,46 @@ cuts-made side fees rows by_price by_cost table' most =
     ∙ ap (kind_by by_cost most row.rank (swept row.rank rows)) (total_same (pool_part row.rank) rows by_price same)))
 
 -- of slices that show the rows
-pub found_from : (seen : Seen) (asked : Terms) (fees : Charges) (terms : Terms) (first again costs : List Usable) (coming : List Cutoff) (by_price by_cost : List Usable) (cuts : List Cut) (most : ℕ) (found : Option Choice)
-    → terms ≡ asked → AreRows seen.bids → AreRows seen.offers → IsPermutation (usable seen asked fees) by_price → IsByPrice by_price → coming ≡ cutoffs_of by_price by_price
+pub found_from : (seen : Seen) (asked : Terms) (fees : Charges) (terms : Terms) (first again costs : List Usable) (coming : List Cutoff)
+    (by_price by_cost : List Usable) (cuts : List Cut) (most : ℕ) (found : Option Choice)
+    → terms ≡ asked → AreRows seen.bids → AreRows seen.offers → IsPermutation (usable seen asked fees) by_price → IsByPrice by_price
+    → coming ≡ cutoffs_of by_price by_price
     → first ≡ by_price → again ≡ by_price → costs ≡ by_cost → IsPermutation again by_cost → IsOrdered Cost by_cost
-    → most ≡ fillable first terms.shares → cuts ≡ map (cut_by terms.side costs most) coming → found ≡ chosen terms.side costs most None (map (cut_by terms.side costs most) coming) → Found seen asked fees by_price by_cost cuts most found
-found_from seen asked fees terms first again costs coming by_price by_cost cuts most found same bids offers rows_same ordered comes one two cheap cost_same cheapest count made choice =
+    → most ≡ fillable first terms.shares → cuts ≡ map (cut_by terms.side costs most) coming
+    → found ≡ chosen terms.side costs most None (map (cut_by terms.side costs most) coming)
+    → Found seen asked fees by_price by_cost cuts most found
+found_from seen asked fees terms first again costs coming by_price by_cost cuts most found same bids offers rows_same ordered comes one two
+    cheap cost_same cheapest count made choice =
     let usables : List Usable = usable seen asked fees in
-    let rows = table seen asked fees by_price by_cost (rising asked.side seen bids offers) rows_same ordered (subst (λ (some : List Usable). IsPermutation some by_cost) two cost_same) cheapest in
+    let rows = table seen asked fees by_price by_cost (rising asked.side seen bids offers) rows_same ordered
+    (subst (λ (some : List Usable). IsPermutation some by_cost) two cost_same) cheapest in
     let count' : most ≡ fillable usables asked.shares =
-    count ∙ ap (λ (some : List Usable). fillable some terms.shares) one ∙ ap (λ (some : Terms). fillable by_price some.shares) same ∙ fillable_same usables by_price rows_same asked.shares in
+    count ∙ ap (λ (some : List Usable). fillable some terms.shares) one ∙ ap (λ (some : Terms). fillable by_price some.shares) same
+    ∙ fillable_same usables by_price rows_same asked.shares in
     record {
       rows = rows;
       fillable_is = count';
-      cuts_are = made ∙ ap (map (cut_by terms.side costs most)) comes ∙ ap (λ (some : List Usable). map (cut_by terms.side some most) (cutoffs_of by_price by_price)) cheap
-          ∙ ap (λ (some : Terms). map (cut_by some.side by_cost most) (cutoffs_of by_price by_price)) same ∙ cuts-made asked.side fees usables by_price by_cost rows most
+      cuts_are = made ∙ ap (map (cut_by terms.side costs most)) comes
+          ∙ ap (λ (some : List Usable). map (cut_by terms.side some most) (cutoffs_of by_price by_price)) cheap
+          ∙ ap (λ (some : Terms). map (cut_by some.side by_cost most) (cutoffs_of by_price by_price)) same
+          ∙ cuts-made asked.side fees usables by_price by_cost rows most
           ∙ ap (λ n. cuts_of (kind_at usables by_cost n) by_price) count';
-      found_is = choice ∙ ap (chosen terms.side costs most None) (sym made) ∙ ap (λ (some : List Usable). chosen terms.side some most None cuts) cheap ∙ ap (λ (some : Terms). chosen some.side by_cost most None cuts) same
+      found_is = choice ∙ ap (chosen terms.side costs most None) (sym made)
+          ∙ ap (λ (some : List Usable). chosen terms.side some most None cuts) cheap
+          ∙ ap (λ (some : Terms). chosen some.side by_cost most None cuts) same
           ∙ chosen_same asked.side usables by_cost rows.same_cost most None cuts ∙ ap (λ n. chosen asked.side usables n None cuts) count';
     }
 
-pub legs_found : (seen : Seen) (asked : Terms) (fees : Charges) (by_price by_cost : List Usable) (cuts : List Cut) (most : ℕ) (found : Option Choice) → Found seen asked fees by_price by_cost cuts most found
-    → Fills asked.side fees by_price (fillable (usable seen asked fees) asked.shares) (cost_chosen found) (legs_chosen (usable seen asked fees) most found by_price)
+pub legs_found : (seen : Seen) (asked : Terms) (fees : Charges) (by_price by_cost : List Usable) (cuts : List Cut) (most : ℕ)
+    (found : Option Choice) → Found seen asked fees by_price by_cost cuts most found
+    → Fills asked.side fees by_price (fillable (usable seen asked fees) asked.shares) (cost_chosen found)
+    (legs_chosen (usable seen asked fees) most found by_price)
 legs_found seen asked fees by_price by_cost cuts most found is =
     let rows : List Usable = usable seen asked fees in
     let count : ℕ = fillable rows asked.shares in
     let all : List Cut = cuts_of (kind_at rows by_cost count) by_price in
     let here : found ≡ chosen asked.side rows count None all = is.found_is ∙ ap (chosen asked.side rows count None) is.cuts_are in
     let made = fills asked.side fees rows by_price by_cost is.rows asked.shares in
-    let moved = subst (λ (one : Option Choice). Fills asked.side fees by_price count (cost_chosen one) (legs_chosen rows count one by_price)) (sym here) made in
+    let moved = subst (λ (one : Option Choice). Fills asked.side fees by_price count (cost_chosen one)
+    (legs_chosen rows count one by_price)) (sym here) made in
     subst (λ n. Fills asked.side fees by_price count (cost_chosen found) (legs_chosen rows n found by_price)) (sym is.fillable_is) moved

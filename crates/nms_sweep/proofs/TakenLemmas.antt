@@ -1,5 +1,6 @@
 -- What the cheapest shares of a pool cost is what the marginal says of them, less what it saves.
-use Rattle.std.proofs.Common.{ℕ, ◌≡◌, ◌≤◌, ◌+◌, ◌-◌, true, false, ◌&&◌, List, [], ◌∷◌, Some, None, ◌⊎◌, inl, inr, refl, ap, sym, ◌∙◌, subst, arith, min, nat_le}
+use Rattle.std.proofs.Common.{ℕ, ◌≡◌, ◌≤◌, ◌+◌, ◌-◌, true, false, ◌&&◌, List, [], ◌∷◌, Some, None, ◌⊎◌, inl, inr, refl, ap, sym, ◌∙◌, subst}
+use Rattle.std.proofs.Common.{arith, min, nat_le}
 use Rattle.std.specs.Prelude.{ℤ, pos, ◌+ℤ◌, ◌-ℤ◌, ◌*ℤ◌, ◌≤ℤ◌}
 use Rattle.std.specs.Int.{int_max}
 use Rattle.std.specs.Option.{is_some, unwrap_or}
@@ -26,7 +27,8 @@ use Rattle.nms_sweep.proofs.OrderLemmas.{NoLess, Ordered, in_order_from, ordered
 -- ---- one row
 
 -- a share of no lower a cost saves nothing
-dear-saves : (cutoff marginal : ℤ) (row : Usable) → marginal ≤ℤ row.cost → (is_pooled cutoff row ≡ true) ⊎ (is_pooled cutoff row ≡ false) → savings_part cutoff marginal row ≡ pos 0
+dear-saves : (cutoff marginal : ℤ) (row : Usable) → marginal ≤ℤ row.cost → (is_pooled cutoff row ≡ true) ⊎ (is_pooled cutoff row ≡ false)
+    → savings_part cutoff marginal row ≡ pos 0
 dear-saves cutoff marginal row most (inl pooled) =
     let saved : int_max (marginal -ℤ row.cost) (pos 0) ≡ pos 0 = omega (arith, ints, clamps, most) in
     rw (pooled, saved) (zero-times row.size)
@@ -43,11 +45,17 @@ cheap-saves cutoff marginal row most (inr out) = rw out (omega (arith, ints, *�
 
 -- ---- the rows
 
-none-saved : (cutoff marginal : ℤ) (row : Usable) (rows : List Usable) → marginal ≤ℤ row.cost → NoLess Cost row rows → savings cutoff marginal rows ≡ pos 0
+none-saved : (cutoff marginal : ℤ) (row : Usable) (rows : List Usable) → marginal ≤ℤ row.cost → NoLess Cost row rows
+    → savings cutoff marginal rows ≡ pos 0
 unfolding amount
 none-saved cutoff marginal row [] most no_less = refl
 none-saved cutoff marginal row (other ∷ rows) most no_less =
-    omega (arith, ints, dear-saves cutoff marginal other (omega (arith, ints, most, no_less.0)) (cases_Bool (is_pooled cutoff other)), none-saved cutoff marginal row rows most no_less.1)
+    omega (
+      arith,
+      ints,
+      dear-saves cutoff marginal other (omega (arith, ints, most, no_less.0)) (cases_Bool (is_pooled cutoff other)),
+      none-saved cutoff marginal row rows most no_less.1,
+    )
 
 -- no shares cost nothing
 pub none_taken : (cutoff : ℤ) (rows : List Usable) → taken_cost cutoff 0 rows ≡ pos 0
@@ -59,7 +67,8 @@ none_taken cutoff (row ∷ rows) =
     omega (arith, ints, ap (λ n. row.cost *ℤ pos n) none, *ℤ-zero row.cost, ap (λ n. taken_cost cutoff n rows) rest, none_taken cutoff rows)
 
 -- the row that has as many as are wanted
-pub taken_here : (cutoff : ℤ) (number : ℕ) (row : Usable) (rows : List Usable) → is_pooled cutoff row ≡ true → number ≤ row.size → taken_cost cutoff number (row ∷ rows) ≡ row.cost *ℤ pos number
+pub taken_here : (cutoff : ℤ) (number : ℕ) (row : Usable) (rows : List Usable) → is_pooled cutoff row ≡ true → number ≤ row.size
+    → taken_cost cutoff number (row ∷ rows) ≡ row.cost *ℤ pos number
 unfolding taken_cost
 taken_here cutoff number row rows pooled enough =
     let all : min number (pool_part cutoff row) ≡ number = omega (arith, pool-is cutoff row pooled, enough) in
@@ -68,20 +77,25 @@ taken_here cutoff number row rows pooled enough =
 
 -- one that has fewer
 pub taken_later : (cutoff : ℤ) (number : ℕ) (row : Usable) (rows : List Usable) → pool_part cutoff row ≤ number
-    → taken_cost cutoff number (row ∷ rows) ≡ row.cost *ℤ pos (pool_part cutoff row) +ℤ taken_cost cutoff (number - pool_part cutoff row) rows
+    → taken_cost cutoff number (row ∷ rows) ≡ row.cost *ℤ pos (pool_part cutoff row) +ℤ taken_cost cutoff (number
+    - pool_part cutoff row) rows
 unfolding taken_cost
 taken_later cutoff number row rows part =
     let all : min number (pool_part cutoff row) ≡ pool_part cutoff row = omega (arith, part) in
     omega (arith, ints, ap (λ n. row.cost *ℤ pos n) all)
 
 pub taken_saves : (cutoff : ℤ) (number : ℕ) (last : ℤ) (rows : List Usable) → Ordered Cost rows → number ≤ pool cutoff rows
-    → taken_cost cutoff number rows +ℤ savings cutoff (share_cost cutoff number last rows) rows ≡ share_cost cutoff number last rows *ℤ pos number
+    → taken_cost cutoff number rows +ℤ savings cutoff (share_cost cutoff number last rows) rows
+    ≡ share_cost cutoff number last rows *ℤ pos number
 unfolding share_cost taken_cost total amount
-taken_saves cutoff number last [] ordered few = let none : number ≡ 0 = omega (arith, few) in omega (arith, ints, *ℤ-zero last, ap (λ n. last *ℤ pos n) none)
+taken_saves cutoff number last [] ordered few = let none : number ≡ 0 = omega (arith, few) in
+    omega (arith, ints, *ℤ-zero last, ap (λ n. last *ℤ pos n) none)
 taken_saves cutoff number last (row ∷ rows) ordered few =
-    step (taken_saves cutoff (number - pool_part cutoff row) row.cost rows ordered.1) (share-step cutoff number last row rows (cases_Bool (is_pooled cutoff row && nat_le number row.size)))
+    step (taken_saves cutoff (number - pool_part cutoff row) row.cost rows ordered.1)
+    (share-step cutoff number last row rows (cases_Bool (is_pooled cutoff row && nat_le number row.size)))
   where
-    here : is_pooled cutoff row ≡ true → number ≤ row.size → taken_cost cutoff number (row ∷ rows) +ℤ savings cutoff row.cost (row ∷ rows) ≡ row.cost *ℤ pos number
+    here : is_pooled cutoff row ≡ true → number ≤ row.size → taken_cost cutoff number (row ∷ rows) +ℤ savings cutoff row.cost (row ∷ rows)
+        ≡ row.cost *ℤ pos number
     here pooled enough =
         omega (
           arith,
@@ -91,7 +105,9 @@ taken_saves cutoff number last (row ∷ rows) ordered few =
           none-saved cutoff row.cost row rows (omega (arith, ints)) ordered.0,
         )
 
-    later : (marginal : ℤ) → row.cost ≤ℤ marginal → pool_part cutoff row ≤ number → taken_cost cutoff (number - pool_part cutoff row) rows +ℤ savings cutoff marginal rows ≡ marginal *ℤ pos (number - pool_part cutoff row)
+    later : (marginal : ℤ) → row.cost ≤ℤ marginal → pool_part cutoff row ≤ number
+        → taken_cost cutoff (number - pool_part cutoff row) rows +ℤ savings cutoff marginal rows
+        ≡ marginal *ℤ pos (number - pool_part cutoff row)
         → taken_cost cutoff number (row ∷ rows) +ℤ savings cutoff marginal (row ∷ rows) ≡ marginal *ℤ pos number
     later marginal most part rest =
         let whole : pool_part cutoff row + (number - pool_part cutoff row) ≡ number = omega (arith, part) in
@@ -106,20 +122,28 @@ taken_saves cutoff number last (row ∷ rows) ordered few =
         )
 
     step : (number - pool_part cutoff row ≤ pool cutoff rows
-        → taken_cost cutoff (number - pool_part cutoff row) rows +ℤ savings cutoff (share_cost cutoff (number - pool_part cutoff row) row.cost rows) rows ≡ share_cost cutoff (number - pool_part cutoff row) row.cost rows *ℤ pos (number - pool_part cutoff row))
+        → taken_cost cutoff (number - pool_part cutoff row) rows +ℤ savings cutoff
+        (share_cost cutoff (number - pool_part cutoff row) row.cost rows) rows
+        ≡ share_cost cutoff (number - pool_part cutoff row) row.cost rows *ℤ pos (number - pool_part cutoff row))
         → (is_pooled cutoff row ≡ true) × (number ≤ row.size) × (share_cost cutoff number last (row ∷ rows) ≡ row.cost)
-        ⊎ (pool_part cutoff row ≤ number) × (share_cost cutoff number last (row ∷ rows) ≡ share_cost cutoff (number - pool_part cutoff row) row.cost rows)
-        → taken_cost cutoff number (row ∷ rows) +ℤ savings cutoff (share_cost cutoff number last (row ∷ rows)) (row ∷ rows) ≡ share_cost cutoff number last (row ∷ rows) *ℤ pos number
+        ⊎ (pool_part cutoff row ≤ number) × (share_cost cutoff number last (row ∷ rows)
+        ≡ share_cost cutoff (number - pool_part cutoff row) row.cost rows)
+        → taken_cost cutoff number (row ∷ rows) +ℤ savings cutoff (share_cost cutoff number last (row ∷ rows)) (row ∷ rows)
+        ≡ share_cost cutoff number last (row ∷ rows) *ℤ pos number
     step rest (inl at) =
-        subst (λ marginal. taken_cost cutoff number (row ∷ rows) +ℤ savings cutoff marginal (row ∷ rows) ≡ marginal *ℤ pos number) (sym at.2) (here at.0 at.1)
+        subst (λ marginal. taken_cost cutoff number (row ∷ rows) +ℤ savings cutoff marginal (row ∷ rows) ≡ marginal *ℤ pos number)
+        (sym at.2) (here at.0 at.1)
     step rest (inr at) =
         let marginal = share_cost cutoff (number - pool_part cutoff row) row.cost rows in
-        subst (λ marginal. taken_cost cutoff number (row ∷ rows) +ℤ savings cutoff marginal (row ∷ rows) ≡ marginal *ℤ pos number) (sym at.1)
-        (later marginal (not_less cutoff (number - pool_part cutoff row) row.cost rows ordered.0 ordered.1) at.0 (rest (omega (arith, at.0, few))))
+        subst (λ marginal. taken_cost cutoff number (row ∷ rows) +ℤ savings cutoff marginal (row ∷ rows) ≡ marginal *ℤ pos number)
+        (sym at.1)
+        (later marginal (not_less cutoff (number - pool_part cutoff row) row.cost rows ordered.0 ordered.1) at.0
+        (rest (omega (arith, at.0, few))))
 
 -- the walk goes on
 pub share_later : (cutoff : ℤ) (number : ℕ) (last : ℤ) (row : Usable) (rows : List Usable) → has_last cutoff number row ≡ false
-    → (pool_part cutoff row ≤ number) × (share_cost cutoff number last (row ∷ rows) ≡ share_cost cutoff (number - pool_part cutoff row) row.cost rows)
+    → (pool_part cutoff row ≤ number) × (share_cost cutoff number last (row ∷ rows)
+    ≡ share_cost cutoff (number - pool_part cutoff row) row.cost rows)
 unfolding share_cost
 share_later cutoff number last row rows later = (
   pool-before cutoff number row later (cases_Bool (is_pooled cutoff row)),
@@ -129,21 +153,27 @@ share_later cutoff number last row rows later = (
 -- ---- a cutoff
 
 -- what is swept and what is taken cost together what the marginal says
-pub offer_is : (side : OrderSide) (by_cost : List Usable) (most : ℕ) (cutoff : Cutoff) (marginal cost : ℤ) → IsByCost by_cost → IsCutoffOf side by_cost cutoff → most - cutoff.swept ≤ cutoff.pool
-    → marginal ≡ share_cost (rank_of side cutoff.price) (most - cutoff.swept) (pos 0) by_cost → cost ≡ cutoff.swept_cost +ℤ taken_cost (rank_of side cutoff.price) (most - cutoff.swept) by_cost
+pub offer_is : (side : OrderSide) (by_cost : List Usable) (most : ℕ) (cutoff : Cutoff) (marginal cost : ℤ) → IsByCost by_cost
+    → IsCutoffOf side by_cost cutoff → most - cutoff.swept ≤ cutoff.pool
+    → marginal ≡ share_cost (rank_of side cutoff.price) (most - cutoff.swept) (pos 0) by_cost
+    → cost ≡ cutoff.swept_cost +ℤ taken_cost (rank_of side cutoff.price) (most - cutoff.swept) by_cost
     → cost ≡ least_cost by_cost most (rank_of side cutoff.price) marginal
 offer_is side by_cost most cutoff marginal cost ordered is reaches last paid =
     let rank = rank_of side cutoff.price in
-    let saves = taken_saves rank (most - cutoff.swept) (pos 0) by_cost (ordered_from Cost by_cost (in_order_from Cost by_cost ordered)) (omega (arith, reaches, is.pool)) in
-    let saves' = subst (λ z. taken_cost rank (most - cutoff.swept) by_cost +ℤ savings rank z by_cost ≡ z *ℤ pos (most - cutoff.swept)) (sym last) saves in
+    let saves = taken_saves rank (most - cutoff.swept) (pos 0) by_cost (ordered_from Cost by_cost (in_order_from Cost by_cost ordered))
+    (omega (arith, reaches, is.pool)) in
+    let saves' = subst (λ z. taken_cost rank (most - cutoff.swept) by_cost +ℤ savings rank z by_cost ≡ z *ℤ pos (most - cutoff.swept))
+    (sym last) saves in
     omega (arith, ints, paid, is.swept_cost, saves', ap (λ n. marginal *ℤ pos (most - n)) is.swept)
 
 -- what a cutoff offers
 abbrev pub choice_of : ℤ → ℤ → ℤ → Choice
 choice_of cutoff marginal cost = record { cutoff = cutoff; marginal = marginal; cost = cost }
 
-pub choice_same : (cutoff other marginal cost paid : ℤ) → cutoff ≡ other → cost ≡ paid → Some (choice_of cutoff marginal cost) ≡ Some (choice_of other marginal paid)
-choice_same cutoff other marginal cost paid e f = ap (λ z. Some (choice_of z marginal cost)) e ∙ ap (λ z. Some (choice_of other marginal z)) f
+pub choice_same : (cutoff other marginal cost paid : ℤ) → cutoff ≡ other → cost ≡ paid
+    → Some (choice_of cutoff marginal cost) ≡ Some (choice_of other marginal paid)
+choice_same cutoff other marginal cost paid e f = ap (λ z. Some (choice_of z marginal cost)) e
+    ∙ ap (λ z. Some (choice_of other marginal z)) f
 
 abbrev pub cut_with : ℕ → CutKind → Cut
 cut_with price kind = record { price = price; kind = kind }

@@ -30,14 +30,22 @@ unfolding up down
 up-down (pos n) = omega (arith, ints)
 up-down (negsuc n) = omega (arith, ints)
 
-amount-total : (part : Usable → ℤ) (rows : List Usable) → amount part rows ≡ pos (total (λ row. up (part row)) rows) -ℤ pos (total (λ row. down (part row)) rows)
+amount-total : (part : Usable → ℤ) (rows : List Usable) → amount part rows
+    ≡ pos (total (λ row. up (part row)) rows) -ℤ pos (total (λ row. down (part row)) rows)
 unfolding amount total
 amount-total part [] = omega (arith, ints)
 amount-total part (row ∷ rows) = omega (arith, ints, amount-total part rows, up-down (part row))
 
 pub amount_same : (part : Usable → ℤ) (one other : List Usable) → IsPermutation one other → amount part other ≡ amount part one
 amount_same part one other same =
-    omega (arith, ints, amount-total part one, amount-total part other, total_same (λ row. up (part row)) one other same, total_same (λ row. down (part row)) one other same)
+    omega (
+      arith,
+      ints,
+      amount-total part one,
+      amount-total part other,
+      total_same (λ row. up (part row)) one other same,
+      total_same (λ row. down (part row)) one other same,
+    )
 
 -- ---- sums by their parts
 
@@ -51,7 +59,8 @@ unfolding amount
 amount_append part [] other = omega (arith, ints)
 amount_append part (row ∷ one) other = omega (arith, ints, amount_append part one other)
 
-pub total_at_most : (less more : Usable → ℕ) (rows : List Usable) → ((row : Usable) → less row ≤ more row) → total less rows ≤ total more rows
+pub total_at_most : (less more : Usable → ℕ) (rows : List Usable) → ((row : Usable) → less row ≤ more row)
+    → total less rows ≤ total more rows
 unfolding total
 total_at_most less more [] each = omega arith
 total_at_most less more (row ∷ rows) each = omega (arith, each row, total_at_most less more rows each)

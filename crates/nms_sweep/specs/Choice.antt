@@ -1,7 +1,8 @@
 -- Which of the best plans is chosen. At a cutoff, the protected rows at better prices in full, then the pool by unit
 -- cost, then better price, then place; of the cutoffs the one of least cost, of equals the one at the best price.
 -- This product's own rule.
-use Rattle.std.specs.Prelude.{ℕ, ℤ, pos, neg_ℤ, ◌-◌, ◌^◌, ◌==◌, ◌≤ℤ◌, ◌&&◌, Bool, false, not, min, nat_le, nat_lt, List, [], ◌∷◌, Option, Some, None, if◌then◌else◌}
+use Rattle.std.specs.Prelude.{ℕ, ℤ, pos, neg_ℤ, ◌-◌, ◌^◌, ◌==◌, ◌≤ℤ◌, ◌&&◌, Bool, false, not, min, nat_le, nat_lt, List, [], ◌∷◌, Option}
+use Rattle.std.specs.Prelude.{Some, None, if◌then◌else◌}
 use Rattle.std.specs.Int.RustNames.{int_lt}
 use Rattle.nms_quote.specs.declared.certificate.Cut.{Cut}
 use Rattle.nms_quote.specs.declared.certificate.CutKind.{CutKind}
@@ -54,7 +55,11 @@ per_price made (row ∷ rows) = if starts_at row.price rows then per_price made 
 
 -- the cut of a cutoff
 abbrev pub cut_by : OrderSide → List Usable → ℕ → Cutoff → Cut
-cut_by side by_cost most cutoff = record { price = cutoff.price; kind = kind_by by_cost most (rank_of side cutoff.price) cutoff.swept cutoff.pool }
+cut_by side by_cost most cutoff = record {
+  price = cutoff.price;
+  kind =
+      kind_by by_cost most (rank_of side cutoff.price) cutoff.swept cutoff.pool;
+}
 
 -- ---- the cutoff
 
@@ -62,7 +67,8 @@ cut_by side by_cost most cutoff = record { price = cutoff.price; kind = kind_by 
 abbrev pub candidate : List Usable → ℕ → ℤ → CutKind → Option Choice
 candidate rows most cutoff TooMuch = None
 candidate rows most cutoff TooLittle = None
-candidate rows most cutoff (Marginal marginal) = Some (record { cutoff = cutoff; marginal = marginal; cost = least_cost rows most cutoff marginal })
+candidate rows most cutoff (Marginal marginal) =
+    Some (record { cutoff = cutoff; marginal = marginal; cost = least_cost rows most cutoff marginal })
 
 -- the one of less cost, the first where they cost alike
 abbrev pub cheaper : Option Choice → Option Choice → Option Choice
@@ -95,7 +101,8 @@ below cutoff marginal rows = total (below_part cutoff marginal) rows
 -- what a row gets, where so many shares are left to take at the marginal
 abbrev pub share_of : ℤ → ℤ → ℕ → Usable → ℕ
 share_of cutoff marginal left row =
-    if is_swept cutoff row then row.size else if is_below cutoff marginal row then row.size else if is_level cutoff marginal row then min left row.size else 0
+    if is_swept cutoff row then row.size else if is_below cutoff marginal row then row.size else if is_level cutoff marginal row then min
+    left row.size else 0
 
 -- and what is left after it
 abbrev pub left_after : ℤ → ℤ → ℕ → Usable → ℕ
@@ -109,7 +116,8 @@ with_leg row shares legs = if nat_lt 0 shares then record { part = row.part; pri
 -- lower place
 unfoldable pub legs_of : ℤ → ℤ → ℕ → List Usable → List Leg
 legs_of cutoff marginal left [] = []
-legs_of cutoff marginal left (row ∷ rows) = with_leg row (share_of cutoff marginal left row) (legs_of cutoff marginal (left_after cutoff marginal left row) rows)
+legs_of cutoff marginal left (row ∷ rows) =
+    with_leg row (share_of cutoff marginal left row) (legs_of cutoff marginal (left_after cutoff marginal left row) rows)
 
 -- the legs at the chosen cutoff, and none where nothing can be filled
 abbrev pub legs_chosen : List Usable → ℕ → Option Choice → List Usable → List Leg

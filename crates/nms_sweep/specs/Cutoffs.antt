@@ -40,7 +40,12 @@ pub record Walk : Type 0 where
 
 -- the cutoff at a row's price
 abbrev pub cutoff_at : List Usable → Usable → Cutoff
-cutoff_at rows row = record { price = row.price; swept = swept row.rank rows; swept_cost = swept_cost row.rank rows; pool = pool row.rank rows }
+cutoff_at rows row = record {
+  price = row.price;
+  swept = swept row.rank rows;
+  swept_cost = swept_cost row.rank rows;
+  pool = pool row.rank rows;
+}
 
 -- those of the prices of some of the rows
 abbrev pub cutoffs_of : List Usable → List Usable → List Cutoff

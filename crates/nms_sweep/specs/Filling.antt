@@ -17,7 +17,8 @@ use Rattle.nms_sweep.specs.Order.{is_taken_before}
 
 -- every row of the pool that is taken before this one, by unit cost, then price, then place, gets its full size
 abbrev pub TakesEarlier : ℤ → List Usable → Assignment → Usable → Type 0
-TakesEarlier cutoff rows given row = All (λ other. is_pooled cutoff other ≡ true → is_taken_before other row ≡ true → given other.part ≡ other.size) rows
+TakesEarlier cutoff rows given row = All (λ other. is_pooled cutoff other ≡ true → is_taken_before other row ≡ true → given other.part
+    ≡ other.size) rows
 
 -- at a cutoff, which is a usable price where anything is filled: what must be swept is, a row of the pool gets shares
 -- only where every earlier one is full, and no row at a worse price gets any

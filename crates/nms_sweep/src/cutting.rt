@@ -1,5 +1,5 @@
 //! The cuts of a certificate, and the best of the cutoffs that they are made at: `specs/Choice`.
-ghost use Rattle.std.specs.Prelude.{◌≡◌, ◌≤◌, ◌^◌, ◌≤ℤ◌, All, None, length, map, neg_ℤ, pos};
+ghost use Rattle.std.specs.Prelude.{◌≡◌, [], ◌≤◌, ◌^◌, ◌≤ℤ◌, All, None, length, map, neg_ℤ, pos};
 ghost use Rattle.nms_rules.specs.Usable.{rank_of};
 ghost use Rattle.nms_sweep.specs.Choice.{IsInRange, candidate, chosen, cut_by, kind_by};
 ghost use Rattle.nms_sweep.specs.Cutoffs.{IsCutoffOf};
@@ -7,30 +7,34 @@ ghost use Rattle.nms_sweep.specs.Order.{IsByCost};
 
 use crate::choice::{Choice, cheaper};
 use crate::cutoffs::{Cutoff, Cutoffs, plus};
+use crate::priced_row::PricedRow;
 use crate::taking::take_cheapest;
-use arrayvec::ArrayVec;
+use nms_board::MOST_ROWS;
 use nms_quote::{Certificate, Cut, CutKind, OrderSide};
-use nms_rules::{Rank, UsableRow};
+use nms_rules::Rank;
+use nms_units::MOST_SHARES;
 
-/// A cut for each cutoff that is to come, where so many can be filled, and the cutoff of least cost, of equals the best
-/// price: `None` where none can be filled at. The rows come in the order of their costs.
-pub(crate) fn cuts_of(
+/// Puts a cut for each cutoff that is to come into a certificate that has none, where so many can be filled, and finds the
+/// cutoff of least cost, of equals the best price: `None` where none can be filled at. The rows come in the order of
+/// their costs.
+pub(crate) fn put_cuts(
     side: OrderSide,
-    by_cost: &[UsableRow],
+    by_cost: &[PricedRow],
     most: u64,
     cutoffs: &mut Cutoffs,
-) -> (Certificate, Option<Choice>)
-    requires few { length cutoffs.old.to_come ≤ 32 }
-    requires rows { length by_cost.now ≤ 32 }
-    requires most { most ≤ 999999999 }
+    cuts: &mut Certificate,
+) -> Option<Choice>
+    requires empty { cuts.old.items ≡ [] }
+    requires few { length cutoffs.old.to_come ≤ MOST_ROWS }
+    requires rows { length by_cost.now ≤ MOST_ROWS }
+    requires most { most ≤ MOST_SHARES }
     requires ordered { IsByCost by_cost.now }
     requires sums { All (λ cutoff. IsCutoffOf side by_cost.now cutoff) cutoffs.old.to_come }
-    ensures cuts { result.0.items ≡ map (cut_by side by_cost.now most) cutoffs.old.to_come }
-    ensures range { All (λ cut. IsInRange cut.kind) result.0.items }
-    ensures best { result.1 ≡ chosen side by_cost.now most None (map (cut_by side by_cost.now most) cutoffs.old.to_come) }
+    ensures cuts { cuts.new.items ≡ map (cut_by side by_cost.now most) cutoffs.old.to_come }
+    ensures range { All (λ cut. IsInRange cut.kind) cuts.new.items }
+    ensures best { result ≡ chosen side by_cost.now most None (map (cut_by side by_cost.now most) cutoffs.old.to_come) }
     ensures rows { cutoffs.new.rows ≡ cutoffs.old.rows }
 {
-    let mut cuts = ArrayVec::new_in(());
     let mut best = None;
     while let Some(cutoff) = cutoffs.next() {
         let (kind, offer) = tried(side, by_cost, most, &cutoff);
@@ -40,18 +44,18 @@ pub(crate) fn cuts_of(
             kind,
         });
     }
-    (cuts, best)
+    best
 }
 
 /// What the cut at a cutoff says, and what the cutoff offers, where so many can be filled.
 fn tried(
     side: OrderSide,
-    by_cost: &[UsableRow],
+    by_cost: &[PricedRow],
     most: u64,
     cutoff: &Cutoff,
 ) -> (CutKind, Option<Choice>)
-    requires rows { length by_cost.now ≤ 32 }
-    requires most { most ≤ 999999999 }
+    requires rows { length by_cost.now ≤ MOST_ROWS }
+    requires most { most ≤ MOST_SHARES }
     requires ordered { IsByCost by_cost.now }
     requires sums { IsCutoffOf side by_cost.now cutoff.now }
     requires low { neg_ℤ (pos (2 ^ 106)) ≤ℤ cutoff.now.swept_cost }

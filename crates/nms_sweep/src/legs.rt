@@ -1,42 +1,51 @@
 //! The legs at the chosen cutoff: `specs/Choice`.
-ghost use Rattle.std.specs.Prelude.{◌≡◌, ◌≤◌, ◌<◌, ◌^◌, length};
+ghost use Rattle.std.specs.Prelude.{◌≡◌, [], ◌≤◌, ◌<◌, ◌+◌, ◌^◌, length};
+ghost use Rattle.nms_rules.specs.Cutoff.{swept, swept_part};
 ghost use Rattle.nms_rules.specs.Faultless.{sum_of};
 ghost use Rattle.nms_sweep.specs.Choice.{below, below_part, is_below, is_level, left_after, legs_chosen, legs_of, share_of};
 
 use crate::choice::Choice;
+use crate::priced_row::PricedRow;
 use arrayvec::ArrayVec;
+use nms_board::MOST_ROWS;
 use nms_quote::Leg;
-use nms_rules::{Rank, UsableRow, is_pooled, is_swept, swept};
-use nms_units::{Money, Shares};
+use nms_rules::{MOST_SIZE, Rank};
+use nms_units::{MOST_SHARES, Money, Shares};
 
-/// The legs at the chosen cutoff, best price first, then by place; none where nothing can be filled. The rows come in
-/// the order of their prices.
-pub(crate) fn legs_chosen(
-    rows: &[UsableRow],
+/// Puts the legs at the chosen cutoff into a list that has none, best price first, then by place; none where nothing can
+/// be filled. The rows come in the order of their prices.
+pub(crate) fn put_legs(
+    rows: &[PricedRow],
     most: u64,
     choice: &Option<Choice>,
-) -> ArrayVec<Leg, 32>
-    requires rows { length rows.now ≤ 32 }
-    requires few { sum_of (legs_chosen rows.now most choice.now rows.now) ≤ 999999999 }
-    ensures { result.items ≡ legs_chosen rows.now most choice.now rows.now }
+    legs: &mut ArrayVec<Leg, MOST_ROWS>,
+)
+    requires rows { length rows.now ≤ MOST_ROWS }
+    requires empty { legs.old.items ≡ [] }
+    requires few { sum_of (legs_chosen rows.now most choice.now rows.now) ≤ MOST_SHARES }
+    ensures { legs.new.items ≡ legs_chosen rows.now most choice.now rows.now }
 {
-    let Some(choice) = choice else {
-        return ArrayVec::new_in(());
-    };
-    let (cutoff, marginal) = (choice.cutoff, choice.marginal);
-    let rest = most.saturating_sub(swept(rows, cutoff));
-    let left = rest.saturating_sub(below(rows, cutoff, marginal));
-    legs_of(cutoff, marginal, left, rows)
+    if let Some(choice) = choice {
+        let before = taken_before(rows, choice.cutoff, choice.marginal);
+        let left = most.saturating_sub(before);
+        put_legs_at(choice.cutoff, choice.marginal, left, rows, legs);
+    }
 }
 
-/// The legs at a cutoff, where so many shares are left to take at the marginal.
+/// The same at a cutoff, where so many shares are left to take at the marginal.
 #[tactic(auto, unfolding(crate::specs::Choice::legs_of))]
-fn legs_of(cutoff: Rank, marginal: Money, left: u64, rows: &[UsableRow]) -> ArrayVec<Leg, 32>
-    requires rows { length rows.now ≤ 32 }
-    requires few { sum_of (legs_of cutoff marginal left rows.now) ≤ 999999999 }
-    ensures { result.items ≡ legs_of cutoff marginal left rows.now }
+fn put_legs_at(
+    cutoff: Rank,
+    marginal: Money,
+    left: u64,
+    rows: &[PricedRow],
+    legs: &mut ArrayVec<Leg, MOST_ROWS>,
+)
+    requires rows { length rows.now ≤ MOST_ROWS }
+    requires empty { legs.old.items ≡ [] }
+    requires few { sum_of (legs_of cutoff marginal left rows.now) ≤ MOST_SHARES }
+    ensures { legs.new.items ≡ legs_of cutoff marginal left rows.now }
 {
-    let mut legs = ArrayVec::new_in(());
     let mut left = left;
     let mut behind = rows;
     while let Some((row, more)) = behind.split_first() {
@@ -47,12 +56,11 @@ fn legs_of(cutoff: Rank, marginal: Money, left: u64, rows: &[UsableRow]) -> Arra
         left = left_after(cutoff, marginal, left, row);
         behind = more;
     }
-    legs
 }
 
 /// A leg to a row.
-fn leg(row: &UsableRow, shares: u64) -> Leg
-    requires { shares ≤ 999999999 }
+fn leg(row: &PricedRow, shares: u64) -> Leg
+    requires { shares ≤ MOST_SHARES }
     ensures { result ≡ record { part = row.now.part; price = row.now.price; shares = shares } }
 {
     Leg {
@@ -63,37 +71,50 @@ fn leg(row: &UsableRow, shares: u64) -> Leg
 }
 
 /// Whether a row of the pool costs less than the marginal.
-fn is_below(cutoff: Rank, marginal: Money, row: &UsableRow) -> bool
+fn is_below(cutoff: Rank, marginal: Money, row: &PricedRow) -> bool
     ensures { result ≡ is_below cutoff marginal row.now }
 {
-    is_pooled(row, cutoff) && row.cost < marginal
+    row.is_pooled(cutoff) && row.unit_cost() < marginal
 }
 
 /// Whether a row of the pool costs just the marginal.
-fn is_level(cutoff: Rank, marginal: Money, row: &UsableRow) -> bool
+fn is_level(cutoff: Rank, marginal: Money, row: &PricedRow) -> bool
     ensures { result ≡ is_level cutoff marginal row.now }
 {
-    is_pooled(row, cutoff) && !(row.cost < marginal) && !(marginal < row.cost)
+    row.is_pooled(cutoff) && !(row.unit_cost() < marginal) && !(marginal < row.unit_cost())
 }
 
-/// How many shares of the pool cost less than the marginal.
+/// How many shares are taken before those at the marginal: what must be swept, and what costs less.
 #[tactic(auto, using(crate::proofs::SumFacts::total_none, crate::proofs::SumFacts::total_more))]
-fn below(rows: &[UsableRow], cutoff: Rank, marginal: Money) -> u64
-    requires { length rows.now ≤ 32 }
-    ensures sum { result ≡ below cutoff marginal rows.now }
-    ensures within { result ≤ 2 ^ 37 }
+fn taken_before(rows: &[PricedRow], cutoff: Rank, marginal: Money) -> u64
+    requires { length rows.now ≤ MOST_ROWS }
+    ensures sum { result ≡ swept cutoff rows.now + below cutoff marginal rows.now }
+    ensures within { result ≤ 2 ^ 38 }
 {
     let mut sum = 0;
     for row in rows {
+        sum += swept_part(row, cutoff);
         sum += below_part(row, cutoff, marginal);
     }
     sum
 }
 
-/// How many of a row's shares are such.
-fn below_part(row: &UsableRow, cutoff: Rank, marginal: Money) -> u64
+/// How many of a row's shares must be swept.
+fn swept_part(row: &PricedRow, cutoff: Rank) -> u64
+    ensures part { result ≡ swept_part cutoff row.now }
+    ensures within { result ≤ MOST_SIZE }
+{
+    if row.is_swept(cutoff) {
+        u64::from(row.size)
+    } else {
+        0
+    }
+}
+
+/// How many of a row's shares are in the pool and cost less than the marginal.
+fn below_part(row: &PricedRow, cutoff: Rank, marginal: Money) -> u64
     ensures part { result ≡ below_part cutoff marginal row.now }
-    ensures within { result ≤ 4294967295 }
+    ensures within { result ≤ MOST_SIZE }
 {
     if is_below(cutoff, marginal, row) {
         u64::from(row.size)
@@ -103,12 +124,12 @@ fn below_part(row: &UsableRow, cutoff: Rank, marginal: Money) -> u64
 }
 
 /// What a row gets, where so many shares are left to take at the marginal.
-fn share_of(cutoff: Rank, marginal: Money, left: u64, row: &UsableRow) -> u64
+fn share_of(cutoff: Rank, marginal: Money, left: u64, row: &PricedRow) -> u64
     ensures share { result ≡ share_of cutoff marginal left row.now }
-    ensures within { result ≤ 4294967295 }
+    ensures within { result ≤ MOST_SIZE }
 {
     let size = u64::from(row.size);
-    if is_swept(row, cutoff) || is_below(cutoff, marginal, row) {
+    if row.is_swept(cutoff) || is_below(cutoff, marginal, row) {
         size
     } else if is_level(cutoff, marginal, row) {
         left.min(size)
@@ -118,7 +139,7 @@ fn share_of(cutoff: Rank, marginal: Money, left: u64, row: &UsableRow) -> u64
 }
 
 /// What is left to take at the marginal after a row.
-fn left_after(cutoff: Rank, marginal: Money, left: u64, row: &UsableRow) -> u64
+fn left_after(cutoff: Rank, marginal: Money, left: u64, row: &PricedRow) -> u64
     ensures { result ≡ left_after cutoff marginal left row.now }
 {
     if is_level(cutoff, marginal, row) {

@@ -8,9 +8,10 @@ mod cutting;
 mod laws;
 mod legs;
 mod planning;
+mod priced_row;
 mod row_order;
 mod taking;
 
 pub use cutoffs::{Cutoff, Cutoffs};
 pub use laws::an_accepted_plan_is_within_bounds;
-pub use planning::plan;
+pub use planning::{plan, plan_into};

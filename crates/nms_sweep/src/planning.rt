@@ -1,7 +1,7 @@
 //! The plan of least cost for an order, and the certificate that shows it: `specs/Accepted` of `nms_rules`.
-ghost use Rattle.std.specs.Prelude.{◌≡◌, None};
+ghost use Rattle.std.specs.Prelude.{◌≡◌, ◌≤◌, None, length};
 ghost use Rattle.nms_rules.specs.Accepted.{IsAccepted};
-ghost use Rattle.nms_rules.specs.Assignment.{IsOptimal, fillable};
+ghost use Rattle.nms_rules.specs.Assignment.{IsOptimal, fillable, total};
 ghost use Rattle.nms_rules.specs.Breach.{breach_of};
 ghost use Rattle.nms_rules.specs.Faultless.{given_by};
 ghost use Rattle.nms_rules.specs.Usable.{usable};
@@ -10,14 +10,15 @@ ghost use Rattle.nms_sweep.specs.Order.{AreInOrder};
 
 use crate::choice::cost_chosen;
 use crate::cutoffs::Cutoffs;
-use crate::cutting::cuts_of;
-use crate::legs::legs_chosen;
+use crate::cutting::put_cuts;
+use crate::legs::put_legs;
+use crate::priced_row::PricedRow;
 use crate::row_order::{Key, put_in_order};
 use arrayvec::ArrayVec;
-use nms_board::View;
+use nms_board::{MOST_ROWS, View};
 use nms_fee_book::FeeBook;
 use nms_quote::{Certificate, Order, Plan};
-use nms_rules::fillable;
+use nms_units::{MOST_SHARES, Money, Shares};
 
 /// Plans an intermarket sweep order on a view (17 CFR 242.600; 242.611(b)(5) and (6)), and gives the certificate
 /// that the plan is optimal: no lawful plan fills more, and none that fills as much costs less with fees.
@@ -37,19 +38,69 @@ pub fn plan(view: &View, order: &Order, fees: &FeeBook) -> (Plan, Certificate)
     ensures filling { FillsInOrder (usable view.now order.now fees.now) (given_by result.0.legs.items) }
     ensures exact { AreExact order.now.side (usable view.now order.now fees.now) result.0.filled result.1.items }
 {
+    let mut plan = Plan {
+        version: 0,
+        order: *order,
+        legs: ArrayVec::new_in(()),
+        filled: 0,
+        cost: Money::new(0),
+    };
+    let mut cuts = ArrayVec::new_in(());
+    plan_into(view, order, fees, &mut plan, &mut cuts);
+    (plan, cuts)
+}
+
+/// The same into a plan and a certificate that are there, whatever they say: a caller who plans one order after another
+/// clears and moves no room for each.
+pub fn plan_into(
+    view: &View,
+    order: &Order,
+    fees: &FeeBook,
+    plan: &mut Plan,
+    cuts: &mut Certificate,
+)
+    requires { order.now.sym ≡ view.now.sym }
+    ensures lawful { breach_of view.now order.now fees.now plan.new ≡ None }
+    ensures most { plan.new.filled ≡ fillable (usable view.now order.now fees.now) order.now.shares }
+    ensures accepted { IsAccepted view.now order.now fees.now plan.new cuts.new.items }
+    ensures optimal { IsOptimal (usable view.now order.now fees.now) order.now.shares (given_by plan.new.legs.items) }
+    ensures ordered { AreInOrder order.now.side plan.new.legs.items }
+    ensures filling { FillsInOrder (usable view.now order.now fees.now) (given_by plan.new.legs.items) }
+    ensures exact { AreExact order.now.side (usable view.now order.now fees.now) plan.new.filled cuts.new.items }
+{
     let version = view.version();
     let mut cutoffs = Cutoffs::new(view, order, fees);
     let most = fillable(cutoffs.rows(), order.shares);
     let mut by_cost = ArrayVec::new_in(());
     put_in_order(Key::Cost, cutoffs.rows(), &mut by_cost);
-    let (cuts, choice) = cuts_of(order.side, by_cost.as_slice(), most, &mut cutoffs);
-    let legs = legs_chosen(cutoffs.rows(), most, &choice);
-    let plan = Plan {
-        version,
-        order: *order,
-        legs,
-        filled: most as u32,
-        cost: cost_chosen(&choice),
-    };
-    (plan, cuts)
+    cuts.clear();
+    let choice = put_cuts(order.side, by_cost.as_slice(), most, &mut cutoffs, cuts);
+    plan.legs.clear();
+    put_legs(cutoffs.rows(), most, &choice, &mut plan.legs);
+    plan.version = version;
+    plan.order = *order;
+    plan.filled = most as u32;
+    plan.cost = cost_chosen(&choice);
+}
+
+/// How many shares can be filled: all that the rows show, or what is asked where that is less.
+fn fillable(rows: &[PricedRow], asked: Shares) -> u64
+    requires { length rows.now ≤ MOST_ROWS }
+    ensures most { result ≡ fillable rows.now asked }
+    ensures within { result ≤ MOST_SHARES }
+{
+    shown(rows).min(u64::from(asked.get()))
+}
+
+/// How many shares the rows show.
+#[tactic(auto, using(crate::proofs::SumFacts::total_none, crate::proofs::SumFacts::total_more))]
+fn shown(rows: &[PricedRow]) -> u64
+    requires { length rows.now ≤ MOST_ROWS }
+    ensures { result ≡ total (λ row. row.size) rows.now }
+{
+    let mut sum = 0;
+    for row in rows {
+        sum += u64::from(row.size);
+    }
+    sum
 }

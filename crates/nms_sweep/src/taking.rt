@@ -5,7 +5,8 @@ ghost use Rattle.nms_sweep.specs.Choice.{has_last, share_cost};
 ghost use Rattle.nms_sweep.specs.Taken.{taken_cost};
 
 use crate::cutoffs::plus;
-use nms_rules::{Rank, UsableRow, is_pooled};
+use crate::priced_row::PricedRow;
+use nms_rules::Rank;
 use nms_units::Money;
 
 /// What so many shares of a pool cost, the cheapest first.
@@ -20,7 +21,7 @@ pub(crate) struct Taken {
 /// What so many shares of the pool at a cutoff cost, the cheapest first, in one pass. The rows come in the order of
 /// their costs.
 #[tactic(auto, unfolding(crate::specs::Choice::share_cost, crate::specs::Taken::taken_cost))]
-pub(crate) fn take_cheapest(by_cost: &[UsableRow], cutoff: Rank, number: u64) -> Taken
+pub(crate) fn take_cheapest(by_cost: &[PricedRow], cutoff: Rank, number: u64) -> Taken
     requires rows { length by_cost.now ≤ 32 }
     requires number { number ≤ 999999999 }
     ensures marginal { result.marginal ≡ share_cost cutoff number (pos 0) by_cost.now }
@@ -49,14 +50,14 @@ pub(crate) fn take_cheapest(by_cost: &[UsableRow], cutoff: Rank, number: u64) ->
 }
 
 /// Whether a row of the pool has as many shares as are wanted.
-fn has_last(row: &UsableRow, cutoff: Rank, number: u64) -> bool
+fn has_last(row: &PricedRow, cutoff: Rank, number: u64) -> bool
     ensures { result ≡ has_last cutoff number row.now }
 {
-    is_pooled(row, cutoff) && number <= u64::from(row.size)
+    row.is_pooled(cutoff) && number <= u64::from(row.size)
 }
 
 /// What is taken with so many shares of a row.
-fn with_shares(taken: Taken, row: &UsableRow, shares: u64) -> Taken
+fn with_shares(taken: Taken, row: &PricedRow, shares: u64) -> Taken
     requires shares { shares ≤ 4294967295 }
     requires low { neg_ℤ (pos (2 ^ 110)) ≤ℤ taken.cost }
     requires high { taken.cost ≤ℤ pos (2 ^ 110) }
@@ -68,26 +69,26 @@ fn with_shares(taken: Taken, row: &UsableRow, shares: u64) -> Taken
     ensures high { (row.now.cost *ℤ pos shares) ≤ℤ pos (2 ^ 100) }
 {
     Taken {
-        marginal: row.cost,
+        marginal: row.unit_cost(),
         cost: plus(taken.cost, times(row, shares)),
     }
 }
 
 /// What so many shares of a row cost with the fee.
-fn times(row: &UsableRow, shares: u64) -> Money
+fn times(row: &PricedRow, shares: u64) -> Money
     requires { shares ≤ 4294967295 }
     ensures cost { result ≡ row.now.cost *ℤ pos shares }
     ensures low { neg_ℤ (pos (2 ^ 100)) ≤ℤ result }
     ensures high { result ≤ℤ pos (2 ^ 100) }
 {
-    Money::new(row.cost.get() * i128::from(shares))
+    Money::new(i128::from(row.cost) * i128::from(shares))
 }
 
 /// How many shares of a row are in the pool.
-fn pool_part(row: &UsableRow, cutoff: Rank) -> u64
+fn pool_part(row: &PricedRow, cutoff: Rank) -> u64
     ensures part { result ≡ pool_part cutoff row.now }
     ensures within { result ≤ 4294967295 }
 {
     let size = u64::from(row.size);
-    if is_pooled(row, cutoff) { size } else { 0 }
+    if row.is_pooled(cutoff) { size } else { 0 }
 }

@@ -4,7 +4,7 @@ ghost use Rattle.std.specs.Prelude.{◌≡◌, IfSome};
 use crate::same::same;
 use nms_board::{Boards, View};
 use nms_fees::{FeeBook, Setup, read_setup};
-use nms_quote::{Change, Order, OrderSide, Part, QState, SideQuote, Sym};
+use nms_quote::{Change, Order, OrderSide, Part, PartSet, QState, SideQuote, Sym};
 use nms_scripts::SETUP_K;
 use nms_sweep::{Cutoff, Cutoffs};
 use nms_units::{Price, Shares};
@@ -43,7 +43,7 @@ fn order_for(sym: Sym) -> Option<Order>
     ensures { IfSome result (λ order. order.sym ≡ sym) }
 {
     let (shares, limit) = (Shares::new(200)?, Price::new(5002)?);
-    Order::new(OrderSide::Buy, sym, shares, limit, true)
+    Order::new(OrderSide::Buy, sym, shares, limit, true, PartSet::none())
 }
 
 /// Compares the answers for that order, one after another.

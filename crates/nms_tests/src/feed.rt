@@ -1,8 +1,12 @@
 //! Tests of what no clause says: that the calls succeed and come back, and a run of two threads.
-ghost use Rattle.std.specs.Prelude.{◌≡◌, ◌≤◌, ◌+◌, [], length, IfOk};
+ghost use Rattle.std.specs.Prelude.{◌≡◌, ◌≤◌, ◌+◌, ◌∷◌, [], length, IfErr, IfOk, IfSome};
+ghost use Rattle.std.specs.List.{AllByRecursion};
 ghost use Rattle.nms_quote.specs.declared.feed.Feed.TheVariants as feed;
+ghost use Rattle.nms_feed.specs.Lane.{AreSendersOf};
+ghost use Rattle.nms_feed.specs.declared.TheConstants.{LEAST_CAPACITY, MOST_CAPACITY};
 
 use crate::same::same;
+use arrayvec::ArrayVec;
 use nms_feed::{
     Delivered, Full, LEAST_CAPACITY, LaneFault, MOST_CAPACITY, NotEmpty, Sender, Taker, close,
     open_lane,
@@ -39,7 +43,7 @@ fn told_by(change: &Change) -> Option<(u8, u32)> {
 
 /// Takes once, and compares what comes.
 fn take_one<R: Wait + Abort>(rt: &R, taker: &mut Taker, wanted: Option<Change>)
-    ensures { taker.new.lane ≡ taker.old.lane }
+    ensures { (taker.new.lane ≡ taker.old.lane) × (taker.new.senders ≡ taker.old.senders) }
 {
     same(rt, taker.take(rt), wanted);
 }
@@ -57,18 +61,76 @@ fn three_changes() -> Option<[Change; 3]> {
     Some([bid_of(0, 1)?, new_lot()?, bid_of(1, 1)?])
 }
 
-/// Closes a lane, and compares how many were sent from each end and taken.
-fn compare_closed<R: Abort>(rt: &R, a: Sender, b: Sender, taker: Taker, counts: (u64, u64, u64))
+/// Opens a lane for two senders.
+fn open_two(alloc: Global, capacity: usize) -> Option<(Sender, Sender, Taker)>
+    requires { (LEAST_CAPACITY ≤ capacity) × (capacity ≤ MOST_CAPACITY) }
+    ensures one_lane { IfSome result (λ ends. (ends.0.lane ≡ ends.2.lane) × (ends.1.lane ≡ ends.2.lane)) }
+    ensures feeds { IfSome result (λ ends. (ends.0.feed ≡ feed.A) × (ends.1.feed ≡ feed.B)) }
+    ensures empty { IfSome result (λ ends. (ends.0.sent ≡ []) × (ends.1.sent ≡ []) × (ends.2.taken ≡ [])) }
+    ensures two { IfSome result (λ ends. ends.2.senders ≡ 2) }
+{
+    let Ok((mut senders, taker)) = open_lane(alloc, capacity, 2) else {
+        return None;
+    };
+    let b = senders.pop()?;
+    let a = senders.pop()?;
+    Some((a, b, taker))
+}
+
+/// Closes a lane of two senders. All ends come back where not all was taken, and none where memory ran out.
+fn close_two(
+    alloc: Global,
+    a: Sender,
+    b: Sender,
+    taker: Taker,
+) -> Result<Delivered, Option<(Sender, Sender, Taker)>>
     requires one_lane { (a.lane ≡ taker.lane) × (b.lane ≡ taker.lane) }
     requires feeds { (a.feed ≡ feed.A) × (b.feed ≡ feed.B) }
+    requires two { taker.senders ≡ 2 }
+    ensures back { IfErr result (λ kept. IfSome kept (λ ends. (ends.0 ≡ a) × (ends.1 ≡ b) × (ends.2 ≡ taker))) }
+{
+    let Ok(mut senders) = Vec::with_capacity(alloc, 2) else {
+        return Err(None);
+    };
+    senders.push_reserved(a);
+    senders.push_reserved(b);
+    match close(senders, taker) {
+        Ok(delivered) => Ok(delivered),
+        Err(back) => Err(apart(back)),
+    }
+}
+
+/// The ends of a lane of two senders that was not closed.
+fn apart(back: NotEmpty) -> Option<(Sender, Sender, Taker)>
+    requires { length back.senders.items ≡ 2 }
+    ensures items { IfSome result (λ ends. back.senders.items ≡ ends.0 ∷ ends.1 ∷ []) }
+    ensures taker { IfSome result (λ ends. ends.2 ≡ back.taker) }
+{
+    let NotEmpty { mut senders, taker } = back;
+    let b = senders.pop()?;
+    let a = senders.pop()?;
+    Some((a, b, taker))
+}
+
+/// Closes a lane, and compares how many were sent from each end and taken.
+fn compare_closed<R: Abort>(
+    rt: &R,
+    alloc: Global,
+    a: Sender,
+    b: Sender,
+    taker: Taker,
+    counts: (u64, u64, u64),
+)
+    requires one_lane { (a.lane ≡ taker.lane) × (b.lane ≡ taker.lane) }
+    requires feeds { (a.feed ≡ feed.A) × (b.feed ≡ feed.B) }
+    requires two { taker.senders ≡ 2 }
 {
     let (sent_a, sent_b, taken) = counts;
-    let due = Delivered {
-        sent_a,
-        sent_b,
-        taken,
-    };
-    same(rt, close(a, b, taker).ok(), Some(due));
+    let mut sent = ArrayVec::new_in(());
+    sent.push(sent_a);
+    sent.push(sent_b);
+    let due = Delivered { sent, taken };
+    same(rt, close_two(alloc, a, b, taker).ok(), Some(due));
 }
 
 #[test]
@@ -76,18 +138,11 @@ fn a_full_lane_gives_the_change_back_and_closing_waits_for_the_taker(
     rt: HostRuntime,
 ) -> Result<(), Fail> {
     let [a1, a2, b1] = &three_changes().ok_or("a change")?;
-    let (mut a, mut b, taker) = open_lane(rt.alloc(), 2)?;
+    let (mut a, mut b, taker) = open_two(rt.alloc(), 2).ok_or("a lane")?;
     a.send(&rt, *a1);
     b.send(&rt, *b1);
     same(&rt, a.try_send(&rt, *a2), Err(Full { change: *a2 }));
-    let Err(
-        NotEmpty {
-            mut a,
-            b,
-            mut taker,
-        },
-    ) = close(a, b, taker)
-    else {
+    let Err(Some((mut a, b, mut taker))) = close_two(rt.alloc(), a, b, taker) else {
         return Err("a lane with changes was closed")?;
     };
     take_one(&rt, &mut taker, Some(*a1));
@@ -95,14 +150,14 @@ fn a_full_lane_gives_the_change_back_and_closing_waits_for_the_taker(
     take_one(&rt, &mut taker, Some(*b1));
     take_one(&rt, &mut taker, Some(*a2));
     take_one(&rt, &mut taker, None);
-    compare_closed(&rt, a, b, taker, (2, 1, 3));
+    compare_closed(&rt, rt.alloc(), a, b, taker, (2, 1, 3));
     Ok(())
 }
 
 #[test]
 fn a_new_lane_takes_a_change_at_once(rt: HostRuntime) -> Result<(), Fail> {
     let change = bid_of(0, 1).ok_or("a bid")?;
-    let (mut a, _b, _taker) = open_lane(rt.alloc(), 1024)?;
+    let (mut a, _b, _taker) = open_two(rt.alloc(), 1024).ok_or("a lane")?;
     same(&rt, a.try_send(&rt, change), Ok(()));
     Ok(())
 }
@@ -125,10 +180,8 @@ fn room<R: Wait>(rt: &R, alloc: Global, capacity: usize) -> Option<u32> {
         return None;
     }
     let change = bid_of(0, 1)?;
-    match open_lane(alloc, capacity) {
-        Ok((mut a, _b, _taker)) => Some(fill(rt, &mut a, &change)),
-        Err(_) => None,
-    }
+    let (mut a, _b, _taker) = open_two(alloc, capacity)?;
+    Some(fill(rt, &mut a, &change))
 }
 
 #[test]
@@ -142,19 +195,68 @@ fn a_lane_takes_as_many_as_it_was_opened_for(rt: HostRuntime) {
 #[test]
 fn a_taker_that_stops_and_takes_again_loses_nothing(rt: HostRuntime) -> Result<(), Fail> {
     let [a1, a2, b1] = &three_changes().ok_or("a change")?;
-    let (mut a, mut b, mut taker) = open_lane(rt.alloc(), 4)?;
+    let (mut a, mut b, mut taker) = open_two(rt.alloc(), 4).ok_or("a lane")?;
     take_one(&rt, &mut taker, None);
     a.send(&rt, *a1);
     b.send(&rt, *b1);
     a.send(&rt, *a2);
     take_one(&rt, &mut taker, Some(*a1));
-    let Err(NotEmpty { a, b, mut taker }) = close(a, b, taker) else {
+    let Err(Some((a, b, mut taker))) = close_two(rt.alloc(), a, b, taker) else {
         return Err("a lane with changes was closed")?;
     };
     take_one(&rt, &mut taker, Some(*b1));
     take_one(&rt, &mut taker, Some(*a2));
     take_one(&rt, &mut taker, None);
-    compare_closed(&rt, a, b, taker, (2, 1, 3));
+    compare_closed(&rt, rt.alloc(), a, b, taker, (2, 1, 3));
+    Ok(())
+}
+
+/// Sends a bid from each sender of a lane, of as many shares as its feed's place behind 1.
+fn each_sends<R: Wait>(
+    rt: &R,
+    alloc: Global,
+    senders: Vec<Sender>,
+    taker: &Taker,
+) -> Option<Vec<Sender>>
+    requires all { AreSendersOf taker.now senders.items }
+    requires new { AllByRecursion (λ sender. sender.sent ≡ []) senders.items }
+    ensures all { IfSome result (λ back. AreSendersOf taker.now back.items) }
+{
+    let Ok(mut back) = Vec::with_capacity(alloc, senders.len()) else {
+        return None;
+    };
+    for sender in senders {
+        back.push_reserved(send_one(rt, sender));
+    }
+    Some(back)
+}
+
+/// Sends a bid of as many shares as its feed's place behind 1.
+fn send_one<R: Wait>(rt: &R, mut sender: Sender) -> Sender
+    requires { sender.sent ≡ [] }
+    ensures lane { result.lane ≡ sender.lane }
+    ensures feed { result.feed ≡ sender.feed }
+{
+    if let Some(bid) = bid_of(0, 1 + u32::from(sender.feed().place())) {
+        sender.send(rt, bid);
+    }
+    sender
+}
+
+#[test]
+fn eight_feeds_send_through_one_lane(rt: HostRuntime) -> Result<(), Fail> {
+    let (senders, mut taker) = open_lane(rt.alloc(), 8, 8)?;
+    let Some(senders) = each_sends(&rt, rt.alloc(), senders, &taker) else {
+        return Err("no memory")?;
+    };
+    for shares in 1..9u32 {
+        take_one(&rt, &mut taker, bid_of(0, shares));
+    }
+    let Ok(delivered) = close(senders, taker) else {
+        return Err("all was taken")?;
+    };
+    same(&rt, delivered.taken, 8);
+    same(&rt, delivered.sent.as_slice(), &[1u64; 8]);
     Ok(())
 }
 
@@ -182,7 +284,8 @@ fn send_1000<R: Wait>(rt: &R, mut sender: Sender, place: u8) -> Sender
 
 /// Takes bids until there were so many. Each participant's come in the order of their shares.
 fn take_all<R: Wait + Abort>(rt: &R, mut taker: Taker, count: u32) -> Taker
-    ensures { result.lane ≡ taker.lane }
+    ensures lane { result.lane ≡ taker.lane }
+    ensures senders { result.senders ≡ taker.senders }
 {
     let mut last = (0u32, 0u32);
     let mut taken = 0u32;
@@ -223,7 +326,7 @@ fn run_both<R: Threads + Wait + Abort + Sync>(
     requires { (a.sent ≡ []) × (b.sent ≡ []) }
     ensures a { IfOk result (λ ends. (ends.0.lane ≡ a.lane) × (ends.0.feed ≡ a.feed)) }
     ensures b { IfOk result (λ ends. (ends.1.lane ≡ b.lane) × (ends.1.feed ≡ b.feed)) }
-    ensures taker { IfOk result (λ ends. ends.2.lane ≡ taker.lane) }
+    ensures taker { IfOk result (λ ends. (ends.2.lane ≡ taker.lane) × (ends.2.senders ≡ taker.senders)) }
 {
     thread::scope(
         thread::scope_env(),
@@ -232,7 +335,7 @@ fn run_both<R: Threads + Wait + Abort + Sync>(
             requires { (a.sent ≡ []) × (b.sent ≡ []) }
             ensures a { IfOk result (λ ends. (ends.0.lane ≡ a.lane) × (ends.0.feed ≡ a.feed)) }
             ensures b { IfOk result (λ ends. (ends.1.lane ≡ b.lane) × (ends.1.feed ≡ b.feed)) }
-            ensures taker { IfOk result (λ ends. ends.2.lane ≡ taker.lane) }
+            ensures taker { IfOk result (λ ends. (ends.2.lane ≡ taker.lane) × (ends.2.senders ≡ taker.senders)) }
         {
             let promise_a = SameEnd(Snapshot::of(&a));
             let promise_b = SameEnd(Snapshot::of(&b));
@@ -260,9 +363,9 @@ fn run_both<R: Threads + Wait + Abort + Sync>(
 
 #[test]
 fn two_threads_send_1000_changes_each_through_a_lane_of_4(rt: HostRuntime) -> Result<(), Fail> {
-    let (a, b, taker) = open_lane(rt.alloc(), 4)?;
+    let (a, b, taker) = open_two(rt.alloc(), 4).ok_or("a lane")?;
     let (a, b, taker) = run_both(&rt, a, b, taker)?;
-    compare_closed(&rt, a, b, taker, (1000, 1000, 2000));
+    compare_closed(&rt, rt.alloc(), a, b, taker, (1000, 1000, 2000));
     Ok(())
 }
 

@@ -1,7 +1,9 @@
-//! Live runs, each over words: a setup's text, the texts of two feeds, and a table of orders.
+//! Live runs, each over words: a setup's text, the texts of its feeds, and a table of orders.
 ghost use Rattle.std.specs.Prelude.{◌≡◌, ◌<◌, All, IfSome};
 
 mod chance;
+mod drawn;
+mod feeds;
 mod gated;
 mod judge;
 mod lots;
@@ -12,7 +14,7 @@ mod worked;
 
 use nms_fees::{Setup, read_setup};
 use nms_live::{DeskOrder, Gate, Live, LiveFault, run_live};
-use nms_quote::{Order, OrderSide, Sym};
+use nms_quote::{Order, OrderSide, PartSet, Sym};
 use nms_units::{Price, Shares};
 use std::alloc::Global;
 use std::sync::Wait;
@@ -78,7 +80,14 @@ pub(crate) fn order_of(wanted: &Wanted) -> Option<Order> {
     };
     let shares = Shares::new(wanted.shares)?;
     let limit = Price::new(wanted.limit)?;
-    Order::new(side, Sym::new(wanted.sym)?, shares, limit, wanted.manual)
+    Order::new(
+        side,
+        Sym::new(wanted.sym)?,
+        shares,
+        limit,
+        wanted.manual,
+        PartSet::none(),
+    )
 }
 
 /// Adds an order, where its desk is one of so many.
@@ -105,20 +114,31 @@ fn orders_of(alloc: Global, desks: u8, table: &[Wanted]) -> Option<Vec<DeskOrder
     Some(orders)
 }
 
-/// A run of these orders; `None` where there is no memory for what the feeds send.
+/// The texts of feeds, each in memory of its own.
+fn texts_of(alloc: Global, feeds: &[&[u8]]) -> Option<Vec<Vec<u8>>> {
+    let mut texts = Vec::new(alloc);
+    for feed in feeds {
+        texts.push(Vec::from_slice(alloc, feed).ok()?).ok()?;
+    }
+    Some(texts)
+}
+
+/// A run of these orders; `None` where there is no memory for what the feeds send, or the setup has not so many.
 fn run_orders<R: Threads + Wait + Sync, G: Gate>(
     rt: &R,
     alloc: Global,
     setup: &Setup,
-    feeds: (&[u8], &[u8]),
+    feeds: &[&[u8]],
     orders: Vec<DeskOrder>,
     gate: &G,
 ) -> Option<Result<Live, LiveFault>>
     requires { All (λ order. order.desk < setup.now.desks) orders.items }
 {
-    let feed_a = Vec::from_slice(alloc, feeds.0).ok()?;
-    let feed_b = Vec::from_slice(alloc, feeds.1).ok()?;
-    Some(run_live(rt, alloc, setup, feed_a, feed_b, orders, gate))
+    let texts = texts_of(alloc, feeds)?;
+    if texts.len() != usize::from(setup.feeds()) {
+        return None;
+    }
+    Some(run_live(rt, alloc, setup, texts, orders, gate))
 }
 
 /// One run; `None` where there is no memory to prepare it.
@@ -126,7 +146,7 @@ fn run_once<R: Threads + Wait + Sync, G: Gate>(
     rt: &R,
     alloc: Global,
     setup: &Setup,
-    feeds: (&[u8], &[u8]),
+    feeds: &[&[u8]],
     table: &[Wanted],
     gate: &G,
 ) -> Option<Result<Live, LiveFault>> {
@@ -141,7 +161,7 @@ pub(crate) fn run<R: Threads + Wait + Sync, G: Gate>(
     rt: &R,
     alloc: Global,
     setup: &str,
-    feeds: (&[u8], &[u8]),
+    feeds: &[&[u8]],
     table: &[Wanted],
     gate: &G,
 ) -> Option<Result<Live, LiveFault>> {
@@ -157,7 +177,7 @@ fn run_under<R: Threads + Wait + Sync, G: Gate>(
     rt: &R,
     alloc: Global,
     setup: &Setup,
-    feeds: (&[u8], &[u8]),
+    feeds: &[&[u8]],
     table: &[Wanted],
     gate: &G,
 ) -> Option<Result<Live, LiveFault>> {

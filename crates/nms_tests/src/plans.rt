@@ -4,12 +4,13 @@ ghost use Rattle.std.specs.Prelude.{◌≡◌, IfSome};
 mod plain;
 
 use crate::chance::Chance;
+use crate::same::same;
 use crate::sweep::four_participants;
 use nms_board::{Boards, View};
 use nms_cert::confirm;
 use nms_fees::{FeeBook, Setup, read_setup};
 use nms_quote::{
-    Certificate, Change, CutKind, Order, OrderSide, Part, Plan, QState, SideQuote, Sym,
+    Certificate, Change, CutKind, Order, OrderSide, Part, PartSet, Plan, QState, SideQuote, Sym,
 };
 use nms_scripts::SETUP_K;
 use nms_sweep::plan;
@@ -21,13 +22,15 @@ use std::test::Fail;
 /// How many random plans are compared. `bench/plans.sh` compares a million, with a program that it makes of this file.
 const RANDOM_PLANS: u32 = 4000;
 
-/// What is asked for: shares, a limit in 1/10,000 dollar, and whether manual quotations may be used.
+/// What is asked for: shares, a limit in 1/10,000 dollar, whether manual quotations may be used, and against whom
+/// self-help is declared.
 #[derive(Clone, Copy)]
 struct Wanted {
     side: OrderSide,
     shares: u32,
     limit: u64,
     manual: bool,
+    self_help: PartSet,
 }
 
 /// The order for what is asked on a view.
@@ -35,7 +38,14 @@ fn order_for(sym: Sym, wanted: &Wanted) -> Option<Order>
     ensures { IfSome result (λ order. order.sym ≡ sym) }
 {
     let (shares, limit) = (Shares::new(wanted.shares)?, Price::new(wanted.limit)?);
-    Order::new(wanted.side, sym, shares, limit, wanted.manual)
+    Order::new(
+        wanted.side,
+        sym,
+        shares,
+        limit,
+        wanted.manual,
+        wanted.self_help,
+    )
 }
 
 /// Whether a plan and its certificate are those of another planner.
@@ -114,7 +124,12 @@ fn quoted_as(number: u32) -> Quoted {
 
 /// Plans an order of each size on a view, with manual quotations and without: how many plans were right, and what is
 /// wrong with the first that is not.
-fn plan_each(view: &View, fees: &FeeBook, side: OrderSide) -> (u32, &'static str) {
+fn plan_each(
+    view: &View,
+    fees: &FeeBook,
+    side: OrderSide,
+    self_help: PartSet,
+) -> (u32, &'static str) {
     let limit = match side {
         OrderSide::Buy => 10_001,
         OrderSide::Sell => 9999,
@@ -127,6 +142,7 @@ fn plan_each(view: &View, fees: &FeeBook, side: OrderSide) -> (u32, &'static str
                 shares,
                 limit,
                 manual,
+                self_help,
             };
             let found = finding(view, fees, &wanted).unwrap_or("no answer");
             if !found.is_empty() {
@@ -139,7 +155,13 @@ fn plan_each(view: &View, fees: &FeeBook, side: OrderSide) -> (u32, &'static str
 }
 
 /// The same on each board of three quotations.
-fn plan_all(boards: &mut Boards, fees: &FeeBook, sym: Sym, side: OrderSide) -> (u32, &'static str) {
+fn plan_all(
+    boards: &mut Boards,
+    fees: &FeeBook,
+    sym: Sym,
+    side: OrderSide,
+    self_help: PartSet,
+) -> (u32, &'static str) {
     let mut right = 0u32;
     for number in 0..1728u32 {
         let quotes = [
@@ -150,7 +172,7 @@ fn plan_all(boards: &mut Boards, fees: &FeeBook, sym: Sym, side: OrderSide) -> (
         if quote(boards, sym, side, &quotes).is_none() {
             return (right, "no quotation");
         }
-        let (more, found) = plan_each(&boards.view(sym), fees, side);
+        let (more, found) = plan_each(&boards.view(sym), fees, side, self_help);
         right = right.wrapping_add(more);
         if !found.is_empty() {
             return (right, found);
@@ -159,15 +181,20 @@ fn plan_all(boards: &mut Boards, fees: &FeeBook, sym: Sym, side: OrderSide) -> (
     (right, "")
 }
 
-/// N, P and Y quote each of the twelve quotations of one side, and orders of both sides are planned: 20,736 plans.
+/// N, P and Y quote each of the twelve quotations of one side, and orders of both sides are planned: 20,736 plans that
+/// name nobody, and as many that name P.
 #[test]
 fn same_plan(rt: HostRuntime) -> Result<(), Fail> {
     let setup = read_setup(rt.alloc(), SETUP_K)?;
     let sym = setup.roster().find_sym(b"ABC").ok_or("no ABC")?;
+    let p = setup.roster().find_part(b"P").ok_or("no P")?;
     let mut boards = Boards::new(rt.alloc(), setup.roster())?;
-    let bought = plan_all(&mut boards, setup.fees(), sym, OrderSide::Buy);
-    let sold = plan_all(&mut boards, setup.fees(), sym, OrderSide::Sell);
-    assert_eq!(rt; (bought, sold), ((10_368, ""), (10_368, "")));
+    for self_help in [PartSet::none(), PartSet::none().with(p)] {
+        for side in [OrderSide::Buy, OrderSide::Sell] {
+            let told = plan_all(&mut boards, setup.fees(), sym, side, self_help);
+            same(&rt, told, (10_368, ""));
+        }
+    }
     Ok(())
 }
 
@@ -205,13 +232,29 @@ fn drawn(chance: &mut Chance, base: u64, lot: u32) -> Quoted {
     }
 }
 
-/// An order of at most 24 lots; half of them may use manual quotations.
+/// Each of the eight participants with one chance in four; in half of all cases nobody.
+fn named(chance: &mut Chance) -> PartSet {
+    let mut self_help = PartSet::none();
+    let some = chance.draw() % 2 == 0;
+    for place in 0..8u8 {
+        if let Some(part) = Part::new(place)
+            && chance.draw() % 4 == 0
+            && some
+        {
+            self_help = self_help.with(part);
+        }
+    }
+    self_help
+}
+
+/// An order of at most 24 lots; half of them may use manual quotations, and half name somebody.
 fn asked(chance: &mut Chance, side: OrderSide, base: u64, lot: u32) -> Wanted {
     Wanted {
         side,
         shares: (chance.draw() % 24).wrapping_add(1).wrapping_mul(lot),
         limit: base.wrapping_add(u64::from(chance.draw() % 5)),
         manual: chance.draw() % 2 == 0,
+        self_help: named(chance),
     }
 }
 
@@ -323,6 +366,7 @@ fn buys_so(
         shares,
         limit: 100_002,
         manual: true,
+        self_help: PartSet::none(),
     };
     let found = finding(view, fees, &wanted)?;
     let order = order_for(view.sym(), &wanted)?;

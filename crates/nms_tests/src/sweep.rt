@@ -7,7 +7,7 @@ use judge::{Asked, Stand, best, is_lawful, sums_of, unit_cost, with};
 use nms_board::{Boards, View};
 use nms_cert::confirm;
 use nms_fees::{FeeBook, read_setup};
-use nms_quote::{Change, Leg, Order, OrderSide, Part, Plan, QState, SideQuote, Sym};
+use nms_quote::{Change, Leg, Order, OrderSide, Part, PartSet, Plan, QState, SideQuote, Sym};
 use nms_sweep::plan;
 use nms_units::{Price, Shares};
 use std::process::Abort;
@@ -108,6 +108,7 @@ fn stand_of(asked: &Asked, place: u8, lot: u32, quoted: &Quoted) -> Stand {
         price,
         size,
         automated: quoted.state == QState::Automated,
+        named: Part::new(place).is_some_and(|part| asked.self_help.has(part)),
         cost: unit_cost(asked.buys, price, fee, rate),
         given: 0,
     }
@@ -212,7 +213,14 @@ fn try_order(
     } else {
         OrderSide::Sell
     };
-    let order = Order::new(side, view.sym(), shares, limit, asked.manual)?;
+    let order = Order::new(
+        side,
+        view.sym(),
+        shares,
+        limit,
+        asked.manual,
+        asked.self_help,
+    )?;
     let (plan, certificate) = plan(view, &order, fees);
     if plan.order != order || plan.version != view.version() {
         return Some("not of the order and the version");
@@ -258,7 +266,34 @@ fn drawn_by_all(chance: &mut Chance, base: u32) -> [Quoted; 4] {
     [first, second, third, fourth]
 }
 
-/// An order of at most 12 lots near a price; half of them may use manual quotations.
+/// Whether the participant at a place is named where so many are: nobody, one, two, or all.
+fn is_named(count: u32, first: u32, second: u32, place: u32) -> bool {
+    match count {
+        0 => false,
+        1 => place == first,
+        2 => place == first || place == second,
+        _ => true,
+    }
+}
+
+/// Nobody, one, two, or all of the four participants.
+fn named(chance: &mut Chance) -> PartSet {
+    let count = chance.draw() % 4;
+    let first = chance.draw() % 4;
+    let second = first.wrapping_add(1).wrapping_add(chance.draw() % 3) % 4;
+    let mut self_help = PartSet::none();
+    for place in 0..4u8 {
+        if let Some(part) = Part::new(place)
+            && is_named(count, first, second, u32::from(place))
+        {
+            self_help = self_help.with(part);
+        }
+    }
+    self_help
+}
+
+/// An order of at most 12 lots near a price; half of them may use manual quotations, and one in four each names nobody,
+/// one participant, two, and all.
 fn asked_for(chance: &mut Chance, buys: bool, base: u32, lot: u32) -> Asked {
     let lots = (chance.draw() % 12).wrapping_add(1);
     Asked {
@@ -266,6 +301,7 @@ fn asked_for(chance: &mut Chance, buys: bool, base: u32, lot: u32) -> Asked {
         shares: lots.wrapping_mul(lot),
         limit: base.wrapping_add(chance.draw() % 4),
         manual: chance.draw() % 2 == 0,
+        self_help: named(chance),
     }
 }
 
@@ -307,8 +343,9 @@ fn try_board(
     try_view(chance, &boards.view(sym), fees, base, lot, quotes)
 }
 
-/// 5,000 boards and two orders on each: the plan is lawful, as good as the best of all ways, and confirmed. Half of
-/// the boards are of ABC, whose lots are 100, and half of PNY, whose lots are 1.
+/// 5,000 boards and two orders on each, which name nobody, one participant, two, or all: the plan is lawful, as good as
+/// the best of all ways, and confirmed. Half of the boards are of ABC, whose lots are 100, and half of PNY, whose lots
+/// are 1.
 #[test]
 fn no_lawful_way_is_better(rt: HostRuntime) -> Result<(), Fail> {
     let setup = read_setup(rt.alloc(), four_participants())?;

@@ -1,5 +1,6 @@
 -- The pairs of a view: where the list of them ends, and whose quotations they are.
-use Rattle.std.proofs.Common.{ℕ, zero, suc, ◌≡◌, ◌+◌, ◌-◌, ◌<◌, Bool, true, false, cond, List, [], ◌∷◌, ◌++◌, Option, Some, None, refl, sym, ap, subst, ◌∙◌, arith, append_assoc, inl, inr}
+use Rattle.std.proofs.Common.{ℕ, zero, suc, ◌≡◌, ◌+◌, ◌-◌, ◌<◌, Bool, true, false, cond, List, [], ◌∷◌, ◌++◌, Option, Some, None, refl, sym}
+use Rattle.std.proofs.Common.{ap, subst, ◌∙◌, arith, append_assoc, inl, inr}
 use Rattle.std.specs.Prelude.{All, ◌==◌, ◌/◌, ◌%◌}
 use Rattle.std.specs.Io.KnownBytes.{Appends}
 use Rattle.std.specs.List.{cons_option, filter_map, find, flat_map, range_with_len}
@@ -20,7 +21,8 @@ appends-none None = tt
 appends-none (Some bytes) = sym (append-nil bytes)
 
 -- what the first element of such a list was made from
-first_made : {X : Type 0} (f : ℕ → Option X) (low n : ℕ) (x : X) (rest : List X) → filter_map f (range_with_len low n) ≡ x ∷ rest → (place : ℕ) × (f place ≡ Some x)
+first_made : {X : Type 0} (f : ℕ → Option X) (low n : ℕ) (x : X) (rest : List X) → filter_map f (range_with_len low n) ≡ x ∷ rest
+    → (place : ℕ) × (f place ≡ Some x)
 first_made f low zero x rest e = absurd cc
 first_made {X = X} f low (suc n) x rest e = by (f low) refl (first_made f (low + 1) n x rest) e
   where
@@ -61,7 +63,8 @@ pair_of_below parts bid offer of_bid of_offer = record { bid = of_bid; offer = o
     by true = of_bid
     by false = of_offer
 
-pair_between_below : (parts : ℕ) (bid offer : Option Row) (pair : Pair) → ((row : Row) → bid ≡ Some row → row.part < parts) → ((row : Row) → offer ≡ Some row → row.part < parts)
+pair_between_below : (parts : ℕ) (bid offer : Option Row) (pair : Pair) → ((row : Row) → bid ≡ Some row → row.part < parts)
+    → ((row : Row) → offer ≡ Some row → row.part < parts)
     → pair_between bid offer ≡ Some pair → AreBelow parts pair
 pair_between_below parts None offer pair of_bid of_offer e = absurd cc
 pair_between_below parts (Some bid) None pair of_bid of_offer e = absurd cc
@@ -69,10 +72,12 @@ pair_between_below parts (Some bid) (Some offer) pair of_bid of_offer e = by _ e
   where
     by : (apart : Bool) → cond apart None (Some (pair_of bid offer)) ≡ Some pair → AreBelow parts pair
     by true none = absurd cc
-    by false some = let same : pair_of bid offer ≡ pair = cc in subst (AreBelow parts) same (pair_of_below parts bid offer (of_bid bid refl) (of_offer offer refl))
+    by false some = let same : pair_of bid offer ≡ pair = cc in
+        subst (AreBelow parts) same (pair_of_below parts bid offer (of_bid bid refl) (of_offer offer refl))
 
 -- the quotations of a pair are rows of the view
-pub first_pair_below : (seen : Seen) (parts place : ℕ) (pair : Pair) (rest : List Pair) → ((side : Side) → All (λ row. row.part < parts) (rows_on side seen))
+pub first_pair_below : (seen : Seen) (parts place : ℕ) (pair : Pair) (rest : List Pair)
+    → ((side : Side) → All (λ row. row.part < parts) (rows_on side seen))
     → pairs_from place seen ≡ pair ∷ rest → AreBelow parts pair
 first_pair_below seen parts place pair rest below e =
     let made = first_made (pair_at seen) place (1024 - place) pair rest e in
@@ -88,16 +93,21 @@ pub record HasWrittenPairs (line : Pair → List ℕ) (old new : Option (List �
   pub all : done ++ pairs_from place seen ≡ pairs_from from seen
 
 -- the pair at the place was written too
-pub one_more_pair : (line : Pair → List ℕ) (old now new : Option (List ℕ)) (seen : Seen) (from place behind : ℕ) (pair : Pair) → HasWrittenPairs line old now seen from place
+pub one_more_pair : (line : Pair → List ℕ) (old now new : Option (List ℕ)) (seen : Seen) (from place behind : ℕ) (pair : Pair)
+    → HasWrittenPairs line old now seen from place
     → pairs_from place seen ≡ pair ∷ pairs_from behind seen → Appends now new (line pair) → HasWrittenPairs line old new seen from behind
 one_more_pair line old now new seen from place behind pair before first more = record {
   done = before.done ++ pair ∷ [];
-  written = subst (Appends old new) (flat_map_more line [] before.done pair) (appends-more old now new (flat_map line before.done) (line pair) before.written more);
-  all = append_assoc before.done (pair ∷ []) (pairs_from behind seen) ∙ ap (λ (left : List Pair). before.done ++ left) (sym first) ∙ before.all;
+  written = subst (Appends old new) (flat_map_more line [] before.done pair)
+      (appends-more old now new (flat_map line before.done) (line pair) before.written more);
+  all = append_assoc before.done (pair ∷ []) (pairs_from behind seen) ∙ ap (λ (left : List Pair). before.done ++ left) (sym first)
+      ∙ before.all;
 }
 
 -- no pair is left
-pub all_pairs : (line : Pair → List ℕ) (old new : Option (List ℕ)) (seen : Seen) (from place : ℕ) → HasWrittenPairs line old new seen from place → pairs_from place seen ≡ []
+pub all_pairs : (line : Pair → List ℕ) (old new : Option (List ℕ)) (seen : Seen) (from place : ℕ)
+    → HasWrittenPairs line old new seen from place → pairs_from place seen ≡ []
     → Appends old new (flat_map line (pairs_from from seen))
 all_pairs line old new seen from place before none =
-    subst (λ (pairs : List Pair). Appends old new (flat_map line pairs)) (sym (append-nil before.done) ∙ ap (λ (left : List Pair). before.done ++ left) (sym none) ∙ before.all) before.written
+    subst (λ (pairs : List Pair). Appends old new (flat_map line pairs))
+    (sym (append-nil before.done) ∙ ap (λ (left : List Pair). before.done ++ left) (sym none) ∙ before.all) before.written

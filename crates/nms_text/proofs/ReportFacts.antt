@@ -20,18 +20,24 @@ pub all_pairs_written : {T E : Type 0} (r : Result T E) (old new : Option (List 
     → OnOk r (Appends old new (flat_map (pair_line roster) (pairs_from first seen))) → OnOk r (Appends old new (pairs_text roster seen))
 unfolding pairs_text
 all_pairs_written r old new roster seen first zeroth =
-    subst (λ (text : List ℕ). OnOk r (Appends old new text)) (ap (λ (place : ℕ). flat_map (pair_line roster) (pairs_from place seen)) zeroth)
+    subst (λ (text : List ℕ). OnOk r (Appends old new text))
+    (ap (λ (place : ℕ). flat_map (pair_line roster) (pairs_from place seen)) zeroth)
 
 -- the header, both sides and the pairs
-pub report_written : {T E : Type 0} (r : Result T E) (old one two three new : Option (List ℕ)) (roster : Listing) (seen : Seen) (bid offer : Option Row) (market : Market)
+pub report_written : {T E : Type 0} (r : Result T E) (old one two three new : Option (List ℕ)) (roster : Listing) (seen : Seen)
+    (bid offer : Option Row) (market : Market)
     → IsBestOf Bid (rows_on Bid seen) bid → IsBestOf Offer (rows_on Offer seen) offer → market ≡ market_of bid offer
-    → Appends old one (header_line roster seen market) → Appends one two (side_text roster seen Bid bid) → Appends two three (side_text roster seen Offer offer)
+    → Appends old one (header_line roster seen market) → Appends one two (side_text roster seen Bid bid)
+    → Appends two three (side_text roster seen Offer offer)
     → OnOk r (Appends three new (pairs_text roster seen)) → OnOk r ((text : List ℕ) × IsReport roster seen text × Appends old new text)
 report_written r old one two three new roster seen bid offer market best_bid best_offer is header bids offers pairs =
-    let head : Appends old one (header_line roster seen (market_of bid offer)) = subst (λ (m : Market). Appends old one (header_line roster seen m)) is header in
+    let head : Appends old one (header_line roster seen (market_of bid offer)) =
+    subst (λ (m : Market). Appends old one (header_line roster seen m)) is header in
     on_ok_weaker r (λ last. (
       report_text roster seen bid offer,
       record { bid = bid; offer = offer; best_bid = best_bid; best_offer = best_offer; is = refl },
-      appends-more old three new _ (pairs_text roster seen) (appends-more old two three _ (side_text roster seen Offer offer) (appends-more old one two _ (side_text roster seen Bid bid) head bids) offers) last,
+      appends-more old three new _ (pairs_text roster seen)
+          (appends-more old two three _ (side_text roster seen Offer offer)
+          (appends-more old one two _ (side_text roster seen Bid bid) head bids) offers) last,
     ))
     pairs

@@ -15,15 +15,22 @@ use Rattle.nms_text.specs.Answers.{best_fields, best_record, market_word, look_t
 
 -- the best bid and offer: the look, then both rows
 pub best_text : (roster : Listing) (desk : ℕ) (seen : Seen) (bid offer : Option Row)
-    → text_of (best_record roster desk seen bid offer ∷ []) ≡ look_text desk (symbol_text roster seen.sym) seen.version (market_word (market_of bid offer)) ++ rows_text roster bid offer
+    → text_of (best_record roster desk seen bid offer ∷ [])
+    ≡ look_text desk (symbol_text roster seen.sym) seen.version (market_word (market_of bid offer)) ++ rows_text roster bid offer
 best_text roster desk seen bid offer =
     let head : List (List ℕ) = decimal desk ∷ symbol_text roster seen.sym ∷ decimal seen.version ∷ market_word (market_of bid offer) ∷ [] in
     let rows : List (List ℕ) = best_fields roster bid ++ best_fields roster offer in
-    let joined : join_with_byte 44 (codes "BEST" ∷ (head ++ rows)) ≡ look_text desk (symbol_text roster seen.sym) seen.version (market_word (market_of bid offer)) ++ later_fields rows = join-append (codes "BEST") head rows in
-    let parts : later_fields rows ≡ later_fields (best_fields roster bid) ++ later_fields (best_fields roster offer) = flat_map-append (λ (f : List ℕ). 44 ∷ f) (best_fields roster bid) (best_fields roster offer) in
+    let joined : join_with_byte 44 (codes "BEST" ∷ (head ++ rows))
+    ≡ look_text desk (symbol_text roster seen.sym) seen.version (market_word (market_of bid offer)) ++ later_fields rows =
+    join-append (codes "BEST") head rows in
+    let parts : later_fields rows ≡ later_fields (best_fields roster bid) ++ later_fields (best_fields roster offer) =
+    flat_map-append (λ (f : List ℕ). 44 ∷ f) (best_fields roster bid) (best_fields roster offer) in
     append-nil (record_text (best_record roster desk seen bid offer))
-    ∙ ap (λ (t : List ℕ). t ++ 10 ∷ []) (joined ∙ ap (λ (t : List ℕ). look_text desk (symbol_text roster seen.sym) seen.version (market_word (market_of bid offer)) ++ t) parts)
-    ∙ append_assoc (look_text desk (symbol_text roster seen.sym) seen.version (market_word (market_of bid offer))) (later_fields (best_fields roster bid) ++ later_fields (best_fields roster offer)) (10 ∷ [])
+    ∙ ap (λ (t : List ℕ). t ++ 10 ∷ [])
+    (joined ∙ ap (λ (t : List ℕ). look_text desk (symbol_text roster seen.sym) seen.version (market_word (market_of bid offer)) ++ t)
+    parts)
+    ∙ append_assoc (look_text desk (symbol_text roster seen.sym) seen.version (market_word (market_of bid offer)))
+    (later_fields (best_fields roster bid) ++ later_fields (best_fields roster offer)) (10 ∷ [])
 
 -- the look before both rows
 pub best_written : (roster : Listing) (desk : ℕ) (seen : Seen) (bid offer : Option Row) (told name market : List ℕ) (version : ℕ)

@@ -72,4 +72,5 @@ through_row roster quotation =
 
 -- their number, then each of them
 abbrev pub through_records : Listing → ℕ → Seen → ℕ → List (Side × Row) → List Record
-through_records roster desk seen price quotations = through_head roster desk seen price (length quotations) ∷ map (through_row roster) quotations
+through_records roster desk seen price quotations = through_head roster desk seen price (length quotations)
+    ∷ map (through_row roster) quotations

@@ -1,8 +1,8 @@
 -- The codes by which faults are told, and the exit status of a program that one of them ends: 1 for streams and files,
 -- 5 for memory, 6 for lines, plans and lengths. This product's own rule.
 use Rattle.std.specs.Prelude.{ℕ, List, codes}
-use Rattle.nms_text.specs.declared.live_text_fault.LiveTextFault.{LiveTextFault}
-use Rattle.nms_text.specs.declared.live_text_fault.LiveTextFault.TheVariants as live_text_fault
+use Rattle.nms_text.specs.declared.text_fault.TextFault.{TextFault}
+use Rattle.nms_text.specs.declared.text_fault.TextFault.TheVariants as text_fault
 use Rattle.nms_text.specs.declared.script_fault.ScriptFault.{ScriptFault}
 use Rattle.nms_text.specs.declared.script_fault.ScriptFault.TheVariants as script_fault
 
@@ -18,10 +18,10 @@ status_of_script script_fault.WriteFault = 1
 status_of_script script_fault.TooLong = 6
 status_of_script script_fault.NoMemory = 5
 
-abbrev pub code_of_live_text : LiveTextFault → List ℕ
-code_of_live_text live_text_fault.NoMemory = codes "L12"
-code_of_live_text live_text_fault.WriteFault = codes "L13"
+abbrev pub code_of_text : TextFault → List ℕ
+code_of_text text_fault.NoMemory = codes "L12"
+code_of_text text_fault.WriteFault = codes "L13"
 
-abbrev pub status_of_live_text : LiveTextFault → ℕ
-status_of_live_text live_text_fault.NoMemory = 5
-status_of_live_text live_text_fault.WriteFault = 1
+abbrev pub status_of_text : TextFault → ℕ
+status_of_text text_fault.NoMemory = 5
+status_of_text text_fault.WriteFault = 1

@@ -1,6 +1,7 @@
 -- The report of one symbol that a reviewer reads: a header, the bids and the offers by participant place,
 -- and the pairs that lock or cross. This product's own rule.
-use Rattle.std.specs.Prelude.{ℕ, ◌≡◌, ◌-◌, ◌==◌, Bool, false, List, [], ◌∷◌, ◌++◌, length, replicate, codes, Option, Some, None, if◌then◌else◌}
+use Rattle.std.specs.Prelude.{ℕ, ◌≡◌, ◌-◌, ◌==◌, Bool, false, List, [], ◌∷◌, ◌++◌, length, replicate, codes, Option, Some, None}
+use Rattle.std.specs.Prelude.{if◌then◌else◌}
 use Rattle.std.specs.List.{flat_map, join_with_byte}
 use Rattle.std.specs.Fmt.{decimal}
 use Rattle.nms_units.specs.Price.{price_text}
@@ -32,7 +33,8 @@ line_of columns = join_with_byte 32 columns ++ 10 ∷ []
 
 -- the symbol, the version, and how the best bid and offer stand to each other
 abbrev pub header_line : Listing → Seen → Market → List ℕ
-header_line roster seen market = line_of (at_left 8 (symbol_text roster seen.sym) ∷ at_right 8 (decimal seen.version) ∷ market_word market ∷ [])
+header_line roster seen market = line_of (at_left 8 (symbol_text roster seen.sym) ∷ at_right 8 (decimal seen.version) ∷ market_word market
+    ∷ [])
 
 -- P for a protected quotation, M for a manual one
 abbrev pub state_word : Bool → List ℕ
@@ -78,7 +80,8 @@ pairs_text roster seen = flat_map (pair_line roster) (pairs_from 0 seen)
 -- the whole of it, for a best bid and a best offer
 abbrev pub report_text : Listing → Seen → Option Row → Option Row → List ℕ
 report_text roster seen bid offer =
-    header_line roster seen (market_of bid offer) ++ side_text roster seen Bid bid ++ side_text roster seen Offer offer ++ pairs_text roster seen
+    header_line roster seen (market_of bid offer) ++ side_text roster seen Bid bid ++ side_text roster seen Offer offer
+    ++ pairs_text roster seen
 
 -- the report of what is seen, whichever rows are taken for the best where several are
 pub record IsReport (roster : Listing) (seen : Seen) (text : List ℕ) : Type 0 where

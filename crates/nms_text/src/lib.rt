@@ -4,9 +4,9 @@
 
 mod answer;
 mod live_text;
-mod live_text_fault;
 mod report_text;
 mod script_fault;
+mod text_fault;
 mod writing;
 
 pub use answer::{
@@ -14,7 +14,7 @@ pub use answer::{
     tell_told,
 };
 pub use live_text::write_live;
-pub use live_text_fault::LiveTextFault;
 pub use report_text::report;
 pub use script_fault::ScriptFault;
+pub use text_fault::TextFault;
 pub use writing::tell;

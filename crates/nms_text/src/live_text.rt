@@ -6,7 +6,7 @@ ghost use Rattle.nms_lines.specs.Text.{text_of};
 ghost use Rattle.nms_lines.specs.Written.{AppendsPart};
 ghost use Rattle.nms_text.specs.LiveText.{answer_head, answer_records, live_records, tape_record};
 
-use crate::live_text_fault::LiveTextFault;
+use crate::text_fault::TextFault;
 use crate::writing::tell;
 use nms_lines::{append_plan, end_record, push_number};
 use nms_quote::{Answer, Roster};
@@ -23,18 +23,18 @@ pub fn write_live<W: Write>(
     taken: u64,
     closing: &[Answer],
     answers: &mut W,
-) -> Result<(), LiveTextFault>
+) -> Result<(), TextFault>
     ensures written { OnOk result (Appends (W.contents answers.old) (W.contents answers.new) (text_of (live_records roster.now taken closing.now))) }
-    ensures cut { IfErr result (λ fault. fault ≡ LiveTextFault.WriteFault → AppendsPart (W.contents answers.old) (W.contents answers.new) (text_of (live_records roster.now taken closing.now))) }
-    ensures unwritten { IfErr result (λ fault. fault ≢ LiveTextFault.WriteFault → W.contents answers.new ≡ W.contents answers.old) }
+    ensures cut { IfErr result (λ fault. fault ≡ TextFault.WriteFault → AppendsPart (W.contents answers.old) (W.contents answers.new) (text_of (live_records roster.now taken closing.now))) }
+    ensures unwritten { IfErr result (λ fault. fault ≢ TextFault.WriteFault → W.contents answers.new ≡ W.contents answers.old) }
 {
     let mut text = Vec::new(alloc);
     if tell_live(&mut text, roster, taken, closing).is_err() {
-        return Err(LiveTextFault::NoMemory);
+        return Err(TextFault::NoMemory);
     }
     match tell(answers, &text) {
         Ok(()) => Ok(()),
-        Err(_) => Err(LiveTextFault::WriteFault),
+        Err(_) => Err(TextFault::WriteFault),
     }
 }
 

@@ -1,5 +1,7 @@
 -- Numbers are read as they are printed: in decimal digits, and on both sides of a point.
-use Rattle.std.proofs.Common.{◌≡◌, ℕ, zero, suc, ◌+◌, ◌*◌, ◌/◌, ◌%◌, ◌^◌, ◌<◌, ◌≤◌, true, false, cond, not, ◌&&◌, ◌==◌, nat_lt, nat_le, List, [], ◌∷◌, ◌++◌, length, take, drop, Option, Some, None, lt-ltb, refl, ap, ◌∙◌, arith, lit<, if◌then◌else◌}
+use Rattle.std.proofs.Common.{◌≡◌, ℕ, zero, suc, ◌+◌, ◌*◌, ◌/◌, ◌%◌, ◌^◌, ◌<◌, ◌≤◌, true, false, cond, not, ◌&&◌, ◌==◌, nat_lt, nat_le}
+use Rattle.std.proofs.Common.{List, [], ◌∷◌, ◌++◌, length, take, drop, Option, Some, None, lt-ltb, refl, ap, ◌∙◌, arith, lit<}
+use Rattle.std.proofs.Common.{if◌then◌else◌}
 use Rattle.std.proofs.Math.Arith.{mod-mul}
 use Rattle.std.proofs.Math.Nat.{one-le-pow, pow-succ'}
 use Rattle.std.proofs.Math.Seq.{take-append_seam, drop-append-add}
@@ -33,7 +35,8 @@ some_and_few : (n most : ℕ) → 0 < n → n ≤ most → (nat_lt 0 n && nat_le
 some_and_few n most some few = grind (arith, nat_tests)
 
 -- digits of a known value, neither none nor too many, write that value
-number_of_digits : (most : ℕ) (text : List ℕ) (n : ℕ) → 0 < length text → length text ≤ most → list_all is_ascii_digit text ≡ true → digits_value 10 text ≡ n → number_in most text ≡ Some n
+number_of_digits : (most : ℕ) (text : List ℕ) (n : ℕ) → 0 < length text → length text ≤ most → list_all is_ascii_digit text ≡ true
+    → digits_value 10 text ≡ n → number_in most text ≡ Some n
 number_of_digits most text n some few digits value =
     let form : is_digits most text ≡ true = and_from _ _ (some_and_few (length text) most some few) digits in
     ap (λ b. if b then Some (digits_value 10 text) else None) form ∙ ap Some value
@@ -49,7 +52,8 @@ no_point : (c : ℕ) → is_ascii_digit c ≡ true → (c == 46) ≡ false
 no_point c h = grind (arith, nat_tests)
 
 -- the first point stands behind the digits before it
-point_behind : (whole behind : List ℕ) → list_all is_ascii_digit whole ≡ true → position_or_len (λ c. c == 46) (whole ++ 46 ∷ behind) ≡ length whole
+point_behind : (whole behind : List ℕ) → list_all is_ascii_digit whole ≡ true
+    → position_or_len (λ c. c == 46) (whole ++ 46 ∷ behind) ≡ length whole
 point_behind [] behind h = refl
 point_behind (c ∷ cs) behind h =
     let parts = and_parts (is_ascii_digit c) (list_all is_ascii_digit cs) h in
@@ -57,7 +61,8 @@ point_behind (c ∷ cs) behind h =
     ap (λ b. cond (not b) (1 + position_or_len (λ c. c == 46) (cs ++ 46 ∷ behind)) 0) (no_point c parts.0) ∙ omega (arith, rest)
 
 -- digits, a point and more are read on both sides of that point
-pub by_point-split : (read : List ℕ → List ℕ → Option ℕ) (whole behind : List ℕ) (none : Option ℕ) → list_all is_ascii_digit whole ≡ true → by_point read (whole ++ 46 ∷ behind) none ≡ read whole behind
+pub by_point-split : (read : List ℕ → List ℕ → Option ℕ) (whole behind : List ℕ) (none : Option ℕ) → list_all is_ascii_digit whole ≡ true
+    → by_point read (whole ++ 46 ∷ behind) none ≡ read whole behind
 by_point-split read whole behind none h =
     let text : List ℕ = whole ++ 46 ∷ behind in
     let at : position_or_len (λ c. c == 46) text ≡ length whole = point_behind whole behind h in
@@ -93,7 +98,8 @@ value_after zero front n = omega arith
 value_after (suc count) front n =
     let digit : ℕ = n / 10 ^ count % 10 in
     let scale : 10 ^ suc count ≡ 10 * 10 ^ count = pow-succ' 10 count in
-    let rest : n % (10 * 10 ^ count) ≡ digit * 10 ^ count + n % 10 ^ count = mod-mul n {m = 10} {c = 10 ^ count} (lit< tt) (one-le-pow count 10 (lit< tt)) in
+    let rest : n % (10 * 10 ^ count) ≡ digit * 10 ^ count + n % 10 ^ count =
+    mod-mul n {m = 10} {c = 10 ^ count} (lit< tt) (one-le-pow count 10 (lit< tt)) in
     ap (λ d. digits_value_after 10 (front * 10 + d) (last_digits count n)) (digit_value-digit digit (below_10 _)).1
     ∙ value_after count (front * 10 + digit) n
     ∙ rw (scale, rest) (omega arith)
@@ -102,4 +108,5 @@ value_after (suc count) front n =
 pub number_in-last_digits : (most count n : ℕ) → 0 < count → count ≤ most → number_in most (last_digits count n) ≡ Some (n % 10 ^ count)
 number_in-last_digits most count n some few =
     let long : length (last_digits count n) ≡ count = length-last_digits count n in
-    number_of_digits most (last_digits count n) (n % 10 ^ count) (omega (arith, long)) (omega (arith, long)) (last_digits_pass count n) (value_after count 0 n ∙ omega arith)
+    number_of_digits most (last_digits count n) (n % 10 ^ count) (omega (arith, long)) (omega (arith, long)) (last_digits_pass count n)
+    (value_after count 0 n ∙ omega arith)

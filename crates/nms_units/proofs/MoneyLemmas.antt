@@ -1,5 +1,6 @@
 -- The text of money is read as that money.
-use Rattle.std.proofs.Common.{◌≡◌, ℕ, suc, ℤ, pos, negsuc, neg_ℤ, ◌<ℤ◌, ◌*◌, ◌/◌, ◌%◌, ◌^◌, ◌<◌, true, false, ◌==◌, List, [], ◌∷◌, ◌++◌, length, Some, None, Ok, ap, sym, ◌∙◌, arith, lit<, lit≤, append_assoc, if◌then◌else◌}
+use Rattle.std.proofs.Common.{◌≡◌, ℕ, suc, ℤ, pos, negsuc, neg_ℤ, ◌<ℤ◌, ◌*◌, ◌/◌, ◌%◌, ◌^◌, ◌<◌, true, false, ◌==◌, List, [], ◌∷◌, ◌++◌}
+use Rattle.std.proofs.Common.{length, Some, None, Ok, ap, sym, ◌∙◌, arith, lit<, lit≤, append_assoc, if◌then◌else◌}
 use Rattle.std.specs.Prelude.{option_map}
 use Rattle.std.proofs.lemmas.Bool.{and_parts}
 use Rattle.std.proofs.lemmas.Bool.Decides.{nat_tests}
@@ -9,7 +10,8 @@ use Rattle.std.specs.Char.{is_ascii_digit}
 use Rattle.std.specs.Fmt.{decimal}
 use Rattle.std.specs.List.{list_all}
 use Rattle.nms_units.proofs.DecimalLemmas.{by_point-split, digits_decimal, last_digits, number_in-decimal, number_in-last_digits}
-use Rattle.nms_units.specs.Money.{whole_dollars, nine_decimals, nanodollars, amount_number, money_number, money_reading, or_bad_money, three_digits, amount_text, money_text}
+use Rattle.nms_units.specs.Money.{whole_dollars, nine_decimals, nanodollars, amount_number, money_number, money_reading, or_bad_money}
+use Rattle.nms_units.specs.Money.{three_digits, amount_text, money_text}
 use Rattle.nms_units.specs.Price.{both}
 
 -- whole dollars are read as they are printed
@@ -52,18 +54,22 @@ no_minus : (c : ℕ) → is_ascii_digit c ≡ true → (c == 45) ≡ false
 no_minus c h = grind (arith, nat_tests)
 
 -- what begins with a digit is read as an amount
-unsigned_amount : (whole behind : List ℕ) → 0 < length whole → list_all is_ascii_digit whole ≡ true → money_number (whole ++ behind) ≡ option_map (λ n. pos n) (amount_number (whole ++ behind))
+unsigned_amount : (whole behind : List ℕ) → 0 < length whole → list_all is_ascii_digit whole ≡ true
+    → money_number (whole ++ behind) ≡ option_map (λ n. pos n) (amount_number (whole ++ behind))
 unsigned_amount [] behind some digits = absurd (omega arith)
 unsigned_amount (c ∷ cs) behind some digits =
-    ap (λ b. if b then option_map (λ n. neg_ℤ (pos n)) (amount_number (cs ++ behind)) else option_map (λ n. pos n) (amount_number (c ∷ (cs ++ behind)))) (no_minus c (and_parts (is_ascii_digit c) (list_all is_ascii_digit cs) digits).0)
+    ap (λ b. if b then option_map (λ n. neg_ℤ (pos n)) (amount_number (cs ++ behind)) else option_map (λ n. pos n)
+    (amount_number (c ∷ (cs ++ behind)))) (no_minus c (and_parts (is_ascii_digit c) (list_all is_ascii_digit cs) digits).0)
 
 -- what money prints is read as that money
-pub money_reading-money_text : (money : ℤ) → neg_ℤ (pos (10 ^ 29)) <ℤ money → money <ℤ pos (10 ^ 29) → money_reading (money_text money) ≡ Ok money
+pub money_reading-money_text : (money : ℤ) → neg_ℤ (pos (10 ^ 29)) <ℤ money → money <ℤ pos (10 ^ 29)
+    → money_reading (money_text money) ≡ Ok money
 money_reading-money_text (pos n) low high =
     let small : n < 10 ^ 29 = omega (arith, ints, high) in
     let wide : n / 1000000000 < 10 ^ 64 = omega arith in
     ap (λ text. or_bad_money (money_number text)) (amount_text-split n)
-    ∙ ap or_bad_money (unsigned_amount (decimal (n / 1000000000)) (46 ∷ last_digits 9 n) (decimal_is_IsNumeral_wide (n / 1000000000) wide).0.0 (digits_decimal (n / 1000000000) wide))
+    ∙ ap or_bad_money (unsigned_amount (decimal (n / 1000000000)) (46 ∷ last_digits 9 n)
+    (decimal_is_IsNumeral_wide (n / 1000000000) wide).0.0 (digits_decimal (n / 1000000000) wide))
     ∙ ap (λ text. or_bad_money (option_map (λ k. pos k) (amount_number text))) (sym (amount_text-split n))
     ∙ ap (λ o. or_bad_money (option_map (λ k. pos k) o)) (amount_number-amount_text n small)
 money_reading-money_text (negsuc n) low high =

@@ -1,5 +1,6 @@
 -- Money in whole nanodollars (10^-9 dollar). This product's own rule.
-use Rattle.std.specs.Prelude.{ℕ, suc, ℤ, pos, negsuc, neg_ℤ, ◌*◌, ◌/◌, ◌==◌, List, [], ◌∷◌, ◌++◌, length, Option, Some, None, option_map, Result, Ok, Err, if◌then◌else◌}
+use Rattle.std.specs.Prelude.{ℕ, suc, ℤ, pos, negsuc, neg_ℤ, ◌*◌, ◌/◌, ◌==◌, List, [], ◌∷◌, ◌++◌, length, Option, Some, None, option_map}
+use Rattle.std.specs.Prelude.{Result, Ok, Err, if◌then◌else◌}
 use Rattle.std.specs.Fmt.{decimal}
 use Rattle.nms_units.specs.Digits.{by_point, number_in}
 use Rattle.nms_units.specs.Price.{both, digit_at}

@@ -1,5 +1,6 @@
 -- The two steps of a history keep its rule.
-use Rattle.std.proofs.Common.{◌≡◌, ℕ, ◌+◌, ◌<◌, ◌==◌, suc, Bool, true, false, List, [], ◌∷◌, ◌++◌, length, refl, ap, sym, ◌∙◌, subst, arith, inl, length-append, None, if◌then◌else◌}
+use Rattle.std.proofs.Common.{◌≡◌, ℕ, ◌+◌, ◌<◌, ◌==◌, suc, Bool, true, false, List, [], ◌∷◌, ◌++◌, length, refl, ap, sym, ◌∙◌, subst, arith}
+use Rattle.std.proofs.Common.{inl, length-append, None, if◌then◌else◌}
 use Rattle.std.specs.Prelude.{slice_set}
 use Rattle.std.proofs.lemmas.List.{append-nil}
 use Rattle.std.proofs.lemmas.Bool.Decides.{nat_tests}
@@ -28,7 +29,8 @@ cells_of_opened [] = refl
 cells_of_opened (batch ∷ log) = ap (λ cells. (0, true) ∷ cells) (cells_of_opened log)
 
 -- the last cell brought home
-cells_of_closed : (log : Batches) (batch : List Change) → slice_set (cells_of log true) (length log) (0, true) ≡ cells_of (log ++ batch ∷ []) false
+cells_of_closed : (log : Batches) (batch : List Change) → slice_set (cells_of log true) (length log) (0, true)
+    ≡ cells_of (log ++ batch ∷ []) false
 cells_of_closed [] batch = refl
 cells_of_closed (x ∷ log) batch = ap (λ cells. (0, true) ∷ cells) (cells_of_closed log batch)
 
@@ -37,7 +39,8 @@ none_empty_push [] batch h some = (some, tt)
 none_empty_push (x ∷ log) batch h some = (h.0, none_empty_push log batch h.1 some)
 
 -- where the cell behind all that was seen is not at home, nothing more was published, and a batch is open
-lone : (seen log : Batches) (is_open : Bool) → IsPrefix seen log → length seen < length (cells_of log is_open) → (cell (cells_of log is_open) (length seen)).1 ≡ false → (seen ≡ log) × (is_open ≡ true)
+lone : (seen log : Batches) (is_open : Bool) → IsPrefix seen log → length seen < length (cells_of log is_open)
+    → (cell (cells_of log is_open) (length seen)).1 ≡ false → (seen ≡ log) × (is_open ≡ true)
 lone [] [] true p within away = (refl, refl)
 lone [] [] false p within away = absurd (omega arith)
 lone [] (batch ∷ log) is_open p within away = absurd (cc away)
@@ -48,10 +51,12 @@ lone (x ∷ seen) (batch ∷ log) is_open p within away =
 
 module _ (seen : Batches) (old : ℕ) (same : length seen ≡ old) where
   abbrev Tells : ℕ → List Cell → Batches → Type 0
-  Tells key words log = Goes IsKept shown moved key (seen, (no_nib, None)) (λ n. either (n == old) (old + 1) n) (Opens (step key old (old + 1) []) (seen, (no_nib, None))) words log
+  Tells key words log = Goes IsKept shown moved key (seen, (no_nib, None)) (λ n. either (n == old) (old + 1) n)
+      (Opens (step key old (old + 1) []) (seen, (no_nib, None))) words log
 
   -- the exchange opens a batch where nothing was published that had not been seen; else it leaves all
-  opens_goes : (log : Batches) (is_open : Bool) → NoneEmpty log → IsPrefix seen log → (b : Bool) → (length (cells_of log is_open) == old) ≡ b
+  opens_goes : (log : Batches) (is_open : Bool) → NoneEmpty log → IsPrefix seen log → (b : Bool)
+      → (length (cells_of log is_open) == old) ≡ b
       → Tells 0 ((length (cells_of log is_open), true) ∷ (0, true) ∷ cells_of log is_open) log
   opens_goes log true none pre true is =
       let count : length (cells_of log true) ≡ old = grind (arith, nat_tests) in
@@ -61,9 +66,11 @@ module _ (seen : Batches) (old : ℕ) (same : length seen ≡ old) where
       let long : length (cells_of log false) ≡ length log = omega (arith, length-cells_of log false) in
       let whole : seen ≡ log = prefix_whole seen log pre (omega (arith, long, count, same)) in
       let all : log ++ [] ≡ log = append-nil log in
-      let number : either (length (cells_of log false) == old) (old + 1) (length (cells_of log false)) ≡ length (cells_of (log ++ []) true) =
+      let number : either (length (cells_of log false) == old) (old + 1) (length (cells_of log false))
+      ≡ length (cells_of (log ++ []) true) =
       rw (is, all) (omega (arith, length-cells_of log true, long, count)) in
-      let cells : cells_of log false ++ (0, false) ∷ [] ≡ cells_of (log ++ []) true = cells_of_opened log ∙ ap (λ l. cells_of l true) (sym all) in (
+      let cells : cells_of log false ++ (0, false) ∷ [] ≡ cells_of (log ++ []) true = cells_of_opened log
+      ∙ ap (λ l. cells_of l true) (sym all) in (
         adds,
         [],
         None,
@@ -74,19 +81,25 @@ module _ (seen : Batches) (old : ℕ) (same : length seen ≡ old) where
       )
   opens_goes log is_open none pre false is =
       let all : log ++ [] ≡ log = append-nil log in
-      let number : either (length (cells_of log is_open) == old) (old + 1) (length (cells_of log is_open)) ≡ length (cells_of (log ++ []) is_open) =
+      let number : either (length (cells_of log is_open) == old) (old + 1) (length (cells_of log is_open))
+      ≡ length (cells_of (log ++ []) is_open) =
       rw (is, all) refl in (
         keeps,
         [],
         None,
         tt,
-        record { is_open = is_open; words_are = λ i. (number i, true) ∷ (0, true) ∷ cells_of ((sym all) i) is_open; none_empty = subst NoneEmpty (sym all) none },
+        record {
+          is_open = is_open;
+          words_are = λ i. (number i, true) ∷ (0, true) ∷ cells_of ((sym all) i) is_open;
+          none_empty = subst NoneEmpty (sym all) none;
+        },
         inl (refl, refl),
         λ found. absurd (grind (arith, nat_tests)),
       )
 
 pub opens_moves : (seen : Batches) (old : ℕ) → length seen ≡ old
-    → Moves IsKept shown moved 0 (seen, (no_nib, None)) (λ n. either (n == old) (old + 1) n) (Opens (step 0 old (old + 1) []) (seen, (no_nib, None)))
+    → Moves IsKept shown moved 0 (seen, (no_nib, None)) (λ n. either (n == old) (old + 1) n)
+    (Opens (step 0 old (old + 1) []) (seen, (no_nib, None)))
 opens_moves seen old same words log kept pre away =
     subst (λ (w : List Cell). (0 < length w) × ((cell w 0).1 ≡ true) × Tells seen old same 0 w log) (sym kept.words_are)
     (omega arith, refl, opens_goes seen old same log kept.is_open kept.none_empty pre (length (cells_of log kept.is_open) == old) refl)
@@ -94,7 +107,8 @@ opens_moves seen old same words log kept pre away =
 -- the second step brings the open batch's cell home
 module _ (seen : Batches) (batch : List Change) (some : 0 < length batch) where
   abbrev Puts : ℕ → List Cell → Batches → Type 0
-  Puts old words log = Goes IsKept shown moved 0 (seen, (pen_behind (length seen), None)) (λ n. either (n == old) old n) (Closes (step 0 old old batch) (seen, (pen_behind (length seen), None))) words log
+  Puts old words log = Goes IsKept shown moved 0 (seen, (pen_behind (length seen), None)) (λ n. either (n == old) old n)
+      (Closes (step 0 old old batch) (seen, (pen_behind (length seen), None))) words log
 
   same_either : (old n : ℕ) (b : Bool) → (n == old) ≡ b → either b old n ≡ n
   same_either old n true is = grind (arith, nat_tests)
@@ -104,24 +118,32 @@ module _ (seen : Batches) (batch : List Change) (some : 0 < length batch) where
       → Puts old ((length (cells_of log is_open), true) ∷ (0, true) ∷ cells_of log is_open) log
   closes_goes old log false none whole opened = absurd (cc opened)
   closes_goes old log true none whole opened =
-      let same : either (length (cells_of log true) == old) old (length (cells_of log true)) ≡ length (cells_of log true) = same_either old (length (cells_of log true)) (length (cells_of log true) == old) refl in
-      let home : slice_set (cells_of log true) (length seen) (0, true) ≡ cells_of (log ++ batch ∷ []) false = ap (λ (l : Batches). slice_set (cells_of log true) (length l) (0, true)) whole ∙ cells_of_closed log batch in
+      let same : either (length (cells_of log true) == old) old (length (cells_of log true)) ≡ length (cells_of log true) =
+      same_either old (length (cells_of log true)) (length (cells_of log true) == old) refl in
+      let home : slice_set (cells_of log true) (length seen) (0, true) ≡ cells_of (log ++ batch ∷ []) false =
+      ap (λ (l : Batches). slice_set (cells_of log true) (length l) (0, true)) whole ∙ cells_of_closed log batch in
       let number : length (cells_of log true) ≡ length (cells_of (log ++ batch ∷ []) false) =
       omega (arith, length-cells_of log true, length-cells_of (log ++ batch ∷ []) false, length-append log (batch ∷ [])) in (
         gives,
         batch ∷ [],
         None,
         refl,
-        record { is_open = false; words_are = λ i. ((same ∙ number) i, true) ∷ (0, true) ∷ home i; none_empty = none_empty_push log batch none some },
+        record {
+          is_open = false;
+          words_are = λ i. ((same ∙ number) i, true) ∷ (0, true) ∷ home i;
+          none_empty = none_empty_push log batch none some;
+        },
         inl (refl, refl),
         ap (λ l. l ++ batch ∷ []) (sym whole),
       )
 
 pub closes_moves : (seen : Batches) (batch : List Change) (old : ℕ) → 0 < length batch
-    → Moves IsKept shown moved 0 (seen, (pen_behind (length seen), None)) (λ n. either (n == old) old n) (Closes (step 0 old old batch) (seen, (pen_behind (length seen), None)))
+    → Moves IsKept shown moved 0 (seen, (pen_behind (length seen), None)) (λ n. either (n == old) old n)
+    (Closes (step 0 old old batch) (seen, (pen_behind (length seen), None)))
 closes_moves seen batch old some words log kept pre away =
     let there = away refl in
-    let now : (key_of (length seen) < length ((length (cells_of log kept.is_open), true) ∷ (0, true) ∷ cells_of log kept.is_open)) × ((cell ((length (cells_of log kept.is_open), true) ∷ (0, true) ∷ cells_of log kept.is_open) (key_of (length seen))).1 ≡ false) =
+    let now : (key_of (length seen) < length ((length (cells_of log kept.is_open), true) ∷ (0, true) ∷ cells_of log kept.is_open))
+    × ((cell ((length (cells_of log kept.is_open), true) ∷ (0, true) ∷ cells_of log kept.is_open) (key_of (length seen))).1 ≡ false) =
     subst (λ (w : List Cell). (key_of (length seen) < length w) × ((cell w (key_of (length seen))).1 ≡ false)) kept.words_are there in
     let only = lone seen log kept.is_open pre (omega (arith, now.0)) now.1 in
     subst (λ (w : List Cell). (0 < length w) × ((cell w 0).1 ≡ true) × Puts seen batch some old w log) (sym kept.words_are)

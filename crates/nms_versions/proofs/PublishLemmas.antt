@@ -1,8 +1,10 @@
 -- How appending and publishing move what a publisher keeps.
-use Rattle.std.proofs.Common.{ℕ, zero, suc, ◌≡◌, ◌+◌, ◌<◌, ◌≤◌, ◌⊎◌, ◌↔◌, inl, inr, ⊎_elim, Bool, true, false, List, [], ◌∷◌, ◌++◌, length, fold, All, refl, ap, sym, ◌∙◌, subst, arith, append_assoc, length-append, slice_index_or}
+use Rattle.std.proofs.Common.{ℕ, zero, suc, ◌≡◌, ◌+◌, ◌<◌, ◌≤◌, ◌⊎◌, ◌↔◌, inl, inr, ⊎_elim, Bool, true, false, List, [], ◌∷◌, ◌++◌, length}
+use Rattle.std.proofs.Common.{fold, All, refl, ap, sym, ◌∙◌, subst, arith, append_assoc, length-append, slice_index_or}
 use Rattle.std.specs.List.{Contains}
 use Rattle.std.proofs.lemmas.List.{append-nil}
-use Rattle.std.proofs.lemmas.List.Elements.{All-head, All-nil, All-push, All-tail, Contains-append_cases, Contains-append_left, Contains-append_right}
+use Rattle.std.proofs.lemmas.List.Elements.{All-head, All-nil, All-push, All-tail, Contains-append_cases, Contains-append_left}
+use Rattle.std.proofs.lemmas.List.Elements.{Contains-append_right}
 use Rattle.nms_quote.specs.Roster.{Sizes, holds}
 use Rattle.nms_quote.specs.Tape.{Tape}
 use Rattle.nms_quote.specs.declared.TheConstants.{MOST_CHANGES}
@@ -32,14 +34,17 @@ batches_within (batch ∷ log) some = omega (arith, batches_within log some.1, s
 pub changes-push : (log : Batches) (batch : List Change) → changes (log ++ batch ∷ []) ≡ changes log ++ batch
 changes-push log batch = changes-append log (batch ∷ []) ∙ ap (λ t. changes log ++ t) (append-nil batch)
 
-lengths_from-push : (n : ℕ) (log : Batches) (batch : List Change) → lengths_from n (log ++ batch ∷ []) ≡ lengths_from n log ++ (n + length (changes log) + length batch) ∷ []
+lengths_from-push : (n : ℕ) (log : Batches) (batch : List Change)
+    → lengths_from n (log ++ batch ∷ []) ≡ lengths_from n log ++ (n + length (changes log) + length batch) ∷ []
 lengths_from-push n [] batch = ap (λ m. n ∷ m ∷ []) (omega arith)
 lengths_from-push n (x ∷ log) batch =
-    ap (λ l. n ∷ l) (lengths_from-push (n + length x) log batch ∙ ap (λ m. lengths_from (n + length x) log ++ m ∷ []) (omega (arith, length-append x (changes log))))
+    ap (λ l. n ∷ l) (lengths_from-push (n + length x) log batch
+    ∙ ap (λ m. lengths_from (n + length x) log ++ m ∷ []) (omega (arith, length-append x (changes log))))
 
 contains_push : (xs : List ℕ) (y n : ℕ) → Contains (xs ++ y ∷ []) n ↔ Contains xs n ⊎ (n ≡ y)
 contains_push xs y n = (
-  (λ h. ⊎_elim (λ front. inl front) (λ (last : Contains (y ∷ []) n). inr (only last.0 last.1 last.2)) (Contains-append_cases xs (y ∷ []) n h)),
+  (λ h. ⊎_elim (λ front. inl front) (λ (last : Contains (y ∷ []) n). inr (only last.0 last.1 last.2))
+      (Contains-append_cases xs (y ∷ []) n h)),
   ⊎_elim (Contains-append_left xs (y ∷ []) n) (λ (last : n ≡ y). Contains-append_right xs (y ∷ []) n (0, omega arith, sym last)),
 )
   where
@@ -51,13 +56,15 @@ contains_push xs y n = (
 pub publications_push : (log : Batches) (pending : List Change) (n : ℕ)
     → Contains (publications (committed log pending)) n ↔ Contains (publications log) n ⊎ (n ≡ length (changes log ++ pending))
 publications_push log [] n =
-    let there : Contains (publications log) (length (changes log ++ [])) = subst (Contains (publications log)) (omega (arith, ap length (append-nil (changes log)))) (among log log 0 (prefix_self log)) in
+    let there : Contains (publications log) (length (changes log ++ [])) =
+    subst (Contains (publications log)) (omega (arith, ap length (append-nil (changes log)))) (among log log 0 (prefix_self log)) in
     ((λ h. inl h), ⊎_elim (λ h. h) (λ (last : n ≡ length (changes log ++ [])). subst (Contains (publications log)) (sym last) there))
 publications_push log (change ∷ pending) n =
     let batch : List Change = change ∷ pending in
     let same : lengths_from 0 (log ++ batch ∷ []) ≡ publications log ++ length (changes log ++ batch) ∷ [] =
     lengths_from-push 0 log batch ∙ ap (λ m. publications log ++ m ∷ []) (omega (arith, length-append (changes log) batch)) in
-    subst (λ l. Contains l n ↔ Contains (publications log) n ⊎ (n ≡ length (changes log ++ batch))) (sym same) (contains_push (publications log) (length (changes log ++ batch)) n)
+    subst (λ l. Contains l n ↔ Contains (publications log) n ⊎ (n ≡ length (changes log ++ batch))) (sym same)
+    (contains_push (publications log) (length (changes log ++ batch)) n)
 
 -- the version after publishing is the whole tape
 pub changes_committed : (log : Batches) (pending : List Change) → changes (committed log pending) ≡ changes log ++ pending
@@ -78,33 +85,52 @@ sizes_taken [] board = refl
 sizes_taken (change ∷ batch) board = sizes_taken batch (after_taken board change) ∙ one_taken board change (takes board change) refl
 
 -- a board takes every change of a batch that is of its roster and that there is room for
-pub takes_batch : (batch : List Change) (board : Board) (tape : Tape) → StandsFor board tape → All (λ change. holds board.sizes change ≡ true) batch → length (tape ++ batch) ≤ MOST_CHANGES
+pub takes_batch : (batch : List Change) (board : Board) (tape : Tape) → StandsFor board tape
+    → All (λ change. holds board.sizes change ≡ true) batch → length (tape ++ batch) ≤ MOST_CHANGES
     → StandsFor (fold after_taken board batch) (tape ++ batch)
 takes_batch [] board tape stands held room = subst (StandsFor board) (sym (append-nil tape)) stands
 takes_batch (change ∷ batch) board tape stands held room =
     let Held : Change → Type 0 = λ c. holds board.sizes c ≡ true in
-    let fits : takes board change ≡ true = takes_by board change (All-head Held change batch held) (omega (arith, stands.applied, room, length-append tape (change ∷ batch))) in
+    let fits : takes board change ≡ true = takes_by board change (All-head Held change batch held) (omega (
+      arith,
+      stands.applied,
+      room,
+      length-append tape (change ∷ batch),
+    )) in
     let one : after_taken board change ≡ after board change = rw fits refl in
     let seam : (tape ++ change ∷ []) ++ batch ≡ tape ++ change ∷ batch = append_assoc tape (change ∷ []) batch in
     let rest : StandsFor (fold after_taken (after board change) batch) ((tape ++ change ∷ []) ++ batch) =
     takes_batch batch (after board change) (tape ++ change ∷ []) (stands_after board tape change stands fits)
-    (subst (λ (sizes : Sizes). All (λ c. holds sizes c ≡ true) batch) (sym (sizes_after board change)) (All-tail Held change batch held)) (omega (arith, room, ap length seam)) in
-    subst (λ (b : Board). StandsFor (fold after_taken b batch) (tape ++ change ∷ batch)) (sym one) (subst (StandsFor (fold after_taken (after board change) batch)) seam rest)
+    (subst (λ (sizes : Sizes). All (λ c. holds sizes c ≡ true) batch) (sym (sizes_after board change)) (All-tail Held change batch held))
+    (omega (arith, room, ap length seam)) in
+    subst (λ (b : Board). StandsFor (fold after_taken b batch) (tape ++ change ∷ batch)) (sym one)
+    (subst (StandsFor (fold after_taken (after board change) batch)) seam rest)
 
 -- what was pending goes behind what is shown
-pub follows : (sealed : Sealed) (waiting : List Batch) (history : Chronicle) (tape pending : List Change) (published limit : ℕ) (batch : Batch)
+pub follows : (sealed : Sealed) (waiting : List Batch) (history : Chronicle) (tape pending : List Change) (published limit : ℕ)
+    (batch : Batch)
     → IsSound sealed waiting history → IsTaped history tape pending published limit sealed.boards.sizes
-    → batch.seen.book ≡ history.opening → batch.seen.log ≡ history.published ++ pending ∷ [] → batch.changes.items ≡ pending → Follows sealed batch
+    → batch.seen.book ≡ history.opening → batch.seen.log ≡ history.published ++ pending ∷ [] → batch.changes.items ≡ pending
+    → Follows sealed batch
 follows sealed waiting history tape pending published limit batch sound taped book log items = record {
   book = book ∙ sym sound.book;
   log = log ∙ (λ i. sym sound.log i ++ sym items i ∷ []);
   held = subst (All (λ change. holds sealed.boards.sizes change ≡ true)) (sym items) taped.held;
-  room = omega (arith, ap (λ l. length (changes l)) log, ap length (changes-push history.published pending), ap length taped.tape_is, taped.within, taped.most);
+  room = omega (
+    arith,
+    ap (λ l. length (changes l)) log,
+    ap length (changes-push history.published pending),
+    ap length taped.tape_is,
+    taped.within,
+    taped.most,
+  );
 }
 
 -- a change more is pending
-pub taped_push : (history new : Chronicle) (tape pending : List Change) (published limit : ℕ) (sizes : Sizes) (change : Change) → IsTaped history tape pending published limit sizes
-    → new ≡ record history { is_open = true } → holds sizes change ≡ true → length tape < limit → IsTaped new (tape ++ change ∷ []) (pending ++ change ∷ []) published limit sizes
+pub taped_push : (history new : Chronicle) (tape pending : List Change) (published limit : ℕ) (sizes : Sizes) (change : Change)
+    → IsTaped history tape pending published limit sizes
+    → new ≡ record history { is_open = true } → holds sizes change ≡ true → length tape < limit
+    → IsTaped new (tape ++ change ∷ []) (pending ++ change ∷ []) published limit sizes
 taped_push history new tape pending published limit sizes change taped is held room = rw is (record {
   tape_is = ap (λ t. t ++ change ∷ []) taped.tape_is ∙ append_assoc (changes history.published) pending (change ∷ []);
   counted = taped.counted;
@@ -116,16 +142,24 @@ taped_push history new tape pending published limit sizes change taped is held r
 })
 
 -- there is room for one batch more
-pub batch_room : (history : Chronicle) (tape pending : List Change) (published limit : ℕ) (sizes : Sizes) → IsTaped history tape pending published limit sizes
+pub batch_room : (history : Chronicle) (tape pending : List Change) (published limit : ℕ) (sizes : Sizes)
+    → IsTaped history tape pending published limit sizes
     → (length history.published + length pending ≤ MOST_CHANGES) × (length history.published + length pending ≤ length tape)
 batch_room history tape pending published limit sizes taped =
     let le : length history.published + length pending ≤ length tape =
-    omega (arith, batches_within history.published taped.none_empty, ap length taped.tape_is, length-append (changes history.published) pending) in
+    omega (
+      arith,
+      batches_within history.published taped.none_empty,
+      ap length taped.tape_is,
+      length-append (changes history.published) pending,
+    ) in
     (omega (arith, le, taped.within, taped.most), le)
 
 -- what was pending is published
-pub taped_close : (history new : Chronicle) (tape pending : List Change) (published limit : ℕ) (sizes : Sizes) → IsTaped history tape pending published limit sizes
-    → 0 < length pending → new ≡ record history { published = history.published ++ pending ∷ []; is_open = false } → IsTaped new tape [] (length tape) limit sizes
+pub taped_close : (history new : Chronicle) (tape pending : List Change) (published limit : ℕ) (sizes : Sizes)
+    → IsTaped history tape pending published limit sizes
+    → 0 < length pending → new ≡ record history { published = history.published ++ pending ∷ []; is_open = false }
+    → IsTaped new tape [] (length tape) limit sizes
 taped_close history new tape pending published limit sizes taped some is =
     let whole : tape ≡ changes (history.published ++ pending ∷ []) = taped.tape_is ∙ sym (changes-push history.published pending) in
     rw is (record {

@@ -16,30 +16,42 @@ use Rattle.nms_versions.specs.declared.sealed.Sealed.{Sealed}
 use Rattle.nms_versions.proofs.PublishLemmas.{changes-push, sizes_taken, takes_batch}
 
 -- a reader takes what is shown, and knows what it knew
-pub reads : (seat : ℕ) (known : Known) → Turns Kept seat known (λ shown. shown) (λ before shown same after. (after ≡ before) × StandsFor shown.boards (changes shown.seen.log) × IsOf shown before)
-reads seat known shown views kept at = (known, subst (Kept shown) (sym (set_again views seat known at)) kept, (refl, kept.stands, kept.each seat known at))
+pub reads : (seat : ℕ) (known : Known) → Turns Kept seat known (λ shown. shown) (λ before shown same after. (after ≡ before)
+    × StandsFor shown.boards (changes shown.seen.log) × IsOf shown before)
+reads seat known shown views kept at = (
+  known,
+  subst (Kept shown) (sym (set_again views seat known at)) kept,
+  (refl, kept.stands, kept.each seat known at),
+)
 
 -- the writer shows the board with one more batch
 pub shows : (seat : ℕ) (known : Known) (sealed next : Sealed) (batch : Batch) → Follows sealed batch → next ≡ absorbed sealed batch
     → TurnsAt Kept seat known sealed next (λ before old new after. after ≡ before)
 shows seat known sealed next batch f is views kept at =
-    let tape : changes batch.seen.log ≡ changes sealed.seen.log ++ batch.changes.items = ap changes f.log ∙ changes-push sealed.seen.log batch.changes.items in
-    let took = takes_batch batch.changes.items sealed.boards (changes sealed.seen.log) kept.stands f.held (omega (arith, ap length tape, f.room)) in
+    let tape : changes batch.seen.log ≡ changes sealed.seen.log ++ batch.changes.items = ap changes f.log
+    ∙ changes-push sealed.seen.log batch.changes.items in
+    let took = takes_batch batch.changes.items sealed.boards (changes sealed.seen.log) kept.stands f.held
+    (omega (arith, ap length tape, f.room)) in
     let now : Kept (absorbed sealed batch) views = record {
       stands = subst (StandsFor (absorbed sealed batch).boards) (sym tape) took;
       each = λ j other there. record {
         book = λ named e. (kept.each j other there).book named e ∙ sym f.book;
         sizes = λ named e. (kept.each j other there).sizes named e ∙ sym (sizes_taken batch.changes.items sealed.boards);
       };
-    } in
-    (known, subst (λ (z : Sealed). Kept z (set views seat known)) (sym is) (subst (Kept (absorbed sealed batch)) (sym (set_again views seat known at)) now), refl)
+    } in (
+      known,
+      subst (λ (z : Sealed). Kept z (set views seat known)) (sym is)
+          (subst (Kept (absorbed sealed batch)) (sym (set_again views seat known at)) now),
+      refl,
+    )
 
 -- of nothing that is known, a shown board is
 knows_nothing : (shown : Sealed) → IsOf shown unnamed
 knows_nothing shown = record { book = λ named e. absurd (none-some named e); sizes = λ named e. absurd (none-some named e) }
 
 -- the writer shows a board with nothing more on it, and knows its opening from then on
-pub names : (seat : ℕ) (known : Known) (sealed next : Sealed) (batch : Batch) → batch.changes.items ≡ [] → batch.seen ≡ sealed.seen → next ≡ absorbed sealed batch
+pub names : (seat : ℕ) (known : Known) (sealed next : Sealed) (batch : Batch) → batch.changes.items ≡ [] → batch.seen ≡ sealed.seen
+    → next ≡ absorbed sealed batch
     → TurnsAt Kept seat known sealed next Names
 names seat known sealed next batch nothing seen is views kept at =
     let same : next ≡ sealed = is ∙ (λ i. record { boards = fold after_taken sealed.boards (nothing i); seen = seen i }) in
@@ -52,22 +64,28 @@ names seat known sealed next batch nothing seen is views kept at =
     let now : Kept sealed (set views seat mine) = record {
       stands = kept.stands;
       each = λ other there found. ⊎_elim (λ (here : (other ≡ seat) × (mine ≡ there)). subst (IsOf sealed) here.1 of_mine)
-          (λ (old : (other ≢ seat) × (get_elem? views other ≡ some there)). kept.each other there old.1) (at_set views seat other mine there found);
-    } in
-    (mine, subst (λ (z : Sealed). Kept z (set views seat mine)) (sym same) now, (shot, refl, ap (λ (z : Sealed). z.seen.book) (sym same), ap (λ (z : Sealed). z.boards.sizes) (sym same)))
+          (λ (old : (other ≢ seat) × (get_elem? views other ≡ some there)). kept.each other there old.1)
+          (at_set views seat other mine there found);
+    } in (
+      mine,
+      subst (λ (z : Sealed). Kept z (set views seat mine)) (sym same) now,
+      (shot, refl, ap (λ (z : Sealed). z.seen.book) (sym same), ap (λ (z : Sealed). z.boards.sizes) (sym same)),
+    )
 
 -- a new reader knows nothing
 pub admits : Admits Kept unnamed
 admits shown views kept = record {
   stands = kept.stands;
-  each = λ seat known at. ⊎_elim (λ old. kept.each seat known old) (λ new. subst (IsOf shown) new (knows_nothing shown)) (at_snoc views unnamed known seat at);
+  each = λ seat known at. ⊎_elim (λ old. kept.each seat known old) (λ new. subst (IsOf shown) new (knows_nothing shown))
+      (at_snoc views unnamed known seat at);
 }
 
 -- the writer tells what it knows
 pub tells : (seat : ℕ) (known : Known) → Forks Kept seat known known known
 tells seat known shown views kept at = record {
   stands = kept.stands;
-  each = λ other there found. ⊎_elim (λ old. kept.each other there (subst (λ l. get_elem? l other ≡ some there) (set_again views seat known at) old))
+  each = λ other there found. ⊎_elim (λ old. kept.each other there
+      (subst (λ l. get_elem? l other ≡ some there) (set_again views seat known at) old))
       (λ new. subst (IsOf shown) new (kept.each seat known at)) (at_snoc (set views seat known) known there other found);
 }
 
@@ -75,7 +93,8 @@ tells seat known shown views kept at = record {
 pub learns : (seat : ℕ) (known : Known) (other : ℕ) (told : Known) → Merges Kept seat known other told told unnamed
 learns seat known other told shown views kept at apart there =
     let theirs : get_elem? views other ≡ some told =
-    ⊎_elim (λ (same : (other ≡ seat) × (told ≡ told)). absurd (apart same.0)) (λ (old : (other ≢ seat) × (get_elem? views other ≡ some told)). old.1) (at_set views seat other told told there) in
+    ⊎_elim (λ (same : (other ≡ seat) × (told ≡ told)). absurd (apart same.0))
+    (λ (old : (other ≢ seat) × (get_elem? views other ≡ some told)). old.1) (at_set views seat other told told there) in
     record {
       stands = kept.stands;
       each = λ j u found. ⊎_elim (λ (spent : (j ≡ other) × (unnamed ≡ u)). subst (IsOf shown) spent.1 (knows_nothing shown))

@@ -37,7 +37,8 @@ pub record Kept (sealed : Sealed) (views : List Known) : Type 0 where
 
 -- from now on it is known which opening the shown board is of
 abbrev pub Names : Known → Sealed → Sealed → Known → Type 0
-Names before old new after = (named : Snapshot Sealed) × (after.opening ≡ Some named) × (named.value.seen.book ≡ new.seen.book) × (named.value.boards.sizes ≡ new.boards.sizes)
+Names before old new after = (named : Snapshot Sealed) × (after.opening ≡ Some named) × (named.value.seen.book ≡ new.seen.book)
+    × (named.value.boards.sizes ≡ new.boards.sizes)
 
 -- it is known that the pair is of this opening
 pub record IsNamed (known : Known) (book : Book) : Type 0 where

@@ -1,6 +1,8 @@
 pub mod AcceptedWords
 pub mod Counted
+pub mod Leaves
 pub mod NamedSubs
+pub mod Options
 pub mod OwnRows
 pub mod OwnValues
 pub mod PlainCalls

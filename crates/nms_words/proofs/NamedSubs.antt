@@ -13,10 +13,12 @@ use Rattle.nms_words.specs.declared.subcommand.Sub.TheVariants.{Script, Report, 
 abbrev met : Text → List Text → Walk
 met name after = record { held = nothing_held; waiting = idle; position = 1; is_trailing = false; stopped = Some (name, after) }
 
-met_rest : (rules : List Rule) (names : Names) (name : Text) (before rest : List Text) → fold (walked rules names) (met name before) rest ≡ met name (before ++ rest)
+met_rest : (rules : List Rule) (names : Names) (name : Text) (before rest : List Text)
+    → fold (walked rules names) (met name before) rest ≡ met name (before ++ rest)
 unfolding walked
 met_rest rules names name before [] = ap (met name) (sym (append-nil before))
-met_rest rules names name before (word ∷ rest) = met_rest rules names name (before ++ word ∷ []) rest ∙ ap (met name) (append_assoc before (word ∷ []) rest)
+met_rest rules names name before (word ∷ rest) = met_rest rules names name (before ++ word ∷ []) rest
+    ∙ ap (met name) (append_assoc before (word ∷ []) rest)
 
 met_passes : (above : Shape) (names : Names) (name : Text) (before rest : List Text) → walk_passes above names (met name before) rest ≡ true
 unfolding walked walk_passes
@@ -42,10 +44,31 @@ pub named_reads : (sub : Sub) (rest : List Text) → subcommand_of tool (name_of
 named_reads sub rest = ap (entered (built tool)) (named_stops sub rest)
 
 -- the words are taken where the subcommand takes the rest
-pub named_takes : (sub : Sub) (rest : List Text) → entered_passes (built tool) (Some (name_of sub, rest)) ≡ true → takes tool (name_of sub ∷ rest) ≡ true
+pub named_takes : (sub : Sub) (rest : List Text) → entered_passes (built tool) (Some (name_of sub, rest)) ≡ true
+    → takes tool (name_of sub ∷ rest) ≡ true
 unfolding clap_on_literals
-named_takes Script rest passes = rw (met_rest above.rules sub_names (codes "script") [] rest, met_passes above sub_names (codes "script") [] rest, passes) refl
-named_takes Report rest passes = rw (met_rest above.rules sub_names (codes "report") [] rest, met_passes above sub_names (codes "report") [] rest, passes) refl
-named_takes Plan rest passes = rw (met_rest above.rules sub_names (codes "plan") [] rest, met_passes above sub_names (codes "plan") [] rest, passes) refl
-named_takes Check rest passes = rw (met_rest above.rules sub_names (codes "check") [] rest, met_passes above sub_names (codes "check") [] rest, passes) refl
-named_takes Live rest passes = rw (met_rest above.rules sub_names (codes "live") [] rest, met_passes above sub_names (codes "live") [] rest, passes) refl
+named_takes Script rest passes = rw (
+  met_rest above.rules sub_names (codes "script") [] rest,
+  met_passes above sub_names (codes "script") [] rest,
+  passes,
+) refl
+named_takes Report rest passes = rw (
+  met_rest above.rules sub_names (codes "report") [] rest,
+  met_passes above sub_names (codes "report") [] rest,
+  passes,
+) refl
+named_takes Plan rest passes = rw (
+  met_rest above.rules sub_names (codes "plan") [] rest,
+  met_passes above sub_names (codes "plan") [] rest,
+  passes,
+) refl
+named_takes Check rest passes = rw (
+  met_rest above.rules sub_names (codes "check") [] rest,
+  met_passes above sub_names (codes "check") [] rest,
+  passes,
+) refl
+named_takes Live rest passes = rw (
+  met_rest above.rules sub_names (codes "live") [] rest,
+  met_passes above sub_names (codes "live") [] rest,
+  passes,
+) refl

@@ -1,5 +1,6 @@
 -- Rows in which each own word has a value.
-use Rattle.std.proofs.Common.{◌≡◌, ◌∙◌, ◌++◌, ℕ, Bool, true, false, List, [], ◌∷◌, Some, find, fold, is_some, option_and_then, refl, ap, cond}
+use Rattle.std.proofs.Common.{◌≡◌, ◌∙◌, ◌++◌, ℕ, Bool, true, false, List, [], ◌∷◌, Some, find, fold, is_some, option_and_then, refl, ap}
+use Rattle.std.proofs.Common.{cond}
 use Rattle.std.proofs.lemmas.Slice.Eq.{bytes_eq-Decides}
 use Rattle.std.specs.Prelude.{◌+◌, min, slice_get}
 use Rattle.std.specs.Option.{option_map_or}
@@ -7,9 +8,11 @@ use Rattle.std.specs.Str.{bytes_eq}
 use Rattle.clap.specs.Facts.{explicit_source}
 use Rattle.clap.specs.Matches.{count_text}
 use Rattle.clap.specs.Takes.{is_given}
-use Rattle.clap.specs.Walk.{Row, Rule, Text, action_of, at_row, count_of, counted, default_rows, first_of, has_row, more_values, new_count, reading_by, used, used_as, values_or_missing, with_count, with_default, with_values, without}
+use Rattle.clap.specs.Walk.{Row, Rule, Text, action_of, at_row, count_of, counted, default_rows, first_of, has_row, more_values, new_count}
+use Rattle.clap.specs.Walk.{reading_by, used, used_as, values_or_missing, with_count, with_default, with_values, without}
 use Rattle.clap.specs.declared.builder.action.ArgAction.{ArgAction}
-use Rattle.clap.specs.declared.builder.action.ArgAction.TheVariants.{Set, Append, SetTrue, SetFalse, Count, Help, HelpShort, HelpLong, Version}
+use Rattle.clap.specs.declared.builder.action.ArgAction.TheVariants.{Set, Append, SetTrue, SetFalse, Count, Help, HelpShort, HelpLong}
+use Rattle.clap.specs.declared.builder.action.ArgAction.TheVariants.{Version}
 use Rattle.clap.specs.declared.builder.value_parser.Reading.{Reading}
 use Rattle.clap.specs.declared.parser.matches.ValueSource.{ValueSource}
 use Rattle.clap.specs.declared.parser.matches.ValueSource.TheVariants.{CommandLine, DefaultValue}
@@ -40,7 +43,8 @@ module _ (own : Text → Bool) where
   joined [] ys a b = b
   joined (x ∷ xs) ys a b = (a.0, joined xs ys a.1 b)
 
-  at_row_filled : (id : Text) (change : Row → List Row) (missing rows : List Row) → Filled missing → ((r : Row) → Fits r.id r.values → Filled (change r)) → Filled rows → Filled (at_row id change missing rows)
+  at_row_filled : (id : Text) (change : Row → List Row) (missing rows : List Row) → Filled missing
+      → ((r : Row) → Fits r.id r.values → Filled (change r)) → Filled rows → Filled (at_row id change missing rows)
   at_row_filled id change missing [] new keeps old = new
   at_row_filled id change missing (r ∷ rs) new keeps old = go (bytes_eq r.id id) (at_row_filled id change missing rs new keeps old.1)
     where
@@ -51,20 +55,31 @@ module _ (own : Text → Bool) where
   without_filled : (id : Text) (rows : List Row) → Filled rows → Filled (without id rows)
   without_filled id rows old = at_row_filled id (λ _. []) [] rows tt (λ _ _. tt) old
 
-  values_filled : (id : Text) (how : Reading) (s : ValueSource) (values : List Text) (rows : List Row) → Fits id values → Filled rows → Filled (with_values id how s values rows)
-  values_filled id how s values rows fits old = at_row_filled id (more_values s values) _ rows (fits, tt) (λ r has. (λ is. one_more r.values values (has is), tt)) old
+  values_filled : (id : Text) (how : Reading) (s : ValueSource) (values : List Text) (rows : List Row) → Fits id values → Filled rows
+      → Filled (with_values id how s values rows)
+  values_filled id how s values rows fits old =
+      at_row_filled id (more_values s values) _ rows (fits, tt) (λ r has. (λ is. one_more r.values values (has is), tt)) old
 
   count_filled : (id : Text) (how : Reading) (s : ValueSource) (n : ℕ) (rows : List Row) → Filled rows → Filled (with_count id how s n rows)
-  count_filled id how s n rows old = at_row_filled id (new_count s n) _ rows ((λ _. tt), tt) (λ r _. (λ _. one_last r.values (count_text n), tt)) old
+  count_filled id how s n rows old = at_row_filled id (new_count s n) _ rows (
+    (λ _. tt),
+    tt,
+  ) (λ r _. (λ _. one_last r.values (count_text n), tt)) old
 
   counted_filled : (id : Text) (how : Reading) (values : List Text) (rows : List Row) → Filled rows → Filled (counted id how values rows)
-  counted_filled id how [] rows old = count_filled id how CommandLine (min (count_of id rows + 1) 255) (without id rows) (without_filled id rows old)
-  counted_filled id how (v ∷ vs) rows old = values_filled id how CommandLine (v ∷ vs) (without id rows) (λ _. tt) (without_filled id rows old)
+  counted_filled id how [] rows old = count_filled id how CommandLine (min (count_of id rows
+      + 1) 255) (without id rows) (without_filled id rows old)
+  counted_filled id how (v ∷ vs) rows old =
+      values_filled id how CommandLine (v ∷ vs) (without id rows) (λ _. tt) (without_filled id rows old)
 
-  used_as_filled : (action : ArgAction) (id : Text) (how : Reading) (values : List Text) (rows : List Row) → Fits id values → Filled rows → Filled (used_as action id how values rows)
-  used_as_filled Set id how values rows fits old = values_filled id how CommandLine values (without id rows) fits (without_filled id rows old)
-  used_as_filled SetTrue id how values rows fits old = values_filled id how CommandLine values (without id rows) fits (without_filled id rows old)
-  used_as_filled SetFalse id how values rows fits old = values_filled id how CommandLine values (without id rows) fits (without_filled id rows old)
+  used_as_filled : (action : ArgAction) (id : Text) (how : Reading) (values : List Text) (rows : List Row) → Fits id values → Filled rows
+      → Filled (used_as action id how values rows)
+  used_as_filled Set id how values rows fits old =
+      values_filled id how CommandLine values (without id rows) fits (without_filled id rows old)
+  used_as_filled SetTrue id how values rows fits old =
+      values_filled id how CommandLine values (without id rows) fits (without_filled id rows old)
+  used_as_filled SetFalse id how values rows fits old =
+      values_filled id how CommandLine values (without id rows) fits (without_filled id rows old)
   used_as_filled Append id how values rows fits old = values_filled id how CommandLine values rows fits old
   used_as_filled Count id how values rows fits old = counted_filled id how values rows old
   used_as_filled Help id how values rows fits old = old
@@ -77,7 +92,8 @@ module _ (own : Text → Bool) where
   missing_fits a (v ∷ vs) fits = λ _. tt
 
   pub used_filled : (a : Rule) (values : List Text) (rows : List Row) → Fits a.id values → Filled rows → Filled (used a values rows)
-  used_filled a values rows fits old = used_as_filled (action_of a) a.id (reading_by a) (values_or_missing a values) rows (missing_fits a values fits) old
+  used_filled a values rows fits old =
+      used_as_filled (action_of a) a.id (reading_by a) (values_or_missing a values) rows (missing_fits a values fits) old
 
   -- ---- defaults
 
@@ -100,7 +116,8 @@ module _ (own : Text → Bool) where
   first_in (x ∷ xs) has = refl
 
   -- a word of its own that was given has a first value
-  pub given_first : (id : Text) (rows : List Row) → own id ≡ true → Filled rows → is_given id rows ≡ true → is_some (first_of id rows) ≡ true
+  pub given_first : (id : Text) (rows : List Row) → own id ≡ true → Filled rows → is_given id rows ≡ true
+      → is_some (first_of id rows) ≡ true
   given_first id [] is filled given = cc
   given_first id (r ∷ rs) is filled given = go (bytes_eq r.id id) refl given (given_first id rs is filled.1)
     where

@@ -1,27 +1,32 @@
 -- What the words of the command line ask for. This product's own rule.
-use Rattle.std.specs.Prelude.{◌≡◌, ◌==◌, ◌++◌, ◌⊎◌, if◌then◌else◌, Bool, true, false, not, List, [], ◌∷◌, length, map, fold, find, codes}
-use Rattle.std.specs.Prelude.{Option, Some, None, MatchOption, option_map, option_and_then}
-use Rattle.std.specs.List.{list_all}
+use Rattle.std.specs.Prelude.{ℕ, ◌≡◌, ◌≤◌, ◌+◌, Bool, true, false, List, [], ◌∷◌, ◌++◌, length, map, fold, find, codes}
+use Rattle.std.specs.List.{filter_map}
+use Rattle.std.specs.Prelude.{Option, Some, None, option_map, option_and_then}
 use Rattle.std.specs.Option.{option_map_or}
 use Rattle.std.specs.Str.{bytes_eq}
 use Rattle.std.specs.String.{string_bytes}
-use Rattle.clap.specs.Words.{App, IsAmong, Kinds, Row, Rule, Text, fault_of, first_of, new_app, new_rule, subcommand_of, with_rule, with_subcommand}
+use Rattle.clap.specs.Words.{App, IsAmong, Kinds, Row, Rule, Text, fault_of, first_of, new_app, new_rule, subcommand_of, with_rule}
+use Rattle.clap.specs.Words.{with_subcommand}
 use Rattle.clap.specs.Simple.{on_top}
 use Rattle.clap.specs.declared.builder.action.ArgAction.TheVariants.{SetTrue}
 use Rattle.clap.specs.declared.error.kind.ErrorKind.{ErrorKind}
 use Rattle.clap.specs.declared.error.kind.ErrorKind.TheVariants.{DisplayHelp, DisplayVersion}
+use Rattle.nms_words.specs.declared.option_word.OptionWord.{OptionWord}
+use Rattle.nms_words.specs.declared.option_word.OptionWord.TheVariants.{Setup, Manual, SelfHelp}
 use Rattle.nms_words.specs.declared.request.Request.{Request}
 use Rattle.nms_words.specs.declared.subcommand.Sub.{Sub}
 use Rattle.nms_words.specs.declared.subcommand.Sub.TheVariants.{Script, Report, Plan, Check, Live}
 use Rattle.nms_words.specs.declared.words_fault.WordsFault.{WordsFault}
 use Rattle.nms_words.specs.declared.words_fault.WordsFault.TheVariants.{Parser, NoMemory}
 
--- a subcommand, its own words in order, the file of its option, and whether its flag was given
+-- a subcommand, its own words in order, the file of its setup, whether it trades with manual quotations, and the names that
+-- self-help is declared against
 pub record Asked : Type 0 where
   pub command : Sub
   pub own : List Text
   pub setup : Option Text
   pub manual : Bool
+  pub self_help : Option Text
 
 -- ---- the subcommands
 
@@ -33,18 +38,28 @@ name_of Plan = codes "plan"
 name_of Check = codes "check"
 name_of Live = codes "live"
 
--- the names of a subcommand's own words, in order
+-- the names of the own words that a subcommand needs, in order
 abbrev pub own_names : Sub → List Text
 own_names Script = []
 own_names Report = codes "CHANGES" ∷ codes "SYM" ∷ []
 own_names Plan = codes "CHANGES" ∷ codes "SIDE" ∷ codes "SYM" ∷ codes "SHARES" ∷ codes "LIMIT" ∷ []
 own_names Check = codes "CHANGES" ∷ codes "PLANFILE" ∷ []
-own_names Live = codes "FEED_A" ∷ codes "FEED_B" ∷ codes "ORDERS" ∷ []
+own_names Live = codes "ORDERS" ∷ codes "FEED_A" ∷ []
 
--- whether a subcommand takes the flag `--manual`
-abbrev pub takes_manual : Sub → Bool
-takes_manual Plan = true
-takes_manual _ = false
+-- the names of those that may stand behind them, in order
+abbrev pub more_names : Sub → List Text
+more_names Live =
+    codes "FEED_B" ∷ codes "FEED_C" ∷ codes "FEED_D" ∷ codes "FEED_E" ∷ codes "FEED_F" ∷ codes "FEED_G" ∷ codes "FEED_H" ∷ []
+more_names _ = []
+
+-- a subcommand may have so many own words
+abbrev pub AreCounted : Sub → ℕ → Type 0
+AreCounted sub count = (length (own_names sub) ≤ count) × (count ≤ length (own_names sub) + length (more_names sub))
+
+-- the options that a subcommand takes
+abbrev pub options_of : Sub → List OptionWord
+options_of Plan = Setup ∷ Manual ∷ SelfHelp ∷ []
+options_of _ = Setup ∷ []
 
 -- each subcommand
 abbrev pub subs : List Sub
@@ -68,17 +83,32 @@ setup_rule = record (new_rule (codes "setup")) { long = Some (codes "setup"); va
 abbrev pub manual_rule : Rule
 manual_rule = record (new_rule (codes "manual")) { long = Some (codes "manual"); action = Some SetTrue }
 
--- a subcommand with its own words and the option, as the parser has it
-abbrev pub with_option : Sub → App
-with_option sub = with_rule (fold with_rule (new_app (name_of sub)) (map own_rule (own_names sub))) setup_rule
+-- the option `--self-help NAMES`
+abbrev pub self_help_rule : Rule
+self_help_rule = record (new_rule (codes "self-help")) { long = Some (codes "self-help"); value_names = 1 }
 
--- and with its flag, where it takes it
+-- each option as the parser has it
+abbrev pub option_rule : OptionWord → Rule
+option_rule Setup = setup_rule
+option_rule Manual = manual_rule
+option_rule SelfHelp = self_help_rule
+
+-- a subcommand with the own words that it needs, as the parser has it
+abbrev pub with_own : Sub → App
+with_own sub = fold with_rule (new_app (name_of sub)) (map own_rule (own_names sub))
+
+-- and with those that may stand behind them
+abbrev pub with_words : Sub → App
+with_words sub = fold with_rule (with_own sub) (map new_rule (more_names sub))
+
+-- and with its options
 abbrev pub app_of_sub : Sub → App
-app_of_sub sub = if takes_manual sub then with_rule (with_option sub) manual_rule else with_option sub
+app_of_sub sub = fold with_rule (with_words sub) (map option_rule (options_of sub))
 
 -- the words are those after the program's name, `help` is no subcommand, and there is a version to tell
 abbrev pub without_subs : App
-without_subs = on_top (λ top. record top { no_binary_name = true; disable_help_subcommand = true; has_version = true }) (new_app (codes "nms_tool"))
+without_subs = on_top (λ top. record top { no_binary_name = true; disable_help_subcommand = true; has_version = true })
+    (new_app (codes "nms_tool"))
 
 -- the whole command line
 abbrev pub tool : App
@@ -91,18 +121,40 @@ abbrev pub firsts_of : List Row → List Text → Option (List Text)
 firsts_of rows [] = Some []
 firsts_of rows (id ∷ ids) = option_and_then (λ value. option_map (λ values. value ∷ values) (firsts_of rows ids)) (first_of id rows)
 
+-- the first value of each id that has one
+abbrev pub given_of : List Row → List Text → List Text
+given_of rows ids = filter_map (λ id. first_of id rows) ids
+
+-- a subcommand's own words, where the matches have each that it needs
+abbrev pub own_in : List Row → Sub → Option (List Text)
+own_in rows sub = option_map (λ own. own ++ given_of rows (more_names sub)) (firsts_of rows (own_names sub))
+
 -- whether the matches hold the flag: the parser gives it the value `true` or `false`
 abbrev pub is_flagged : List Row → Bool
 is_flagged rows = option_map_or (λ value. bytes_eq value (codes "true")) (first_of (codes "manual") rows) false
 
+-- what the matches ask of a subcommand with these own words
+abbrev pub asked_with : List Row → Sub → List Text → Asked
+asked_with rows sub own =
+    record {
+      command = sub;
+      own = own;
+      setup = first_of (codes "setup") rows;
+      manual = is_flagged rows;
+      self_help = first_of (codes "self-help") rows;
+    }
+
 -- what the matches ask of a subcommand
 abbrev pub asked_in : List Row → Sub → Option Asked
-asked_in rows sub =
-    option_map (λ own. record { command = sub; own = own; setup = first_of (codes "setup") rows; manual = is_flagged rows }) (firsts_of rows (own_names sub))
+asked_in rows sub = option_map (asked_with rows sub) (own_in rows sub)
+
+-- a subcommand with its own words and no option
+abbrev pub bare : Sub → List Text → Asked
+bare sub own = record { command = sub; own = own; setup = None; manual = false; self_help = None }
 
 -- what no words ask: the script with no setup
 abbrev pub script_alone : Asked
-script_alone = record { command = Script; own = []; setup = None; manual = false }
+script_alone = bare Script []
 
 -- what the matches ask, by the subcommand that they have
 abbrev pub asked_of : Option (Text × List Row) → Option Asked
@@ -115,7 +167,13 @@ asked_by words = asked_of (subcommand_of tool words)
 
 -- what a request asks
 abbrev pub shown : Request → Asked
-shown request = record { command = request.command; own = map string_bytes request.words.items; setup = option_map string_bytes request.setup; manual = request.manual }
+shown request = record {
+  command = request.command;
+  own = map string_bytes request.words.items;
+  setup = option_map string_bytes request.setup;
+  manual = request.manual;
+  self_help = option_map string_bytes request.self_help;
+}
 
 -- ---- words that are no request
 
@@ -133,34 +191,3 @@ asks_for_help _ = false
 abbrev pub IsRefusal : Kinds → WordsFault → Type 0
 IsRefusal kinds (Parser text help) = (kind : ErrorKind) × IsAmong kind kinds × (help ≡ asks_for_help kind)
 IsRefusal kinds NoMemory = Unit {0}
-
--- ---- plain calls
-
--- neither empty nor beginning with a hyphen
-abbrev pub is_plain_word : Text → Bool
-is_plain_word [] = false
-is_plain_word (c ∷ _) = not (c == 45)
-
--- the words of the option, where it is used
-abbrev pub setup_words : Option Text → List Text
-setup_words None = []
-setup_words (Some file) = codes "--setup" ∷ file ∷ []
-
--- the flag, where it is used
-abbrev pub manual_words : Bool → List Text
-manual_words false = []
-manual_words true = codes "--manual" ∷ []
-
--- the words of the option and of the flag, in either order
-abbrev pub AreOptions : Option Text → Bool → List Text → Type 0
-AreOptions setup manual words = (words ≡ setup_words setup ++ manual_words manual) ⊎ (words ≡ manual_words manual ++ setup_words setup)
-
--- the words are the subcommand, its own words in order, and its option and its flag at most once, all plain
-pub record IsPlainCall (words : List Text) (asked : Asked) : Type 0 where
-  pub options : List Text
-  pub spelled : words ≡ (name_of asked.command ∷ asked.own) ++ options
-  pub ordered : AreOptions asked.setup asked.manual options
-  pub counted : length asked.own ≡ length (own_names asked.command)
-  pub plain : list_all is_plain_word asked.own ≡ true
-  pub flag : asked.manual ≡ true → takes_manual asked.command ≡ true
-  pub option : MatchOption asked.setup (Unit {0}) (λ file. is_plain_word file ≡ true)

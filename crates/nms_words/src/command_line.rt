@@ -1,10 +1,11 @@
 //! The command line as `clap` reads it.
 ghost use Rattle.std.specs.Prelude.{◌≡◌, IfOk, false};
-ghost use Rattle.clap.specs.Words.{app_of, rule_of};
+ghost use Rattle.clap.specs.Words.{app_of, new_rule, rule_of};
 ghost use Rattle.clap.specs.declared.builder.command.Command.TheViews.{out-Command as fields_of};
-ghost use Rattle.nms_words.specs.CommandLine.{app_of_sub, manual_rule, own_rule, setup_rule, tool, with_option, without_subs};
+ghost use Rattle.nms_words.specs.CommandLine.{app_of_sub, manual_rule, option_rule, own_rule, self_help_rule, setup_rule, tool, with_own, with_words, without_subs};
 
 use crate::help_text::{AFTER_HELP, VERSION};
+use crate::option_word::OptionWord;
 use crate::subcommand::{OwnWord, Sub};
 use clap::{Arg, ArgAction, Command};
 use std::alloc::{AllocError, Global};
@@ -35,21 +36,33 @@ fn top_command<'a>(alloc: Global) -> Result<Command<'a>, AllocError>
         .bin_name("nms_tool")
 }
 
-// A subcommand with its own words, its option and its flag.
+// A subcommand with its own words and its options.
 fn sub_command<'a>(alloc: Global, sub: Sub) -> Result<Command<'a>, AllocError>
     ensures app { IfOk result (λ command. app_of command ≡ app_of_sub sub) }
     ensures local { IfOk result (λ command. (fields_of command).has_globals ≡ false) }
 {
-    if sub.takes_manual() {
-        option_command(alloc, sub)?.arg(manual_arg(alloc))
-    } else {
-        option_command(alloc, sub)
+    let mut command = worded_command(alloc, sub)?;
+    for option in sub.options() {
+        command = command.arg(option_arg(alloc, *option))?;
     }
+    Ok(command)
 }
 
-// A subcommand with its own words and its option.
-fn option_command<'a>(alloc: Global, sub: Sub) -> Result<Command<'a>, AllocError>
-    ensures app { IfOk result (λ command. app_of command ≡ with_option sub) }
+// A subcommand with its own words, those that it needs and then those that may stand behind them.
+fn worded_command<'a>(alloc: Global, sub: Sub) -> Result<Command<'a>, AllocError>
+    ensures app { IfOk result (λ command. app_of command ≡ with_words sub) }
+    ensures local { IfOk result (λ command. (fields_of command).has_globals ≡ false) }
+{
+    let mut command = own_command(alloc, sub)?;
+    for word in sub.more_words() {
+        command = command.arg(more_arg(alloc, *word))?;
+    }
+    Ok(command)
+}
+
+// A subcommand with the own words that it needs.
+fn own_command<'a>(alloc: Global, sub: Sub) -> Result<Command<'a>, AllocError>
+    ensures app { IfOk result (λ command. app_of command ≡ with_own sub) }
     ensures local { IfOk result (λ command. (fields_of command).has_globals ≡ false) }
 {
     let name: &'a str = sub.name();
@@ -58,15 +71,35 @@ fn option_command<'a>(alloc: Global, sub: Sub) -> Result<Command<'a>, AllocError
     for word in sub.own_words() {
         command = command.arg(own_arg(alloc, *word))?;
     }
-    command.arg(setup_arg(alloc))
+    Ok(command)
 }
 
-// A word of a subcommand's own.
+// A word that a subcommand needs.
 fn own_arg<'a>(alloc: Global, word: OwnWord) -> Arg<'a>
     ensures rule { rule_of result ≡ own_rule word.name.now }
     ensures local { result.global ≡ false }
 {
     Arg::new(alloc, word.name).help(word.help).required(true)
+}
+
+// A word that may stand behind those.
+fn more_arg<'a>(alloc: Global, word: OwnWord) -> Arg<'a>
+    ensures rule { rule_of result ≡ new_rule word.name.now }
+    ensures local { result.global ≡ false }
+{
+    Arg::new(alloc, word.name).help(word.help)
+}
+
+// An option of a subcommand.
+fn option_arg<'a>(alloc: Global, option: OptionWord) -> Arg<'a>
+    ensures rule { rule_of result ≡ option_rule option }
+    ensures local { result.global ≡ false }
+{
+    match option {
+        OptionWord::Setup => setup_arg(alloc),
+        OptionWord::Manual => manual_arg(alloc),
+        OptionWord::SelfHelp => self_help_arg(alloc),
+    }
 }
 
 // The option `--setup FILE`.
@@ -89,4 +122,15 @@ fn manual_arg<'a>(alloc: Global) -> Arg<'a>
         .long("manual")
         .action(ArgAction::SetTrue)
         .help("Also trades with manual quotations")
+}
+
+// The option `--self-help NAMES`.
+fn self_help_arg<'a>(alloc: Global) -> Arg<'a>
+    ensures rule { rule_of result ≡ self_help_rule }
+    ensures local { result.global ≡ false }
+{
+    Arg::new(alloc, "self-help")
+        .long("self-help")
+        .value_name("NAMES")
+        .help("The participants, joined by +, against which self-help is declared")
 }

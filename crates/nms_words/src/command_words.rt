@@ -1,8 +1,9 @@
 //! The words of the command line, read as a request.
-ghost use Rattle.std.specs.Prelude.{◌≡◌, map, true, is_some, option_map, length, Some, IfOk, IfErr, MatchResult, vec_len, [], ◌∷◌};
+ghost use Rattle.std.specs.Prelude.{◌≡◌, map, true, is_some, option_map, Some, IfOk, IfErr, OnOk, MatchResult, vec_len, [], ◌∷◌, ◌++◌};
 ghost use Rattle.std.specs.String.{string_bytes};
 ghost use Rattle.clap.specs.Words.{first_of, found_of, kind_of, rows_of, subcommand_rows_of, takes};
-ghost use Rattle.nms_words.specs.CommandLine.{Asked, IsPlainCall, IsRefusal, asked_by, asked_of, asks_for_help, faults_in, firsts_of, is_flagged, own_names, script_alone, shown, tool};
+ghost use Rattle.nms_words.specs.CommandLine.{AreCounted, Asked, IsRefusal, asked_by, asked_of, asks_for_help, faults_in, firsts_of, given_of, is_flagged, own_in, script_alone, shown, tool};
+ghost use Rattle.nms_words.specs.PlainCall.{IsPlainCall};
 
 use crate::command_line::tool_command;
 use crate::request::Request;
@@ -16,7 +17,7 @@ const SETUP_TIP: &str = "
 tip: give --setup behind the subcommand: nms_tool script --setup FILE
 ";
 
-/// Reads the words that follow the program's name: a subcommand, its own words, its option and its flag.
+/// Reads the words that follow the program's name: a subcommand, its own words and its options.
 ///
 /// No words ask for the script with no setup. Words in which the parser finds no fault are a request.
 /// Else the answer is `Parser`, for one of the faults that it finds, or for the help or the version
@@ -25,7 +26,7 @@ pub fn read_words<'a>(alloc: Global, words: &'a [&'a str]) -> Result<Request, Wo
     ensures read { IfOk result (λ request. asked_by (map (λ word. word.now) words.entry.now) ≡ Some (shown request)) }
     ensures accepted { IfOk result (λ _. faults_in (map (λ word. word.now) words.entry.now) ≡ []) }
     ensures refused { IfErr result (IsRefusal (faults_in (map (λ word. word.now) words.entry.now))) }
-    ensures counted { IfOk result (λ request. vec_len request.words ≡ length (own_names request.command)) }
+    ensures counted { IfOk result (λ request. AreCounted request.command (vec_len request.words)) }
     ensures no_words { words.entry.now ≡ [] → MatchResult result (λ request. shown request ≡ script_alone) (λ fault. fault ≡ WordsFault.NoMemory) }
     ensures plain { (asked : Asked) → IsPlainCall (map (λ word. word.now) words.entry.now) asked
         → MatchResult result (λ request. shown request ≡ asked) (λ fault. fault ≡ WordsFault.NoMemory) }
@@ -95,6 +96,7 @@ fn request_in(alloc: Global, matches: &ArgMatches<'_>) -> Result<Request, AllocE
             words: Vec::new(alloc),
             setup: None,
             manual: false,
+            self_help: None,
         });
     };
     match request_of(alloc, name, inner)? {
@@ -114,19 +116,33 @@ fn request_of(
     let Some(command) = Sub::named(name) else {
         return Ok(None);
     };
-    let Some(words) = own_words(alloc, command.own_words(), matches)? else {
+    let Some(words) = words_of(alloc, command, matches)? else {
         return Ok(None);
     };
-    let setup = match first_value(matches, "setup") {
-        Some(file) => Some(String::from_str(alloc, file)?),
-        None => None,
-    };
+    let setup = value_text(alloc, matches, "setup")?;
+    let self_help = value_text(alloc, matches, "self-help")?;
     Ok(Some(Request {
         command,
         words,
         setup,
         manual: is_flagged(matches),
+        self_help,
     }))
+}
+
+// The subcommand's own words, where it has each that it needs.
+fn words_of(
+    alloc: Global,
+    command: Sub,
+    matches: &ArgMatches<'_>,
+) -> Result<Option<Vec<String>>, AllocError>
+    ensures { IfOk result (λ words. option_map (λ found. map string_bytes found.items) words ≡ own_in (rows_of (found_of matches.now)) command) }
+{
+    let Some(mut words) = own_words(alloc, command.own_words(), matches)? else {
+        return Ok(None);
+    };
+    add_more(alloc, &mut words, command.more_words(), matches)?;
+    Ok(Some(words))
 }
 
 // The values of the words, where each has one.
@@ -146,6 +162,38 @@ fn own_words(
         words.push(String::from_str(alloc, value)?)?;
     }
     Ok(Some(words))
+}
+
+// Adds the values of those words that have one.
+fn add_more(
+    alloc: Global,
+    words: &mut Vec<String>,
+    more: &[OwnWord],
+    matches: &ArgMatches<'_>,
+) -> Result<(), AllocError>
+    ensures { OnOk result (map string_bytes words.new.items
+        ≡ map string_bytes words.old.items ++ given_of (rows_of (found_of matches.now)) (map (λ word. word.name.now) more.now)) }
+{
+    for word in more {
+        if let Some(value) = first_value(matches, word.name) {
+            words.push(String::from_str(alloc, value)?)?;
+        }
+    }
+    Ok(())
+}
+
+// The text of an option's value, where it has one.
+fn value_text(
+    alloc: Global,
+    matches: &ArgMatches<'_>,
+    name: &str,
+) -> Result<Option<String>, AllocError>
+    ensures { IfOk result (λ text. option_map string_bytes text ≡ first_of name.now (rows_of (found_of matches.now))) }
+{
+    match first_value(matches, name) {
+        Some(value) => Ok(Some(String::from_str(alloc, value)?)),
+        None => Ok(None),
+    }
 }
 
 // The first value under the name.

@@ -21,7 +21,7 @@ Exit statuses:
 Records that are refused, of a script (answered ERR,number,code) or of a file:
   L1   the first field is no kind of record that is served here
   L2   the number of fields is not that of the kind
-  L3   the participant is not on the roster
+  L3   the participant, or one that an order names, is not on the roster
   L4   the symbol is not on the roster
   L5   the state is not A, M or H, the side of an order not B or S, its flag not M, or the word of R not AVG
   L6   a price, or the limit of an order, is not 1 to 7 digits with at most 4 decimals, or is zero
@@ -53,14 +53,14 @@ Plans that are not confirmed (told as DOUBT,CODE; a breach as DOUBT,K1,CODE):
   K7   a cut's bound is below the plan's cost
   P1   another version
   P2   another order
-  P3   a leg to a participant without a quotation for it
+  P3   a leg to a participant without a quotation for it, or that the order names
   P4   a leg at another price than the quotation's
   P5   a leg of 0 shares
   P6   a leg of more shares than are displayed
   P7   two legs to one participant
   P8   a leg beyond the limit
   P9   more shares than were asked for
-  P10  a better protected quotation is traded through
+  P10  a better protected quotation, of one that the order does not name, is traded through
   P11  the shares are summed wrongly
   P12  the cost is summed wrongly
 
@@ -83,7 +83,7 @@ Setups that are refused:
   C3   an unknown key
   C4   a name that is not of its form, or stands twice
   C5   a value that is not of its kind
-  C6   a number out of its range, a feed that is not A or B, or an empty array
+  C6   a number out of its range, a feed that is none of the setup's, or an empty array
   C7   a fee or a rate over its cap
   C8   more than 32 participants or 1,000 symbols
   C9   out of memory
@@ -91,7 +91,7 @@ Setups that are refused:
 Words that are refused:
   G1   the parser's text stands in place of this code
   G2   out of memory
-  usage  a word is no UTF-8, or a symbol, side, number of shares or limit is none
+  usage  a word is no UTF-8; a symbol, side, number of shares, limit or name is none; live has not a file for each feed
 
 Calls of the library that are refused:
   F1   out of memory for a machine

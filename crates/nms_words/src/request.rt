@@ -11,4 +11,6 @@ pub struct Request {
     pub setup: Option<String>,
     /// Whether `--manual` was given.
     pub manual: bool,
+    /// The names that `--self-help` gives, as they were written.
+    pub self_help: Option<String>,
 }

@@ -1,3 +1,5 @@
+use crate::option_word::OptionWord;
+
 /// What the program can be asked to do, each a subcommand of the command line.
 #[derive(Clone, Copy, Debug, PartialEq, Eq)]
 pub enum Sub {
@@ -6,11 +8,12 @@ pub enum Sub {
     /// Reports on a file of changes. Its own words are `CHANGES` and `SYM`.
     Report,
     /// Plans an order on a file of changes. Its own words are `CHANGES`, `SIDE`, `SYM`, `SHARES` and `LIMIT`, and it
-    /// may have the flag `--manual`.
+    /// may have `--manual` and `--self-help`.
     Plan,
     /// Says whether a plan is confirmed on a file of changes. Its own words are `CHANGES` and `PLANFILE`.
     Check,
-    /// Runs two feeds, the tape and the desks at once. Its own words are `FEED_A`, `FEED_B` and `ORDERS`.
+    /// Runs the feeds, the tape and the desks at once. Its own words are `ORDERS` and `FEED_A`, and as many of `FEED_B` to
+    /// `FEED_H` as there are further feeds.
     Live,
 }
 
@@ -68,24 +71,59 @@ static CHECK_WORDS: [OwnWord; 2] = [
     },
 ];
 
-static LIVE_WORDS: [OwnWord; 3] = [
-    OwnWord {
-        name: "FEED_A",
-        help: "The file of the changes of feed A",
-    },
-    OwnWord {
-        name: "FEED_B",
-        help: "The file of the changes of feed B",
-    },
+static LIVE_WORDS: [OwnWord; 2] = [
     OwnWord {
         name: "ORDERS",
         help: "The file of the orders, each for a desk",
     },
+    OwnWord {
+        name: "FEED_A",
+        help: "The file of the changes of feed A",
+    },
+];
+
+static MORE_FEEDS: [OwnWord; 7] = [
+    OwnWord {
+        name: "FEED_B",
+        help: "The file of the changes of feed B, where the setup has it",
+    },
+    OwnWord {
+        name: "FEED_C",
+        help: "The file of the changes of feed C, where the setup has it",
+    },
+    OwnWord {
+        name: "FEED_D",
+        help: "The file of the changes of feed D, where the setup has it",
+    },
+    OwnWord {
+        name: "FEED_E",
+        help: "The file of the changes of feed E, where the setup has it",
+    },
+    OwnWord {
+        name: "FEED_F",
+        help: "The file of the changes of feed F, where the setup has it",
+    },
+    OwnWord {
+        name: "FEED_G",
+        help: "The file of the changes of feed G, where the setup has it",
+    },
+    OwnWord {
+        name: "FEED_H",
+        help: "The file of the changes of feed H, where the setup has it",
+    },
+];
+
+static SETUP_ALONE: [OptionWord; 1] = [OptionWord::Setup];
+
+static PLAN_OPTIONS: [OptionWord; 3] = [
+    OptionWord::Setup,
+    OptionWord::Manual,
+    OptionWord::SelfHelp,
 ];
 
 impl Sub {
     ghost use Rattle.std.specs.Prelude.{◌≡◌, map};
-    ghost use Rattle.nms_words.specs.CommandLine.{name_of, own_names, sub_named, takes_manual};
+    ghost use Rattle.nms_words.specs.CommandLine.{more_names, name_of, options_of, own_names, sub_named};
 
     /// Each of them.
     pub(crate) const ALL: [Self; 5] = [
@@ -117,11 +155,11 @@ impl Sub {
             Sub::Plan => "Plans an order on a file of changes, with the certificate",
             Sub::Check => "Says whether a plan is lawful and none is better",
             Sub::Live =>
-                "Runs two feeds and the desks at once, and plans each order on all changes",
+                "Runs the feeds and the desks at once, and plans each order on all changes",
         }
     }
 
-    /// The words of its own, in order.
+    /// The words of its own that it needs, in order.
     pub(crate) fn own_words(self) -> &'static [OwnWord]
         ensures { map (λ word. word.name.now) result.now ≡ own_names self }
     {
@@ -134,11 +172,24 @@ impl Sub {
         }
     }
 
-    /// Whether it takes the flag `--manual`.
-    pub(crate) fn takes_manual(self) -> bool
-        ensures { result ≡ takes_manual self }
+    /// The words that may stand behind those, in order: where one stands, each before it does.
+    pub(crate) fn more_words(self) -> &'static [OwnWord]
+        ensures { map (λ word. word.name.now) result.now ≡ more_names self }
     {
-        matches!(self, Sub::Plan)
+        match self {
+            Sub::Live => MORE_FEEDS.as_slice(),
+            Sub::Script | Sub::Report | Sub::Plan | Sub::Check => NO_WORDS.as_slice(),
+        }
+    }
+
+    /// The options that it takes, each at most once, in any order.
+    pub(crate) fn options(self) -> &'static [OptionWord]
+        ensures { result.now ≡ options_of self }
+    {
+        match self {
+            Sub::Plan => PLAN_OPTIONS.as_slice(),
+            Sub::Script | Sub::Report | Sub::Check | Sub::Live => SETUP_ALONE.as_slice(),
+        }
     }
 
     /// The subcommand of that name.

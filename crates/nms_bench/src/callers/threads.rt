@@ -1,5 +1,7 @@
 //! A lane, published versions and a desk: two feeds, the taker and the desk, each in a thread of one's own.
-ghost use Rattle.std.specs.Prelude.{◌≡◌, [], All, IfOk, IfSome};
+ghost use Rattle.std.specs.Prelude.{◌≡◌, ◌≤◌, [], All, IfOk, IfSome};
+ghost use Rattle.nms_quote.specs.declared.feed.Feed.TheVariants as feed;
+ghost use Rattle.nms_feed.specs.declared.TheConstants.{LEAST_CAPACITY, MOST_CAPACITY};
 
 use crate::Failed;
 use crate::lane::send_all;
@@ -13,7 +15,7 @@ use std::thread;
 use std::thread::Threads;
 
 /// What a run came to: what went through the lane, and the version that the desk was settled on.
-#[derive(Clone, Copy, Debug, PartialEq, Eq)]
+#[derive(Debug, Drop)]
 pub(crate) struct Came {
     pub(crate) delivered: Delivered,
     pub(crate) settled: u64,
@@ -29,7 +31,7 @@ pub(crate) fn run<R: Threads + Wait + Sync>(
     sym: Sym,
 ) -> Result<Came, Failed> {
     let (mut publisher, desk) = open(rt, alloc, setup)?;
-    let Ok((a, b, taker)) = open_lane(alloc, 64) else {
+    let Some((a, b, taker)) = open_two(alloc, 64) else {
         publisher.close(rt);
         return Err(Failed);
     };
@@ -45,7 +47,7 @@ pub(crate) fn run<R: Threads + Wait + Sync>(
         move || -> (&mut Publisher, Taker)
             ensures name { result.0.ghost_name ≡ lent.entry.ghost_name }
             ensures opening { result.0.now.opening ≡ lent.entry.now.opening }
-            ensures lane { result.1.lane ≡ taker.lane }
+            ensures lane { (result.1.lane ≡ taker.lane) × (result.1.senders ≡ taker.senders) }
         {
             let taker = publish_all(rt, lent, taker, 2 * u64::from(times));
             (lent, taker)
@@ -53,8 +55,38 @@ pub(crate) fn run<R: Threads + Wait + Sync>(
     );
     take_back(back);
     let settled = settle(rt, publisher, desk).ok_or(Failed)?;
-    let delivered = close(a, b, taker).map_err(|_| Failed)?;
+    let delivered = close_two(alloc, a, b, taker).ok_or(Failed)?;
     Ok(Came { delivered, settled })
+}
+
+/// Opens a lane for two feeds.
+pub(crate) fn open_two(alloc: Global, capacity: usize) -> Option<(Sender, Sender, Taker)>
+    requires { (LEAST_CAPACITY ≤ capacity) × (capacity ≤ MOST_CAPACITY) }
+    ensures one_lane { IfSome result (λ ends. (ends.0.lane ≡ ends.2.lane) × (ends.1.lane ≡ ends.2.lane)) }
+    ensures feeds { IfSome result (λ ends. (ends.0.feed ≡ feed.A) × (ends.1.feed ≡ feed.B)) }
+    ensures empty { IfSome result (λ ends. (ends.0.sent ≡ []) × (ends.1.sent ≡ [])) }
+    ensures two { IfSome result (λ ends. ends.2.senders ≡ 2) }
+{
+    let Ok((mut senders, taker)) = open_lane(alloc, capacity, 2) else {
+        return None;
+    };
+    let b = senders.pop()?;
+    let a = senders.pop()?;
+    Some((a, b, taker))
+}
+
+/// Closes it, once all was taken.
+pub(crate) fn close_two(alloc: Global, a: Sender, b: Sender, taker: Taker) -> Option<Delivered>
+    requires one_lane { (a.lane ≡ taker.lane) × (b.lane ≡ taker.lane) }
+    requires feeds { (a.feed ≡ feed.A) × (b.feed ≡ feed.B) }
+    requires two { taker.senders ≡ 2 }
+{
+    let Ok(mut senders) = Vec::with_capacity(alloc, 2) else {
+        return None;
+    };
+    senders.push_reserved(a);
+    senders.push_reserved(b);
+    close(senders, taker).ok()
 }
 
 /// Ends a loan: what is known of the publisher that was lent is known of it from here on.
@@ -130,7 +162,7 @@ fn send_and_look<R: Threads + Wait + Sync>(
 /// Takes so many changes and appends them. Publishes where the lane is empty, and at the end.
 fn publish_all<R: Wait>(rt: &R, publisher: &mut Publisher, mut taker: Taker, changes: u64) -> Taker
     ensures opening { publisher.new.opening ≡ publisher.old.opening }
-    ensures lane { result.lane ≡ taker.lane }
+    ensures lane { (result.lane ≡ taker.lane) × (result.senders ≡ taker.senders) }
 {
     let mut taken = 0;
     for _ in rt.forever() {

@@ -29,7 +29,7 @@ fn planned(
     writes: usize,
     flushes: usize,
 ) -> Result<(&'static str, usize), Fail> {
-    let order = order_of(setup.roster(), "B", "ABC", "100", "10", false).ok_or("an order")?;
+    let order = order_of(setup.roster(), "B", "ABC", "100", "10", false, None).ok_or("an order")?;
     let out = &Cell::new(0);
     let mut pipe = Pipe::taking(writes, flushes, out);
     let file = b"".as_slice();

@@ -38,7 +38,7 @@ impl Gate for Counting {
 fn run_small<R: Threads + Wait + Sync, G: Gate>(
     rt: &R,
     alloc: Global,
-    feeds: (&[u8], &[u8]),
+    feeds: &[&[u8]],
     table: &[Wanted],
     gate: &G,
 ) -> Option<Live> {
@@ -55,7 +55,7 @@ fn closing_looks_do_not_pass_the_gate(rt: HostRuntime) -> Result<(), Fail> {
     let mut other = order();
     other.desk = 1;
     let table = [order(), other, order()];
-    match run_small(&rt, rt.alloc(), (FIVE, b""), &table, &gate) {
+    match run_small(&rt, rt.alloc(), &[FIVE, b""], &table, &gate) {
         Some(live) => compare_counts(&rt, &gate, &live),
         None => return Err("a run")?,
     }
@@ -143,7 +143,7 @@ impl Gate for Relay {
 #[test]
 fn a_gate_is_told_of_what_was_made(rt: HostRuntime) -> Result<(), Fail> {
     let gate = make_relay();
-    match run_small(&rt, rt.alloc(), (FIVE, b""), &[order()], &gate) {
+    match run_small(&rt, rt.alloc(), &[FIVE, b""], &[order()], &gate) {
         Some(live) => compare_relayed(&rt, &gate, &live.answers),
         None => return Err("a run")?,
     }

@@ -1,4 +1,5 @@
 //! A plain slow program that judges what a live run came to. It is told what the feeds sent and what was asked for.
+use super::drawn::Sent;
 use super::plain_look::are_shown;
 use super::{Wanted, order_of};
 use nms_board::Boards;
@@ -8,30 +9,36 @@ use nms_live::{Answer, Live};
 use nms_quote::Change;
 use std::alloc::Global;
 
-/// Whether a change has to come from feed A: one of the first two participants, or a new round lot.
-fn is_of_a(change: &Change) -> bool {
+/// The place of the feed that a change has to come from: two participants to a feed, and a new round lot is of feed A.
+fn feed_of(change: &Change) -> usize {
     match *change {
         Change::Quote { part, .. } | Change::State { part, .. } | Change::Withdraw { part } =>
-            part.get() < 2,
-        Change::Lot { .. } => true,
+            usize::from(part.get() / 2),
+        Change::Lot { .. } => 0,
     }
 }
 
-/// Whether the tape has the changes of both feeds, those of each in order, and no others.
-fn is_merge(tape: &[Change], from_a: &[Change], from_b: &[Change]) -> bool {
-    let mut rest_a = from_a.iter();
-    let mut rest_b = from_b.iter();
+/// Whether the tape has the changes of a feed, in order, and no others of it.
+fn has_all_of(tape: &[Change], feed: usize, sent: &[Change]) -> bool {
+    let mut rest = sent.iter();
     for change in tape {
-        let due = if is_of_a(change) {
-            rest_a.next()
-        } else {
-            rest_b.next()
-        };
-        if due != Some(change) {
+        if feed_of(change) == feed && rest.next() != Some(change) {
             return false;
         }
     }
-    rest_a.next().is_none() && rest_b.next().is_none()
+    rest.next().is_none()
+}
+
+/// Whether the tape has the changes of all feeds, those of each in order, and no others.
+fn is_merge(tape: &[Change], sent: &[Sent]) -> bool {
+    let mut all = 0usize;
+    for (feed, own) in sent.iter().enumerate() {
+        if !has_all_of(tape, feed, &own.changes) {
+            return false;
+        }
+        all = all.saturating_add(own.changes.len());
+    }
+    all == tape.len()
 }
 
 /// The most changes that are appended between two publishings: the rule's own number, and not the program's.
@@ -157,13 +164,8 @@ fn are_confirmed(alloc: Global, setup: &Setup, tape: &[Change], answers: &[Answe
 }
 
 /// What is wrong with the tape and its publishings, or nothing.
-fn tape_finding(
-    tape: &[Change],
-    published: &[u64],
-    from_a: &[Change],
-    from_b: &[Change],
-) -> &'static str {
-    if !is_merge(tape, from_a, from_b) {
+fn tape_finding(tape: &[Change], published: &[u64], sent: &[Sent]) -> &'static str {
+    if !is_merge(tape, sent) {
         "the tape is no merge of what was sent"
     } else if !rises_to(published, tape.len() as u64) {
         "what was published"
@@ -197,13 +199,12 @@ fn answer_finding(
 pub(crate) fn finding(
     alloc: Global,
     setup: &str,
-    from_a: &[Change],
-    from_b: &[Change],
+    sent: &[Sent],
     table: &[Wanted],
     live: &Live,
 ) -> &'static str {
     match read_setup(alloc, setup) {
-        Ok(setup) => finding_under(alloc, &setup, from_a, from_b, table, live),
+        Ok(setup) => finding_under(alloc, &setup, sent, table, live),
         Err(_) => "no setup",
     }
 }
@@ -212,14 +213,13 @@ pub(crate) fn finding(
 fn finding_under(
     alloc: Global,
     setup: &Setup,
-    from_a: &[Change],
-    from_b: &[Change],
+    sent: &[Sent],
     table: &[Wanted],
     live: &Live,
 ) -> &'static str {
     let (tape, published) = (live.tape.as_slice(), live.published.as_slice());
     let (answers, closing) = (live.answers.as_slice(), live.closing.as_slice());
-    let told = tape_finding(tape, published, from_a, from_b);
+    let told = tape_finding(tape, published, sent);
     if !told.is_empty() {
         return told;
     }

@@ -53,7 +53,7 @@ fn run_lots<R: Threads + Wait + Sync>(rt: &R, alloc: Global) -> Option<Live> {
         published: AtomicU64::new(0),
     };
     let table: [Wanted; 6] = [order(), order(), order(), order(), order(), order()];
-    run(rt, alloc, SETUP_K, (FEED, b""), &table, &gate)?.ok()
+    run(rt, alloc, SETUP_K, &[FEED, b""], &table, &gate)?.ok()
 }
 
 /// The shares of a leg to the participant at a place, and 0 where there is none.

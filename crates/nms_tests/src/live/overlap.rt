@@ -143,8 +143,8 @@ fn compare_overlap<R: Abort>(rt: &R, alloc: Global, gate: &Overlap, live: &Live)
 #[test]
 fn feed_and_desk_overlap(rt: HostRuntime) -> Result<(), Fail> {
     let gate = make_gate();
-    let feeds = (feed_a(), feed_b());
-    match run(&rt, rt.alloc(), SETUP_K, feeds, &[order(), order()], &gate) {
+    let feeds = [feed_a(), feed_b()];
+    match run(&rt, rt.alloc(), SETUP_K, &feeds, &[order(), order()], &gate) {
         Some(Ok(live)) => compare_overlap(&rt, rt.alloc(), &gate, &live),
         _ => return Err("no run")?,
     }

@@ -79,8 +79,8 @@ fn published_under<R: Threads + Wait + Sync>(
 ) -> Option<Vec<u64>> {
     let text = changes(alloc, more.saturating_add(1))?;
     let gate = make_held(more);
-    let feeds = (text.as_slice(), b"".as_slice());
-    match run(rt, alloc, setup, feeds, &[], &gate) {
+    let feeds = [text.as_slice(), b"".as_slice()];
+    match run(rt, alloc, setup, &feeds, &[], &gate) {
         Some(Ok(live)) => Some(live.published),
         _ => None,
     }

@@ -133,8 +133,8 @@ fn compare_worked<R: Abort>(rt: &R, alloc: Global, live: &Live) {
 
 #[test]
 fn the_worked_run_answers_on_the_whole_tape(rt: HostRuntime) -> Result<(), Fail> {
-    let feeds = (feed_a(), feed_b());
-    match run(&rt, rt.alloc(), SETUP_K, feeds, &[order()], &OpenGate) {
+    let feeds = [feed_a(), feed_b()];
+    match run(&rt, rt.alloc(), SETUP_K, &feeds, &[order()], &OpenGate) {
         Some(Ok(live)) => compare_worked(&rt, rt.alloc(), &live),
         _ => return Err("no run")?,
     }
@@ -146,7 +146,7 @@ fn fault<R: Threads + Wait + Sync, G: Gate>(
     rt: &R,
     alloc: Global,
     limit: u32,
-    feeds: (&[u8], &[u8]),
+    feeds: &[&[u8]],
     gate: &G,
 ) -> Option<LiveFault> {
     let setup = setup_text(alloc, limit, 2, 2)?;
@@ -168,7 +168,7 @@ fn the_first_refused_record_is_named_and_feed_a_goes_first(rt: HostRuntime) {
         (lot, lot, Feed::B, 1, LineFault::WrongFeed),
         (no_lot, lot, Feed::A, 2, LineFault::BadLot),
     ] {
-        let told = fault(&rt, rt.alloc(), 1000, (text_a, text_b), &OpenGate);
+        let told = fault(&rt, rt.alloc(), 1000, &[text_a, text_b], &OpenGate);
         let want = LiveFault::Line {
             feed,
             number,
@@ -196,7 +196,7 @@ fn lengths_of(live: &Live) -> (usize, usize, usize, Option<u64>) {
 fn lengths<R: Threads + Wait + Sync>(
     rt: &R,
     alloc: Global,
-    feeds: (&[u8], &[u8]),
+    feeds: &[&[u8]],
 ) -> Option<(usize, usize, usize, Option<u64>)> {
     let setup = setup_text(alloc, 1000, 2, 2)?;
     let live = run(rt, alloc, setup.as_str(), feeds, &[], &OpenGate)?.ok()?;
@@ -206,10 +206,10 @@ fn lengths<R: Threads + Wait + Sync>(
 #[test]
 fn five_changes_go_through_a_lane_of_2_and_not_on_a_tape_of_4(rt: HostRuntime) {
     for (text, all) in [(FIVE, 5), (b"", 0)] {
-        let told = lengths(&rt, rt.alloc(), (text, b""));
+        let told = lengths(&rt, rt.alloc(), &[text, b""]);
         same(&rt, told, Some((all, 0, 0, Some(all as u64))));
     }
-    let told = fault(&rt, rt.alloc(), 4, (FIVE, b""), &OpenGate);
+    let told = fault(&rt, rt.alloc(), 4, &[FIVE, b""], &OpenGate);
     same(&rt, told, Some(LiveFault::Append));
 }
 
@@ -237,7 +237,7 @@ impl Gate for Shut {
 #[test]
 fn a_gate_that_never_opens_ends_the_run_and_nobody_hangs(rt: HostRuntime) {
     for gate in [Shut::Send, Shut::Look, Shut::Publish] {
-        let told = fault(&rt, rt.alloc(), 1000, (FIVE, feed_b()), &gate);
+        let told = fault(&rt, rt.alloc(), 1000, &[FIVE, feed_b()], &gate);
         same(&rt, (gate, told), (gate, Some(LiveFault::GateLimit)));
     }
 }

@@ -1,7 +1,8 @@
 //! A plain slow planner, written from the rules: for each price at which an order could trade, the protected quotations
 //! at better prices in full, then the pool by what a share costs, then the better price, then the lower place; of the
-//! prices the one of least cost, of equals the best. It keeps no sums and puts nothing in order: what comes before a
-//! row is counted anew for each.
+//! prices the one of least cost, of equals the best. Quotations of participants that the order names under self-help
+//! are as if they were not there. It keeps no sums and puts nothing in order: what comes before a row is counted anew
+//! for each.
 use arrayvec::ArrayVec;
 use nms_board::View;
 use nms_fees::FeeBook;
@@ -236,7 +237,10 @@ fn market_for(view: &View, order: &Order, fees: &FeeBook) -> Market {
         most: 0,
     };
     for row in view.rows(side) {
-        if (row.protected || order.manual) && !market.is_better(order.limit, row.price) {
+        if !order.self_help.has(row.part)
+            && (row.protected || order.manual)
+            && !market.is_better(order.limit, row.price)
+        {
             let size = u64::from(row.size);
             market.most = market.most.wrapping_add(size);
             let _ = market.rows.try_push(Offered {

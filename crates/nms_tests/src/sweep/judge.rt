@@ -1,22 +1,27 @@
 //! A plain slow program of the rules: it tries every way to spread an order by the lot over four participants'
 //! rows, and keeps the best that is lawful. It knows nothing of cutoffs, of an order of filling, or of a view.
 
-/// What is asked for: shares, and a limit in 1/10,000 dollar.
+use nms_quote::PartSet;
+
+/// What is asked for: shares, a limit in 1/10,000 dollar, and against whom self-help is declared.
 #[derive(Clone, Copy)]
 pub(crate) struct Asked {
     pub(crate) buys: bool,
     pub(crate) shares: u32,
     pub(crate) limit: u32,
     pub(crate) manual: bool,
+    pub(crate) self_help: PartSet,
 }
 
-/// What a participant shows on the side that the order trades with, what a share costs there with its fee, in
-/// nanodollars, and how many shares it is given. Nothing is shown where the size is 0.
+/// What a participant shows on the side that the order trades with, whether the order declares self-help against it,
+/// what a share costs there with its fee, in nanodollars, and how many shares it is given. Nothing is shown where the
+/// size is 0.
 #[derive(Clone, Copy)]
 pub(crate) struct Stand {
     pub(crate) price: u32,
     pub(crate) size: u32,
     pub(crate) automated: bool,
+    pub(crate) named: bool,
     pub(crate) cost: i64,
     pub(crate) given: u32,
 }
@@ -54,10 +59,12 @@ fn is_better(asked: &Asked, price: u32, other: u32) -> bool {
     }
 }
 
-/// Whether all protected rows at better prices get their full size (17 CFR 242.600, "intermarket sweep order").
+/// Whether all protected rows at better prices get their full size (17 CFR 242.600, "intermarket sweep order"), but
+/// those of participants against which self-help is declared (17 CFR 242.611(b)(1)).
 fn sweeps_better(asked: &Asked, price: u32, rows: &[Stand]) -> bool {
     for other in rows {
-        if other.automated && is_better(asked, other.price, price) && other.given != other.size {
+        let is_binding = other.automated && !other.named;
+        if is_binding && is_better(asked, other.price, price) && other.given != other.size {
             return false;
         }
     }
@@ -68,6 +75,7 @@ fn sweeps_better(asked: &Asked, price: u32, rows: &[Stand]) -> bool {
 fn may_be_given(asked: &Asked, row: &Stand, rows: &[Stand]) -> bool {
     row.given == 0
         || row.given <= row.size
+            && !row.named
             && (row.automated || asked.manual)
             && !is_better(asked, asked.limit, row.price)
             && sweeps_better(asked, row.price, rows)

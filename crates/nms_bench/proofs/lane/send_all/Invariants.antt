@@ -1,3 +1,4 @@
+-- `send_all`: the sender stays that of its lane and feed, and there is room for what it sends.
 use Rattle.std.proofs.Common.{◌≡◌, ◌≤◌, length}
 use Rattle.nms_bench.proofs.lane.send_all.Given as goal
 

@@ -1,4 +1,5 @@
-use Rattle.std.proofs.Common.{ℕ, ◌+◌, ◌*◌, Option, get_or, sym, ap, subst, ◌∙◌, arith}
+-- Of `alter`: what it asks of `settle`, and its clauses, by `altered_is` and `ranks_altered`.
+use Rattle.std.proofs.Common.{ℕ, ◌+◌, ◌*◌, Option, get_or, refl, sym, ap, subst, ◌∙◌, arith}
 use Rattle.std.proofs.lemmas.Option.{slice_get-get_or}
 use Rattle.nms_quote.specs.Roster.{Sizes}
 use Rattle.nms_board.specs.Cells.{altered, place_of}
@@ -12,42 +13,80 @@ use Rattle.nms_board.proofs.board.alter.Goals as goal
 pub settle-requires-clause-was : goal.settle-requires-clause-was
 settle-requires-clause-was c = λ side.
     let sizes : Sizes = record { parts = c.args.parts; lots = c.args.lots.now } in
-    let of : IsCellOf sizes c.args.cells.now c.args.part c.args.sym = record { narrow = c.requires.parts; room = c.requires.room; in_parts = c.requires.part; in_syms = c.requires.sym } in
-    let known = altered_is sizes c.args.cells.now c.args.part c.args.sym (32 * c.args.sym + c.from.result) (altered c.args.number c.args.change) c.index-lots-sym.result c.index-cells-sym.result c.alter.new.self c.row-bid.result c.row-offer.result c.symbol_cells.result.now of
-    (omega arith) c.index-cells-sym.is c.index-lots-sym.is c.row-bid.ensures c.row-offer.ensures c.alter.ensures c.symbol_cells.ensures in
-    subst AreOwn (sym (known.was side)) (c.requires.ranks.own c.args.sym side c.requires.sym)
+    let of : IsCellOf sizes c.args.cells.now c.args.part c.args.sym = record {
+      narrow = c.requires.parts;
+      room =
+          c.requires.room;
+      in_parts = c.requires.part;
+      in_syms = c.requires.sym;
+    } in
+    let known = altered_is sizes c.args.cells.now c.args.part c.args.sym (32 * c.args.sym + c.from.result)
+    (altered c.args.number c.args.change) c.index-lots-sym.result c.index-cells-sym.result _ c.alter.new.self
+    c.symbol_cells.result.now of
+    (omega arith) c.index-cells-sym.is c.index-lots-sym.is refl c.alter.ensures c.symbol_cells.ensures in
+    subst AreOwn (sym (known.before side)) (c.requires.ranks.own c.args.sym side c.requires.sym)
 
 pub settle-requires-clause-is : goal.settle-requires-clause-is
 settle-requires-clause-is c = λ side.
     let sizes : Sizes = record { parts = c.args.parts; lots = c.args.lots.now } in
-    let of : IsCellOf sizes c.args.cells.now c.args.part c.args.sym = record { narrow = c.requires.parts; room = c.requires.room; in_parts = c.requires.part; in_syms = c.requires.sym } in
-    let known = altered_is sizes c.args.cells.now c.args.part c.args.sym (32 * c.args.sym + c.from.result) (altered c.args.number c.args.change) c.index-lots-sym.result c.index-cells-sym.result c.alter.new.self c.row-bid.result c.row-offer.result c.symbol_cells.result.now of
-    (omega arith) c.index-cells-sym.is c.index-lots-sym.is c.row-bid.ensures c.row-offer.ensures c.alter.ensures c.symbol_cells.ensures in
+    let of : IsCellOf sizes c.args.cells.now c.args.part c.args.sym = record {
+      narrow = c.requires.parts;
+      room =
+          c.requires.room;
+      in_parts = c.requires.part;
+      in_syms = c.requires.sym;
+    } in
+    let known = altered_is sizes c.args.cells.now c.args.part c.args.sym (32 * c.args.sym + c.from.result)
+    (altered c.args.number c.args.change) c.index-lots-sym.result c.index-cells-sym.result _ c.alter.new.self
+    c.symbol_cells.result.now of
+    (omega arith) c.index-cells-sym.is c.index-lots-sym.is refl c.alter.ensures c.symbol_cells.ensures in
     subst AreOwn (sym (known.is side)) (c.requires.own side)
 
 pub settle-requires-clause-kept : goal.settle-requires-clause-kept
 settle-requires-clause-kept c = λ side.
     let sizes : Sizes = record { parts = c.args.parts; lots = c.args.lots.now } in
-    let of : IsCellOf sizes c.args.cells.now c.args.part c.args.sym = record { narrow = c.requires.parts; room = c.requires.room; in_parts = c.requires.part; in_syms = c.requires.sym } in
-    let known = altered_is sizes c.args.cells.now c.args.part c.args.sym (32 * c.args.sym + c.from.result) (altered c.args.number c.args.change) c.index-lots-sym.result c.index-cells-sym.result c.alter.new.self c.row-bid.result c.row-offer.result c.symbol_cells.result.now of
-    (omega arith) c.index-cells-sym.is c.index-lots-sym.is c.row-bid.ensures c.row-offer.ensures c.alter.ensures c.symbol_cells.ensures in
+    let of : IsCellOf sizes c.args.cells.now c.args.part c.args.sym = record {
+      narrow = c.requires.parts;
+      room =
+          c.requires.room;
+      in_parts = c.requires.part;
+      in_syms = c.requires.sym;
+    } in
+    let known = altered_is sizes c.args.cells.now c.args.part c.args.sym (32 * c.args.sym + c.from.result)
+    (altered c.args.number c.args.change) c.index-lots-sym.result c.index-cells-sym.result _ c.alter.new.self
+    c.symbol_cells.result.now of
+    (omega arith) c.index-cells-sym.is c.index-lots-sym.is refl c.alter.ensures c.symbol_cells.ensures in
     rw known.long
-    (subst (λ (g : ℕ → Option Row). IsKept side g c.args.parts (order_on side (get_or c.args.ranks.now c.args.sym c.index-ranks-sym.result))) (sym (known.was side))
-    (c.requires.ranks.kept c.args.sym (get_or c.args.ranks.now c.args.sym c.index-ranks-sym.result) side (slice_get-get_or c.args.ranks.now c.args.sym c.index-ranks-sym.result (omega (arith, c.requires.ranks.symbols, c.requires.sym)))))
+    (subst (λ (g : ℕ → Option Row). IsKept side g c.args.parts (order_on side
+    (get_or c.args.ranks.now c.args.sym c.index-ranks-sym.result))) (sym (known.before side))
+    (c.requires.ranks.kept c.args.sym (get_or c.args.ranks.now c.args.sym c.index-ranks-sym.result) side
+    (slice_get-get_or c.args.ranks.now c.args.sym c.index-ranks-sym.result (omega (arith, c.requires.ranks.symbols, c.requires.sym)))))
 
 pub returns-clause-cells : goal.returns-clause-cells
 returns-clause-cells c =
-    change_cell_written c.args.cells.now (32 * c.args.sym + c.from.result) (place_of c.args.part c.args.sym) (altered c.args.number c.args.change) c.index-cells-sym.result c.alter.new.self
-    (omega arith) (omega (arith, c.requires.room, c.requires.sym, c.requires.part, c.requires.parts)) c.index-cells-sym.is (c.alter.ensures ∙ ap (altered c.args.number c.args.change) (sym c.index-cells-sym.is))
+    change_cell_written c.args.cells.now (32 * c.args.sym + c.from.result) (place_of c.args.part c.args.sym)
+    (altered c.args.number c.args.change) c.index-cells-sym.result c.alter.new.self
+    (omega arith) (omega (arith, c.requires.room, c.requires.sym, c.requires.part, c.requires.parts)) c.index-cells-sym.is
+    (c.alter.ensures ∙ ap (altered c.args.number c.args.change) (sym c.index-cells-sym.is))
 
 pub returns-clause-ranks : goal.returns-clause-ranks
 returns-clause-ranks c =
     let sizes : Sizes = record { parts = c.args.parts; lots = c.args.lots.now } in
-    let of : IsCellOf sizes c.args.cells.now c.args.part c.args.sym = record { narrow = c.requires.parts; room = c.requires.room; in_parts = c.requires.part; in_syms = c.requires.sym } in
-    let known = altered_is sizes c.args.cells.now c.args.part c.args.sym (32 * c.args.sym + c.from.result) (altered c.args.number c.args.change) c.index-lots-sym.result c.index-cells-sym.result c.alter.new.self c.row-bid.result c.row-offer.result c.symbol_cells.result.now of
-    (omega arith) c.index-cells-sym.is c.index-lots-sym.is c.row-bid.ensures c.row-offer.ensures c.alter.ensures c.symbol_cells.ensures in
+    let of : IsCellOf sizes c.args.cells.now c.args.part c.args.sym = record {
+      narrow = c.requires.parts;
+      room =
+          c.requires.room;
+      in_parts = c.requires.part;
+      in_syms = c.requires.sym;
+    } in
+    let known = altered_is sizes c.args.cells.now c.args.part c.args.sym (32 * c.args.sym + c.from.result)
+    (altered c.args.number c.args.change) c.index-lots-sym.result c.index-cells-sym.result _ c.alter.new.self
+    c.symbol_cells.result.now of
+    (omega arith) c.index-cells-sym.is c.index-lots-sym.is refl c.alter.ensures c.symbol_cells.ensures in
     rw (returns-clause-cells c)
     (ranks_altered sizes c.args.cells.now c.args.ranks.now c.args.part c.args.sym (altered c.args.number c.args.change) c.settle.new.self of
-    (length-change_cell c.args.cells.now (place_of c.args.part c.args.sym) (altered c.args.number c.args.change)) c.requires.ranks c.requires.own
+    (length-change_cell c.args.cells.now (place_of c.args.part c.args.sym)
+    (altered c.args.number c.args.change)) c.requires.ranks c.requires.own
     (λ side. subst (λ (g : ℕ → Option Row). IsKept side g c.args.parts (order_on side c.settle.new.self)) (known.is side)
-    (subst (λ (n : ℕ). IsKept side (row_among c.index-lots-sym.result c.symbol_cells.result.now side) n (order_on side c.settle.new.self)) known.long (c.settle.ensures side))))
+    (subst (λ (n : ℕ). IsKept side (row_among c.index-lots-sym.result c.symbol_cells.result.now side) n
+    (order_on side c.settle.new.self)) known.long (c.settle.ensures side))))

@@ -1,3 +1,4 @@
+-- `lots_of`: the turns of its loop.
 use Rattle.std.proofs.Common.{◌≡◌, get_or, refl, arith}
 use Rattle.std.proofs.lemmas.Grind.{common_steps}
 use Rattle.std.proofs.lemmas.List.{take_more, length-map}
@@ -12,6 +13,7 @@ loop-place-preserved c =
     let lots = (sizes_of c.args.roster.now).lots in
     let place : c.unwrap.result ≡ c.loop-place.place = grind (arith, common_steps) in
     let next : get_or lots c.loop-place.place 0 ≡ c.lot_of.result =
-    get_or_from_slice_get lots c.loop-place.place c.lot_of.result 0 (rw (slice_get-map (λ entry. entry.1) syms c.loop-place.place, ← place) c.lot_of.ensures) in
+    get_or_from_slice_get lots c.loop-place.place c.lot_of.result 0
+    (rw (slice_get-map (λ entry. entry.1) syms c.loop-place.place, ← place) c.lot_of.ensures) in
     let more = take_more lots c.loop-place.place 0 (omega (arith, length-map syms (λ entry. entry.1))) in
     rw (c.in_ok-push.ensures.items, c.loop-place.invariant, more, next) refl

@@ -1,3 +1,4 @@
+-- `lots_of`: what holds in each turn of its loop.
 use Rattle.std.proofs.Common.{◌≡◌, take}
 use Rattle.nms_quote.specs.Roster.{sizes_of}
 use Rattle.nms_board.proofs.board.lots_of.Given as goal

@@ -1,3 +1,4 @@
+-- `set_lot`: clause `ranks` and the call of `rank_anew`, by `ranks_relotted` and `shown_in`.
 use Rattle.std.proofs.Common.{◌≡◌, ℕ, Option, length, sym, ap, subst, ◌∙◌, ◌+◌, ◌*◌, arith}
 use Rattle.std.proofs.lemmas.List.Edits.{length-between}
 use Rattle.nms_quote.specs.Roster.{Sizes}
@@ -10,14 +11,18 @@ use Rattle.nms_board.proofs.board.set_lot.Goals as goal
 pub rank_anew-requires-clause-own : goal.rank_anew-requires-clause-own
 rank_anew-requires-clause-own c =
     let sizes : Sizes = record { parts = c.args.parts; lots = c.args.lots.now } in
-    λ side. subst AreOwn (shown_in sizes c.args.cells.now c.args.sym c.args.lot c.symbol_cells.result.now side c.requires.sym c.symbol_cells.ensures) (c.requires.own side)
+    λ side. subst AreOwn (shown_in sizes c.args.cells.now c.args.sym c.args.lot c.symbol_cells.result.now side c.requires.sym
+    c.symbol_cells.ensures) (c.requires.own side)
 
 pub returns-clause-ranks : goal.returns-clause-ranks
 returns-clause-ranks c =
     let sizes : Sizes = record { parts = c.args.parts; lots = c.args.lots.now } in
     let long : length c.symbol_cells.result.now ≡ c.args.parts =
-    ap length c.symbol_cells.ensures ∙ length-between c.args.cells.now (32 * c.args.sym) (32 * c.args.sym + c.args.parts) (omega (arith, c.requires.room, c.requires.sym, c.requires.parts)) ∙ omega arith in
-    ranks_relotted sizes c.args.cells.now c.args.ranks.now c.args.sym c.args.lot c.rank_anew.new.self c.requires.sym c.requires.ranks c.requires.own
+    ap length c.symbol_cells.ensures ∙ length-between c.args.cells.now (32 * c.args.sym) (32 * c.args.sym
+    + c.args.parts) (omega (arith, c.requires.room, c.requires.sym, c.requires.parts)) ∙ omega arith in
+    ranks_relotted sizes c.args.cells.now c.args.ranks.now c.args.sym c.args.lot c.rank_anew.new.self c.requires.sym c.requires.ranks
+    c.requires.own
     (λ side. subst (λ (g : ℕ → Option Row). IsKept side g c.args.parts (order_on side c.rank_anew.new.self))
     (sym (shown_in sizes c.args.cells.now c.args.sym c.args.lot c.symbol_cells.result.now side c.requires.sym c.symbol_cells.ensures))
-    (subst (λ (n : ℕ). IsKept side (row_among c.args.lot c.symbol_cells.result.now side) n (order_on side c.rank_anew.new.self)) long (c.rank_anew.ensures side)))
+    (subst (λ (n : ℕ). IsKept side (row_among c.args.lot c.symbol_cells.result.now side) n (order_on side c.rank_anew.new.self)) long
+    (c.rank_anew.ensures side)))

@@ -1,3 +1,4 @@
+-- Of `withdraw_from`: what each turn keeps.
 use Rattle.std.proofs.Common.{◌≡◌}
 use Rattle.nms_board.specs.Cells.{withdraw_from}
 use Rattle.nms_board.specs.Kept.{AreRanks}

@@ -1,3 +1,4 @@
+-- `empty_cells`: what holds in each turn of its loop.
 use Rattle.std.proofs.Common.{◌≡◌, ◌*◌, replicate}
 use Rattle.nms_board.specs.Cells.{empty_cell}
 use Rattle.nms_board.proofs.cell.empty_cells.Given as goal

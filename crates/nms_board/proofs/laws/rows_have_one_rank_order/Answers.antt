@@ -1,3 +1,5 @@
+-- `rows_have_one_rank_order`: clauses `in_order` and `one`, by `rows_differ`, `ranked_in_order` and
+-- `ranked_is`.
 use Rattle.nms_board.specs.Quotation.{quotations}
 use Rattle.nms_board.proofs.LawLemmas.{rows_differ}
 use Rattle.nms_board.proofs.RankLemmas.{ranked_in_order, ranked_is}

@@ -1,3 +1,4 @@
+-- `worked_examples`: all that it promises.
 use Rattle.std.proofs.Common.{refl}
 use Rattle.nms_board.specs.History.{before_equal_end}
 use Rattle.nms_board.proofs.laws.worked_examples.Goals as goal

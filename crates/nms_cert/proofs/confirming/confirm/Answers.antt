@@ -1,3 +1,4 @@
+-- `confirm`: clauses `accepted` and `optimal`, by `accepted_of_none`, `none_of_accepted` and `optimal`.
 use Rattle.std.proofs.Common.{◌≡◌, IsNone, None, Some, Option, refl, ap, sym, ◌∙◌}
 use Rattle.std.specs.Prelude.{Result, Ok, Err, IsOk, OnOk}
 use Rattle.std.specs.Option.{is_some}
@@ -42,10 +43,16 @@ returns-clause-accepted c =
     let plan = c.args.plan.now in
     let cuts = c.args.certificate.now.items in
     let lawful = c.find_doubt.ensures.lawful in
-    let first : result_err c.find_doubt.result ≡ doubt_of seen asked fees plan cuts = c.find_doubt.ensures.first ∙ ap (doubt_of seen asked fees plan) c.as_slice.ensures.value in (
-      (λ ok. accepted_of_none seen asked fees plan cuts (λ none. lawful.0 (is-none (breach_of seen asked fees plan) none)) (sym first ∙ ok-none c.find_doubt.result ok)),
-      (λ is. none-ok c.find_doubt.result (first ∙ none_of_accepted seen asked fees plan cuts (λ faultless. none-is (breach_of seen asked fees plan) (lawful.1 faultless)) is)),
+    let first : result_err c.find_doubt.result ≡ doubt_of seen asked fees plan cuts = c.find_doubt.ensures.first
+    ∙ ap (doubt_of seen asked fees plan) c.as_slice.ensures.value in (
+      (λ ok. accepted_of_none seen asked fees plan cuts (λ none. lawful.0 (is-none (breach_of seen asked fees plan) none))
+          (sym first ∙ ok-none c.find_doubt.result ok)),
+      (λ is. none-ok c.find_doubt.result
+          (first ∙ none_of_accepted seen asked fees plan cuts (λ faultless. none-is (breach_of seen asked fees plan) (lawful.1 faultless))
+          is)),
     )
 
 pub returns-clause-optimal : goal.returns-clause-optimal
-returns-clause-optimal c = on-ok c.find_doubt.result _ (λ ok. optimal c.args.view.now c.args.order.now c.args.fees.now c.args.plan.now c.args.certificate.now.items (of-ok c.find_doubt.result _ c.find_doubt.ensures.rising ok) ((returns-clause-accepted c).0 ok))
+returns-clause-optimal c = on-ok c.find_doubt.result _
+    (λ ok. optimal c.args.view.now c.args.order.now c.args.fees.now c.args.plan.now c.args.certificate.now.items
+    (of-ok c.find_doubt.result _ c.find_doubt.ensures.rising ok) ((returns-clause-accepted c).0 ok))

@@ -1,3 +1,4 @@
+-- `is_out_of_order`: what holds in each turn of its loop.
 use Rattle.std.proofs.Common.{◌≡◌, length}
 use Rattle.nms_cert.specs.Doubts.{is_out_of_order}
 use Rattle.nms_cert.proofs.cuts.is_out_of_order.Given as goal

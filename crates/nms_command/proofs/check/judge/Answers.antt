@@ -1,3 +1,4 @@
+-- `judge`: all that it promises, by `on_text`.
 use Rattle.nms_command.proofs.CheckFacts.{on_text}
 use Rattle.nms_command.proofs.check.judge.Goals as goal
 

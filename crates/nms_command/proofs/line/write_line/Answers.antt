@@ -1,3 +1,5 @@
+-- `write_line`: clause `part`, by `part_more`, `whole_kept`, `at_failure`, `longer`, `same_all` and
+-- `same_part`.
 use Rattle.std.proofs.Common.{◌++◌, ◌∷◌, [], ℕ, List, Option}
 use Rattle.std.specs.Io.KnownBytes.{Appends}
 use Rattle.nms_lines.specs.Written.{AppendsPart}
@@ -19,7 +21,8 @@ returns-in_err-write_text-2-clause-part g c =
     let old : Option (List ℕ) = g.W.Write.contents c.args.writer.now in
     let one : Option (List ℕ) = g.W.Write.contents c.write_text.new.writer in
     let two : Option (List ℕ) = g.W.Write.contents c.write_text-2.new.writer in
-    let head : Appends old one c.args.head.now = same_all old one c.as_bytes.result.now c.args.head.now c.as_bytes.ensures.value c.in_ok-write_text.ensures.written in
+    let head : Appends old one c.args.head.now =
+    same_all old one c.as_bytes.result.now c.args.head.now c.as_bytes.ensures.value c.in_ok-write_text.ensures.written in
     at_failure c.from_residual-in_err-write_text-2.result
     (part_more old one two c.args.head.now (c.args.code.now ++ 10 ∷ []) head
     (longer one two c.args.code.now (10 ∷ [])
@@ -31,8 +34,10 @@ returns-in_err-write_text-3-clause-part g c =
     let one : Option (List ℕ) = g.W.Write.contents c.write_text.new.writer in
     let two : Option (List ℕ) = g.W.Write.contents c.write_text-2.new.writer in
     let three : Option (List ℕ) = g.W.Write.contents c.write_text-3.new.writer in
-    let head : Appends old one c.args.head.now = same_all old one c.as_bytes.result.now c.args.head.now c.as_bytes.ensures.value c.in_ok-write_text.ensures.written in
-    let code : Appends one two c.args.code.now = same_all one two c.as_bytes-2.result.now c.args.code.now c.as_bytes-2.ensures.value c.in_ok-write_text-2.ensures.written in
+    let head : Appends old one c.args.head.now =
+    same_all old one c.as_bytes.result.now c.args.head.now c.as_bytes.ensures.value c.in_ok-write_text.ensures.written in
+    let code : Appends one two c.args.code.now =
+    same_all one two c.as_bytes-2.result.now c.args.code.now c.as_bytes-2.ensures.value c.in_ok-write_text-2.ensures.written in
     let cut : AppendsPart two three (10 ∷ []) = c.in_err-write_text-3.ensures.part in
     at_failure c.from_residual-in_err-write_text-3.result
     (part_more old one three c.args.head.now (c.args.code.now ++ 10 ∷ []) head (part_more one two three c.args.code.now (10 ∷ []) code cut))
@@ -44,8 +49,10 @@ returns-clause-part g c =
     let two : Option (List ℕ) = g.W.Write.contents c.write_text-2.new.writer in
     let three : Option (List ℕ) = g.W.Write.contents c.write_text-3.new.writer in
     let four : Option (List ℕ) = g.W.Write.contents c.flush.new.self in
-    let head : Appends old one c.args.head.now = same_all old one c.as_bytes.result.now c.args.head.now c.as_bytes.ensures.value c.in_ok-write_text.ensures.written in
-    let code : Appends one two c.args.code.now = same_all one two c.as_bytes-2.result.now c.args.code.now c.as_bytes-2.ensures.value c.in_ok-write_text-2.ensures.written in
+    let head : Appends old one c.args.head.now =
+    same_all old one c.as_bytes.result.now c.args.head.now c.as_bytes.ensures.value c.in_ok-write_text.ensures.written in
+    let code : Appends one two c.args.code.now =
+    same_all one two c.as_bytes-2.result.now c.args.code.now c.as_bytes-2.ensures.value c.in_ok-write_text-2.ensures.written in
     let end : Appends two three (10 ∷ []) = c.in_ok-write_text-3.ensures.written in
     at_failure c.flush.result
     (part_more old one four c.args.head.now (c.args.code.now ++ 10 ∷ []) head

@@ -1,3 +1,4 @@
+-- `read_text`: all that it promises.
 use Rattle.nms_command.proofs.program.read_text.Goals as goal
 
 pub returns-in-Ok : goal.returns-in-Ok

@@ -1,3 +1,4 @@
+-- `serve_request`: all that it promises, by `under`.
 use Rattle.nms_words.specs.CommandLine.{shown}
 use Rattle.nms_command.proofs.ServedFacts.{under}
 use Rattle.nms_command.proofs.program.serve_request.Goals as goal

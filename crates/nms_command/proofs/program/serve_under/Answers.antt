@@ -1,3 +1,4 @@
+-- `serve_under`: all that it promises.
 use Rattle.nms_command.proofs.program.serve_under.Goals as goal
 
 pub returns-in-Script : goal.returns-in-Script

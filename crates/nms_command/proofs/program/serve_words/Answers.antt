@@ -1,3 +1,4 @@
+-- `serve_words`: all that it promises, by `asked_for` and `help_told`.
 use Rattle.std.proofs.Common.{Bor, List, ℕ, map, ap, ◌≡◌, ◌∙◌, true}
 use Rattle.nms_words.specs.CommandLine.{shown}
 use Rattle.nms_command.specs.Served.{is_help}
@@ -6,12 +7,15 @@ use Rattle.nms_command.proofs.program.serve_words.Goals as goal
 
 pub returns-in-Ok : goal.returns-in-Ok
 returns-in-Ok g c =
-    asked_for c.serve_request.result (map {A = Bor (List ℕ)} {B = List ℕ} (λ word. word.now) c.args.words.now) (shown c.in-Ok.request) (g.R.Read.remaining c.args.input.now)
+    asked_for c.serve_request.result (map {A = Bor (List ℕ)} {B = List ℕ} (λ word. word.now) c.args.words.now) (shown c.in-Ok.request)
+    (g.R.Read.remaining c.args.input.now)
     (g.W.Write.contents c.args.answers.now) (g.W.Write.contents c.serve_request.new.answers) c.in-Ok.ensures.read c.serve_request.ensures
 
 pub returns-in-Err-Parser-default-true : goal.returns-in-Err-Parser-default-true
 returns-in-Err-Parser-default-true g c =
-    let help : is_help c.in-Err-Parser-default-true.field-0 ≡ true = ap is_help c.in-Err-Parser-default-true.field-0-is ∙ c.in-Err-Parser-default-true.field-0-1-test in
-    help_told c.tell_help.result (map {A = Bor (List ℕ)} {B = List ℕ} (λ word. word.now) c.args.words.now) c.in-Err-Parser-default-true.field-0
+    let help : is_help c.in-Err-Parser-default-true.field-0 ≡ true = ap is_help c.in-Err-Parser-default-true.field-0-is
+    ∙ c.in-Err-Parser-default-true.field-0-1-test in
+    help_told c.tell_help.result (map {A = Bor (List ℕ)} {B = List ℕ} (λ word. word.now) c.args.words.now)
+    c.in-Err-Parser-default-true.field-0
     (g.R.Read.remaining c.args.input.now) (g.W.Write.contents c.args.answers.now) (g.W.Write.contents c.tell_help.new.answers) help
     c.in-Err-Parser-default-true.ensures.refused c.tell_help.ensures

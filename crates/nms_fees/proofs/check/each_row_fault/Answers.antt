@@ -1,3 +1,4 @@
+-- `each_row_fault`: its result, over all rows, by `fold-map`.
 use Rattle.std.proofs.Common.{None, map, arith, sym, ap, ◌∙◌}
 use Rattle.std.proofs.lemmas.List.{take_all}
 use Rattle.std.proofs.lemmas.List.Folds.{fold-map}
@@ -11,5 +12,6 @@ pub returns : goal.returns
 returns c =
     let whole = take_all c.loop-row.row-index c.args.rows.now (omega arith) in
     c.loop-row.invariant
-    ∙ ap (fold (λ found row. lesser found (row_fault c.args.caps c.args.section (view row))) None) whole
-    ∙ sym (fold-map lesser (row_fault c.args.caps c.args.section) None (map view c.args.rows.now) ∙ fold-map (λ found row. lesser found (row_fault c.args.caps c.args.section row)) view None c.args.rows.now)
+    ∙ ap (fold (λ found row. lesser found (row_fault c.args.chosen c.args.section (view row))) None) whole
+    ∙ sym (fold-map lesser (row_fault c.args.chosen c.args.section) None (map view c.args.rows.now)
+    ∙ fold-map (λ found row. lesser found (row_fault c.args.chosen c.args.section row)) view None c.args.rows.now)

@@ -1,3 +1,4 @@
+-- `least`: the least of the findings so far.
 use Rattle.std.proofs.Common.{◌≡◌, take}
 use Rattle.nms_fees.specs.Faults.{least}
 use Rattle.nms_fees.proofs.check.least.Given as goal

@@ -1,3 +1,4 @@
+-- `has_repeat`: no name stood twice so far, and the table has these names.
 use Rattle.std.proofs.Common.{◌≡◌, false, take}
 use Rattle.nms_fees.specs.Places.{has_repeat}
 use Rattle.nms_fees.proofs.NameLemmas.{names_of, texts}

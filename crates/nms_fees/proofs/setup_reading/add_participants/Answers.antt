@@ -1,9 +1,13 @@
+-- `add_participants`: no participant is refused, by `unrefused`.
 use Rattle.std.proofs.Common.{codes}
 use Rattle.nms_fees.specs.declared.section.Section.TheVariants as section
-use Rattle.nms_fees.specs.Setup.{text_at, table_of, feed_named}
+use Rattle.nms_fees.specs.Setup.{text_at, table_of, feed_of_text}
 use Rattle.nms_fees.proofs.SoundLemmas.{unrefused}
 use Rattle.nms_fees.proofs.setup_reading.add_participants.Goals as goal
 
 pub add_participant-requires : goal.add_participant-requires
 add_participant-requires c =
-    unrefused c.requires.sound.0 section.Participant (λ row. feed_named (text_at (codes "feed") (table_of row))) c.args.rows.now c.loop-row.row-index c.row-item.result c.loop-row.roster.parts c.requires.sound.1 c.loop-row-test.true c.row-item.is c.loop-row.invariant.parts
+    unrefused c.requires.sound.0 section.Participant
+    (λ row. feed_of_text (text_at (codes "feed")
+    (table_of row))) c.args.rows.now c.loop-row.row-index c.row-item.result c.loop-row.roster.parts c.requires.sound.1
+    c.loop-row-test.true c.row-item.is c.loop-row.invariant.parts

@@ -1,3 +1,4 @@
+-- `add_participants`: the participants of the rows so far.
 use Rattle.std.proofs.Common.{◌≡◌, map, take}
 use Rattle.toml.specs.View.{view}
 use Rattle.nms_fees.specs.Setup.{participant_of}

@@ -1,3 +1,4 @@
+-- `add_symbols`: the symbols of the rows so far.
 use Rattle.std.proofs.Common.{◌≡◌, map, take}
 use Rattle.toml.specs.View.{view}
 use Rattle.nms_fees.specs.Setup.{symbol_of}

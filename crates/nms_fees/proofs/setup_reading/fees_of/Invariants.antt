@@ -1,3 +1,4 @@
+-- `fees_of`: the fees of the rows so far.
 use Rattle.std.proofs.Common.{◌≡◌, map, take}
 use Rattle.toml.specs.View.{view}
 use Rattle.nms_fees.specs.Setup.{schedule_of}

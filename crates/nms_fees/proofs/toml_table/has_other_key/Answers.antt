@@ -1,3 +1,4 @@
+-- `has_other_key`: its result, from the keys of the table, by `TableLemmas`.
 use Rattle.std.proofs.Common.{not}
 use Rattle.nms_fees.proofs.TableLemmas.{any_key-view}
 use Rattle.nms_fees.specs.Places.{is_known}

@@ -1,3 +1,4 @@
+-- `rows_in`: its result, by cases on the value.
 use Rattle.std.proofs.Common.{option_map, map, Some, ap, sym, ◌∙◌}
 use Rattle.nms_fees.proofs.TableLemmas.{listed-view}
 use Rattle.nms_fees.specs.Places.{listed}

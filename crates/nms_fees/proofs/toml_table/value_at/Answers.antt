@@ -1,3 +1,4 @@
+-- `value_at`: its result, from what the table gives.
 use Rattle.toml.proofs.Views.{table_get}
 use Rattle.nms_fees.proofs.toml_table.value_at.Goals as goal
 

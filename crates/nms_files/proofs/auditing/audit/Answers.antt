@@ -1,3 +1,4 @@
+-- `audit`: clause `found`.
 use Rattle.std.proofs.Common.{◌≡◌, ◌∙◌, ap, sym, List, rules}
 use Rattle.nms_quote.specs.Roster.{Listing, sizes_of}
 use Rattle.nms_quote.specs.Tape.{version}
@@ -14,9 +15,11 @@ returns-in-Err-confirm-clause-found c =
     let seen : c.in-Ok.view ≡ seen_by c.args.setup.now c.args.changes.now c.args.plan.now =
     c.in-Ok.ensures.shown
     ∙ (ap (λ (p : Plan). view_of (sizes_of c.roster.result.now) (version p.version c.args.changes.now) p.order.sym) c.plan.view_is
-    ∙ ap (λ (r : Listing). view_of (sizes_of r) (version c.args.plan.now.version c.args.changes.now) c.args.plan.now.order.sym) c.roster.ensures) in (
+    ∙ ap (λ (r : Listing). view_of (sizes_of r) (version c.args.plan.now.version c.args.changes.now) c.args.plan.now.order.sym)
+    c.roster.ensures) in (
       search rules,
-      ap (λ (f : Charges). doubt_of (seen_by c.args.setup.now c.args.changes.now c.args.plan.now) c.args.plan.now.order f c.args.plan.now c.args.certificate.now.items) (sym c.fees.ensures.value)
+      ap (λ (f : Charges). doubt_of (seen_by c.args.setup.now c.args.changes.now c.args.plan.now) c.args.plan.now.order f c.args.plan.now
+          c.args.certificate.now.items) (sym c.fees.ensures.value)
           ∙ (ap (λ (s : Seen). doubt_of s c.args.plan.now.order c.fees.result.now c.args.plan.now c.args.certificate.now.items) (sym seen)
           ∙ sym c.in-Err-confirm.ensures.first),
     )

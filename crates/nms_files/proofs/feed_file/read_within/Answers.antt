@@ -1,11 +1,14 @@
-use Rattle.std.proofs.Common.{rules, ◌≡◌, ◌∙◌, ◌≤◌, ◌+◌, ◌++◌, ℕ, List, [], Option, Some, None, IfSome, length, option_map, take, min, subst, ap, arith}
+-- `read_within`: clause `all`.
+use Rattle.std.proofs.Common.{rules, ◌≡◌, ◌∙◌, ◌≤◌, ◌+◌, ◌++◌, ℕ, List, [], Option, Some, None, IfSome, length, option_map, take, min}
+use Rattle.std.proofs.Common.{subst, ap, arith}
 use Rattle.std.proofs.lemmas.List.{length-take, take_all}
 use Rattle.std.specs.Io.Take.{take_inner, take_limit, take_remaining}
 use Rattle.std.specs.declared.io.traits.Take.{Take}
 use Rattle.nms_files.proofs.feed_file.read_within.Goals as goal
 
 -- a beginning that is shorter than what was asked for is all that there is
-whole : (left : Option (List ℕ)) (most : ℕ) (items : List ℕ) → IfSome (option_map (take (most + 1)) left) (λ xs. items ≡ xs) → length items ≤ most
+whole : (left : Option (List ℕ)) (most : ℕ) (items : List ℕ) → IfSome (option_map (take (most + 1)) left) (λ xs. items ≡ xs)
+    → length items ≤ most
     → IfSome left (λ all. items ≡ all)
 whole None most items is few = tt
 whole (Some all) most items is few =
@@ -13,7 +16,8 @@ whole (Some all) most items is few =
     is ∙ take_all (most + 1) all (omega (arith, cut, few))
 
 begun : {R : Type 0} (remaining : R → Option (List ℕ)) (begin : Take R) (source : R) (most : ℕ) (before items : List ℕ)
-    → take_limit begin ≡ most + 1 → take_inner begin ≡ source → before ≡ [] → IfSome (take_remaining remaining begin) (λ xs. items ≡ before ++ xs) → length items ≤ most
+    → take_limit begin ≡ most + 1 → take_inner begin ≡ source → before ≡ []
+    → IfSome (take_remaining remaining begin) (λ xs. items ≡ before ++ xs) → length items ≤ most
     → IfSome (remaining source) (λ all. items ≡ all)
 begun remaining begin source most before items limit inner none is few =
     whole (remaining source) most items

@@ -1,3 +1,4 @@
+-- `cuts_are_in_range`: all that it promises and the turns of its loop, by `all_more`.
 use Rattle.std.proofs.Common.{arith, subst}
 use Rattle.std.specs.Prelude.{All}
 use Rattle.std.proofs.lemmas.List.{take_all}

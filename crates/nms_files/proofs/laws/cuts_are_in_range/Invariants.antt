@@ -1,3 +1,4 @@
+-- `cuts_are_in_range`: what holds in each turn of its loop.
 use Rattle.std.proofs.Common.{take}
 use Rattle.std.specs.Prelude.{All}
 use Rattle.nms_lines.specs.PlanLaws.{IsPriceInRange}

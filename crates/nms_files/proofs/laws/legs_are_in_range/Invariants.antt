@@ -1,3 +1,4 @@
+-- `legs_are_in_range`: what holds in each turn of its loop.
 use Rattle.std.proofs.Common.{◌≤◌, take}
 use Rattle.std.specs.Prelude.{All}
 use Rattle.nms_units.specs.declared.TheConstants.{MOST_SHARES}

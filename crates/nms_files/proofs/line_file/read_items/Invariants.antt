@@ -1,3 +1,4 @@
+-- `read_items`: what holds in each turn of its loop.
 use Rattle.std.proofs.Common.{List}
 use Rattle.nms_lines.specs.Layout.{Record}
 use Rattle.nms_lines.specs.Records.{ReadsFrom}

@@ -1,7 +1,9 @@
+-- `take_next`: all that it promises, by `stay_refused`.
 use Rattle.csv.specs.Records.{fields_of}
 use Rattle.nms_files.proofs.LineFacts.{stay_refused}
 use Rattle.nms_files.proofs.line_file.take_next.Goals as goal
 
 pub returns-else-is_none : goal.returns-else-is_none
 returns-else-is_none g c records =
-    stay_refused (g.T.FileItem.are_taken c.args.setup.now) (g.T.FileItem.is_refused c.args.setup.now) records (fields_of c.args.row.now) c.args.so_far.now.items.items c.args.so_far.now.refused c.if-is_none.ensures
+    stay_refused (g.T.FileItem.are_taken c.args.setup.now) (g.T.FileItem.is_refused c.args.setup.now) records (fields_of c.args.row.now)
+    c.args.so_far.now.items.items c.args.so_far.now.refused c.if-is_none.ensures

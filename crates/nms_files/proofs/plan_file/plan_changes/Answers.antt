@@ -1,3 +1,4 @@
+-- `plan_changes`: clauses `refused` and `written`.
 use Rattle.std.proofs.Common.{◌≡◌, ◌∙◌, ap, subst, List}
 use Rattle.std.proofs.lemmas.Result.{on_ok_weaker}
 use Rattle.nms_quote.specs.Roster.{Listing, sizes_of}
@@ -23,6 +24,7 @@ returns-in-Ok-view_after-clause-written g c =
     (λ plans. (
       c.in-Ok.changes.items,
       c.in-Ok.ensures.tape,
-      subst (λ (s : Seen). PlansOn c.args.setup.now s c.args.order.now (g.W.Write.contents c.args.writer.now) (g.W.Write.contents c.plan_view.new.writer)) shown plans,
+      subst (λ (s : Seen). PlansOn c.args.setup.now s c.args.order.now (g.W.Write.contents c.args.writer.now)
+          (g.W.Write.contents c.plan_view.new.writer)) shown plans,
     ))
     c.plan_view.ensures.written

@@ -1,3 +1,4 @@
+-- `apply_all`: the turns of its loop.
 use Rattle.std.proofs.Common.{◌++◌, ◌∷◌, [], List, take, arith, ap, sym, subst, ◌∙◌, append_assoc}
 use Rattle.std.proofs.lemmas.List.{map-append, take_more}
 use Rattle.nms_quote.specs.Tape.{Tape}

@@ -1,3 +1,4 @@
+-- `apply_all`: what holds in each turn of its loop: `stands`, `sizes` and `applied`.
 use Rattle.std.proofs.Common.{◌≡◌, ◌+◌, ◌++◌, take}
 use Rattle.nms_quote.specs.Tape.{Tape}
 use Rattle.nms_board.specs.Cells.{StandsFor}

@@ -1,3 +1,4 @@
+-- `apply_first`: clause `stands` and the call of `apply_all`, by `all_back` and `first_of_two`.
 use Rattle.std.proofs.Common.{◌≡◌, ◌-◌, ◌++◌, true, take, ap, sym, subst, ◌∙◌, append_assoc}
 use Rattle.std.specs.Prelude.{All}
 use Rattle.std.proofs.lemmas.List.{map-append}
@@ -11,8 +12,10 @@ use Rattle.nms_flow.proofs.flow.apply_first.Goals as goal
 
 pub apply_all-requires-2-clause-held : goal.apply_all-requires-2-clause-held
 apply_all-requires-2-clause-held c =
-    subst (λ (s : Sizes). All (λ marked. holds s marked.change ≡ true) (take (c.args.count - c.min-first.result) c.as_slices.result.1.now)) (sym c.apply_all.ensures.sizes)
-    (all_back (λ (marked : Marked). holds c.args.board.now.sizes marked.change ≡ true) c.as_slices.result.0.now c.as_slices.result.1.now c.args.queue.now.items (c.args.count - c.min-first.result) c.as_slices.ensures.items c.requires.held)
+    subst (λ (s : Sizes). All (λ marked. holds s marked.change ≡ true) (take (c.args.count - c.min-first.result) c.as_slices.result.1.now))
+    (sym c.apply_all.ensures.sizes)
+    (all_back (λ (marked : Marked). holds c.args.board.now.sizes marked.change ≡ true) c.as_slices.result.0.now c.as_slices.result.1.now
+    c.args.queue.now.items (c.args.count - c.min-first.result) c.as_slices.ensures.items c.requires.held)
 
 pub returns-clause-stands : goal.returns-clause-stands
 returns-clause-stands c tape h =
@@ -21,5 +24,6 @@ returns-clause-stands c tape h =
     subst (StandsFor c.apply_all-2.new.board)
     (append_assoc tape (changes_in front) (changes_in back)
     ∙ ap (λ (t : Tape). tape ++ t) (sym (map-append (λ (m : Marked). m.change) front back)
-    ∙ ap changes_in (first_of_two c.as_slices.result.0.now c.as_slices.result.1.now c.args.count c.min-first.result c.min-first.ensures ∙ ap (take c.args.count) c.as_slices.ensures.items)))
+    ∙ ap changes_in (first_of_two c.as_slices.result.0.now c.as_slices.result.1.now c.args.count c.min-first.result c.min-first.ensures
+    ∙ ap (take c.args.count) c.as_slices.ensures.items)))
     (c.apply_all-2.ensures.stands _ (c.apply_all.ensures.stands tape h))

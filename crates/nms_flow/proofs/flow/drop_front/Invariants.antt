@@ -1,3 +1,4 @@
+-- `drop_front`: what holds in each turn of its loop: `items` and `capacity`.
 use Rattle.std.proofs.Common.{◌≡◌, drop}
 use Rattle.std.specs.VecDeque.{deque_capacity}
 use Rattle.nms_flow.proofs.flow.drop_front.Given as goal

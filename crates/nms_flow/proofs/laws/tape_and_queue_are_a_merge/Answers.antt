@@ -1,3 +1,4 @@
+-- `tape_and_queue_are_a_merge`: clauses `merge` and `belonging`, by `is_merge` and `belonging`.
 use Rattle.nms_flow.proofs.LawLemmas.{is_merge, belonging}
 use Rattle.nms_flow.proofs.laws.tape_and_queue_are_a_merge.Goals as goal
 

@@ -1,3 +1,4 @@
+-- `no_field_of_a_plan_needs_a_quote`: all that it promises, by `one_text`.
 use Rattle.nms_lines.proofs.OneText.{one_text}
 use Rattle.nms_lines.proofs.laws.no_field_of_a_plan_needs_a_quote.Goals as goal
 

@@ -1,3 +1,4 @@
+-- `symbol_names_are_formed`: what holds in each turn of its loop.
 use Rattle.std.proofs.Common.{◌≡◌, ◌<◌, ℕ, true}
 use Rattle.nms_quote.specs.Roster.{is_symbol_name, symbol_text}
 use Rattle.nms_lines.proofs.laws.symbol_names_are_formed.Given as goal

@@ -1,3 +1,4 @@
+-- `need_end`: clauses `refused` and `read`.
 use Rattle.std.proofs.Common.{Bool, Ok, ap, arith}
 use Rattle.nms_lines.proofs.plan_reading.need_end.Goals as goal
 
@@ -7,4 +8,5 @@ returns-in-Ok-true-clause-refused g c = λ left was bad.
     rw next.1 (omega arith)
 
 pub returns-in-Ok-false-clause-read : goal.returns-in-Ok-false-clause-read
-returns-in-Ok-false-clause-read g c = λ left was ok. c.in-Ok-false.ensures.none left was (ap (λ (found : Bool). Ok found) c.in-Ok-false.field-0-test)
+returns-in-Ok-false-clause-read g c =
+    λ left was ok. c.in-Ok-false.ensures.none left was (ap (λ (found : Bool). Ok found) c.in-Ok-false.field-0-test)

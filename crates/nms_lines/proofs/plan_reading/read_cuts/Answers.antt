@@ -1,3 +1,5 @@
+-- `read_cuts`: clauses `refused` and `read` and the turns of its loop, by `cuts_bad`, `cuts_behind`,
+-- `cuts_end`, `cuts_many`, `cuts_more`, `cuts_out` and `cuts_over`.
 use Rattle.std.proofs.Common.{rules, arith, ◌≡◌, ◌≤◌, ◌++◌, ◌∷◌, ◌∙◌, [], Some, None, Err, refl, sym, length}
 use Rattle.std.proofs.lemmas.List.{length-append}
 use Rattle.csv.specs.Records.{fields_of}
@@ -10,33 +12,39 @@ pub returns-in_err-need_end-clause-refused : goal.returns-in_err-need_end-clause
 returns-in_err-need_end-clause-refused g c = λ left was bad.
     let behind : c.need_end.result ≡ Err fault.BadPlanText = search rules in
     let here = c.loop.invariant.1 left was in
-    cuts_behind (fields_of c.args.row.now ∷ left) here.0 c.loop.cuts.items (fields_of c.loop.row) here.1 (sym c.is_end.ensures ∙ c.if-is_end.true) (c.need_end.ensures.refused here.0 here.2 behind)
+    cuts_behind (fields_of c.args.row.now ∷ left) here.0 c.loop.cuts.items (fields_of c.loop.row) here.1
+    (sym c.is_end.ensures ∙ c.if-is_end.true) (c.need_end.ensures.refused here.0 here.2 behind)
 
 pub returns-then-is_end-clause-read : goal.returns-then-is_end-clause-read
 returns-then-is_end-clause-read g c = λ left was.
     let here = c.loop.invariant.1 left was in
-    cuts_end (fields_of c.args.row.now ∷ left) here.0 c.loop.cuts.items (fields_of c.loop.row) here.1 (sym c.is_end.ensures ∙ c.if-is_end.true) (c.in_ok-need_end.ensures.read here.0 here.2 refl)
+    cuts_end (fields_of c.args.row.now ∷ left) here.0 c.loop.cuts.items (fields_of c.loop.row) here.1
+    (sym c.is_end.ensures ∙ c.if-is_end.true) (c.in_ok-need_end.ensures.read here.0 here.2 refl)
 
 pub returns-in_err-cut-clause-refused : goal.returns-in_err-cut-clause-refused
 returns-in_err-cut-clause-refused g c = λ left was bad.
     let here = c.loop.invariant.1 left was in
     let none : cut_in (fields_of c.loop.row) ≡ None = search rules in
-    cuts_bad (fields_of c.args.row.now ∷ left) here.0 c.loop.cuts.items (fields_of c.loop.row) here.1 (sym c.is_end.ensures ∙ c.if-is_end.false) none
+    cuts_bad (fields_of c.args.row.now ∷ left) here.0 c.loop.cuts.items (fields_of c.loop.row) here.1
+    (sym c.is_end.ensures ∙ c.if-is_end.false) none
 
 pub returns-then-is_err-clause-refused : goal.returns-then-is_err-clause-refused
 returns-then-is_err-clause-refused g c = λ left was bad.
     let here = c.loop.invariant.1 left was in
     let one : cut_in (fields_of c.loop.row) ≡ Some c.in_ok-cut.cut = search rules in
     let full : 32 ≤ length c.loop.cuts.items = search rules in
-    cuts_many (fields_of c.args.row.now ∷ left) here.0 c.loop.cuts.items (fields_of c.loop.row) c.in_ok-cut.cut here.1 (sym c.is_end.ensures ∙ c.if-is_end.false) one full
+    cuts_many (fields_of c.args.row.now ∷ left) here.0 c.loop.cuts.items (fields_of c.loop.row) c.in_ok-cut.cut here.1
+    (sym c.is_end.ensures ∙ c.if-is_end.false) one full
 
 pub returns-in_err-need_row-clause-refused : goal.returns-in_err-need_row-clause-refused
 returns-in_err-need_row-clause-refused g c = λ left was bad.
     let here = c.loop.invariant.1 left was in
     let one : cut_in (fields_of c.loop.row) ≡ Some c.in_ok-cut.cut = search rules in
     let out : c.need_row.result ≡ Err fault.BadPlanText = search rules in
-    let next = cuts_more (fields_of c.args.row.now ∷ left) here.0 c.loop.cuts.items (fields_of c.loop.row) c.in_ok-cut.cut here.1 (sym c.is_end.ensures ∙ c.if-is_end.false) one in
-    cuts_out (fields_of c.args.row.now ∷ left) (c.loop.cuts.items ++ c.in_ok-cut.cut ∷ []) here.0 next (c.need_row.ensures.refused here.0 here.2 out)
+    let next = cuts_more (fields_of c.args.row.now ∷ left) here.0 c.loop.cuts.items (fields_of c.loop.row) c.in_ok-cut.cut here.1
+    (sym c.is_end.ensures ∙ c.if-is_end.false) one in
+    cuts_out (fields_of c.args.row.now ∷ left) (c.loop.cuts.items ++ c.in_ok-cut.cut ∷ []) here.0 next
+    (c.need_row.ensures.refused here.0 here.2 out)
 
 pub loop-preserved : goal.loop-preserved
 loop-preserved g c =
@@ -46,11 +54,13 @@ loop-preserved g c =
       λ left was.
           let here = c.loop.invariant.1 left was in
           let row = c.in_ok-need_row.ensures.read here.0 here.2 refl in
-          let next = cuts_more (fields_of c.args.row.now ∷ left) here.0 c.loop.cuts.items (fields_of c.loop.row) c.in_ok-cut.cut here.1 (sym c.is_end.ensures ∙ c.if-is_end.false) one in
+          let next = cuts_more (fields_of c.args.row.now ∷ left) here.0 c.loop.cuts.items (fields_of c.loop.row) c.in_ok-cut.cut here.1
+          (sym c.is_end.ensures ∙ c.if-is_end.false) one in
           (row.0, rw (pushed, ← row.1) next, row.2),
     )
 
 pub returns-clause-refused : goal.returns-clause-refused
 returns-clause-refused g c = λ left was bad.
     let here = c.loop.invariant.1 left was in
-    cuts_over (fields_of c.args.row.now ∷ left) c.loop.cuts.items (fields_of c.loop.row ∷ here.0) here.1 (omega (arith, c.loop.invariant.0, c.loop-test.false))
+    cuts_over (fields_of c.args.row.now ∷ left) c.loop.cuts.items (fields_of c.loop.row ∷ here.0) here.1
+    (omega (arith, c.loop.invariant.0, c.loop-test.false))

@@ -1,3 +1,4 @@
+-- `read_head`: clauses `refused` and `read`, by `if_ok_or`, `no_head` and `head_same`.
 use Rattle.std.proofs.Common.{rules, ◌≡◌, ◌∙◌, List, ◌∷◌, refl, sym, Err, None, Some}
 use Rattle.nms_lines.specs.Layout.{Record}
 use Rattle.nms_lines.specs.Left.{AreLeft}
@@ -20,7 +21,8 @@ pub returns-clause-read : goal.returns-clause-read
 returns-clause-read g c = λ left was.
     let next = c.in_ok-need_row.ensures.read left was refl in
     let row : Record = fields_of c.need_row.new.row in
-    if_ok_or (λ (head : Head). (fields : Record) × (more : List Record) × (left ≡ fields ∷ more) × (head_in c.args.roster.now fields ≡ Some head) × AreLeft g.R.Read.remaining c.need_row.new.reader more)
+    if_ok_or (λ (head : Head). (fields : Record) × (more : List Record) × (left ≡ fields ∷ more)
+    × (head_in c.args.roster.now fields ≡ Some head) × AreLeft g.R.Read.remaining c.need_row.new.reader more)
     c.head_in.result fault.BadPlanText c.ok_or.result c.ok_or.ensures.value
     (λ head one. (row, next.0, next.1, sym (head_same c.args.roster.now row) ∙ sym c.head_in.ensures.head ∙ one, next.2))
 
@@ -29,4 +31,5 @@ pub returns-clause-refused : goal.returns-clause-refused
 returns-clause-refused g c = λ left was bad.
     let next = c.in_ok-need_row.ensures.read left was refl in
     let none : head_by_order c.args.roster.now (fields_of c.need_row.new.row) ≡ None = search rules in
-    no_head c.args.roster.now left (fields_of c.need_row.new.row) next.0 next.1 (sym (head_same c.args.roster.now (fields_of c.need_row.new.row)) ∙ none)
+    no_head c.args.roster.now left (fields_of c.need_row.new.row) next.0 next.1
+    (sym (head_same c.args.roster.now (fields_of c.need_row.new.row)) ∙ none)

@@ -1,3 +1,4 @@
+-- `read_legs`: what holds in each turn of its loop: `counted`, `there` and `read`.
 use Rattle.std.proofs.Common.{◌≡◌, ◌<◌, All, List, length}
 use Rattle.nms_lines.specs.Layout.{Record}
 use Rattle.nms_lines.specs.Left.{AreLeft}

@@ -1,3 +1,4 @@
+-- `read_plan`: clauses `read` and `refused`.
 use Rattle.std.proofs.Common.{refl}
 use Rattle.nms_lines.proofs.plan_reading.read_plan.Goals as goal
 

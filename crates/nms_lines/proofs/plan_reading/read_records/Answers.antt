@@ -1,3 +1,4 @@
+-- `read_records`: clauses `refused` and `read`, by `no_cuts`, `no_legs` and `plan_found`.
 use Rattle.std.proofs.Common.{rules, ◌≡◌, ◌≤◌, Err, length}
 use Rattle.csv.specs.Records.{fields_of}
 use Rattle.nms_lines.specs.declared.plan_text_fault.PlanTextFault.TheVariants as fault
@@ -20,7 +21,8 @@ returns-in_err-certificate-clause-refused g c = λ left was bad.
     let none : c.read_cuts.result ≡ Err fault.BadPlanText = search rules in
     let head = c.in_ok-head.ensures.read left was in
     let legs = c.in_ok-legs.ensures.read head.1 head.4 in
-    no_cuts c.args.roster.now left head.1 legs.0 head.0 (fields_of c.read_legs.new.row) c.in_ok-head.head head.2 head.3 legs.2 (c.read_cuts.ensures.refused legs.0 legs.3 none)
+    no_cuts c.args.roster.now left head.1 legs.0 head.0 (fields_of c.read_legs.new.row) c.in_ok-head.head head.2 head.3 legs.2
+    (c.read_cuts.ensures.refused legs.0 legs.3 none)
 
 pub returns-clause-read : goal.returns-clause-read
 returns-clause-read g c = λ left was.
@@ -30,4 +32,5 @@ returns-clause-read g c = λ left was.
     let within : length c.in_ok-legs.legs.items ≤ 32 = search rules in
     let most : length c.in_ok-certificate.certificate.items ≤ 32 = search rules in
     let view = c.head.view_is in
-    rw view (plan_found c.args.roster.now left head.1 legs.0 head.0 (fields_of c.read_legs.new.row) c.in_ok-head.head c.in_ok-legs.legs.items c.in_ok-certificate.certificate.items head.2 head.3 legs.1 legs.2 cuts within most)
+    rw view (plan_found c.args.roster.now left head.1 legs.0 head.0 (fields_of c.read_legs.new.row) c.in_ok-head.head
+    c.in_ok-legs.legs.items c.in_ok-certificate.certificate.items head.2 head.3 legs.1 legs.2 cuts within most)

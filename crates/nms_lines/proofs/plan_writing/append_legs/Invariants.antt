@@ -1,3 +1,4 @@
+-- `append_legs`: what holds in each turn of its loop.
 use Rattle.std.proofs.Common.{◌≡◌, ◌++◌, map, take}
 use Rattle.nms_lines.specs.PlanText.{leg_record}
 use Rattle.nms_lines.specs.Text.{text_of}

@@ -1,3 +1,4 @@
+-- `open_records`: clause `reads`, by `begins_first` and `stands_first`.
 use Rattle.std.proofs.Common.{rules}
 use Rattle.nms_lines.proofs.ReadFacts.{begins_first, stands_first}
 use Rattle.nms_lines.proofs.record_reading.open_records.Goals as goal
@@ -8,6 +9,7 @@ returns-clause-reads g c = record {
   ready = search rules;
   flexible = search rules;
   config = search rules;
-  stands = stands_first {R = g.row.R.Denot} g.R.Read.remaining c.from_reader.result (g.R.Read.remaining c.args.source) c.from_reader.ensures.source c.from_reader.ensures.state;
+  stands = stands_first {R = g.row.R.Denot} g.R.Read.remaining c.from_reader.result (g.R.Read.remaining c.args.source)
+      c.from_reader.ensures.source c.from_reader.ensures.state;
   begins = begins_first (g.R.Read.remaining c.args.source);
 }

@@ -1,3 +1,5 @@
+-- `read_next`: clauses `found`, `more` and `none`, by `left_more`, `left_none`, `begins_read` and
+-- `stands_more`.
 use Rattle.std.proofs.Common.{◌≡◌, ◌++◌, ◌∷◌, [], true, false, ◌∙◌, inl}
 use Rattle.csv.specs.Records.{fields_of}
 use Rattle.nms_lines.proofs.LeftFacts.{left_more, left_none}
@@ -8,24 +10,28 @@ pub returns-in-Ok-clause-found : goal.returns-in-Ok-clause-found
 returns-in-Ok-clause-found g c = λ bytes seen reads found.
     let is_found : c.in-Ok.found ≡ true = cc in
     let read = rw is_found at (c.in-Ok.ensures.reads reads.plain reads.ready) in
-    let stands = stands_more {R = g.row.R.Denot} g.R.Read.remaining c.args.reader.now c.read_byte_record.new.self bytes seen (fields_of c.read_byte_record.new.row) reads.config reads.stands read in
+    let stands = stands_more {R = g.row.R.Denot} g.R.Read.remaining c.args.reader.now c.read_byte_record.new.self bytes seen
+    (fields_of c.read_byte_record.new.row) reads.config reads.stands read in
     record {
       plain = read.3 ∙ reads.plain;
       ready = inl (c.in-Ok.ensures.ready reads.plain);
       flexible = c.in-Ok.ensures.flexible ∙ reads.flexible;
       config = read.2 ∙ reads.config;
       stands = stands;
-      begins = begins_read {R = g.row.R.Denot} g.R.Read.remaining c.read_byte_record.new.self bytes (seen ++ fields_of c.read_byte_record.new.row ∷ []) stands;
+      begins = begins_read {R = g.row.R.Denot} g.R.Read.remaining c.read_byte_record.new.self bytes
+          (seen ++ fields_of c.read_byte_record.new.row ∷ []) stands;
     }
 
 pub returns-in-Ok-clause-more : goal.returns-in-Ok-clause-more
 returns-in-Ok-clause-more g c = λ left was found.
     let is_found : c.in-Ok.found ≡ true = cc found in
     let read = rw is_found at (c.in-Ok.ensures.reads was.plain was.ready) in
-    left_more {R = g.row.R.Denot} g.R.Read.remaining c.args.reader.now c.read_byte_record.new.self left (fields_of c.read_byte_record.new.row) was read (inl (c.in-Ok.ensures.ready was.plain))
+    left_more {R = g.row.R.Denot} g.R.Read.remaining c.args.reader.now c.read_byte_record.new.self left
+    (fields_of c.read_byte_record.new.row) was read (inl (c.in-Ok.ensures.ready was.plain))
 
 pub returns-in-Ok-clause-none : goal.returns-in-Ok-clause-none
 returns-in-Ok-clause-none g c = λ left was found.
     let is_found : c.in-Ok.found ≡ false = cc found in
     let read = rw is_found at (c.in-Ok.ensures.reads was.plain was.ready) in
-    left_none {R = g.row.R.Denot} g.R.Read.remaining c.args.reader.now c.read_byte_record.new.self left (fields_of c.read_byte_record.new.row) was read
+    left_none {R = g.row.R.Denot} g.R.Read.remaining c.args.reader.now c.read_byte_record.new.self left
+    (fields_of c.read_byte_record.new.row) was read

@@ -1,3 +1,4 @@
+-- `is_unfit`: all that it promises, by `fit_with_price` and `unfit_alone`.
 use Rattle.std.proofs.Common.{◌∙◌, sym}
 use Rattle.nms_units.specs.Price.{price_number}
 use Rattle.nms_lines.specs.Numbers.{shares_number}
@@ -10,4 +11,5 @@ returns-in-Ok-default c = λ p s price shares.
 
 pub returns-in_default : goal.returns-in_default
 returns-in_default c = λ p s price shares.
-    sym (unfit_alone (price_number p) (shares_number s) c.in_default.field-0-0 c.in_default.field-0-1 (sym price ∙ c.in_default.is-0) (sym shares ∙ c.in_default.is-1))
+    sym (unfit_alone (price_number p) (shares_number s) c.in_default.field-0-0 c.in_default.field-0-1 (sym price ∙ c.in_default.is-0)
+    (sym shares ∙ c.in_default.is-1))

@@ -1,3 +1,5 @@
+-- `write_text`: clauses `written` and `part` and the turns of its loop, by `failed_part`, `more_within`,
+-- `more_written` and `part_written`.
 use Rattle.std.proofs.Common.{arith, subst}
 use Rattle.std.proofs.lemmas.List.{take_all}
 use Rattle.std.specs.Io.KnownBytes.{Appends}

@@ -1,3 +1,4 @@
+-- `write_text`: what holds in each turn of its loop: `within` and `written`.
 use Rattle.std.proofs.Common.{◌≤◌, length, take}
 use Rattle.std.specs.Io.KnownBytes.{Appends}
 use Rattle.nms_lines.proofs.text_writing.write_text.Given as goal

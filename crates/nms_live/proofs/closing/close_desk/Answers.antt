@@ -1,3 +1,4 @@
+-- `close_desk`: clause `row`, by `closed`.
 use Rattle.std.proofs.Common.{◌≡◌, ◌≤◌, ◌++◌, ◌∷◌, List, length, ap, subst, ◌∙◌}
 use Rattle.std.specs.List.{AllByRecursion, Contains}
 use Rattle.nms_quote.specs.Tape.{Tape}
@@ -18,16 +19,21 @@ returns-in-Ok-settle-clause-row c =
     let closing = c.in-Ok.closing.items in
     let knows = c.in-Ok.ensures.knows in
     let whole : changes c.receipt.result.published ≡ tape = ap changes c.receipt.ensures.published ∙ c.requires.whole.published in
-    let learnt : c.learn.new.self.known ≡ tape ∷ before = ap (λ (d : Knowing). d.known) c.learn.ensures ∙ ap (λ (t : Tape). t ∷ before) whole in
-    let again : c.receipt-2.result.published ≡ keeper.taped.published = c.receipt-2.ensures.published ∙ ap (λ (k : Keeping). k.taped.published) c.receipt.ensures.unchanged in
+    let learnt : c.learn.new.self.known ≡ tape ∷ before = ap (λ (d : Knowing). d.known) c.learn.ensures
+    ∙ ap (λ (t : Tape). t ∷ before) whole in
+    let again : c.receipt-2.result.published ≡ keeper.taped.published = c.receipt-2.ensures.published
+    ∙ ap (λ (k : Keeping). k.taped.published) c.receipt.ensures.unchanged in
     let top : changes c.receipt-2.result.published ≡ tape = ap changes again ∙ c.requires.whole.published in
-    closed c.args.given.now.setup.now c.args.number c.args.given.now.orders.items keeper.taped.published keeper.listed tape before after knows.0 (record { answers = c.args.desked.answers; closing = c.in-Ok.closing })
+    closed c.args.given.now.setup.now c.args.number c.args.given.now.orders.items keeper.taped.published keeper.listed tape before after
+    knows.0 (record { answers = c.args.desked.answers; closing = c.in-Ok.closing })
     c.receipt.ensures.kept.published
     (record {
       begin = subst (λ (t : Tape). AllBegin t after) top c.in-Ok-settle.ensures.begins;
-      published_them = subst (λ (b : Batches). AllByRecursion (λ earlier. Contains (publications b) (length earlier)) after) again c.in-Ok-settle.ensures.published;
+      published_them = subst (λ (b : Batches). AllByRecursion (λ earlier. Contains (publications b) (length earlier)) after) again
+          c.in-Ok-settle.ensures.published;
     })
     (knows.1 ∙ ap (λ (k : List Tape). knows.0 ++ k) learnt)
     (c.requires.back.worked c.requires.ended)
-    (subst (λ (o : List DeskOrder). IsWorked c.args.given.now.setup.now c.args.number o after closing) c.deref.ensures.value c.in-Ok.ensures.worked)
+    (subst (λ (o : List DeskOrder). IsWorked c.args.given.now.setup.now c.args.number o after closing) c.deref.ensures.value
+    c.in-Ok.ensures.worked)
     (subst (λ (k : List Tape). AllByRecursion (λ n. longest_of k ≤ n) (versions closing)) learnt c.in-Ok.ensures.later)

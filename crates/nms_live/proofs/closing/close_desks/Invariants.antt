@@ -1,3 +1,4 @@
+-- `close_desks`: what holds in each turn of its loop: `parted`, `count`, `all`, `keeper` and `rows`.
 use Rattle.std.proofs.Common.{◌≡◌, ◌++◌, length}
 use Rattle.std.specs.Vec.Iter.{into_iter_items}
 use Rattle.nms_versions.specs.Taped.{tape_of}

@@ -1,3 +1,5 @@
+-- `answer_orders`: clause `knows`, a step on the way and the turns of its loop, by `numbered_more`,
+-- `so_far_mine` and `so_far_other`.
 use Rattle.std.proofs.Common.{◌≡◌, ◌==◌, ◌++◌, ◌∷◌, [], true, false, List, take, ap, sym, ◌∙◌, arith, rules}
 use Rattle.std.proofs.lemmas.Bool.Decides.{nat_tests}
 use Rattle.nms_quote.specs.Tape.{Tape}
@@ -16,7 +18,8 @@ loop-place-preserved-then-wanted-number g c =
       sizes = c.loop-place.invariant.sizes;
       looks = omega (arith, c.loop-place.invariant.looks);
       so_far = rw (numbered_more c.args.orders.now place order c.loop-place-test.true (sym c.index-orders-place.is))
-          (so_far_other c.args.setup.now c.args.number (numbered (take place c.args.orders.now)) (place, order) c.args.desk.now.known c.loop-place.desk.known c.loop-place.answers.items other c.loop-place.invariant.so_far);
+          (so_far_other c.args.setup.now c.args.number (numbered (take place c.args.orders.now)) (place, order) c.args.desk.now.known
+          c.loop-place.desk.known c.loop-place.answers.items other c.loop-place.invariant.so_far);
     }
 
 pub returns-in-Err-push_back-clause-knows : goal.returns-in-Err-push_back-clause-knows
@@ -37,6 +40,7 @@ loop-place-preserved g c =
       sizes = c.answer_one.ensures.same.1 ∙ c.loop-place.invariant.sizes;
       looks = omega (arith, c.loop-place.invariant.looks);
       so_far = rw (numbered_more c.args.orders.now place order c.loop-place-test.true (sym c.index-orders-place.is), pushed)
-          (so_far_mine c.args.setup.now c.args.number (numbered (take place c.args.orders.now)) (place, order) c.args.desk.now.known c.loop-place.desk.known c.answer_one.new.desk.known c.loop-place.answers.items c.in-Ok.answer best.0
+          (so_far_mine c.args.setup.now c.args.number (numbered (take place c.args.orders.now)) (place, order) c.args.desk.now.known
+          c.loop-place.desk.known c.answer_one.new.desk.known c.loop-place.answers.items c.in-Ok.answer best.0
           mine c.in-Ok.ensures.order best.1 best.2 best.3 best.4 c.loop-place.invariant.so_far);
     }

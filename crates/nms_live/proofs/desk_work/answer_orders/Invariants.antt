@@ -1,3 +1,4 @@
+-- `answer_orders`: what holds in each turn of its loop: `opening`, `sizes`, `looks` and `so_far`.
 use Rattle.std.proofs.Common.{◌≡◌, ◌≤◌, take}
 use Rattle.nms_live.specs.Answering.{numbered}
 use Rattle.nms_live.proofs.DeskFacts.{IsSoFar}

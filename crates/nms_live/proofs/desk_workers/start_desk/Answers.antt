@@ -1,3 +1,4 @@
+-- `start_desk`: clause `started`, by `desked_by_job`.
 use Rattle.std.proofs.Common.{ap, ◌∙◌, rules}
 use Rattle.nms_live.specs.declared.desk_work.DeskJob.{DeskJob}
 use Rattle.nms_live.proofs.CrewFacts.{desked_by_job}

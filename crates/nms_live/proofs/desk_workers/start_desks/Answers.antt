@@ -1,3 +1,4 @@
+-- `start_desks`: the turns of its loop, by `row_more` and `stands_at`.
 use Rattle.std.proofs.Common.{ℕ, ◌≡◌, ◌++◌, ◌∷◌, [], length, ap, sym, subst, ◌∙◌, append_assoc, length-append, arith}
 use Rattle.std.specs.Prelude.{slice_index_or}
 use Rattle.std.specs.Vec.Iter.{into_iter_items}
@@ -18,16 +19,21 @@ loop-desk-preserved g c =
     let pushed = started.1 in
     let rest = into_iter_items c.next.new.self in
     let steps : into_iter_items at.desk-iterator ≡ desk ∷ rest = c.in-Some.ensures.steps.0 in
-    let parted : (at.yielded ++ desk ∷ []) ++ rest ≡ c.args.desks.items = append_assoc at.yielded (desk ∷ []) rest ∙ rw (sym steps) at.invariant.parted in
+    let parted : (at.yielded ++ desk ∷ []) ++ rest ≡ c.args.desks.items = append_assoc at.yielded (desk ∷ []) rest
+    ∙ rw (sym steps) at.invariant.parted in
     let place : length at.handles.items ≡ at.number = at.invariant.all in
     record {
       parted = parted;
       count = omega (arith, at.invariant.count, length-append at.yielded (desk ∷ []));
       all = omega (arith, place, ap length pushed, length-append at.handles.items (handle ∷ []));
       started = λ k d h below.
-          let P : ℕ → PromisedHandle Desked DeskJob → Type 0 = λ j r. WillBeDesked c.args.given.now.setup.now c.args.given.now.orders.items (slice_index_or c.args.desks.items j d) j r in
-          let there : slice_index_or c.args.desks.items at.number d ≡ desk = stands_at c.args.desks.items at.yielded desk rest at.number d parted at.invariant.count in
-          let here : P at.number handle = subst (λ (e : Knowing). WillBeDesked c.args.given.now.setup.now c.args.given.now.orders.items e at.number handle) (sym there) started.2 in
+          let P : ℕ → PromisedHandle Desked DeskJob → Type 0 =
+          λ j r. WillBeDesked c.args.given.now.setup.now c.args.given.now.orders.items (slice_index_or c.args.desks.items j d) j r in
+          let there : slice_index_or c.args.desks.items at.number d ≡ desk =
+          stands_at c.args.desks.items at.yielded desk rest at.number d parted at.invariant.count in
+          let here : P at.number handle =
+          subst (λ (e : Knowing). WillBeDesked c.args.given.now.setup.now c.args.given.now.orders.items e at.number handle) (sym there)
+          started.2 in
           let last : P (length at.handles.items) handle = rw place here in
           rw pushed (row_more P at.handles.items handle (λ j e lt. at.invariant.started j d e lt) last k h (rw (sym pushed) below));
     }

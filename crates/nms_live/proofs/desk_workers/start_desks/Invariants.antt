@@ -1,3 +1,4 @@
+-- `start_desks`: what holds in each turn of its loop: `parted`, `count`, `all` and `started`.
 use Rattle.std.proofs.Common.{◌≡◌, ◌++◌, length}
 use Rattle.std.specs.Vec.Iter.{into_iter_items}
 use Rattle.nms_live.specs.Crew.{AreStarted}

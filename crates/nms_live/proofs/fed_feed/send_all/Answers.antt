@@ -1,3 +1,4 @@
+-- `send_all`: clause `refused`.
 use Rattle.nms_live.proofs.fed_feed.send_all.Goals as goal
 
 pub returns-clause-refused : goal.returns-clause-refused

@@ -1,3 +1,5 @@
+-- `send_rows`: clauses `read` and `refused` and the turns of its loop, by `all_push`, `first_refused` and
+-- `says_more`.
 use Rattle.std.proofs.Common.{ap, Ok, Bool, ◌∙◌, ◌+◌, ◌++◌, ◌∷◌, [], Some, length, arith, length-append}
 use Rattle.nms_lines.specs.Rows.{fields_of}
 use Rattle.nms_live.specs.Reading.{IsOwn}
@@ -17,10 +19,12 @@ loop-index-preserved g c =
           let had = c.loop-index.invariant.read text reads in (
             had.0 ++ fields_of c.read_next.new.row ∷ [],
             c.in-Ok-true.ensures.found (Some text) had.0 had.1 (ap (λ (b : Bool). Ok b) c.in-Ok-true.field-0-test),
-            says_more c.args.setup.now.roster c.args.feed had.0 (fields_of c.read_next.new.row) c.loop-index.sender.sent c.send_record.new.sender.sent sent.0 sent.1 sent.3 had.2,
+            says_more c.args.setup.now.roster c.args.feed had.0 (fields_of c.read_next.new.row) c.loop-index.sender.sent
+                c.send_record.new.sender.sent sent.0 sent.1 sent.3 had.2,
             omega (arith, length-append had.0 (fields_of c.read_next.new.row ∷ []), had.3),
           );
-      own = rw sent.3 (all_push (IsOwn c.args.setup.now.roster c.args.feed) c.loop-index.sender.sent sent.0 c.loop-index.invariant.own sent.2);
+      own = rw sent.3 (all_push (IsOwn c.args.setup.now.roster c.args.feed) c.loop-index.sender.sent sent.0 c.loop-index.invariant.own
+          sent.2);
     }
 
 pub returns-in-Ok-false-clause-read : goal.returns-in-Ok-false-clause-read
@@ -37,5 +41,6 @@ pub returns-in-Err-send_record-clause-refused : goal.returns-in-Err-send_record-
 returns-in-Err-send_record-clause-refused g c = λ text reads.
     let had = c.loop-index.invariant.read text reads in
     let found = c.in-Ok-true.ensures.found (Some text) had.0 had.1 (ap (λ (b : Bool). Ok b) c.in-Ok-true.field-0-test) in
-    first_refused c.args.setup.now.roster c.args.feed text had.0 (fields_of c.read_next.new.row) c.loop-index.sender.sent (c.loop-index.index + 1) c.in-Err-send_record.fault
+    first_refused c.args.setup.now.roster c.args.feed text had.0 (fields_of c.read_next.new.row) c.loop-index.sender.sent
+    (c.loop-index.index + 1) c.in-Err-send_record.fault
     found.begins had.2 (omega (arith, had.3)) c.in-Err-send_record.ensures.refused

@@ -1,3 +1,4 @@
+-- `send_rows`: what holds in each turn of its loop: `lane`, `feed`, `count`, `read` and `own`.
 use Rattle.std.proofs.Common.{ℕ, ◌≡◌, List, [], length, Some}
 use Rattle.nms_lines.specs.Layout.{Record}
 use Rattle.nms_lines.specs.Records.{ReadsFrom}
@@ -11,6 +12,8 @@ invariant-loop-index g l = record {
   lane : l.sender.lane ≡ l.fn.sender.lane;
   feed : l.sender.feed ≡ l.fn.sender.feed;
   count : length l.sender.sent ≡ l.index;
-  read : (text : List ℕ) → ReadsFrom (λ s. Some s.now) l.fn.reader (Some text) [] → (records : List Record) × ReadsFrom (λ s. Some s.now) l.reader (Some text) records × Says l.setup.roster l.feed records l.sender.sent × (length records ≡ l.index);
+  read : (text : List ℕ) → ReadsFrom (λ s. Some s.now) l.fn.reader (Some text) []
+      → (records : List Record) × ReadsFrom (λ s. Some s.now) l.reader (Some text) records
+      × Says l.setup.roster l.feed records l.sender.sent × (length records ≡ l.index);
   own : AllByRecursion (IsOwn l.setup.roster l.feed) l.sender.sent;
 }

@@ -1,43 +1,45 @@
-use Rattle.std.proofs.Common.{sym, ◌∙◌}
-use Rattle.nms_quote.specs.declared.feed.Feed.TheVariants as feed
+-- `run_feeds`: what was started and joined is fed (`fed_all`), so its ends are those of the lane, its fault is that of a text,
+-- and its tape is a merge of what the texts say (`reads_of_all`).
+use Rattle.std.proofs.Common.{◌≡◌, true, rules}
+use Rattle.std.specs.List.{AllZip}
 use Rattle.nms_versions.specs.Taped.{tape_of}
-use Rattle.nms_live.specs.Crew.{texts_of}
-use Rattle.nms_live.proofs.FaultFacts.{fault_of_either, fed_fault, fed_whole}
-use Rattle.nms_live.proofs.TapeFacts.{reads_of_both, tape_of_feeds}
+use Rattle.nms_live.specs.Crew.{IsFedBy, first_stop, texts_of}
+use Rattle.nms_live.proofs.FaultFacts.{fault_of_ends}
+use Rattle.nms_live.proofs.FedFacts.{ends_back, fault_of_fed, fed_all, none_first, none_stopped}
+use Rattle.nms_live.proofs.TapeFacts.{reads_of_all, tape_of_feeds}
 use Rattle.nms_live.proofs.feed_workers.run_feeds.Goals as goal
 
-pub end_feeds-requires-clause-one_lane : goal.end_feeds-requires-clause-one_lane
-end_feeds-requires-clause-one_lane g c = λ loans lives.
-    let back = sym c.take_until_ended.ensures.lane in (
-      (c.in-Ok.ensures.a c.join-fed_a.result c.join-fed_a.ensures).lane_is ∙ c.requires.a.lane_is ∙ back,
-      (c.in-Ok.ensures.b c.join-fed_b.result c.join-fed_b.ensures).lane_is ∙ c.requires.b.lane_is ∙ back,
-    )
-
-pub end_feeds-requires-clause-feeds : goal.end_feeds-requires-clause-feeds
-end_feeds-requires-clause-feeds g c = λ loans lives. (
-  (c.in-Ok.ensures.a c.join-fed_a.result c.join-fed_a.ensures).feed_is,
-  (c.in-Ok.ensures.b c.join-fed_b.result c.join-fed_b.ensures).feed_is,
-)
-
-pub returns-in-Ok-clause-fault : goal.returns-in-Ok-clause-fault
-returns-in-Ok-clause-fault g c =
+pub end_feeds-requires-clause-ends : goal.end_feeds-requires-clause-ends
+end_feeds-requires-clause-ends g c = λ loans lives.
     let roster = c.args.given.now.setup.now.roster in
     let texts = texts_of c.args.given.now in
-    let fed_a = c.join-fed_a.result in
-    let fed_b = c.join-fed_b.result in
-    fault_of_either roster texts fed_a.stop fed_b.stop c.end_feeds.result
-    (fed_fault roster texts feed.A fed_a.sender.sent fed_a.stop (c.in-Ok.ensures.a fed_a c.join-fed_a.ensures).fed)
-    (fed_fault roster texts feed.B fed_b.sender.sent fed_b.stop (c.in-Ok.ensures.b fed_b c.join-fed_b.ensures).fed)
-    c.end_feeds.ensures.either
+    let all_started : c.start_feeds-all_started.result ≡ true = search rules in
+    let all = fed_all roster texts c.args.ends.0.items c.start_feeds-all_started.new.handles.items c.join_feeds-fed.result.items
+    (c.start_feeds-all_started.ensures.started all_started) c.join_feeds-fed.ensures.kept in
+    ends_back roster texts c.args.ends.0.items c.join_feeds-fed.result.items c.args.ends.1 c.take_until_ended.new.taker
+    c.take_until_ended.ensures.lane.0 c.take_until_ended.ensures.lane.1 c.requires.ends.of_lane all
 
-pub returns-in-Ok-clause-tape : goal.returns-in-Ok-clause-tape
-returns-in-Ok-clause-tape g c = λ none went.
-    let stops = c.end_feeds.ensures.none none in
-    let merged = c.end_feeds.ensures.merged none went in
+pub returns-clause-fault : goal.returns-clause-fault
+returns-clause-fault g c =
     let roster = c.args.given.now.setup.now.roster in
-    let fed_a = c.join-fed_a.result in
-    let fed_b = c.join-fed_b.result in
-    tape_of_feeds roster (texts_of c.args.given.now) merged.0 (tape_of c.end_feeds.new.keeper.taped) merged.2
-    (reads_of_both roster (texts_of c.args.given.now) fed_a.sender.sent fed_b.sender.sent merged.0 merged.1
-    (fed_whole roster feed.A c.args.given.now.a.text.items fed_a.sender.sent fed_a.stop stops.0 (c.in-Ok.ensures.a fed_a c.join-fed_a.ensures).fed)
-    (fed_whole roster feed.B c.args.given.now.b.text.items fed_b.sender.sent fed_b.stop stops.1 (c.in-Ok.ensures.b fed_b c.join-fed_b.ensures).fed))
+    let texts = texts_of c.args.given.now in
+    let all_started : c.start_feeds-all_started.result ≡ true = search rules in
+    let fed = c.join_feeds-fed.result.items in
+    let all = fed_all roster texts c.args.ends.0.items c.start_feeds-all_started.new.handles.items fed
+    (c.start_feeds-all_started.ensures.started all_started) c.join_feeds-fed.ensures.kept in
+    fault_of_ends roster texts (first_stop fed) c.end_feeds.result (fault_of_fed roster texts c.args.ends.0.items fed all)
+    c.end_feeds.ensures.fault
+
+pub returns-clause-tape : goal.returns-clause-tape
+returns-clause-tape g c = λ none went.
+    let roster = c.args.given.now.setup.now.roster in
+    let texts = texts_of c.args.given.now in
+    let all_started : c.start_feeds-all_started.result ≡ true = search rules in
+    let fed = c.join_feeds-fed.result.items in
+    let all = fed_all roster texts c.args.ends.0.items c.start_feeds-all_started.new.handles.items fed
+    (c.start_feeds-all_started.ensures.started all_started) c.join_feeds-fed.ensures.kept in
+    let merged = c.end_feeds.ensures.merged none went in
+    let stopped = none_stopped fed (none_first (first_stop fed) c.end_feeds.result c.end_feeds.ensures.first none) in
+    tape_of_feeds roster texts merged.0 (tape_of c.end_feeds.new.keeper.taped) merged.2
+    (reads_of_all roster texts c.args.ends.1 c.args.ends.0.items fed merged.0 c.requires.ends.of_lane c.requires.ends.all all stopped
+    merged.1)

@@ -1,3 +1,5 @@
+-- `gather`: clause `answered` and the turns of its loop, by `numbered_more`, `zip_push`, `Turn`, `all_put`,
+-- `left_step`, `numbered_rest`, `rising_all`, `some_of` and others.
 use Rattle.std.proofs.Common.{ℕ, ◌≡◌, ◌<◌, ◌+◌, ◌++◌, ◌∷◌, [], List, length, take, drop, refl, ap, sym, subst, ◌∙◌, arith, rules}
 use Rattle.std.specs.List.{AllZip, enumerate_from}
 use Rattle.std.specs.Prelude.{slice_index_or}
@@ -30,7 +32,8 @@ loop-wanted-preserved c =
     let old = at.rows.items in
     let new = c.next_of-answer.new.rows.items in
     let rest = enumerate_from (place + 1) (drop (place + 1) orders) in
-    let split : enumerate_from place (drop place orders) ≡ (place, order) ∷ rest = numbered_rest orders place order c.loop-wanted-test.true (sym c.wanted-item.is) in
+    let split : enumerate_from place (drop place orders) ≡ (place, order) ∷ rest =
+    numbered_rest orders place order c.loop-wanted-test.true (sym c.wanted-item.is) in
     let here : order.desk < length old =
     let there = c.requires.desks place order c.loop-wanted-test.true in
     let is = sym (ap (λ (o : DeskOrder). o.desk) c.wanted-item.is) in
@@ -39,8 +42,10 @@ loop-wanted-preserved c =
     let turn_closing : Turn = record { order = (place, order); rest = rest; put = at.closing.items; answer = close } in
     let mine : DeskRow → List Answer = λ row. row.answers.items in
     let own : DeskRow → List Answer = λ row. row.closing.items in
-    let left = subst (λ (l : List (ℕ × DeskOrder)). AreLeft mine (IsSound settings tape published) l at.answers.items first old) split inv.left in
-    let closing_left = subst (λ (l : List (ℕ × DeskOrder)). AreLeft own (IsLast settings tape published) l at.closing.items first old) split inv.closing_left in
+    let left = subst (λ (l : List (ℕ × DeskOrder)). AreLeft mine (IsSound settings tape published) l at.answers.items first old) split
+    inv.left in
+    let closing_left = subst (λ (l : List (ℕ × DeskOrder)). AreLeft own (IsLast settings tape published) l at.closing.items first old) split
+    inv.closing_left in
     let next = left_step mine (IsSound settings tape published) turn first old new
     c.next_of-answer.ensures.len here c.next_of-answer.ensures.others c.next_of-answer.ensures.answer left in
     let last = left_step own (IsLast settings tape published) turn_closing first old new
@@ -53,7 +58,8 @@ loop-wanted-preserved c =
       left = rw pushed next.2;
       closing_left = rw pushed_closing last.2;
       matched = rw (more, pushed) (zip_push IsFor (numbered (take place orders)) at.answers.items (place, order) answer inv.matched next.0);
-      closing_matched = rw (more, pushed_closing) (zip_push IsFor (numbered (take place orders)) at.closing.items (place, order) close inv.closing_matched last.0);
+      closing_matched = rw (more, pushed_closing)
+          (zip_push IsFor (numbered (take place orders)) at.closing.items (place, order) close inv.closing_matched last.0);
       sound = rw pushed (all_push (IsSound settings tape published) at.answers.items answer inv.sound next.1);
       last = rw pushed_closing (all_push (IsLast settings tape published) at.closing.items close inv.last last.1);
     }
@@ -72,24 +78,34 @@ returns-clause-answered c =
     let own : DeskRow → List Answer = λ row. row.closing.items in
     let end : place ≡ length orders = omega (arith, at.auto.wanted-index-end, c.loop-wanted-test.false) in
     let all : take place orders ≡ orders = ap (λ (k : ℕ). take k orders) end ∙ take-length orders in
-    let none : enumerate_from place (drop place orders) ≡ [] = ap (λ (k : ℕ). enumerate_from place (drop k orders)) end ∙ ap (enumerate_from place) (drop-length orders) in
-    let matched : AllZip IsFor (numbered orders) at.answers.items = subst (λ (l : List DeskOrder). AllZip IsFor (numbered l) at.answers.items) all inv.matched in
-    let again : AllZip IsFor (numbered orders) at.closing.items = subst (λ (l : List DeskOrder). AllZip IsFor (numbered l) at.closing.items) all inv.closing_matched in
-    let left = subst (λ (l : List (ℕ × DeskOrder)). AreLeft mine (IsSound settings tape published) l at.answers.items first at.rows.items) none inv.left in
-    let closing_left = subst (λ (l : List (ℕ × DeskOrder)). AreLeft own (IsLast settings tape published) l at.closing.items first at.rows.items) none inv.closing_left in
-    let rising : (desk : ℕ) → desk < length first → IsRising (versions (of_desk desk at.answers.items ++ of_desk desk at.closing.items)) = λ desk below.
+    let none : enumerate_from place (drop place orders) ≡ [] = ap (λ (k : ℕ). enumerate_from place (drop k orders)) end
+    ∙ ap (enumerate_from place) (drop-length orders) in
+    let matched : AllZip IsFor (numbered orders) at.answers.items =
+    subst (λ (l : List DeskOrder). AllZip IsFor (numbered l) at.answers.items) all inv.matched in
+    let again : AllZip IsFor (numbered orders) at.closing.items =
+    subst (λ (l : List DeskOrder). AllZip IsFor (numbered l) at.closing.items) all inv.closing_matched in
+    let left = subst (λ (l : List (ℕ × DeskOrder)). AreLeft mine (IsSound settings tape published) l at.answers.items first at.rows.items)
+    none inv.left in
+    let closing_left = subst (λ (l : List (ℕ × DeskOrder)). AreLeft own (IsLast settings tape published) l at.closing.items first
+    at.rows.items) none inv.closing_left in
+    let rising : (desk : ℕ) → desk < length first → IsRising (versions (of_desk desk at.answers.items ++ of_desk desk at.closing.items)) =
+    λ desk below.
     let d = some_of first (omega (arith, below)) in
     let now : desk < length at.rows.items = omega (arith, below, inv.count) in
     rw (
-      all_put (IsSound settings tape published) desk at.answers.items (mine (slice_index_or first desk d)) (mine (slice_index_or at.rows.items desk d)) (left desk d now),
-      all_put (IsLast settings tape published) desk at.closing.items (own (slice_index_or first desk d)) (own (slice_index_or at.rows.items desk d)) (closing_left desk d now),
+      all_put (IsSound settings tape published) desk at.answers.items (mine (slice_index_or first desk d))
+          (mine (slice_index_or at.rows.items desk d)) (left desk d now),
+      all_put (IsLast settings tape published) desk at.closing.items (own (slice_index_or first desk d))
+          (own (slice_index_or at.rows.items desk d)) (closing_left desk d now),
     ) (c.requires.rows desk d below).rising in
     record {
       matched = matched;
       closing_matched = again;
       sound = inv.sound;
-      closing_sound = all_weaker (IsLast settings tape published) (IsSound settings tape published) at.closing.items (λ a last. last.0) inv.last;
-      last = all_weaker (IsLast settings tape published) (λ (a : Answer). a.plan.version ≡ length tape) at.closing.items (λ a last. last.1) inv.last;
+      closing_sound = all_weaker (IsLast settings tape published) (IsSound settings tape published) at.closing.items (λ a last. last.0)
+          inv.last;
+      last = all_weaker (IsLast settings tape published) (λ (a : Answer). a.plan.version ≡ length tape) at.closing.items (λ a last. last.1)
+          inv.last;
       rising = rising_all orders (length first) at.answers.items at.closing.items c.requires.desks matched again rising;
     }
 
@@ -104,7 +120,8 @@ loop-wanted-init c = rw (c.new-answers.ensures.items, c.new-closing.ensures.item
       record {
         parted = refl;
         matched = row.closing_matched;
-        wanted = all_both (IsSound c.args.setup.now c.args.tape.now c.args.published.now) (λ (a : Answer). a.plan.version ≡ length c.args.tape.now)
+        wanted = all_both (IsSound c.args.setup.now c.args.tape.now c.args.published.now)
+            (λ (a : Answer). a.plan.version ≡ length c.args.tape.now)
             (slice_index_or c.args.rows.items k d).closing.items row.closing_sound row.last;
       };
   matched = tt;

@@ -1,3 +1,4 @@
+-- `run_workers`: clause `done` and the call of `fault_among`, by `back_all`.
 use Rattle.std.proofs.Common.{ℕ, ◌≡◌, ◌<◌, None, List, length, sym, ◌∙◌, subst}
 use Rattle.std.specs.Prelude.{slice_index_or}
 use Rattle.nms_versions.specs.Pages.{Book}
@@ -10,15 +11,21 @@ use Rattle.nms_live.proofs.workers.run_workers.Goals as goal
 pub fault_among-requires : goal.fault_among-requires
 fault_among-requires g c =
     let desks = c.join_desks-desks.result.items in
-    let back = back_all c.args.given.now.setup.now c.args.given.now.orders.items c.args.keeper.now.taped.opening c.args.desks.items c.in-Ok.crew.0.items desks
+    let back = back_all c.args.given.now.setup.now c.args.given.now.orders.items c.args.keeper.now.taped.opening c.args.desks.items
+    c.in-Ok.crew.0.items desks
     c.requires.ready c.in-Ok.ensures.all c.join_desks-desks.ensures.all c.in-Ok.ensures.started c.join_desks-desks.ensures.kept in
-    let all : (k : ℕ) (d : Desked) → k < length desks → IsNoLineIfAny (slice_index_or desks k d).stop = λ k d below. (back k d below).stopped in
-    record { no_line = subst (λ (l : List Desked). (k : ℕ) (d : Desked) → k < length l → IsNoLineIfAny (slice_index_or l k d).stop) (sym c.as_slice.ensures.value) all }
+    let all : (k : ℕ) (d : Desked) → k < length desks → IsNoLineIfAny (slice_index_or desks k d).stop =
+    λ k d below. (back k d below).stopped in
+    record {
+      no_line = subst (λ (l : List Desked). (k : ℕ) (d : Desked) → k < length l → IsNoLineIfAny (slice_index_or l k d).stop)
+          (sym c.as_slice.ensures.value) all;
+    }
 
 pub returns-in-None-clause-done : goal.returns-in-None-clause-done
 returns-in-None-clause-done g c =
     let desks = c.join_desks-desks.result.items in
-    let back = back_all c.args.given.now.setup.now c.args.given.now.orders.items c.args.keeper.now.taped.opening c.args.desks.items c.in-Ok.crew.0.items desks
+    let back = back_all c.args.given.now.setup.now c.args.given.now.orders.items c.args.keeper.now.taped.opening c.args.desks.items
+    c.in-Ok.crew.0.items desks
     c.requires.ready c.in-Ok.ensures.all c.join_desks-desks.ensures.all c.in-Ok.ensures.started c.join_desks-desks.ensures.kept in
     let none = c.fault_among.ensures.none c.in-None.is in
     let both = c.first_of.ensures.none none.0 in
@@ -27,7 +34,9 @@ returns-in-None-clause-done g c =
       went_on = went_on;
       tape = c.run_feeds-fed.ensures.tape both.0 went_on;
       whole = c.run_feeds-fed.ensures.whole both.0 went_on;
-      back = subst (λ (o : Book). AreBack c.args.given.now.setup.now c.args.given.now.orders.items o desks) (sym c.run_feeds-fed.ensures.same.opening) back;
+      back = subst (λ (o : Book). AreBack c.args.given.now.setup.now c.args.given.now.orders.items o desks)
+          (sym c.run_feeds-fed.ensures.same.opening) back;
       all = c.join_desks-desks.ensures.all ∙ (c.in-Ok.ensures.all ∙ c.requires.desks);
-      ended = subst (λ (l : List Desked). (k : ℕ) (d : Desked) → k < length l → (slice_index_or l k d).stop ≡ None) c.as_slice.ensures.value none.1;
+      ended = subst (λ (l : List Desked). (k : ℕ) (d : Desked) → k < length l → (slice_index_or l k d).stop ≡ None) c.as_slice.ensures.value
+          none.1;
     }

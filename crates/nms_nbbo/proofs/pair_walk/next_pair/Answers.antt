@@ -1,3 +1,4 @@
+-- `next_pair`: clause `pairs`, by `pairs_from-first` and `pairs_from-none`.
 use Rattle.nms_nbbo.proofs.PairLemmas.{pairs_from-first, pairs_from-none}
 use Rattle.nms_nbbo.proofs.pair_walk.next_pair.Goals as goal
 

@@ -1,3 +1,4 @@
+-- `best`: all that it promises, by `first_is_best`.
 use Rattle.nms_nbbo.proofs.RankingLemmas.{first_is_best}
 use Rattle.nms_nbbo.proofs.ranking.best.Goals as goal
 

@@ -1,3 +1,4 @@
+-- `best_on`: clause `best`, by `first_is_best`.
 use Rattle.nms_nbbo.proofs.RankingLemmas.{first_is_best}
 use Rattle.nms_nbbo.proofs.ranking.best_on.Goals as goal
 

@@ -1,3 +1,4 @@
+-- `protected_among`: what holds in each turn of its loop.
 use Rattle.std.proofs.Common.{◌≡◌, ◌≤◌, length, take}
 use Rattle.nms_board.specs.Ranking.{protected_among}
 use Rattle.nms_nbbo.proofs.ranking.protected_among.Given as goal

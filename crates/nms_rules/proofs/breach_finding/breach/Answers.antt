@@ -1,3 +1,4 @@
+-- `breach`: clause `lawful`, by `faultless_of_none` and `none_of_faultless`.
 use Rattle.std.proofs.Common.{◌≡◌, IsNone, None, Some, Option, refl, ap, sym, ◌∙◌}
 use Rattle.std.specs.Option.{is_some}
 use Rattle.std.proofs.lemmas.Bool.{false≢true}
@@ -17,6 +18,8 @@ returns-clause-lawful c =
     let same = sym c.find_breach.ensures.first ∙ sym c.err.ensures.value in
     let bids = c.find_breach.ensures.bids in
     let offers = c.find_breach.ensures.offers in (
-      (λ none. faultless_of_none c.args.view.now c.args.order.now c.args.fees.now c.args.plan.now bids offers (same ∙ none-is c.err.result none)),
-      (λ is. is-none c.err.result (sym same ∙ none_of_faultless c.args.view.now c.args.order.now c.args.fees.now c.args.plan.now bids offers is)),
+      (λ none. faultless_of_none c.args.view.now c.args.order.now c.args.fees.now c.args.plan.now bids offers
+          (same ∙ none-is c.err.result none)),
+      (λ is. is-none c.err.result (sym same
+          ∙ none_of_faultless c.args.view.now c.args.order.now c.args.fees.now c.args.plan.now bids offers is)),
     )

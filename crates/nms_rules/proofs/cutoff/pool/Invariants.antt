@@ -1,3 +1,4 @@
+-- `pool`: what holds in each turn of its loop: `sum` and `within`.
 use Rattle.std.proofs.Common.{◌≡◌, ◌≤◌, ◌*◌, take}
 use Rattle.nms_rules.specs.Cutoff.{pool}
 use Rattle.nms_rules.specs.declared.TheConstants.{MOST_SIZE}

@@ -1,3 +1,4 @@
+-- `savings`: the turns of its loop, by `amount_more`.
 use Rattle.std.proofs.Common.{arith}
 use Rattle.std.proofs.lemmas.Int.{ints}
 use Rattle.nms_rules.specs.Cutoff.{savings_part}
@@ -6,7 +7,8 @@ use Rattle.nms_rules.proofs.cutoff.savings.Goals as goal
 
 pub loop-row-preserved : goal.loop-row-preserved
 loop-row-preserved c =
-    let more = amount_more (savings_part c.args.cutoff c.args.marginal) c.args.rows.now c.loop-row.row-index c.row-item.result c.loop-row-test.true c.row-item.is in
+    let more = amount_more (savings_part c.args.cutoff c.args.marginal) c.args.rows.now c.loop-row.row-index c.row-item.result
+    c.loop-row-test.true c.row-item.is in
     record {
       sum = omega (arith, ints, c.plus-sum.ensures, c.savings_part.ensures.part, c.loop-row.invariant.sum, more);
       low = omega (arith, ints, c.plus-sum.ensures, c.savings_part.ensures.low, c.loop-row.invariant.low);

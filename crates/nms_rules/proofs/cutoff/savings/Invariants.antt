@@ -1,3 +1,4 @@
+-- `savings`: what holds in each turn of its loop: `sum`, `low` and `high`.
 use Rattle.std.proofs.Common.{◌≡◌, ◌*◌, ◌^◌, take}
 use Rattle.std.specs.Prelude.{◌≤ℤ◌, neg_ℤ, pos}
 use Rattle.nms_rules.specs.Cutoff.{savings}

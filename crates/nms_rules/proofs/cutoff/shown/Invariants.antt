@@ -1,3 +1,4 @@
+-- `shown`: what holds in each turn of its loop: `sum` and `within`.
 use Rattle.std.proofs.Common.{◌≡◌, ◌≤◌, ◌*◌, take}
 use Rattle.nms_rules.specs.Assignment.{total}
 use Rattle.nms_rules.specs.Usable.{Usable}

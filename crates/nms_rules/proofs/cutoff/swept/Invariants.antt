@@ -1,3 +1,4 @@
+-- `swept`: what holds in each turn of its loop: `sum` and `within`.
 use Rattle.std.proofs.Common.{◌≡◌, ◌≤◌, ◌*◌, take}
 use Rattle.nms_rules.specs.Cutoff.{swept}
 use Rattle.nms_rules.specs.declared.TheConstants.{MOST_SIZE}

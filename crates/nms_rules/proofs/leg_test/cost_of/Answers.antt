@@ -1,3 +1,4 @@
+-- `cost_of`: the turns of its loop, by `cost_of-none` and `cost_of-push`.
 use Rattle.std.proofs.Common.{◌++◌, ◌∷◌, [], List, take, arith, ap, sym, ◌∙◌}
 use Rattle.std.proofs.lemmas.Int.{ints}
 use Rattle.std.proofs.lemmas.List.{take_more}

@@ -1,3 +1,4 @@
+-- `given_to`: what holds in each turn of its loop: `given` and `within`.
 use Rattle.std.proofs.Common.{◌≡◌, ◌≤◌, ◌*◌, take}
 use Rattle.nms_rules.specs.Faultless.{given_by}
 use Rattle.nms_rules.proofs.leg_test.given_to.Given as goal

@@ -1,3 +1,4 @@
+-- `has_repeat`: what holds in each turn of its loop.
 use Rattle.std.proofs.Common.{◌≡◌, length}
 use Rattle.nms_rules.specs.Breach.{has_repeat}
 use Rattle.nms_rules.proofs.leg_test.has_repeat.Given as goal

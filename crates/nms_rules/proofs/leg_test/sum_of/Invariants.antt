@@ -1,3 +1,4 @@
+-- `sum_of`: what holds in each turn of its loop: `sum` and `within`.
 use Rattle.std.proofs.Common.{◌≡◌, ◌≤◌, ◌*◌, take}
 use Rattle.nms_rules.specs.Faultless.{sum_of}
 use Rattle.nms_rules.proofs.leg_test.sum_of.Given as goal

@@ -1,3 +1,4 @@
+-- `push_through`: what holds in each turn of its loop: `items` and `within`.
 use Rattle.std.proofs.Common.{◌≡◌, ◌≤◌, ◌+◌, ◌++◌, length, take}
 use Rattle.nms_rules.specs.Through.{through_on}
 use Rattle.nms_rules.proofs.through.push_through.Given as goal

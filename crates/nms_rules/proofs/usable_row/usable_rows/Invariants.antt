@@ -1,3 +1,4 @@
+-- `usable_rows`: what holds in each turn of its loop: `items` and `within`.
 use Rattle.std.proofs.Common.{◌≡◌, ◌≤◌, length, map, take}
 use Rattle.std.specs.List.{filter}
 use Rattle.nms_rules.specs.Usable.{is_usable, usable_row}

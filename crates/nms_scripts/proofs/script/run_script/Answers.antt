@@ -1,3 +1,4 @@
+-- `run_script`: clause `stopped`, by `answers_nothing`.
 use Rattle.std.proofs.Common.{◌≢◌, sym, ◌∙◌}
 use Rattle.nms_text.specs.declared.script_fault.ScriptFault.TheVariants as fault
 use Rattle.nms_scripts.proofs.ProgressFacts.{answers_nothing}
@@ -7,4 +8,5 @@ no_memory : fault.NoMemory ≢ fault.TooLong
 no_memory e = cc
 
 pub returns-clause-stopped : goal.returns-clause-stopped
-returns-clause-stopped g c _ = answers_nothing c.args.setup.now (g.R.Read.remaining c.args.reader) (g.W.Write.contents c.args.writer.now) c.in-Err.fault (λ e. no_memory (sym c.in-Err.ensures.memory ∙ e))
+returns-clause-stopped g c _ = answers_nothing c.args.setup.now (g.R.Read.remaining c.args.reader) (g.W.Write.contents c.args.writer.now)
+    c.in-Err.fault (λ e. no_memory (sym c.in-Err.ensures.memory ∙ e))

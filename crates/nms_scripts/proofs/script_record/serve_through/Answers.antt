@@ -1,3 +1,4 @@
+-- `serve_through`: all that it promises, by `shows_nothing_through` and `nothing_through`.
 use Rattle.std.proofs.Common.{refl, sym}
 use Rattle.nms_board.specs.Shown.{seen_on}
 use Rattle.nms_scripts.proofs.ScriptFacts.{shows_nothing_through}
@@ -9,5 +10,6 @@ returns c =
     let seen = seen_on c.args.flow.now.board c.args.sym in
     shows_nothing_through c.args.roster.now c.args.flow.now c.args.flow.now c.args.desk c.args.sym c.args.price seen _ _
     (c.best-rows.ensures.went c.args.desk)
-    (nothing_through seen c.args.price c.best-rows.result.bid c.best-rows.result.offer c.best-rows.ensures.bid c.best-rows.ensures.offer (c.is_beyond.ensures.bid c.if-is_beyond.false) (c.is_beyond.ensures.offer c.if-is_beyond.false))
+    (nothing_through seen c.args.price c.best-rows.result.bid c.best-rows.result.offer c.best-rows.ensures.bid c.best-rows.ensures.offer
+    (c.is_beyond.ensures.bid c.if-is_beyond.false) (c.is_beyond.ensures.offer c.if-is_beyond.false))
     (c.in_ok-tell_through_head.ensures seen refl (sym c.published.ensures.count))

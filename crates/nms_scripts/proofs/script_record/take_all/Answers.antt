@@ -1,3 +1,4 @@
+-- `take_all`: clause `run` and the turns of its loop, by `takes_more` and `takes_until`.
 use Rattle.std.proofs.Common.{◌∙◌}
 use Rattle.nms_flow.specs.declared.reply.Reply.TheVariants as reply
 use Rattle.nms_scripts.proofs.ScriptFacts.{takes_more, takes_until}

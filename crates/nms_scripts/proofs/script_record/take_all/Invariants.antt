@@ -1,3 +1,4 @@
+-- `take_all`: what holds in each turn of its loop: `some` and `room`.
 use Rattle.std.proofs.Common.{◌≡◌, ◌-◌, length}
 use Rattle.nms_flow.specs.Flow.{room_of}
 use Rattle.nms_scripts.specs.Progress.{TakesSome}

@@ -1,3 +1,4 @@
+-- tried: what a cutoff offers costs what its marginal says (clause offer), by TakenLemmas: offer_is.
 use Rattle.std.proofs.Common.{◌≡◌, ◌≤◌, ◌-◌, ap, ◌∙◌}
 use Rattle.std.specs.Prelude.{pos, ◌+ℤ◌}
 use Rattle.nms_rules.specs.Cutoff.{least_cost}
@@ -18,5 +19,6 @@ returns-clause-offer c =
     let cost : c.plus.result ≡ least_cost by_cost c.args.most rank marginal =
     offer_is c.args.side by_cost c.args.most cutoff marginal c.plus.result c.requires.ordered c.requires.sums reaches
     (c.take_cheapest-taken.ensures.marginal ∙ ap (λ z. share_cost z rest (pos 0) by_cost) c.of-rank.ensures)
-    (c.plus.ensures ∙ ap (λ z. cutoff.swept_cost +ℤ z) (c.take_cheapest-taken.ensures.cost ∙ ap (λ z. taken_cost z rest by_cost) c.of-rank.ensures)) in
+    (c.plus.ensures ∙ ap (λ z. cutoff.swept_cost +ℤ z)
+    (c.take_cheapest-taken.ensures.cost ∙ ap (λ z. taken_cost z rest by_cost) c.of-rank.ensures)) in
     choice_same c.of-rank.result rank marginal c.plus.result (least_cost by_cost c.args.most rank marginal) c.of-rank.ensures cost

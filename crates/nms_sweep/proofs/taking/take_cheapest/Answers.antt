@@ -1,3 +1,4 @@
+-- `take_cheapest`: clause `cost` and the turns of its loop, by `share_later`, `taken_here` and `taken_later`.
 use Rattle.std.proofs.Common.{◌≡◌, ◌-◌, false, true, List, ◌∷◌, length, ap, sym, ◌∙◌, arith}
 use Rattle.std.specs.Prelude.{pos, ◌*ℤ◌}
 use Rattle.std.proofs.lemmas.Bool.{and_parts, leb-true}
@@ -35,7 +36,8 @@ loop-row-preserved c =
     let rest : c.saturating_sub-left.result ≡ left - pool_part cutoff row = c.saturating_sub-left.ensures ∙ ap (λ n. left - n) part in
     let with' = c.with_shares-taken.ensures in
     record {
-      marginal = is.marginal ∙ ap (share_cost cutoff left c.loop-row.taken.marginal) behind ∙ step.1 ∙ ap (λ n. share_cost cutoff n row.cost more) (sym rest)
+      marginal = is.marginal ∙ ap (share_cost cutoff left c.loop-row.taken.marginal) behind ∙ step.1
+          ∙ ap (λ n. share_cost cutoff n row.cost more) (sym rest)
           ∙ ap (λ z. share_cost cutoff c.saturating_sub-left.result z more) (sym with'.marginal);
       cost = omega (
         arith,

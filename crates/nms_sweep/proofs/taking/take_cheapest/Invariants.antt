@@ -1,3 +1,5 @@
+-- `take_cheapest`: what holds in each turn of its loop: `marginal`, `cost`, `marginal_low`, `marginal_high`,
+-- `behind`, `low`, `high` and `few`.
 use Rattle.std.proofs.Common.{◌≡◌, ◌≤◌, ◌-◌, ◌*◌, ◌^◌, length}
 use Rattle.std.specs.Prelude.{pos, neg_ℤ, ◌+ℤ◌, ◌≤ℤ◌}
 use Rattle.nms_sweep.specs.Choice.{share_cost}

@@ -1,3 +1,4 @@
+-- `fill`: there is room for what is sent.
 use Rattle.std.proofs.Common.{◌≤◌, length}
 use Rattle.nms_tests.proofs.feed.fill.Given as goal
 

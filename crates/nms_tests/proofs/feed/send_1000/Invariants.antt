@@ -1,3 +1,4 @@
+-- `send_1000`: the sender stays that of its lane and feed, and there is room for what it sends.
 use Rattle.std.proofs.Common.{◌≡◌, ◌≤◌, length}
 use Rattle.nms_tests.proofs.feed.send_1000.Given as goal
 

@@ -1,3 +1,4 @@
+-- `orders_of`: what holds in each turn of its loop.
 use Rattle.std.proofs.Common.{◌<◌, All}
 use Rattle.nms_tests.proofs.live.orders_of.Given as goal
 

@@ -1,3 +1,4 @@
+-- `append_worked`: what holds in each turn of its loop.
 use Rattle.std.proofs.Common.{◌≡◌}
 use Rattle.nms_tests.proofs.versions.append_worked.Given as goal
 

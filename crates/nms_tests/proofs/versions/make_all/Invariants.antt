@@ -1,3 +1,4 @@
+-- `make_all`: what holds in each turn of its loop.
 use Rattle.std.proofs.Common.{◌≡◌}
 use Rattle.nms_tests.proofs.versions.make_all.Given as goal
 

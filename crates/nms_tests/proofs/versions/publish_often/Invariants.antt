@@ -1,3 +1,4 @@
+-- `publish_often`: what holds in each turn of its loop.
 use Rattle.std.proofs.Common.{◌≡◌}
 use Rattle.nms_tests.proofs.versions.publish_often.Given as goal
 

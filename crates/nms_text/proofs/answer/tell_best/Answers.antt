@@ -1,3 +1,4 @@
+-- `tell_best`: all that it promises, by `best_written`.
 use Rattle.std.proofs.Common.{◌≡◌, ◌++◌, ap, sym, drop, take, ◌∙◌, ◌-◌, arith, List, ℕ, Option, [], rules}
 use Rattle.std.proofs.lemmas.List.{length-drop, take_all}
 use Rattle.std.proofs.lemmas.Result.{on_ok_weaker}
@@ -11,13 +12,22 @@ returns c seen is_sym is_version =
     let look : List ℕ = look_text c.args.desk c.sym_name.result.now c.args.version c.word_of_market-market.result.now in
     let told : List ℕ = drop c.look_before-start.result c.look_before-start.new.buf in
     let whole : take (224 - c.look_before-start.result) told ≡ told =
-    take_all (224 - c.look_before-start.result) told (omega (arith, length-drop c.look_before-start.result c.look_before-start.new.buf, c.look_before-start.auto.buf, c.rows_before-rows.auto.buf)) in
-    let appended : OnOk c.extend_from_slice.result (c.extend_from_slice.new.self.items ≡ c.args.out.now.items ++ told) = search (rules, whole) in
+    take_all (224 - c.look_before-start.result) told
+    (omega (
+      arith,
+      length-drop c.look_before-start.result c.look_before-start.new.buf,
+      c.look_before-start.auto.buf,
+      c.rows_before-rows.auto.buf,
+    )) in
+    let appended : OnOk c.extend_from_slice.result (c.extend_from_slice.new.self.items ≡ c.args.out.now.items ++ told) =
+    search (rules, whole) in
     on_ok_weaker c.extend_from_slice.result
     (λ written. written ∙ ap (λ (t : List ℕ). c.args.out.now.items ++ t)
-    (best_written c.args.roster.now c.args.desk seen c.args.bid.now c.args.offer.now told c.sym_name.result.now c.word_of_market-market.result.now c.args.version
+    (best_written c.args.roster.now c.args.desk seen c.args.bid.now c.args.offer.now told c.sym_name.result.now
+    c.word_of_market-market.result.now c.args.version
     (c.look_before-start.ensures.written ∙ ap (λ (t : List ℕ). look ++ t) c.rows_before-rows.ensures.written)
-    (ap (λ (o : Option (List ℕ)). unwrap_or o []) (ap (λ (n : ℕ). option_map (λ (entry : List ℕ × ℕ). entry.0) (slice_get c.args.roster.now.syms n)) is_sym ∙ c.sym_name.ensures.name))
+    (ap (λ (o : Option (List ℕ)). unwrap_or o [])
+    (ap (λ (n : ℕ). option_map (λ (entry : List ℕ × ℕ). entry.0) (slice_get c.args.roster.now.syms n)) is_sym ∙ c.sym_name.ensures.name))
     (sym is_version)
     (c.word_of_market-market.ensures ∙ ap market_word c.market_between.ensures)))
     appended

@@ -1,3 +1,4 @@
+-- `tell_through_rows`: what holds in each turn of its loop.
 use Rattle.std.proofs.Common.{◌≡◌, ◌++◌, map, take}
 use Rattle.nms_lines.specs.Text.{text_of}
 use Rattle.nms_text.specs.Answers.{through_row}

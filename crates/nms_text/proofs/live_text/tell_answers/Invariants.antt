@@ -1,3 +1,4 @@
+-- `tell_answers`: what holds in each turn of its loop.
 use Rattle.std.proofs.Common.{◌≡◌, ◌++◌, take}
 use Rattle.std.specs.List.{flat_map}
 use Rattle.nms_lines.specs.Text.{text_of}

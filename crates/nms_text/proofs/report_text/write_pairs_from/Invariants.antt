@@ -1,3 +1,4 @@
+-- `write_pairs_from`: what holds in each turn of its loop.
 use Rattle.std.proofs.Common.{◌-◌}
 use Rattle.nms_text.specs.Report.{pair_line}
 use Rattle.nms_text.proofs.PairFacts.{HasWrittenPairs}

@@ -1,8 +1,10 @@
+-- `write_side`: the turns of its loop, by `one_more_written`.
 use Rattle.nms_text.specs.Report.{row_line}
 use Rattle.nms_text.proofs.ColumnFacts.{one_more_written}
 use Rattle.nms_text.proofs.report_text.write_side.Goals as goal
 
 pub loop-row-preserved : goal.loop-row-preserved
 loop-row-preserved g c =
-    one_more_written (row_line c.args.roster.now c.args.side c.args.best.now) _ _ _ c.rows-row-items.result.now c.loop-row.row-index c.row-item.result
+    one_more_written (row_line c.args.roster.now c.args.side c.args.best.now) _ _ _ c.rows-row-items.result.now c.loop-row.row-index
+    c.row-item.result
     c.loop-row-test.true c.row-item.is c.loop-row.invariant c.in_ok-write_row.ensures

@@ -1,3 +1,5 @@
+-- `parse_digits`: clause `small`, a number within its width and the turns of its loop, by `below_more_digits`
+-- and `one_more_digit`.
 use Rattle.std.proofs.Common.{◌≡◌, ℕ, ◌-◌, ◌<◌, arith, true, get_or, ◌∙◌, Bool, ◌&&◌}
 use Rattle.std.proofs.lemmas.Grind.{common_steps}
 use Rattle.std.proofs.lemmas.List.Folds.{list_all_more}
@@ -7,10 +9,16 @@ use Rattle.nms_units.proofs.Powers.{below_more_digits, one_more_digit}
 use Rattle.nms_units.proofs.digits.parse_digits.Goals as goal
 
 pub overflow_mul-number : goal.overflow_mul-number
-overflow_mul-number c = omega (arith, below_more_digits c.loop-digit.number c.loop-digit.digit-index 18 c.loop-digit.invariant.small (omega arith))
+overflow_mul-number c = omega (
+  arith,
+  below_more_digits c.loop-digit.number c.loop-digit.digit-index 18 c.loop-digit.invariant.small (omega arith),
+)
 
 pub overflow_add-number : goal.overflow_add-number
-overflow_add-number c = omega (arith, below_more_digits c.loop-digit.number c.loop-digit.digit-index 18 c.loop-digit.invariant.small (omega arith))
+overflow_add-number c = omega (
+  arith,
+  below_more_digits c.loop-digit.number c.loop-digit.digit-index 18 c.loop-digit.invariant.small (omega arith),
+)
 
 both_true : {a b : Bool} → a ≡ true → b ≡ true → (a && b) ≡ true
 both_true h k = rw (h, k)
@@ -34,4 +42,5 @@ loop-digit-preserved c =
 
 -- the index at the end is the text's length
 pub returns-clause-small : goal.returns-clause-small
-returns-clause-small c = below_more_digits c.loop-digit.number c.loop-digit.digit-index c.args.most c.loop-digit.invariant.small (omega arith)
+returns-clause-small c = below_more_digits c.loop-digit.number c.loop-digit.digit-index c.args.most c.loop-digit.invariant.small
+    (omega arith)

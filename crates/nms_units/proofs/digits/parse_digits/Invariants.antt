@@ -1,3 +1,4 @@
+-- `parse_digits`: what holds in each turn of its loop: `digits`, `value` and `small`.
 use Rattle.std.proofs.Common.{◌≡◌, ◌<◌, ◌^◌, true, take}
 use Rattle.std.specs.Char.{is_ascii_digit}
 use Rattle.std.specs.List.{list_all}

@@ -1,3 +1,4 @@
+-- `decimals_in`: clause `high`, by `scaled_below`.
 use Rattle.std.proofs.Common.{ℕ, ◌^◌, ◌<◌, ◌≤◌, arith, length}
 use Rattle.nms_units.proofs.Powers.{scaled_below}
 use Rattle.nms_units.proofs.price.decimals_in.Goals as goal
@@ -7,4 +8,5 @@ below_one_dollar h = omega arith
 
 pub returns-clause-high : goal.returns-clause-high
 returns-clause-high c =
-    rw c.scale_of.ensures (below_one_dollar (scaled_below c.in_ok-number.number (length c.args.text.now) 4 c.in_ok-number.ensures.by_length c.in_ok-number.ensures.within))
+    rw c.scale_of.ensures (below_one_dollar (scaled_below c.in_ok-number.number (length c.args.text.now) 4 c.in_ok-number.ensures.by_length
+    c.in_ok-number.ensures.within))

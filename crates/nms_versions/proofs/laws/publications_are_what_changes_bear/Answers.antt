@@ -1,3 +1,4 @@
+-- `publications_are_what_changes_bear`: clauses `these` and `once`, by `rising` and `these`.
 use Rattle.nms_versions.proofs.LawLemmas.{rising, these}
 use Rattle.nms_versions.proofs.laws.publications_are_what_changes_bear.Goals as goal
 

@@ -1,3 +1,4 @@
+-- `apply_taken`: what holds in each turn of its loop.
 use Rattle.std.proofs.Common.{◌≡◌, fold, take}
 use Rattle.nms_versions.specs.Rule.{after_taken}
 use Rattle.nms_versions.proofs.sealed.apply_taken.Given as goal

@@ -1,3 +1,4 @@
+-- `tool_command`: what holds in each turn of its loop.
 use Rattle.std.proofs.Common.{◌≡◌, drop, fold}
 use Rattle.clap.specs.Words.{app_of, with_subcommand}
 use Rattle.nms_words.specs.CommandLine.{app_of_sub, subs, tool}

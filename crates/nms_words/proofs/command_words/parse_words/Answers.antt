@@ -1,5 +1,8 @@
+-- `parse_words`: clauses `read`, `accepted`, `refused` and `taken` and the call of `request_in`, by
+-- `accepted_asks`.
 use Rattle.std.proofs.Common.{◌≡◌, ◌∙◌, true, List, [], ◌∷◌, Option, is_some, inl, inr, ap, subst, sym, refl, map}
-use Rattle.clap.specs.Words.{App, HasKind, IsAmong, Kinds, Row, Text, fault_of, is_simple, is_simple_and_free, kind_of, subcommand_of, takes}
+use Rattle.clap.specs.Words.{App, HasKind, IsAmong, Kinds, Row, Text, fault_of, is_simple, is_simple_and_free, kind_of, subcommand_of}
+use Rattle.clap.specs.Words.{takes}
 use Rattle.clap.specs.declared.error.Error.{Error}
 use Rattle.clap.specs.declared.error.kind.ErrorKind.TheVariants.{OutOfMemory}
 use Rattle.clap.proofs.OnLiterals.{clap_on_literals}
@@ -18,7 +21,8 @@ simple : is_simple tool ≡ true
 simple = refl
 
 -- what is told of one kind is told of more
-among : (kinds : Kinds) (error : Error) (fault : WordsFault) → HasKind kinds error → (kind_of error ≡ OutOfMemory → fault ≡ NoMemory) → IsRefusal (kind_of error ∷ []) fault → IsRefusal kinds fault
+among : (kinds : Kinds) (error : Error) (fault : WordsFault) → HasKind kinds error → (kind_of error ≡ OutOfMemory → fault ≡ NoMemory)
+    → IsRefusal (kind_of error ∷ []) fault → IsRefusal kinds fault
 among kinds error NoMemory has memory refusal = tt
 among kinds error (Parser text help) (inl out) memory refusal = let no : Parser text help ≡ NoMemory = memory out in cc
 among kinds error (Parser text help) (inr is) memory (kind, inl same, told) = (kind, subst (λ k. IsAmong k kinds) (sym same) is, told)
@@ -33,7 +37,8 @@ request_in-requires c =
     let command = c.in_ok-tool_command.ensures in
     let words = map (λ word. word.now) c.args.words.now in
     let met = (c.in-Ok.ensures.matches (ap is_simple command ∙ simple)).1 ∙ ap (λ (a : App). subcommand_of a words) command in
-    ap (λ (rows : Option (Text × List Row)). is_some (asked_of rows)) met ∙ accepted_asks words (faultless _ words command c.in-Ok.ensures.kinds)
+    ap (λ (rows : Option (Text × List Row)). is_some (asked_of rows)) met
+    ∙ accepted_asks words (faultless _ words command c.in-Ok.ensures.kinds)
 
 pub returns-in_ok-request_in-in-Ok-clause-read : goal.returns-in_ok-request_in-in-Ok-clause-read
 returns-in_ok-request_in-in-Ok-clause-read c =
@@ -43,15 +48,18 @@ returns-in_ok-request_in-in-Ok-clause-read c =
     ap asked_of (sym met) ∙ c.in_ok-request_in-in-Ok.ensures
 
 pub returns-in_ok-request_in-in-Ok-clause-accepted : goal.returns-in_ok-request_in-in-Ok-clause-accepted
-returns-in_ok-request_in-in-Ok-clause-accepted c = faultless _ (map (λ word. word.now) c.args.words.now) c.in_ok-tool_command.ensures c.in-Ok.ensures.kinds
+returns-in_ok-request_in-in-Ok-clause-accepted c =
+    faultless _ (map (λ word. word.now) c.args.words.now) c.in_ok-tool_command.ensures c.in-Ok.ensures.kinds
 
 pub returns-in-Err-clause-refused : goal.returns-in-Err-clause-refused
 returns-in-Err-clause-refused c =
     let command = c.in_ok-tool_command.ensures in
     let words = map (λ word. word.now) c.args.words.now in
-    let has = subst (λ (app : App). HasKind (fault_of app words) c.in-Err.error) command (c.in-Err.ensures.kinds (ap is_simple_and_free command ∙ exact)) in
+    let has = subst (λ (app : App). HasKind (fault_of app words) c.in-Err.error) command
+    (c.in-Err.ensures.kinds (ap is_simple_and_free command ∙ exact)) in
     among (fault_of tool words) c.in-Err.error c.fault_of.result has c.fault_of.ensures.memory c.fault_of.ensures.refused
 
 pub returns-in-Err-clause-taken : goal.returns-in-Err-clause-taken
 returns-in-Err-clause-taken c = λ taken.
-    c.fault_of.ensures.memory (c.in-Err.ensures.passes (ap (λ (app : App). takes app (map (λ word. word.now) c.args.words.now)) c.in_ok-tool_command.ensures ∙ taken))
+    c.fault_of.ensures.memory (c.in-Err.ensures.passes
+    (ap (λ (app : App). takes app (map (λ word. word.now) c.args.words.now)) c.in_ok-tool_command.ensures ∙ taken))

@@ -1,9 +1,11 @@
+-- `read_words`: clauses `counted`, `no_words` and `plain`, by `own_counted`, `IsTaken`, `nothing` and
+-- `plain_taken`.
 use Rattle.std.proofs.Common.{◌≡◌, ◌∙◌, Bor, List, Result, true, IfOk, IfErr, MatchResult, Some, map, subst, sym}
 use Rattle.std.proofs.lemmas.List.{length-map}
 use Rattle.std.proofs.lemmas.Result.{IfOk-weaker, MatchResult-from_both}
 use Rattle.std.specs.String.{string_bytes}
 use Rattle.clap.specs.Words.{Text, subcommand_of, takes}
-use Rattle.nms_words.specs.CommandLine.{Asked, asked_by, script_alone, shown, tool}
+use Rattle.nms_words.specs.CommandLine.{AreCounted, Asked, asked_by, script_alone, shown, tool}
 use Rattle.nms_words.specs.declared.request.Request.{Request}
 use Rattle.nms_words.specs.declared.words_fault.WordsFault.{WordsFault}
 use Rattle.nms_words.specs.declared.words_fault.WordsFault.TheVariants.{NoMemory}
@@ -25,7 +27,8 @@ answered result words asked is read taken = MatchResult-from_both result _ _
 
 pub returns-clause-counted : goal.returns-clause-counted
 returns-clause-counted c = IfOk-weaker c.parse_words.result _ _
-    (λ request is. request.words.ok.0 ∙ sym (length-map request.words.items string_bytes) ∙ own_counted (subcommand_of tool (texts c.args.words.now)) (shown request) is)
+    (λ request is. subst (AreCounted request.command) (sym (request.words.ok.0 ∙ sym (length-map request.words.items string_bytes)))
+    (own_counted (subcommand_of tool (texts c.args.words.now)) (shown request) is))
     c.parse_words.ensures.read
 
 pub returns-clause-no_words : goal.returns-clause-no_words

@@ -1,3 +1,4 @@
+-- `look_often`: the desk stays that of its opening.
 use Rattle.std.proofs.Common.{◌≡◌}
 use Rattle.nms_bench.proofs.callers.threads.look_often.Given as goal
 

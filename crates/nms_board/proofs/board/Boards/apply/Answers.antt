@@ -1,3 +1,6 @@
+-- `Boards::apply`: clauses `after` and `stands`, the call of `alter`, the call of `set_lot` and the invariant
+-- of what it leaves, by `board_after`, `quoted_below`, `relotted_below`, `restated_below`, `stands_after`,
+-- `own_shown` and `written_all`.
 use Rattle.std.proofs.Common.{◌≡◌, [], ◌∷◌, ◌++◌, true, sym, subst, arith}
 use Rattle.std.proofs.lemmas.Grind.{common_steps}
 use Rattle.nms_quote.specs.declared.change.Change.TheVariants.{Lot, Quote, State}
@@ -9,34 +12,56 @@ use Rattle.nms_board.proofs.board.Boards.apply.Goals as goal
 
 pub alter-requires-clause-own : goal.alter-requires-clause-own
 alter-requires-clause-own c = λ side.
-    let board : Board = record { sizes = record { parts = c.self.inside.parts; lots = c.self.inside.opening.items }; lots = c.self.inside.lots.items; cells = c.self.inside.cells.items; applied = c.self.inside.applied } in
+    let board : Board = record {
+      sizes = record { parts = c.self.inside.parts; lots = c.self.inside.opening.items };
+      lots = c.self.inside.lots.items;
+      cells = c.self.inside.cells.items;
+      applied = c.self.inside.applied;
+    } in
     let change = Quote c.in-Quote.part c.in-Quote.sym c.in-Quote.state c.in-Quote.bid c.in-Quote.offer in
-    let taken : takes board change ≡ true = subst (λ (b : Board). takes b change ≡ true) (sym c.self.view_is) (subst (λ ch. takes c.args.self.now ch ≡ true) c.in-Quote.is c.requires) in
+    let taken : takes board change ≡ true = subst (λ (b : Board). takes b change
+    ≡ true) (sym c.self.view_is) (subst (λ ch. takes c.args.self.now ch ≡ true) c.in-Quote.is c.requires) in
     rw (c.deref.ensures.value, c.deref_mut.ensures.value, c.from.ensures, c.get.ensures.place)
-    (own_shown (after board change) c.in-Quote.sym side (board_after board change c.self.invariant.0 taken) (quoted_below board c.in-Quote.part c.in-Quote.sym c.in-Quote.state c.in-Quote.bid c.in-Quote.offer taken))
+    (own_shown (after board change) c.in-Quote.sym side (board_after board change c.self.invariant.0 taken)
+    (quoted_below board c.in-Quote.part c.in-Quote.sym c.in-Quote.state c.in-Quote.bid c.in-Quote.offer taken))
 
 pub alter-requires-in-State-clause-own : goal.alter-requires-in-State-clause-own
 alter-requires-in-State-clause-own c = λ side.
-    let board : Board = record { sizes = record { parts = c.self.inside.parts; lots = c.self.inside.opening.items }; lots = c.self.inside.lots.items; cells = c.self.inside.cells.items; applied = c.self.inside.applied } in
+    let board : Board = record {
+      sizes = record { parts = c.self.inside.parts; lots = c.self.inside.opening.items };
+      lots = c.self.inside.lots.items;
+      cells = c.self.inside.cells.items;
+      applied = c.self.inside.applied;
+    } in
     let change = State c.in-State.part c.in-State.sym c.in-State.state in
-    let taken : takes board change ≡ true = subst (λ (b : Board). takes b change ≡ true) (sym c.self.view_is) (subst (λ ch. takes c.args.self.now ch ≡ true) c.in-State.is c.requires) in
+    let taken : takes board change ≡ true = subst (λ (b : Board). takes b change
+    ≡ true) (sym c.self.view_is) (subst (λ ch. takes c.args.self.now ch ≡ true) c.in-State.is c.requires) in
     rw (c.deref-in-State.ensures.value, c.deref_mut-in-State.ensures.value, c.from-in-State.ensures, c.get-in-State.ensures.place)
-    (own_shown (after board change) c.in-State.sym side (board_after board change c.self.invariant.0 taken) (restated_below board c.in-State.part c.in-State.sym c.in-State.state taken))
+    (own_shown (after board change) c.in-State.sym side (board_after board change c.self.invariant.0 taken)
+    (restated_below board c.in-State.part c.in-State.sym c.in-State.state taken))
 
 pub set_lot-requires-clause-own : goal.set_lot-requires-clause-own
 set_lot-requires-clause-own c = λ side.
-    let board : Board = record { sizes = record { parts = c.self.inside.parts; lots = c.self.inside.opening.items }; lots = c.self.inside.lots.items; cells = c.self.inside.cells.items; applied = c.self.inside.applied } in
+    let board : Board = record {
+      sizes = record { parts = c.self.inside.parts; lots = c.self.inside.opening.items };
+      lots = c.self.inside.lots.items;
+      cells = c.self.inside.cells.items;
+      applied = c.self.inside.applied;
+    } in
     let change = Lot c.in-Lot.sym c.in-Lot.lot in
-    let taken : takes board change ≡ true = subst (λ (b : Board). takes b change ≡ true) (sym c.self.view_is) (subst (λ ch. takes c.args.self.now ch ≡ true) c.in-Lot.is c.requires) in
+    let taken : takes board change ≡ true = subst (λ (b : Board). takes b change
+    ≡ true) (sym c.self.view_is) (subst (λ ch. takes c.args.self.now ch ≡ true) c.in-Lot.is c.requires) in
     rw (c.deref-in-Lot.ensures.value, c.deref_mut-in-Lot.ensures.value, c.from-in-Lot.ensures, c.get-in-Lot.ensures.place)
-    (own_shown (after board change) c.in-Lot.sym side (board_after board change c.self.invariant.0 taken) (relotted_below board c.in-Lot.sym c.in-Lot.lot taken))
+    (own_shown (after board change) c.in-Lot.sym side (board_after board change c.self.invariant.0 taken)
+    (relotted_below board c.in-Lot.sym c.in-Lot.lot taken))
 
 pub returns-in-Quote-clause-after : goal.returns-in-Quote-clause-after
 returns-in-Quote-clause-after c = grind (arith, common_steps)
 
 pub invariant_of-self : goal.invariant_of-self
 invariant_of-self c = (
-  subst IsBoard (sym (returns-in-Quote-clause-after c)) (board_after c.args.self.now c.args.change (subst IsBoard c.self.view_is c.self.invariant.0) c.requires),
+  subst IsBoard (sym (returns-in-Quote-clause-after c))
+      (board_after c.args.self.now c.args.change (subst IsBoard c.self.view_is c.self.invariant.0) c.requires),
   rw (
     written_all c.self.inside.cells.len c.alter.new.cells c.self.inside.cells.items (omega (arith, c.alter.auto.cells)) (omega arith),
     written_all c.self.inside.ranks.len c.alter.new.ranks c.self.inside.ranks.items (omega (arith, c.alter.auto.ranks)) (omega arith),
@@ -49,10 +74,13 @@ returns-in-State-clause-after c = grind (arith, common_steps)
 
 pub invariant_of-self-in-State : goal.invariant_of-self-in-State
 invariant_of-self-in-State c = (
-  subst IsBoard (sym (returns-in-State-clause-after c)) (board_after c.args.self.now c.args.change (subst IsBoard c.self.view_is c.self.invariant.0) c.requires),
+  subst IsBoard (sym (returns-in-State-clause-after c))
+      (board_after c.args.self.now c.args.change (subst IsBoard c.self.view_is c.self.invariant.0) c.requires),
   rw (
-    written_all c.self.inside.cells.len c.alter-in-State.new.cells c.self.inside.cells.items (omega (arith, c.alter-in-State.auto.cells)) (omega arith),
-    written_all c.self.inside.ranks.len c.alter-in-State.new.ranks c.self.inside.ranks.items (omega (arith, c.alter-in-State.auto.ranks)) (omega arith),
+    written_all c.self.inside.cells.len c.alter-in-State.new.cells c.self.inside.cells.items (omega (arith, c.alter-in-State.auto.cells))
+        (omega arith),
+    written_all c.self.inside.ranks.len c.alter-in-State.new.ranks c.self.inside.ranks.items (omega (arith, c.alter-in-State.auto.ranks))
+        (omega arith),
     ← c.deref-in-State.ensures.value,
   ) c.alter-in-State.ensures.ranks,
 )
@@ -62,29 +90,36 @@ returns-in-Withdraw-clause-after c = grind (arith, common_steps)
 
 pub invariant_of-self-in-Withdraw : goal.invariant_of-self-in-Withdraw
 invariant_of-self-in-Withdraw c = (
-  subst IsBoard (sym (returns-in-Withdraw-clause-after c)) (board_after c.args.self.now c.args.change (subst IsBoard c.self.view_is c.self.invariant.0) c.requires),
+  subst IsBoard (sym (returns-in-Withdraw-clause-after c))
+      (board_after c.args.self.now c.args.change (subst IsBoard c.self.view_is c.self.invariant.0) c.requires),
   rw (
-    written_all c.self.inside.cells.len c.withdraw_from.new.cells c.self.inside.cells.items (omega (arith, c.withdraw_from.auto.cells)) (omega arith),
-    written_all c.self.inside.ranks.len c.withdraw_from.new.ranks c.self.inside.ranks.items (omega (arith, c.withdraw_from.auto.ranks)) (omega arith),
+    written_all c.self.inside.cells.len c.withdraw_from.new.cells c.self.inside.cells.items (omega (arith, c.withdraw_from.auto.cells))
+        (omega arith),
+    written_all c.self.inside.ranks.len c.withdraw_from.new.ranks c.self.inside.ranks.items (omega (arith, c.withdraw_from.auto.ranks))
+        (omega arith),
     ← c.deref-in-Withdraw.ensures.value,
   ) c.withdraw_from.ensures.ranks,
 )
 
 pub returns-in-Quote-clause-stands : goal.returns-in-Quote-clause-stands
-returns-in-Quote-clause-stands c = λ tape stands. subst (λ board. StandsFor board (tape ++ c.args.change ∷ [])) (sym (returns-in-Quote-clause-after c)) (stands_after c.args.self.now tape c.args.change stands c.requires)
+returns-in-Quote-clause-stands c = λ tape stands. subst (λ board. StandsFor board (tape ++ c.args.change
+    ∷ [])) (sym (returns-in-Quote-clause-after c)) (stands_after c.args.self.now tape c.args.change stands c.requires)
 
 pub returns-in-State-clause-stands : goal.returns-in-State-clause-stands
-returns-in-State-clause-stands c = λ tape stands. subst (λ board. StandsFor board (tape ++ c.args.change ∷ [])) (sym (returns-in-State-clause-after c)) (stands_after c.args.self.now tape c.args.change stands c.requires)
+returns-in-State-clause-stands c = λ tape stands. subst (λ board. StandsFor board (tape ++ c.args.change
+    ∷ [])) (sym (returns-in-State-clause-after c)) (stands_after c.args.self.now tape c.args.change stands c.requires)
 
 pub returns-in-Withdraw-clause-stands : goal.returns-in-Withdraw-clause-stands
-returns-in-Withdraw-clause-stands c = λ tape stands. subst (λ board. StandsFor board (tape ++ c.args.change ∷ [])) (sym (returns-in-Withdraw-clause-after c)) (stands_after c.args.self.now tape c.args.change stands c.requires)
+returns-in-Withdraw-clause-stands c = λ tape stands. subst (λ board. StandsFor board (tape ++ c.args.change
+    ∷ [])) (sym (returns-in-Withdraw-clause-after c)) (stands_after c.args.self.now tape c.args.change stands c.requires)
 
 pub returns-in-Lot-clause-after : goal.returns-in-Lot-clause-after
 returns-in-Lot-clause-after c = grind (arith, common_steps)
 
 pub invariant_of-self-in-Lot : goal.invariant_of-self-in-Lot
 invariant_of-self-in-Lot c = (
-  subst IsBoard (sym (returns-in-Lot-clause-after c)) (board_after c.args.self.now c.args.change (subst IsBoard c.self.view_is c.self.invariant.0) c.requires),
+  subst IsBoard (sym (returns-in-Lot-clause-after c))
+      (board_after c.args.self.now c.args.change (subst IsBoard c.self.view_is c.self.invariant.0) c.requires),
   rw (
     written_all c.self.inside.lots.len c.set_lot.new.lots c.self.inside.lots.items (omega (arith, c.set_lot.auto.lots)) (omega arith),
     written_all c.self.inside.ranks.len c.set_lot.new.ranks c.self.inside.ranks.items (omega (arith, c.set_lot.auto.ranks)) (omega arith),
@@ -93,4 +128,5 @@ invariant_of-self-in-Lot c = (
 )
 
 pub returns-in-Lot-clause-stands : goal.returns-in-Lot-clause-stands
-returns-in-Lot-clause-stands c = λ tape stands. subst (λ board. StandsFor board (tape ++ c.args.change ∷ [])) (sym (returns-in-Lot-clause-after c)) (stands_after c.args.self.now tape c.args.change stands c.requires)
+returns-in-Lot-clause-stands c = λ tape stands. subst (λ board. StandsFor board (tape ++ c.args.change
+    ∷ [])) (sym (returns-in-Lot-clause-after c)) (stands_after c.args.self.now tape c.args.change stands c.requires)

@@ -1,3 +1,4 @@
+-- `Boards::apply_all`: what holds in each turn of its loop: `after`, `stands`, `sizes` and `applied`.
 use Rattle.std.proofs.Common.{◌≡◌, ◌+◌, ◌++◌, take, fold}
 use Rattle.nms_quote.specs.Tape.{Tape}
 use Rattle.nms_board.specs.Cells.{StandsFor, after}

@@ -1,3 +1,5 @@
+-- `Boards::new`: clauses `opening` and `stands` and the invariant of what it gives, by `stands_opening` and
+-- `ranks_opening`.
 use Rattle.std.proofs.Common.{◌≡◌, [], length, sym, ap, subst, ◌∙◌, arith}
 use Rattle.std.proofs.lemmas.Grind.{common_steps}
 use Rattle.nms_quote.specs.Roster.{sizes_of}
@@ -10,14 +12,17 @@ pub returns-clause-opening : goal.returns-clause-opening
 returns-clause-opening c = grind (arith, common_steps)
 
 pub returns-clause-stands : goal.returns-clause-stands
-returns-clause-stands c = subst (λ board. StandsFor board []) (sym (returns-clause-opening c)) (stands_opening (sizes_of c.args.roster.now) (omega arith))
+returns-clause-stands c = subst (λ board. StandsFor board []) (sym (returns-clause-opening c))
+    (stands_opening (sizes_of c.args.roster.now) (omega arith))
 
 pub invariant_of-result : goal.invariant_of-result
 invariant_of-result c =
     let syms : c.len.result ≡ length c.in-Ok-lots_of.lots.items = omega arith in
-    let symbols : length c.in-Ok-empty_ranks.ranks.items ≡ length c.in-Ok-lots_of.lots.items = omega (arith, c.in-Ok-empty_ranks.ensures.symbols) in
+    let symbols : length c.in-Ok-empty_ranks.ranks.items ≡ length c.in-Ok-lots_of.lots.items =
+    omega (arith, c.in-Ok-empty_ranks.ensures.symbols) in
     let same : c.in-Ok-lots_of.lots.items ≡ c.in-Ok.opening.items = c.in-Ok-lots_of.ensures.lots ∙ sym c.in-Ok.ensures.lots in (
       record { shape = grind (arith, common_steps, ap length same); tape = []; stands = returns-clause-stands c },
       rw (c.in-Ok-empty_cells.ensures, syms)
-          (ranks_opening (record { parts = c.parts-parts.result; lots = c.in-Ok-lots_of.lots.items }) c.in-Ok-empty_ranks.ranks.items c.parts-parts.ensures.within symbols c.in-Ok-empty_ranks.ensures.empty),
+          (ranks_opening (record { parts = c.parts-parts.result; lots = c.in-Ok-lots_of.lots.items }) c.in-Ok-empty_ranks.ranks.items
+          c.parts-parts.ensures.within symbols c.in-Ok-empty_ranks.ensures.empty),
     )

@@ -1,3 +1,4 @@
+-- `Boards::show`: what holds in each turn of its loop: `place`, `bids` and `offers`.
 use Rattle.std.proofs.Common.{◌≡◌}
 use Rattle.std.specs.List.{filter_map, range_with_len}
 use Rattle.nms_quote.specs.declared.side_quote.Side.TheVariants.{Bid, Offer}

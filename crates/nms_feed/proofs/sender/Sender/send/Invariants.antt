@@ -1,3 +1,4 @@
+-- `send`: nothing was sent yet.
 use Rattle.std.proofs.Common.{◌≡◌}
 use Rattle.nms_feed.proofs.sender.Sender.send.Given as goal
 

@@ -1,3 +1,4 @@
+-- `Flow::answer`: clause `went`.
 use Rattle.nms_flow.proofs.flow.Flow.answer.Goals as goal
 
 pub returns-in-Look-clause-went : goal.returns-in-Look-clause-went

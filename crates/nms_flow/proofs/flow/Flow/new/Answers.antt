@@ -1,3 +1,4 @@
+-- `Flow::new`: the invariant of what it gives.
 use Rattle.std.proofs.Common.{◌≡◌, true, List, [], arith, length, ap, sym, subst}
 use Rattle.std.specs.Prelude.{All}
 use Rattle.std.proofs.lemmas.List.Elements.{All-nil}
@@ -14,7 +15,8 @@ invariant_of-result c =
     let empty : length ready.changes.items ≡ 0 = ap length none in
     let opening = ready.ensures.opening in
     record {
-      held = subst (λ (ms : List Marked). All (λ marked. holds board.sizes marked.change ≡ true) ms) (sym none) (All-nil (λ (marked : Marked). holds board.sizes marked.change ≡ true));
+      held = subst (λ (ms : List Marked). All (λ marked. holds board.sizes marked.change ≡ true) ms) (sym none)
+          (All-nil (λ (marked : Marked). holds board.sizes marked.change ≡ true));
       pending = omega arith;
       queued = omega (arith, empty);
       taken = omega (arith, ap (λ (b : Board). b.applied) opening);

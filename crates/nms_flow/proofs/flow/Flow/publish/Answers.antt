@@ -1,3 +1,4 @@
+-- `Flow::publish`: all that it promises and the invariant of what it leaves, by `went_published`.
 use Rattle.std.proofs.Common.{◌≡◌, ◌-◌, true, length, arith, ap, sym, subst, refl, ◌∙◌}
 use Rattle.std.specs.Prelude.{All}
 use Rattle.std.proofs.lemmas.List.{length-drop}
@@ -13,9 +14,11 @@ invariant_of-self c =
     let inside = c.self.inside in
     let sound = c.self.invariant in
     let sizes = c.apply_first.ensures.sizes in
-    let rest : length c.drop_front.new.queue.items ≡ length inside.changes.items - inside.pending = ap length c.drop_front.ensures.items ∙ length-drop inside.pending inside.changes.items in record {
+    let rest : length c.drop_front.new.queue.items ≡ length inside.changes.items - inside.pending = ap length c.drop_front.ensures.items
+    ∙ length-drop inside.pending inside.changes.items in record {
       held = subst (λ (s : Sizes). All (λ marked. holds s marked.change ≡ true) c.drop_front.new.queue.items) (sym sizes)
-          (rw c.drop_front.ensures.items (All-drop (λ (marked : Marked). holds inside.board.sizes marked.change ≡ true) inside.pending inside.changes.items sound.held));
+          (rw c.drop_front.ensures.items (All-drop (λ (marked : Marked). holds inside.board.sizes marked.change ≡ true) inside.pending
+          inside.changes.items sound.held));
       pending = omega arith;
       queued = omega (arith, rest, sound.queued);
       taken = omega (arith, c.apply_first.ensures.applied, sound.taken);
@@ -25,7 +28,8 @@ invariant_of-self c =
 
 pub returns : goal.returns
 returns c = record {
-  went = rw (← c.self.view_is) (went_published _ _ c.applied.result (ap (λ (s : Sizes). with_sizes s) c.apply_first.ensures.sizes) c.self.invariant.pending
+  went = rw (← c.self.view_is) (went_published _ _ c.applied.result (ap (λ (s : Sizes). with_sizes s) c.apply_first.ensures.sizes)
+      c.self.invariant.pending
       c.drop_front.ensures.items refl c.apply_first.ensures.stands (c.applied.ensures.count ∙ c.apply_first.ensures.applied));
 }
   where

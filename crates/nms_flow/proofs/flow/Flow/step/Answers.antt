@@ -1,3 +1,4 @@
+-- `Flow::step`: clause `run`, by `goes_on`.
 use Rattle.nms_flow.proofs.RunLemmas.{goes_on}
 use Rattle.nms_flow.proofs.flow.Flow.step.Goals as goal
 

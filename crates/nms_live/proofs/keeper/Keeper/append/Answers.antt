@@ -1,3 +1,4 @@
+-- `Keeper::append`: the invariant of what it leaves, by `kept_with`.
 use Rattle.std.proofs.Common.{◌≡◌, ap}
 use Rattle.nms_versions.specs.Taped.{Taped}
 use Rattle.nms_live.proofs.KeeperFacts.{kept_with}
@@ -10,5 +11,8 @@ invariant_of-self c =
     let same : c.append.new.self.published ≡ c.self.inside.publisher.published = elim c.match-append.branch [
       | in-Ok w ↦ ap (λ (t : Taped). t.published) w.in-Ok.ensures.added
       | in-Err w ↦ ap (λ (t : Taped). t.published) w.in-Err.ensures.unchanged
-    ] in
-    (kept_with c.self.inside.publisher c.append.new.self c.self.inside.listed.items c.self.inside.stop c.self.inside.stop same had.stopped had, c.self.invariant.1)
+    ] in (
+      kept_with c.self.inside.publisher c.append.new.self c.self.inside.listed.items c.self.inside.stop c.self.inside.stop same had.stopped
+          had,
+      c.self.invariant.1,
+    )

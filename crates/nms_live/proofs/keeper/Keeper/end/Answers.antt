@@ -1,3 +1,4 @@
+-- `Keeper::end`: clause `published`.
 use Rattle.std.proofs.Common.{◌≡◌, subst}
 use Rattle.nms_versions.specs.Published.{changes}
 use Rattle.nms_versions.specs.Taped.{tape_of}

@@ -1,3 +1,4 @@
+-- `NameTable::find_by_hash`: clause `place`, by `place_in-named` and `place_in-not_utf8`.
 use Rattle.std.proofs.Common.{sym, ap, ◌∙◌}
 use Rattle.nms_quote.specs.Names.{named}
 use Rattle.nms_quote.specs.Roster.{place_in}
@@ -13,4 +14,5 @@ returns-in-Ok-clause-place g c =
 
 pub returns-in-Err-clause-place : goal.returns-in-Err-clause-place
 returns-in-Err-clause-place g c =
-    sym (ap (λ table. place_in table c.args.name.now) (sym c.self.view_is) ∙ place_in-not_utf8 c.args.name.now c.self.inside.entries.entries c.in-Err.ensures.cases.0)
+    sym (ap (λ table. place_in table c.args.name.now) (sym c.self.view_is)
+    ∙ place_in-not_utf8 c.args.name.now c.self.inside.entries.entries c.in-Err.ensures.cases.0)

@@ -1,3 +1,4 @@
+-- `NameTable::finds_each_name`: all that it promises, by `place_in-own`.
 use Rattle.nms_quote.proofs.TableLemmas.{place_in-own}
 use Rattle.nms_quote.proofs.name_table.NameTable.finds_each_name.Goals as goal
 

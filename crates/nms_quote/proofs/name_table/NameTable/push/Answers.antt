@@ -1,3 +1,4 @@
+-- `NameTable::push`: clause `added` and the call of `unwrap`, by `named-insert_entry`.
 use Rattle.std.proofs.Common.{◌≡◌, refl, ◌∙◌, Result, Ok, Err}
 use Rattle.std.proofs.lemmas.Result.{MatchResult-at_ok}
 use Rattle.std.specs.String.{string_bytes}
@@ -6,7 +7,8 @@ use Rattle.nms_quote.proofs.TableLemmas.{named-insert_entry}
 use Rattle.nms_quote.proofs.name_table.NameTable.push.Goals as goal
 
 -- what is text is read
-ok_from_text : {T E : Type 0} (read : Result T E) (P : T → Type 0) (IsText : Type 0) (Q : E → Type 0) → MatchResult read P (λ e. (IsText → ⊥) × Q e) → IsText → IsOk read
+ok_from_text : {T E : Type 0} (read : Result T E) (P : T → Type 0) (IsText : Type 0) (Q : E → Type 0)
+    → MatchResult read P (λ e. (IsText → ⊥) × Q e) → IsText → IsOk read
 ok_from_text (Ok text) P IsText Q h is_text = refl
 ok_from_text (Err e) P IsText Q h text = absurd (h.0 text)
 
@@ -15,5 +17,7 @@ unwrap-text-requires g c = ok_from_text _ _ _ _ c.from_utf8.ensures.cases c.requ
 
 pub returns-clause-added : goal.returns-clause-added
 returns-clause-added g c =
-    let name : string_bytes c.in-Ok.owned ≡ c.args.name.now = c.in-Ok.ensures.ok ∙ (MatchResult-at_ok _ _ _ c.unwrap-text.ensures c.from_utf8.ensures.cases).0 in
-    named-insert_entry c.self.inside.entries c.args.self.now c.self.view_is c.in-Ok.owned c.args.value c.args.name.now name c.requires.absent c.insert.new.self.entries c.in-Ok-insert.ensures.entries
+    let name : string_bytes c.in-Ok.owned ≡ c.args.name.now = c.in-Ok.ensures.ok
+    ∙ (MatchResult-at_ok _ _ _ c.unwrap-text.ensures c.from_utf8.ensures.cases).0 in
+    named-insert_entry c.self.inside.entries c.args.self.now c.self.view_is c.in-Ok.owned c.args.value c.args.name.now name
+    c.requires.absent c.insert.new.self.entries c.in-Ok-insert.ensures.entries

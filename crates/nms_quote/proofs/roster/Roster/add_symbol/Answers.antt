@@ -1,3 +1,4 @@
+-- `Roster::add_symbol`: the call of `push`, by `IsUtf8-symbol_name`.
 use Rattle.std.proofs.Common.{sym, ◌∙◌}
 use Rattle.nms_quote.proofs.TableLemmas.{IsUtf8-symbol_name}
 use Rattle.nms_quote.proofs.roster.Roster.add_symbol.Goals as goal

@@ -1,3 +1,4 @@
+-- `Roster::finds_each_name`: clauses `parts` and `syms`, by `named_at`.
 use Rattle.nms_quote.proofs.TableLemmas.{named_at}
 use Rattle.nms_quote.proofs.roster.Roster.finds_each_name.Goals as goal
 

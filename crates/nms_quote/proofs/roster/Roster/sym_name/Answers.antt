@@ -1,6 +1,8 @@
+-- `Roster::sym_name`: clause `form`, by `passes_at`.
 use Rattle.nms_quote.specs.Roster.{is_symbol_name}
 use Rattle.nms_quote.proofs.TableLemmas.{passes_at}
 use Rattle.nms_quote.proofs.roster.Roster.sym_name.Goals as goal
 
 pub returns-clause-form : goal.returns-clause-form
-returns-clause-form c = passes_at is_symbol_name c.self.inside.syms c.from.result c.name_at.result.now c.self.invariant.1.formed c.name_at.ensures.name
+returns-clause-form c = passes_at is_symbol_name c.self.inside.syms c.from.result c.name_at.result.now c.self.invariant.1.formed
+    c.name_at.ensures.name

@@ -1,3 +1,5 @@
+-- `Desk::look`: clause `shown`, the call of `enter_as` and the invariant of what it leaves, by `all_begin`,
+-- `prefix_shorter`, `remembers_longer` and `reads`.
 use Rattle.std.proofs.Common.{◌≡◌, ◌∷◌, length, map, ap, sym, subst, ◌∙◌, refl, arith, Option, Some, IfSome, option_and_then}
 use mathlib.Core.List.{IsPrefix}
 use Rattle.logbook.specs.Pages.{Book}
@@ -39,8 +41,10 @@ counted c = c.applied-version.ensures.count ∙ (stands c).applied
 -- what the desk knew begins it
 begins : (c : goal.After-drop-both-2) → IsPrefix c.self.inside.newest.log c.again-seen.result.log
 begins c =
-    let knew : IsPrefix c.self.inside.newest.log c.learn.new.self.log = subst (λ (l : Batches). IsPrefix l c.learn.new.self.log) (ap (λ s. s.log) c.again-both.ensures) c.learn.ensures.2 in
-    prefix_shorter c.self.inside.newest.log c.again-seen.result.log c.learn.new.self.log knew c.learn.ensures.3 c.learn.ensures.4.1.none_empty
+    let knew : IsPrefix c.self.inside.newest.log c.learn.new.self.log =
+    subst (λ (l : Batches). IsPrefix l c.learn.new.self.log) (ap (λ s. s.log) c.again-both.ensures) c.learn.ensures.2 in
+    prefix_shorter c.self.inside.newest.log c.again-seen.result.log c.learn.new.self.log knew c.learn.ensures.3
+    c.learn.ensures.4.1.none_empty
     (omega (arith, counted c, c.self.invariant.2.counted, c.if-version-self.false))
 
 same_book : (c : goal.After-drop-both-2) → c.again-seen.result.book ≡ c.self.inside.newest.book
@@ -53,12 +57,15 @@ knows c = c.leave-2.ensures.1 ∙ c.in-Ok.ensures.1.0
 pub invariant_of-self-2 : goal.invariant_of-self-2
 invariant_of-self-2 c = (
   refl,
-  subst (λ (k : Known). IsNamed k c.again-seen.result.book) (sym (knows c)) (subst (λ (b : Book). IsNamed c.unwrap-reader.result.place.me.0.client b) (sym (same_book c)) (named c)),
-  rw (c.with.ensures, c.again.ensures) (remembers_longer _ _ _ _ _ c.self.invariant.2 (begins c) (counted c) (omega (arith, c.if-version-self.false))),
+  subst (λ (k : Known). IsNamed k c.again-seen.result.book) (sym (knows c))
+      (subst (λ (b : Book). IsNamed c.unwrap-reader.result.place.me.0.client b) (sym (same_book c)) (named c)),
+  rw (c.with.ensures, c.again.ensures) (remembers_longer _ _ _ _ _ c.self.invariant.2 (begins c) (counted c)
+      (omega (arith, c.if-version-self.false))),
 )
 
 -- the view is of that history
-of_history : (c : goal.After-drop-both-2) → c.view-view.result ≡ view_of (sizes_shown c.unwrap-reader.result.place.me.0.client.opening) (changes c.again-seen.result.log) c.args.sym
+of_history : (c : goal.After-drop-both-2) → c.view-view.result
+    ≡ view_of (sizes_shown c.unwrap-reader.result.place.me.0.client.opening) (changes c.again-seen.result.log) c.args.sym
 of_history c =
     let sizes : c.get-sealed.result.now.boards.sizes ≡ sizes_shown c.unwrap-reader.result.place.me.0.client.opening =
     sym ((of_opening c).sizes (named c).named (named c).is_named) ∙ sym (ap sizes_shown (named c).is_named) in
@@ -67,11 +74,26 @@ of_history c =
 pub returns-clause-shown : goal.returns-clause-shown
 returns-clause-shown c =
     let version : Tape = changes c.again-seen.result.log in
-    let before : record { opening = c.self.inside.newest.book; sizes = sizes_shown c.unwrap-reader.result.place.me.0.client.opening; known = map changes c.self.inside.memory } ≡ c.args.self.now =
-    ap (λ o. record { opening = c.self.inside.newest.book; sizes = sizes_shown o; known = map changes c.self.inside.memory }) (sym (then_some _ c.self.inside.reader c.unwrap-reader.result (sym c.take.ensures.value ∙ c.unwrap-reader.ensures))) ∙ c.self.view_is in
-    let known : map changes c.with.result ≡ version ∷ map changes c.self.inside.memory = ap (map changes) c.with.ensures ∙ ap (λ s. changes s.log ∷ map changes c.self.inside.memory) c.again.ensures in
-    let after : Knowing = record { opening = c.again-seen.result.book; sizes = sizes_shown c.leave-2.result.place.me.0.client.opening; known = map changes c.with.result } in
-    let now : after ≡ record { opening = c.self.inside.newest.book; sizes = sizes_shown c.unwrap-reader.result.place.me.0.client.opening; known = version ∷ map changes c.self.inside.memory } =
+    let before : record {
+      opening = c.self.inside.newest.book;
+      sizes = sizes_shown c.unwrap-reader.result.place.me.0.client.opening;
+      known = map changes c.self.inside.memory;
+    } ≡ c.args.self.now =
+    ap (λ o. record { opening = c.self.inside.newest.book; sizes = sizes_shown o; known = map changes c.self.inside.memory })
+    (sym (then_some _ c.self.inside.reader c.unwrap-reader.result (sym c.take.ensures.value ∙ c.unwrap-reader.ensures)))
+    ∙ c.self.view_is in
+    let known : map changes c.with.result ≡ version ∷ map changes c.self.inside.memory = ap (map changes) c.with.ensures
+    ∙ ap (λ s. changes s.log ∷ map changes c.self.inside.memory) c.again.ensures in
+    let after : Knowing = record {
+      opening = c.again-seen.result.book;
+      sizes = sizes_shown c.leave-2.result.place.me.0.client.opening;
+      known = map changes c.with.result;
+    } in
+    let now : after ≡ record {
+      opening = c.self.inside.newest.book;
+      sizes = sizes_shown c.unwrap-reader.result.place.me.0.client.opening;
+      known = version ∷ map changes c.self.inside.memory;
+    } =
     λ i. record { opening = same_book c i; sizes = sizes_shown (knows c i).opening; known = known i } in (
       version,
       of_history c ∙ ap (λ (k : Knowing). view_of k.sizes version c.args.sym) before,

@@ -1,3 +1,4 @@
+-- `Desk::settle`: clauses `begins` and `published`, by `all_begin`, `all_published` and `prefix_shorter`.
 use Rattle.std.proofs.Common.{length, ap, subst, arith}
 use Rattle.std.specs.List.{AllByRecursion, Contains}
 use mathlib.Core.List.{IsPrefix}
@@ -10,8 +11,10 @@ use Rattle.nms_versions.proofs.desk.Desk.settle.Goals as goal
 -- what the desk knows begins what the receipt stands for
 begins : (c : goal.After-drop-self-inside-4) → IsPrefix c.self.inside.newest.log c.receipt.inside.seen.log
 begins c =
-    let knew : IsPrefix c.self.inside.newest.log c.learn.new.self.log = subst (λ (l : Batches). IsPrefix l c.learn.new.self.log) (ap (λ s. s.log) c.again-both.ensures) c.learn.ensures.2 in
-    prefix_shorter c.self.inside.newest.log c.receipt.inside.seen.log c.learn.new.self.log knew c.learn.ensures.3 c.learn.ensures.4.1.none_empty
+    let knew : IsPrefix c.self.inside.newest.log c.learn.new.self.log =
+    subst (λ (l : Batches). IsPrefix l c.learn.new.self.log) (ap (λ s. s.log) c.again-both.ensures) c.learn.ensures.2 in
+    prefix_shorter c.self.inside.newest.log c.receipt.inside.seen.log c.learn.new.self.log knew c.learn.ensures.3
+    c.learn.ensures.4.1.none_empty
     (omega (arith, c.receipt.invariant, c.self.invariant.2.counted, c.if-version-receipt.false))
 
 pub returns-clause-begins : goal.returns-clause-begins
@@ -21,5 +24,6 @@ returns-clause-begins c =
 
 pub returns-clause-published : goal.returns-clause-published
 returns-clause-published c =
-    subst (λ (both : Receipted × Knowing). AllByRecursion (λ (version : Tape). Contains (publications both.0.published) (length version)) both.1.known) (λ i. (c.receipt.view_is i, c.self.view_is i))
+    subst (λ (both : Receipted × Knowing). AllByRecursion (λ (version : Tape). Contains (publications both.0.published) (length version))
+    both.1.known) (λ i. (c.receipt.view_is i, c.self.view_is i))
     (all_published _ _ _ c.self.invariant.2.begin (begins c))

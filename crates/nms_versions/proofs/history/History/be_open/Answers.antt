@@ -1,3 +1,4 @@
+-- `History::be_open`: the call of `compare_exchange`, by `opens_moves`.
 use Rattle.std.proofs.Common.{ap, sym, ◌∙◌}
 use Rattle.nms_versions.proofs.HistoryLemmas.{opens_moves}
 use Rattle.nms_versions.proofs.history.History.be_open.Goals as goal
@@ -12,5 +13,6 @@ compare_exchange-found-requires c =
       ap (λ s. s.book) seen ∙ sym (ap (λ w. w.book) h),
       pen.0 ∙ sym (ap (λ w. w.book) h),
       offer.0 ∙ sym (ap (λ s. s.names) seen),
-      rw (ap (λ w. w.key) h, ap (λ s. s.log) seen, pen.1, offer.3) (opens_moves c.self.inside.seen.log c.self.inside.batches (sym c.self.invariant.1)),
+      rw (ap (λ w. w.key) h, ap (λ s. s.log) seen, pen.1, offer.3)
+          (opens_moves c.self.inside.seen.log c.self.inside.batches (sym c.self.invariant.1)),
     )

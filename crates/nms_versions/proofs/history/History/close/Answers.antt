@@ -1,3 +1,4 @@
+-- `History::close`: the call of `compare_exchange`, by `closes_moves`.
 use Rattle.std.proofs.Common.{ap, sym, ◌∙◌}
 use Rattle.nms_versions.proofs.HistoryLemmas.{closes_moves}
 use Rattle.nms_versions.proofs.history.History.close.Goals as goal

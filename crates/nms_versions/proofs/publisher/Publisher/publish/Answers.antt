@@ -1,3 +1,6 @@
+-- `Publisher::publish`: clauses `publications` and `whole`, the call of `close`, the call of `replace_with` and
+-- the invariant of what it leaves, by `batch_room`, `changes-push`, `committed_some`, `follows`, `no_items`,
+-- `publications_push` and `taped_close`.
 use Rattle.std.proofs.Common.{◌≡◌, ◌<◌, ◌↔◌, ◌⊎◌, ◌++◌, [], length, List, ap, sym, subst, ◌∙◌, arith, rules}
 use Rattle.std.specs.List.{Contains}
 use Rattle.nms_quote.specs.declared.change.Change.{Change}
@@ -11,8 +14,10 @@ pub returns-then-is_empty-clause-publications : goal.returns-then-is_empty-claus
 returns-then-is_empty-clause-publications g c n =
     let none = no_items c.self.inside.fresh.items (search rules) in
     let log : Batches = c.self.inside.history.published in
-    subst (λ (t : Taped). Contains (publications t.published) n ↔ Contains (publications t.published) n ⊎ (n ≡ length (tape_of t))) c.self.view_is
-    (subst (λ (p : List Change). Contains (publications log) n ↔ Contains (publications log) n ⊎ (n ≡ length (changes log ++ p))) (sym none) (publications_push log [] n))
+    subst (λ (t : Taped). Contains (publications t.published) n ↔ Contains (publications t.published) n ⊎ (n ≡ length (tape_of t)))
+    c.self.view_is
+    (subst (λ (p : List Change). Contains (publications log) n ↔ Contains (publications log) n ⊎ (n ≡ length (changes log ++ p))) (sym none)
+    (publications_push log [] n))
 
 pub close-requires-clause-room : goal.close-requires-clause-room
 close-requires-clause-room g c =
@@ -24,7 +29,8 @@ pub replace_with-requires : goal.replace_with-requires
 replace_with-requires g c = (
   c.self.invariant.0.idle,
   follows _ _ _ _ _ _ _ _ c.self.invariant.0 c.self.invariant.1
-      (c.token.ensures.book ∙ ap (λ (h : Chronicle). h.opening) c.close.ensures) (c.token.ensures.log ∙ ap (λ (h : Chronicle). h.published) c.close.ensures) (ap (λ v. v.items) c.replace.ensures.value),
+      (c.token.ensures.book ∙ ap (λ (h : Chronicle). h.opening) c.close.ensures)
+      (c.token.ensures.log ∙ ap (λ (h : Chronicle). h.published) c.close.ensures) (ap (λ v. v.items) c.replace.ensures.value),
 )
 
 pub invariant_of-self : goal.invariant_of-self
@@ -33,20 +39,29 @@ invariant_of-self g c =
     let fresh : c.replace.new.dest.items ≡ [] = ap (λ v. v.items) c.replace.ensures.after ∙ c.new.ensures.items in
     let count : c.len.result ≡ length c.self.inside.tape.items = search rules in
     let seen : c.replace_with.new.dest.desk.shown.value.seen ≡ c.token.result = c.replace_with.ensures.1.0 in
-    let sizes : c.replace_with.new.dest.desk.shown.value.boards.sizes ≡ c.self.inside.writer.desk.shown.value.boards.sizes = c.replace_with.ensures.1.1 in (
-      record { book = ap (λ s. s.book) seen ∙ c.token.ensures.book; log = ap (λ s. s.log) seen ∙ c.token.ensures.log; idle = c.replace_with.ensures.0 },
+    let sizes : c.replace_with.new.dest.desk.shown.value.boards.sizes ≡ c.self.inside.writer.desk.shown.value.boards.sizes =
+    c.replace_with.ensures.1.1 in (
+      record {
+        book = ap (λ s. s.book) seen ∙ c.token.ensures.book;
+        log = ap (λ s. s.log) seen ∙ c.token.ensures.log;
+        idle = c.replace_with.ensures.0;
+      },
       rw (sizes, fresh, count) (taped_close _ _ _ _ _ _ _ c.self.invariant.1 some c.close.ensures),
     )
 
 pub returns-clause-whole : goal.returns-clause-whole
 returns-clause-whole g c =
-    ap (λ (h : Chronicle). changes h.published) c.close.ensures ∙ changes-push c.self.inside.history.published c.self.inside.fresh.items ∙ ap tape_of c.self.view_is
+    ap (λ (h : Chronicle). changes h.published) c.close.ensures ∙ changes-push c.self.inside.history.published c.self.inside.fresh.items
+    ∙ ap tape_of c.self.view_is
 
 pub returns-clause-publications : goal.returns-clause-publications
 returns-clause-publications g c n =
     let some : 0 < length c.self.inside.fresh.items = search rules in
     let log : Batches = c.self.inside.history.published in
     let pending : List Change = c.self.inside.fresh.items in
-    let now : committed log pending ≡ c.close.new.self.published = committed_some log pending some ∙ sym (ap (λ (h : Chronicle). h.published) c.close.ensures) in
-    subst (λ (t : Taped). Contains (publications c.close.new.self.published) n ↔ Contains (publications t.published) n ⊎ (n ≡ length (tape_of t))) c.self.view_is
-    (subst (λ (b : Batches). Contains (publications b) n ↔ Contains (publications log) n ⊎ (n ≡ length (changes log ++ pending))) now (publications_push log pending n))
+    let now : committed log pending ≡ c.close.new.self.published = committed_some log pending some
+    ∙ sym (ap (λ (h : Chronicle). h.published) c.close.ensures) in
+    subst (λ (t : Taped). Contains (publications c.close.new.self.published) n ↔ Contains (publications t.published) n
+    ⊎ (n ≡ length (tape_of t))) c.self.view_is
+    (subst (λ (b : Batches). Contains (publications b) n ↔ Contains (publications log) n ⊎ (n ≡ length (changes log ++ pending))) now
+    (publications_push log pending n))

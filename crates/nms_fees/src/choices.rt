@@ -1,0 +1,117 @@
+//! The keys of a setup that may be absent: `specs/Places`.
+ghost use Rattle.std.specs.Prelude.{◌≡◌};
+ghost use Rattle.toml.specs.View.{view, table_view};
+ghost use Rattle.nms_fees.specs.Places.{caps_of, year_fault, caps_fault, caps_in, feeds_of, feeds_fault, feeds_in, chosen_in};
+
+use crate::USUAL_FEEDS;
+use crate::check::range_fault;
+use crate::setup_fault::SetupFault;
+use crate::toml_table::value_at;
+use nms_fee_book::Caps;
+use nms_quote::MOST_FEEDS;
+use toml::{Table, Value};
+
+/// What the keys that may be absent choose.
+#[derive(Clone, Copy)]
+pub(crate) struct Chosen {
+    /// The caps that fees keep.
+    pub(crate) caps: Caps,
+    /// How many feeds there are, 1 to `MOST_FEEDS`.
+    pub(crate) feeds: u8,
+}
+
+/// The fault of the key `caps`: none where it is absent.
+pub(crate) fn caps_fault(document: &Table) -> Option<SetupFault>
+    ensures { result ≡ caps_fault (table_view document.now) }
+{
+    match value_at(document, "caps") {
+        Some(value) => year_fault(value),
+        None => None,
+    }
+}
+
+fn year_fault(value: &Value) -> Option<SetupFault>
+    ensures { result ≡ year_fault (view value.now) }
+{
+    let Some(year) = value.as_integer() else {
+        return Some(SetupFault::WrongType);
+    };
+    match caps_of(year) {
+        Some(_) => None,
+        None => Some(SetupFault::OutOfRange),
+    }
+}
+
+/// The fault of the key `feeds`: none where it is absent.
+pub(crate) fn feeds_fault(document: &Table) -> Option<SetupFault>
+    ensures { result ≡ feeds_fault (table_view document.now) }
+{
+    match value_at(document, "feeds") {
+        Some(value) => range_fault(value, 1, i64::from(MOST_FEEDS)),
+        None => None,
+    }
+}
+
+/// What a document chooses.
+pub(crate) fn chosen_in(document: &Table) -> Chosen
+    ensures { result ≡ chosen_in (table_view document.now) }
+{
+    Chosen {
+        caps: caps_in(document),
+        feeds: feeds_in(document),
+    }
+}
+
+/// The caps that a document asks for: those of 2005 where it names none.
+fn caps_in(document: &Table) -> Caps
+    ensures { result ≡ caps_in (table_view document.now) }
+{
+    let Some(value) = value_at(document, "caps") else {
+        return Caps::Of2005;
+    };
+    let Some(year) = value.as_integer() else {
+        return Caps::Of2005;
+    };
+    match caps_of(year) {
+        Some(caps) => caps,
+        None => Caps::Of2005,
+    }
+}
+
+fn caps_of(year: i64) -> Option<Caps>
+    ensures { result ≡ caps_of year }
+{
+    if year == 2005 {
+        Some(Caps::Of2005)
+    } else if year == 2024 {
+        Some(Caps::Of2024)
+    } else {
+        None
+    }
+}
+
+/// How many feeds a document has: two where it does not say.
+fn feeds_in(document: &Table) -> u8
+    ensures { result ≡ feeds_in (table_view document.now) }
+{
+    let Some(value) = value_at(document, "feeds") else {
+        return USUAL_FEEDS;
+    };
+    let Some(number) = value.as_integer() else {
+        return USUAL_FEEDS;
+    };
+    match feeds_of(number) {
+        Some(feeds) => feeds,
+        None => USUAL_FEEDS,
+    }
+}
+
+fn feeds_of(number: i64) -> Option<u8>
+    ensures { result ≡ feeds_of number }
+{
+    if 1 <= number && number <= i64::from(MOST_FEEDS) {
+        Some(number as u8)
+    } else {
+        None
+    }
+}

@@ -1,0 +1,46 @@
+//! Participants named in one field: `specs/Named`.
+ghost use Rattle.std.specs.Prelude.{◌≡◌, ◌<◌, IfOk, IfSome, length};
+ghost use Rattle.csv.specs.Records.{fields_of};
+ghost use Rattle.nms_lines.specs.Fields.{self_help_in};
+ghost use Rattle.nms_lines.specs.Named.{AreBelow, named_at, named_in};
+
+use crate::field::field;
+use crate::line_fault::LineFault;
+use csv::ByteRecord;
+use nms_quote::{PartSet, Roster};
+
+/// The participants that a text names: names of the roster joined by `+`, in any order, one that is repeated counted
+/// once. None where one of them is not on the roster, or nothing stands in its place.
+///
+/// It takes no memory. So an order names who has no protected quotation for it (17 CFR 242.611(b)(1)).
+pub fn read_names(text: &[u8], roster: &Roster) -> Option<PartSet>
+    ensures set { result ≡ named_in roster.now text.now }
+    ensures there { IfSome result (AreBelow (length roster.now.parts)) }
+{
+    let mut set = PartSet::none();
+    for name in text.split(|byte| *byte == b'+') {
+        let part = roster.find_part(name)?;
+        set = set.with(part);
+    }
+    Some(set)
+}
+
+/// The participants that a record's last field names, where it stands at that place. A shorter record names nobody.
+pub(crate) fn named_at(row: &ByteRecord, place: usize, roster: &Roster) -> Option<PartSet>
+    requires { place < 16 }
+    ensures set { result ≡ named_at place roster.now (fields_of row.now) }
+    ensures there { IfSome result (AreBelow (length roster.now.parts)) }
+{
+    if row.len() != place + 1 {
+        return Some(PartSet::none());
+    }
+    read_names(field(row, place), roster)
+}
+
+/// The participants that an order's record names in its eighth field, where it has one, or `UnknownParticipant`.
+pub(crate) fn self_help_in(row: &ByteRecord, roster: &Roster) -> Result<PartSet, LineFault>
+    ensures set { result ≡ self_help_in roster.now (fields_of row.now) }
+    ensures there { IfOk result (AreBelow (length roster.now.parts)) }
+{
+    named_at(row, 7, roster).ok_or(LineFault::UnknownParticipant)
+}

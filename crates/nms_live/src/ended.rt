@@ -1,0 +1,40 @@
+//! Which feeds' workers have ended. Its flags tell the taker when to stop looking; no proof rests on them.
+use nms_quote::{Feed, MOST_FEEDS};
+use std::sync::atomic::{AtomicBool, Ordering};
+
+/// Which feeds' workers have ended: a flag for each feed, in order of place.
+#[derive(Drop)]
+pub struct Ended {
+    flags: [AtomicBool; MOST_FEEDS as usize],
+}
+
+impl Ended {
+    /// None has ended.
+    pub(crate) fn none() -> Self {
+        Ended {
+            flags: [
+                AtomicBool::new(false),
+                AtomicBool::new(false),
+                AtomicBool::new(false),
+                AtomicBool::new(false),
+                AtomicBool::new(false),
+                AtomicBool::new(false),
+                AtomicBool::new(false),
+                AtomicBool::new(false),
+            ],
+        }
+    }
+
+    /// The worker of this feed has ended, or none was started.
+    pub(crate) fn add(&self, feed: Feed) {
+        self.flags[usize::from(feed.place())].store(true, Ordering::SeqCst);
+    }
+
+    /// Whether those of the first so many feeds have ended.
+    pub(crate) fn have_first(&self, count: usize) -> bool {
+        self.flags
+            .iter()
+            .take(count)
+            .all(|flag| flag.load(Ordering::SeqCst))
+    }
+}

@@ -1,0 +1,63 @@
+//! Several participants: `specs/Members`.
+ghost use Rattle.std.specs.Prelude.{◌≡◌, ℕ, ◌==◌, ◌||◌, false};
+ghost use Rattle.nms_quote.specs.Members.{AreSetsByMembers, has_part, nobody, with_part};
+
+use crate::participant::Part;
+use std::marker::Model;
+
+/// A set of participants' places. It takes no memory.
+#[derive(Clone, Copy, Debug, PartialEq, Eq, Hash)]
+pub struct PartSet {
+    mask: u32,
+}
+
+impl Model for PartSet {
+    ghost use Rattle.std.specs.Prelude.{ℕ, ◌<◌, ◌^◌};
+
+    ghost Value = { ℕ };
+
+    ghost view = { λ s. s.mask };
+
+    ghost invariant = { λ s. s.mask < 2 ^ 32 };
+
+    ghost inverse = { λ n. record { mask = n } };
+}
+
+impl PartSet {
+    /// The set of nobody.
+    pub fn none() -> Self
+        ensures set { result ≡ nobody }
+        ensures members { (place : ℕ) → has_part result place ≡ false }
+    {
+        PartSet { mask: 0 }
+    }
+
+    /// The set and this participant too. One who is in it already counts once.
+    pub fn with(self, part: Part) -> Self
+        ensures set { result ≡ with_part self part }
+        ensures members { (place : ℕ) → has_part result place ≡ (place == part || has_part self place) }
+    {
+        PartSet {
+            mask: self.mask | 1 << part.get(),
+        }
+    }
+
+    /// Whether the participant is in the set.
+    pub fn has(self, part: Part) -> bool
+        ensures { result ≡ has_part self part }
+    {
+        self.mask >> part.get() & 1 == 1
+    }
+
+    /// Whether nobody is in the set.
+    pub fn is_empty(self) -> bool
+        ensures { result ≡ (self == nobody) }
+    {
+        self.mask == 0
+    }
+
+    /// Two sets with the same members are one.
+    pub fn sets_are_their_members()
+        ensures { AreSetsByMembers }
+    {}
+}

@@ -1,0 +1,11 @@
+-- taken_before: the sums over the rows so far, by total_more.
+use Rattle.std.proofs.Common.{◌≡◌, ◌≤◌, ◌+◌, ◌*◌, take}
+use Rattle.nms_rules.specs.Cutoff.{swept}
+use Rattle.nms_sweep.specs.Choice.{below}
+use Rattle.nms_sweep.proofs.legs.taken_before.Given as goal
+
+abbrev pub invariant-loop-row : goal.invariant-loop-row
+invariant-loop-row l = record {
+  sum : l.sum ≡ swept l.cutoff (take l.row-index l.rows) + below l.cutoff l.marginal (take l.row-index l.rows);
+  within : l.sum ≤ l.row-index * 8589934590;
+}

@@ -1,0 +1,112 @@
+//! A usable row as the planner keeps it: `specs/Usable` of `nms_rules`.
+ghost use Rattle.std.specs.Prelude.{◌≡◌, ◌^◌, ◌≤ℤ◌, neg_ℤ, pos};
+ghost use Rattle.nms_rules.specs.Cutoff.{is_pooled, is_swept};
+ghost use Rattle.nms_rules.specs.Usable.{usable_row};
+
+use nms_board::Row;
+use nms_fee_book::FeeBook;
+use nms_quote::{Order, OrderSide, Part};
+use nms_rules::{Rank, UsableRow};
+use nms_units::{Money, Price};
+use std::marker::Model;
+
+/// A quotation that an order may trade with, as `UsableRow` has it. What a share costs lies within 10^16 + 10^7
+/// nanodollars, so that 64 bits hold it; the wide fields stand first: a row takes 32 bytes.
+#[derive(Clone, Copy, Debug)]
+pub(crate) struct PricedRow {
+    /// How good its price is.
+    pub(crate) rank: Rank,
+    /// In 1/10,000 dollar.
+    pub(crate) price: Price,
+    /// What a share costs there with the fee, in nanodollars.
+    pub(crate) cost: i64,
+    /// The displayed size, in shares.
+    pub(crate) size: u32,
+    /// Whose it is.
+    pub(crate) part: Part,
+    /// Whether it is protected; else it is manual.
+    pub(crate) protected: bool,
+}
+
+impl Model for PricedRow {
+    ghost use Rattle.std.specs.Prelude.{negsuc, pos, ◌≤ℤ◌};
+    ghost use Rattle.nms_rules.specs.Usable.{Usable};
+
+    ghost Value = { Usable };
+
+    ghost view = { λ r. record {
+      part = r.part;
+      rank = r.rank;
+      price = r.price;
+      size = r.size;
+      protected = r.protected;
+      cost = r.cost;
+    } };
+
+    ghost invariant = { λ r. (negsuc 10000000009999999 ≤ℤ r.cost) × (r.cost ≤ℤ pos 10000000010000000) };
+
+    ghost inverse = { λ u. record {
+      rank = u.rank;
+      price = u.price;
+      cost = u.cost;
+      size = u.size;
+      part = u.part;
+      protected = u.protected;
+    } };
+}
+
+/// The row that stands in a list's unused places.
+impl Default for PricedRow {
+    fn default() -> Self {
+        let price = Price::new(1).unwrap();
+        PricedRow {
+            rank: Rank::of(OrderSide::Buy, price),
+            price,
+            cost: 0,
+            size: 0,
+            part: Part::new(0).unwrap(),
+            protected: false,
+        }
+    }
+}
+
+impl PricedRow {
+    /// A row of a view, as an order may trade with it.
+    pub(crate) fn of(order: &Order, fees: &FeeBook, row: &Row) -> Self
+        ensures { result ≡ usable_row order.now fees.now row.now }
+    {
+        let usable = UsableRow::of(order, fees, row);
+        PricedRow {
+            rank: usable.rank,
+            price: usable.price,
+            cost: usable.cost.get() as i64,
+            size: usable.size,
+            part: usable.part,
+            protected: usable.protected,
+        }
+    }
+
+    /// What a share costs with the fee, in nanodollars.
+    pub(crate) fn unit_cost(&self) -> Money
+        ensures cost { result ≡ self.now.cost }
+        ensures low { neg_ℤ (pos (10 ^ 18)) ≤ℤ result }
+        ensures high { result ≤ℤ pos (10 ^ 18) }
+    {
+        Money::new(i128::from(self.cost))
+    }
+
+    /// Whether it must be swept before a price of that rank may be traded at: it is protected and at a better price
+    /// (17 CFR 242.600, "intermarket sweep order").
+    pub(crate) fn is_swept(&self, cutoff: Rank) -> bool
+        ensures { result ≡ is_swept cutoff self.now }
+    {
+        self.protected && self.rank < cutoff
+    }
+
+    /// Whether it is in the pool at a price of that rank: it is at that price or better, and need not be swept.
+    pub(crate) fn is_pooled(&self, cutoff: Rank) -> bool
+        ensures { result ≡ is_pooled cutoff self.now }
+    {
+        self.rank <= cutoff && !self.is_swept(cutoff)
+    }
+}

@@ -1,0 +1,301 @@
+//! What feeds send, drawn by chance: their texts, and what these say.
+use crate::chance::Chance;
+use nms_lines::LineFault;
+use nms_quote::{Change, Feed, Part, QState, SideQuote, Sym};
+use nms_units::{Lot, Price, Shares};
+use std::alloc::Global;
+
+/// A record in numbers: of each side the cents over 10 dollars, below 10, and the shares; of a new round lot its place
+/// among those that are drawn.
+#[derive(Clone, Copy)]
+struct Record {
+    kind: u32,
+    part: u8,
+    sym: u16,
+    state: u32,
+    bid: (u32, u32),
+    offer: (u32, u32),
+    lot: u32,
+}
+
+/// Cents and shares of a side; of 0 shares there is no quotation.
+fn drawn_side(chance: &mut Chance) -> (u32, u32) {
+    let cents = chance.draw() % 10;
+    let shares = (chance.draw() % 4).wrapping_mul(150);
+    (cents, shares)
+}
+
+/// A record of a feed: of one of its two participants, or a new round lot, which feed A alone brings.
+fn drawn_record(chance: &mut Chance, feed: Feed) -> Record {
+    let first = feed.place().wrapping_mul(2);
+    let kinds = if feed == Feed::A { 18 } else { 16 };
+    let kind = chance.draw().checked_rem(kinds).unwrap_or(0);
+    let state = chance.draw() % 8;
+    let (part, sym) = if chance.draw() % 2 == 0 {
+        (first, chance.draw() % 2)
+    } else {
+        (first.wrapping_add(1), 0)
+    };
+    Record {
+        kind,
+        part,
+        sym: u16::try_from(sym).unwrap_or(0),
+        state,
+        bid: drawn_side(chance),
+        offer: drawn_side(chance),
+        lot: chance.draw() % 12,
+    }
+}
+
+/// A new round lot, and the field or the fields that say it: averages stand at each boundary.
+fn lot_of(place: u32) -> (u16, &'static str) {
+    match place {
+        0 => (1, "1"),
+        1 => (1000, "1000"),
+        2 => (10, "0010"),
+        3 => (151, "151"),
+        4 => (300, "300"),
+        5 => (100, "AVG,250.0000"),
+        6 => (40, "AVG,250.0001"),
+        7 => (40, "AVG,1000.0000"),
+        8 => (10, "AVG,1000.0001"),
+        9 => (10, "AVG,10000.0000"),
+        10 => (1, "AVG,10000.0001"),
+        _ => (100, "100"),
+    }
+}
+
+fn state_of(state: u32) -> (QState, &'static str) {
+    match state {
+        0..=5 => (QState::Automated, "A"),
+        6 => (QState::Manual, "M"),
+        _ => (QState::Halted, "H"),
+    }
+}
+
+fn side_of((cents, shares): (u32, u32)) -> Option<SideQuote> {
+    let price = cents.wrapping_mul(100).wrapping_add(100_000);
+    SideQuote::new(Price::new(u64::from(price))?, Shares::new(shares)?)
+}
+
+/// The change that a record means.
+fn change_of(record: &Record) -> Option<Change> {
+    let part = Part::new(record.part)?;
+    let sym = Sym::new(record.sym)?;
+    let (state, _) = state_of(record.state);
+    Some(match record.kind {
+        0 => Change::Withdraw { part },
+        1 | 2 => Change::State { part, sym, state },
+        16 | 17 => {
+            let (shares, _) = lot_of(record.lot);
+            Change::Lot {
+                sym,
+                lot: Lot::new(shares)?,
+            }
+        }
+        _ => Change::Quote {
+            part,
+            sym,
+            state,
+            bid: side_of(record.bid),
+            offer: side_of(record.offer),
+        },
+    })
+}
+
+/// The names of the participants, two to a feed.
+const NAMES: [&str; 16] = [
+    "N", "P", "Y", "Z", "A", "B", "C", "D", "J", "K", "M", "Q", "T", "U", "V", "X",
+];
+
+pub(crate) fn part_name(part: u8) -> &'static str {
+    match NAMES.get(usize::from(part)) {
+        Some(name) => *name,
+        None => "",
+    }
+}
+
+/// The two fields of a side.
+fn side_text(alloc: Global, (cents, shares): (u32, u32)) -> Option<String> {
+    if shares == 0 {
+        String::from_str(alloc, ",").ok()
+    } else {
+        format!(in alloc; "10.0{cents},{shares}").ok()
+    }
+}
+
+/// The record as a text.
+fn record_text(alloc: Global, record: &Record) -> Option<String> {
+    let part = part_name(record.part);
+    let sym = if record.sym == 0 { "ABC" } else { "PNY" };
+    let (_, state) = state_of(record.state);
+    match record.kind {
+        0 => format!(in alloc; "X,{part}").ok(),
+        1 | 2 => format!(in alloc; "S,{part},{sym},{state}").ok(),
+        16 | 17 => {
+            let (_, fields) = lot_of(record.lot);
+            format!(in alloc; "R,{sym},{fields}").ok()
+        }
+        _ => {
+            let bid = side_text(alloc, record.bid)?;
+            let offer = side_text(alloc, record.offer)?;
+            format!(in alloc; "Q,{part},{sym},{state},{bid},{offer}").ok()
+        }
+    }
+}
+
+/// A record that is refused: what stands before the participant, whether it is of the feed, what stands behind, and
+/// the fault.
+fn refused(number: u32) -> (&'static str, bool, &'static str, LineFault) {
+    match number {
+        0 => ("T,", true, "", LineFault::UnknownKind),
+        1 => ("Q,", true, ",ABC,A,10.00,100", LineFault::FieldCount),
+        2 => ("X,W", true, "", LineFault::UnknownParticipant),
+        3 => ("S,", true, ",XYZ,A", LineFault::UnknownSymbol),
+        4 => ("S,", true, ",ABC,B", LineFault::BadState),
+        5 => ("Q,", true, ",ABC,A,ten,100,,", LineFault::BadPrice),
+        6 => ("Q,", true, ",ABC,A,10.00,ten,,", LineFault::BadShares),
+        7 => ("Q,", true, ",ABC,A,10.00,,,", LineFault::HalfSide),
+        8 => ("X,", false, "", LineFault::WrongFeed),
+        9 => ("S,", false, ",ABC,B", LineFault::BadState),
+        _ => ("Q,", false, ",XYZ,B,ten", LineFault::FieldCount),
+    }
+}
+
+/// A new round lot that is refused, of feed A or of another: the record and the fault.
+fn refused_lot(number: u32, feed: Feed) -> (&'static str, LineFault) {
+    let own = if feed == Feed::A {
+        LineFault::BadLot
+    } else {
+        LineFault::WrongFeed
+    };
+    match number {
+        11 => ("R,ABC", LineFault::FieldCount),
+        12 => ("R,XYZ,40", LineFault::UnknownSymbol),
+        13 => ("R,ABC,AV,10.00", LineFault::BadState),
+        14 => ("R,ABC,AVG,0", LineFault::BadPrice),
+        15 => ("R,ABC,0", own),
+        16 => ("R,PNY,1001", own),
+        _ => ("R,PNY,00001", own),
+    }
+}
+
+/// A participant of the feed, or else of the one before it, where feed A stands behind feed B.
+fn named(feed: Feed, is_own: bool) -> &'static str {
+    let place = match (is_own, feed) {
+        (true, _) => feed.place(),
+        (false, Feed::A) => 1,
+        (false, _) => feed.place().wrapping_sub(1),
+    };
+    part_name(place.wrapping_mul(2))
+}
+
+/// A refused record as a text, and its fault.
+fn refused_text(alloc: Global, number: u32, feed: Feed) -> Option<(String, LineFault)> {
+    if number > 10 {
+        let (text, fault) = refused_lot(number, feed);
+        return Some((String::from_str(alloc, text).ok()?, fault));
+    }
+    let (front, is_own, behind, fault) = refused(number);
+    let part = named(feed, is_own);
+    let text = format!(in alloc; "{front}{part}{behind}").ok()?;
+    Some((text, fault))
+}
+
+/// What a feed's text is, the changes that it says up to the first record that is refused, and why that one is.
+#[derive(Drop)]
+pub(crate) struct Sent {
+    pub(crate) text: Vec<u8>,
+    pub(crate) changes: Vec<Change>,
+    pub(crate) fault: Option<LineFault>,
+}
+
+/// Adds a record and the end of its line.
+fn add_line(text: &mut Vec<u8>, line: &str, end: u32) -> Option<()> {
+    let end = match end {
+        0 => "\r\n",
+        1 => "\n\n",
+        _ => "\n",
+    };
+    text.extend_from_slice(line.as_bytes()).ok()?;
+    text.extend_from_slice(end.as_bytes()).ok()
+}
+
+/// Adds a record of the feed.
+fn add_record(alloc: Global, chance: &mut Chance, feed: Feed, sent: &mut Sent) -> Option<()> {
+    let record = drawn_record(chance, feed);
+    let line = record_text(alloc, &record)?;
+    add_line(&mut sent.text, line.as_str(), chance.draw() % 8)?;
+    if sent.fault.is_none() {
+        // Moving a change takes a mention of the types in it: the prover has to have seen them.
+        let _seen: (Option<SideQuote>, Option<Lot>) = (None, None);
+        let change = change_of(&record)?;
+        sent.changes.push(change).ok()?;
+    }
+    Some(())
+}
+
+/// Adds a record that is refused. Where there is one feed alone, none is of another.
+fn add_refused(
+    alloc: Global,
+    chance: &mut Chance,
+    feed: Feed,
+    is_alone: bool,
+    sent: &mut Sent,
+) -> Option<()> {
+    let number = chance.draw() % 18;
+    let number = if is_alone && number >= 8 && number <= 10 {
+        number.wrapping_sub(8)
+    } else {
+        number
+    };
+    let (line, fault) = refused_text(alloc, number, feed)?;
+    add_line(&mut sent.text, line.as_str(), chance.draw() % 8)?;
+    if sent.fault.is_none() {
+        sent.fault = Some(fault);
+    }
+    Some(())
+}
+
+/// How many records a feed has.
+fn drawn_count(chance: &mut Chance) -> u32 {
+    let count = chance.draw();
+    match chance.draw() % 4 {
+        0 => count % 3,
+        1 | 2 => count % 24,
+        _ => (count % 90).wrapping_add(60),
+    }
+}
+
+/// What a feed sends. A third of the feeds have refused records, and of many feeds fewer.
+fn drawn_feed(alloc: Global, chance: &mut Chance, feed: Feed, feeds: u8) -> Option<Sent> {
+    let mut sent = Sent {
+        text: Vec::new(alloc),
+        changes: Vec::new(alloc),
+        fault: None,
+    };
+    let count = drawn_count(chance);
+    let is_sound = chance
+        .draw()
+        .checked_rem(u32::from(feeds).wrapping_add(1))
+        .unwrap_or(0)
+        != 0;
+    for _ in 0..count {
+        if is_sound || chance.draw() % 16 != 0 {
+            add_record(alloc, chance, feed, &mut sent)?;
+        } else {
+            add_refused(alloc, chance, feed, feeds == 1, &mut sent)?;
+        }
+    }
+    Some(sent)
+}
+
+/// What each of so many feeds sends.
+pub(crate) fn drawn_feeds(alloc: Global, chance: &mut Chance, feeds: u8) -> Option<Vec<Sent>> {
+    let mut all = Vec::new(alloc);
+    for place in 0..feeds {
+        let sent = drawn_feed(alloc, chance, Feed::at(place)?, feeds)?;
+        all.push(sent).ok()?;
+    }
+    Some(all)
+}

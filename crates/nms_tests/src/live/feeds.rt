@@ -1,0 +1,205 @@
+//! Runs of another number of feeds than two.
+use super::chance::{Limits, setup_of};
+use super::worked::{compare_closing, feed_a, feed_b, first_told, has_four, never_falls, order};
+use super::{Wanted, run};
+use crate::same::same;
+use nms_lines::LineFault;
+use nms_live::{Gate, GatePoint, Live, LiveFault, OpenGate};
+use nms_quote::{Change, Feed};
+use std::alloc::Global;
+use std::process::Abort;
+use std::sync::Wait;
+use std::test::Fail;
+use std::thread::Threads;
+
+/// The worked run's participants, of which N, P, Y and Z are on these feeds.
+fn worked_setup(alloc: Global, feeds: u8, letters: [&str; 4]) -> Option<String> {
+    let [n, p, y, z] = letters;
+    format!(in alloc;
+        "tape_limit = 1000\nqueue = 16\ndesks = 2\nfeeds = {feeds}\n
+[[participant]]\nname = \"N\"\nfeed = \"{n}\"\nfee = 3000000\nrate = 300\n
+[[participant]]\nname = \"P\"\nfeed = \"{p}\"\nfee = 2800000\nrate = 300\n
+[[participant]]\nname = \"Y\"\nfeed = \"{y}\"\nfee = -200000\nrate = 0\n
+[[participant]]\nname = \"Z\"\nfeed = \"{z}\"\nfee = 3000000\nrate = 300\n
+[[symbol]]\nname = \"ABC\"\nlot = 100\n[[symbol]]\nname = \"PNY\"\nlot = 100\n"
+    )
+    .ok()
+}
+
+/// The worked run over these feeds.
+fn run_worked<R: Threads + Wait + Sync>(
+    rt: &R,
+    alloc: Global,
+    feeds: &[&[u8]],
+    letters: [&str; 4],
+) -> Option<Live> {
+    let count = u8::try_from(feeds.len()).ok()?;
+    let setup = worked_setup(alloc, count, letters)?;
+    run(rt, alloc, setup.as_str(), feeds, &[order()], &OpenGate)?.ok()
+}
+
+/// The place in the tape of a participant's first change.
+fn place_in(tape: &[Change], part: u8) -> Option<usize> {
+    tape.iter().position(|change| change.part().map(|part| part.get()) == Some(part))
+}
+
+/// What Y sends.
+const OF_Y: &[u8] = b"Q,Y,ABC,A,,,10.01,200\n";
+/// What Z sends.
+const OF_Z: &[u8] = b"Q,Z,ABC,A,,,10.02,100\n";
+
+#[test]
+fn three_feeds_come_to_one_tape(rt: HostRuntime) -> Result<(), Fail> {
+    let feeds = [feed_a(), OF_Y, OF_Z];
+    let live = run_worked(&rt, rt.alloc(), &feeds, ["A", "A", "B", "C"]).ok_or("a run")?;
+    let tape = live.tape.as_slice();
+    same(&rt, tape.len(), 4);
+    same(&rt, place_in(tape, 0) < place_in(tape, 1), true);
+    same(&rt, first_told(&live.closing), Some((0, 0, 4, 600)));
+    compare_closing(&rt, rt.alloc(), &live.closing);
+    Ok(())
+}
+
+#[test]
+fn one_feed_is_the_tape(rt: HostRuntime) -> Result<(), Fail> {
+    let all: &[u8] =
+        b"Q,N,ABC,A,,,10.00,300\nQ,P,ABC,A,,,10.00,500\nQ,Y,ABC,A,,,10.01,200\nQ,Z,ABC,A,,,10.02,100\n";
+    let live = run_worked(&rt, rt.alloc(), &[all], ["A", "A", "A", "A"]).ok_or("a run")?;
+    let tape = live.tape.as_slice();
+    for part in 0..4u8 {
+        same(&rt, place_in(tape, part), Some(usize::from(part)));
+    }
+    same(&rt, tape.len(), 4);
+    compare_closing(&rt, rt.alloc(), &live.closing);
+    Ok(())
+}
+
+#[test]
+fn eight_feeds_of_which_six_send_nothing(rt: HostRuntime) -> Result<(), Fail> {
+    let none: &[u8] = b"";
+    let feeds = [feed_a(), feed_b(), none, none, none, none, none, none];
+    let live = run_worked(&rt, rt.alloc(), &feeds, ["A", "A", "B", "B"]).ok_or("a run")?;
+    same(&rt, has_four(&live.tape, &live.published), true);
+    same(&rt, first_told(&live.closing), Some((0, 0, 4, 600)));
+    compare_closing(&rt, rt.alloc(), &live.closing);
+    Ok(())
+}
+
+/// The fault of a run of eight feeds, of which some send a record that is refused.
+fn fault_of<R: Threads + Wait + Sync>(
+    rt: &R,
+    alloc: Global,
+    feeds: &[&[u8]; 8],
+) -> Option<LiveFault> {
+    let setup = worked_setup(alloc, 8, ["A", "C", "E", "H"])?;
+    run(rt, alloc, setup.as_str(), feeds, &[order()], &OpenGate)?.err()
+}
+
+#[test]
+fn of_the_feeds_that_are_refused_the_first_is_named(rt: HostRuntime) {
+    let (none, bad): (&[u8], &[u8]) = (b"", b"Q,N,ABC\n");
+    for (feeds, feed) in [
+        ([none, none, none, none, none, none, none, bad], Feed::H),
+        ([none, none, none, bad, none, bad, none, bad], Feed::D),
+        ([none, none, none, none, none, bad, bad, none], Feed::F),
+        ([bad, bad, bad, bad, bad, bad, bad, bad], Feed::A),
+    ] {
+        let want = LiveFault::Line {
+            feed,
+            number: 1,
+            fault: LineFault::FieldCount,
+        };
+        same(&rt, fault_of(&rt, rt.alloc(), &feeds), Some(want));
+    }
+}
+
+/// The text of a feed of so many changes of one participant.
+fn changes_of(alloc: Global, part: &str, count: u32) -> Option<Vec<u8>> {
+    let mut text = Vec::new(alloc);
+    for number in 0..count {
+        let cents = number % 10;
+        let line = format!(in alloc; "Q,{part},ABC,A,,,10.0{cents},300\n").ok()?;
+        text.extend_from_slice(line.as_bytes()).ok()?;
+    }
+    Some(text)
+}
+
+/// Lets no feed go on before what it sent last was published: so each change is published alone, or nearly so.
+#[derive(Drop)]
+struct Stepped {
+    published: std::sync::atomic::AtomicU64,
+}
+
+impl Gate for Stepped {
+    fn may(&self, at: GatePoint) -> bool {
+        match at {
+            GatePoint::Send { k, .. } => k
+                <= self.published.load(std::sync::atomic::Ordering::SeqCst),
+            _ => true,
+        }
+    }
+
+    fn done(&self, at: GatePoint) {
+        if let GatePoint::Publish { k } = at {
+            self.published
+                .store(k.saturating_add(1), std::sync::atomic::Ordering::SeqCst);
+        }
+    }
+}
+
+/// An order of each of 16 desks.
+fn orders_of_all(alloc: Global) -> Option<Vec<Wanted>> {
+    let mut table = Vec::new(alloc);
+    for desk in 0..16u8 {
+        let mut wanted = order();
+        wanted.desk = desk;
+        table.push(wanted).ok()?;
+    }
+    Some(table)
+}
+
+/// A run of eight feeds and 16 desks, in which each feed sends so many changes.
+fn run_all<R: Threads + Wait + Sync>(rt: &R, alloc: Global, each: u32) -> Option<Live> {
+    let limits = Limits {
+        tape: 100_000,
+        queue: 8,
+        desks: 16,
+        feeds: 8,
+    };
+    let setup = setup_of(alloc, limits)?;
+    let names = ["N", "Y", "A", "C", "J", "M", "T", "V"];
+    let mut texts = Vec::new(alloc);
+    for name in names {
+        texts.push(changes_of(alloc, name, each)?).ok()?;
+    }
+    let mut feeds = Vec::new(alloc);
+    for text in &texts {
+        feeds.push(text.as_slice()).ok()?;
+    }
+    let table = orders_of_all(alloc)?;
+    let gate = Stepped {
+        published: std::sync::atomic::AtomicU64::new(0),
+    };
+    run(rt, alloc, setup.as_str(), &feeds, &table, &gate)?.ok()
+}
+
+/// Compares a run of eight feeds and 16 desks with what is due.
+fn compare_all<R: Abort>(rt: &R, live: &Live, each: u32) {
+    same(
+        rt,
+        live.tape.len() as u64,
+        u64::from(each).saturating_mul(8),
+    );
+    same(rt, never_falls(&live.published), true);
+    same(rt, live.published.len() >= 1000, true);
+    same(rt, (live.answers.len(), live.closing.len()), (16, 16));
+}
+
+#[test]
+fn eight_feeds_and_sixteen_desks_while_a_thousand_versions_are_published(
+    rt: HostRuntime,
+) -> Result<(), Fail> {
+    let live = run_all(&rt, rt.alloc(), 1100).ok_or("a run")?;
+    compare_all(&rt, &live, 1100);
+    Ok(())
+}
