@@ -11,12 +11,12 @@ LOAD is one of
     looks       as quotes, but 15 of 16 records look
     withdraws   as wide, but every other record withdraws a participant from every symbol
     sweeps      quotations of 16 participants in 50 symbols, an order every 8 records, a publishing every 32
-    live        for a live run: so many quotations of 16 participants in 200 symbols, in two feeds, and 1,000 orders
-                for each of 1, 4 and 16 desks
+    live        for live runs: so many quotations of 16 participants in 200 symbols, in 1, 2, 4 and 8 feeds, and 1,000
+                orders for each of 1, 4 and 16 desks
 
-Writes FOLDER/load.csv and FOLDER/setup.toml; of a live run FOLDER/feed_a.csv and FOLDER/feed_b.csv, and for so many
-desks FOLDER/setup-DESKS.toml and FOLDER/orders-DESKS.csv. The same load, number and seed give the same bytes. Prices
-drift by a cent, so that sides repeat, improve, lock and cross as in a market.
+Writes FOLDER/load.csv and FOLDER/setup.toml; of live runs FOLDER/FEEDS/feed_a.csv and so on with the same quotations
+in so many feeds, FOLDER/FEEDS/setup-DESKS.toml for so many desks, and FOLDER/orders-DESKS.csv. The same load, number
+and seed give the same bytes. Prices drift by a cent, so that sides repeat, improve, lock and cross as in a market.
 """
 
 import random
@@ -25,8 +25,8 @@ from pathlib import Path
 
 # Participants and symbols of each load.
 SIZES = {"quotes": (16, 200), "wide": (32, 1000), "looks": (16, 200), "withdraws": (32, 1000), "sweeps": (16, 50), "live": (16, 200)}
-# Desks of a live run, and how many orders each has.
-DESKS, ORDERS = (1, 4, 16), 1000
+# Feeds and desks of live runs, and how many orders each desk has.
+FEEDS, DESKS, ORDERS = (1, 2, 4, 8), (1, 4, 16), 1000
 
 
 def name(place, letters):
@@ -34,14 +34,16 @@ def name(place, letters):
     return "".join(chr(ord("A") + place // 26**k % 26) for k in reversed(range(letters)))
 
 
-def feed_of(place):
-    return "AB"[place % 2]
+def feed_of(place, feeds=2):
+    return "ABCDEFGH"[place % feeds]
 
 
-def setup(participants, symbols, desks=4):
+def setup(participants, symbols, desks=4, feeds=2):
     yield f"tape_limit = 10000000\nqueue = 1024\ndesks = {desks}\n"
+    if feeds != 2:
+        yield f"feeds = {feeds}\n"
     for place in range(participants):
-        feed = feed_of(place)
+        feed = feed_of(place, feeds)
         fee = (3_000_000, 2_500_000, -2_000_000)[place % 3]
         yield f'\n[[participant]]\nname = "{name(place, 2)}"\nfeed = "{feed}"\nfee = {fee}\nrate = 300\n'
     for place in range(symbols):
@@ -103,16 +105,22 @@ class Script:
 
 
 def write_live(script, records, folder):
-    feeds = {"A": [], "B": []}
+    quotations = []
     for _ in range(records):
         quotation = script.quotation()
-        feeds[feed_of(script.place)].append(quotation)
-    for feed, lines in feeds.items():
-        (folder / f"feed_{feed.lower()}.csv").write_text("".join(lines))
+        quotations.append((script.place, quotation))
     for desks in DESKS:
         orders = [script.order(place % desks) for place in range(desks * ORDERS)]
         (folder / f"orders-{desks}.csv").write_text("".join(orders))
-        (folder / f"setup-{desks}.toml").write_text("".join(setup(script.participants, script.symbols, desks)))
+    for feeds in FEEDS:
+        of_feeds = folder / str(feeds)
+        of_feeds.mkdir(exist_ok=True)
+        for letter in "ABCDEFGH"[:feeds]:
+            lines = (line for place, line in quotations if feed_of(place, feeds) == letter)
+            (of_feeds / f"feed_{letter.lower()}.csv").write_text("".join(lines))
+        for desks in DESKS:
+            text = "".join(setup(script.participants, script.symbols, desks, feeds))
+            (of_feeds / f"setup-{desks}.toml").write_text(text)
 
 
 def main(words):

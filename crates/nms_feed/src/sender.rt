@@ -3,12 +3,12 @@ ghost use Rattle.std.specs.Prelude.{◌≡◌, ◌<◌, ◌≤◌, ◌∷◌, �
 ghost use Rattle.nms_feed.specs.declared.TheConstants.{MOST_SENT};
 
 use crate::full::Full;
+use crate::patience::Patience;
 use crate::rule::{Line, LinePass, Sends};
 use nms_quote::{Change, Feed, Marked};
 use std::alloc::Global;
 use std::marker::Model;
 use std::sync::{Arc, Wait};
-use std::thread;
 
 /// A feed's end of a lane. Each change that it sends bears its feed's mark.
 #[derive(Drop)]
@@ -54,11 +54,12 @@ impl Sender {
         ensures sent { self.new ≡ record self.old { sent = self.old.sent ++ change ∷ [] } }
     {
         let change = &change;
+        let mut patience = Patience::new();
         for _ in rt.forever() {
             if self.try_send(rt, *change).is_ok() {
                 return;
             }
-            thread::yield_now();
+            patience.wait(rt);
         }
         unreachable!()
     }

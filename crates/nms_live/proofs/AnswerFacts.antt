@@ -14,13 +14,17 @@ enumerate_append n (x ∷ xs) ys =
     ap (λ (l : List (ℕ × _)). (n, x) ∷ l) (enumerate_append (n + 1) xs ys
     ∙ ap (λ (m : ℕ). enumerate_from (n + 1) xs ++ enumerate_from m ys) k)
 
+-- the first so many and one more
+pub take_more : {X : Type 0} (xs : List X) (place : ℕ) (x : X) → place < length xs → get_or xs place x ≡ x
+    → take (place + 1) xs ≡ take place xs ++ x ∷ []
+take_more xs place x below is =
+    let up : place + 1 ≡ suc place = omega arith in
+    ap (λ (k : ℕ). take k xs) up ∙ take-suc xs place x below ∙ ap (λ (y : _). take place xs ++ y ∷ []) is
+
 -- one order more, with its number
 pub numbered_more : (orders : List DeskOrder) (place : ℕ) (order : DeskOrder) → place < length orders → get_or orders place order ≡ order
     → numbered (take (place + 1) orders) ≡ numbered (take place orders) ++ (place, order) ∷ []
 numbered_more orders place order below is =
-    let step : take (place + 1) orders ≡ take place orders ++ order ∷ [] =
-    let up : place + 1 ≡ suc place = omega arith in
-    ap (λ (k : ℕ). take k orders) up ∙ take-suc orders place order below ∙ ap (λ (o : DeskOrder). take place orders ++ o ∷ []) is in
     let count : 0 + length (take place orders) ≡ place = omega (arith, length-take-le place orders (omega (arith, below))) in
-    ap numbered step ∙ enumerate_append 0 (take place orders) (order ∷ [])
+    ap numbered (take_more orders place order below is) ∙ enumerate_append 0 (take place orders) (order ∷ [])
     ∙ ap (λ (k : ℕ). numbered (take place orders) ++ (k, order) ∷ []) count

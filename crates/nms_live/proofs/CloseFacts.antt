@@ -8,7 +8,7 @@ use Rattle.nms_fees.specs.Settings.{Settings}
 use Rattle.nms_versions.specs.Published.{Batches, publications}
 use Rattle.nms_versions.specs.Taped.{AllBegin, longest_of}
 use Rattle.nms_versions.proofs.Offered.{prefix_length}
-use Rattle.nms_live.specs.Answering.{IsBestOn, IsClosed, IsSound, IsWorked, versions}
+use Rattle.nms_live.specs.Answering.{IsBestOn, IsClosed, IsSound, IsWorked, numbered, own, versions}
 use Rattle.nms_live.specs.Keeping.{AreListed}
 use Rattle.nms_live.specs.Lists.{IsRising, SomeOf}
 use Rattle.nms_quote.specs.declared.answer.Answer.{Answer}
@@ -83,7 +83,8 @@ all_equal (answer ∷ answers) m low high = (omega (arith, low.0, high.0), all_e
 pub closed : (settings : Settings) (desk : ℕ) (orders : List DeskOrder) (published : Batches) (listed : List ℕ) (tape : Tape)
     (before after more : List Tape) (row : DeskRow)
     → AreListed published listed → AreSettled published tape after → after ≡ more ++ tape ∷ before
-    → IsWorked settings desk orders before row.answers.items → IsWorked settings desk orders after row.closing.items
+    → IsWorked settings (own desk (numbered orders)) before row.answers.items
+    → IsWorked settings (own desk (numbered orders)) after row.closing.items
     → AllByRecursion (λ n. longest_of (tape ∷ before) ≤ n) (versions row.closing.items)
     → IsClosed settings desk orders tape listed row
 closed settings desk orders published listed tape before after more row listed_all settled is worked again later =

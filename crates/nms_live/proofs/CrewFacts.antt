@@ -43,11 +43,10 @@ back_all settings orders opening desks handles backs ready one two started keeps
     }
 
 -- a desk's worker keeps what its job says
-pub desked_by_job : (settings : Settings) (orders : List DeskOrder) (place : ℕ) (desk : Knowing) (job : DeskJob) (back : Desked)
-    → job.setup.value ≡ settings → job.orders.value.items ≡ orders → job.number ≡ place → job.desk.value ≡ desk → KeepsJob job back
-    → IsDesked settings orders place desk back
-desked_by_job settings orders place desk job back of_setup of_orders of_place of_desk kept =
-    rw (sym of_setup, sym of_orders, sym of_place, sym of_desk) kept
+pub desked_by_job : (settings : Settings) (orders : List (ℕ × DeskOrder)) (desk : Knowing) (job : DeskJob) (back : Desked)
+    → job.setup.value ≡ settings → job.mine.value.orders.items ≡ orders → job.desk.value ≡ desk → KeepsJob job back
+    → IsDesked settings orders desk back
+desked_by_job settings orders desk job back of_setup of_orders of_desk kept = rw (sym of_setup, sym of_orders, sym of_desk) kept
 
 -- desks that were just opened are ready
 pub ready_all : (settings : Settings) (opening : Book) (desks : List Knowing) → desks ≡ replicate settings.desks (unseeing opening settings)

@@ -1,32 +1,28 @@
 -- How a desk's work comes from one order to the next.
-use Rattle.std.proofs.Common.{ℕ, ◌≡◌, ◌==◌, ◌≤◌, ◌++◌, Bool, true, false, List, [], ◌∷◌, length, refl, ap, ◌∙◌, inl, inr, arith}
-use Rattle.std.proofs.Common.{if◌then◌else◌}
+use Rattle.std.proofs.Common.{ℕ, ◌≡◌, ◌≤◌, ◌++◌, List, [], ◌∷◌, length, refl, ap, ◌∙◌, inl, inr, arith}
 use Rattle.std.specs.List.{AllByRecursion, AllZip}
-use Rattle.std.proofs.lemmas.List.{append-nil}
-use Rattle.std.proofs.lemmas.List.Elements.{filter-append}
 use mathlib.Core.List.{map-append}
 use Rattle.nms_quote.specs.Tape.{Tape}
 use Rattle.nms_fees.specs.Settings.{Settings}
 use Rattle.nms_versions.specs.Taped.{AllBegin, longest_of}
 use Rattle.nms_versions.proofs.Offered.{prefix_length}
-use Rattle.nms_live.specs.Answering.{IsBestOn, IsFor, IsWorked, numbered, own, versions}
+use Rattle.nms_live.specs.Answering.{IsBestOn, IsFor, IsWorked, versions}
 use Rattle.nms_live.specs.Lists.{IsRising, SomeOf}
 use Rattle.nms_quote.specs.declared.answer.Answer.{Answer}
 use Rattle.nms_quote.specs.declared.desk_order.DeskOrder.{DeskOrder}
 use Rattle.nms_live.proofs.NumberFacts.{all_push, all_weaker, below_all, rising_push}
 
 -- a desk's work so far: what it knew first is still known, and its answers are on versions that it knows
-pub record IsSoFar (settings : Settings) (desk : ℕ) (orders : List (ℕ × DeskOrder)) (first known : List Tape) (answers : List Answer) : Type
-    0 where
+pub record IsSoFar (settings : Settings) (orders : List (ℕ × DeskOrder)) (first known : List Tape) (answers : List Answer) : Type 0 where
   pub knows : (more : List Tape) × (known ≡ more ++ first)
-  pub matched : AllZip IsFor (own desk orders) answers
+  pub matched : AllZip IsFor orders answers
   pub best : AllByRecursion (λ answer. SomeOf (λ tape. IsBestOn settings tape answer) known) answers
   pub rising : IsRising (versions answers)
   pub within : AllByRecursion (λ n. n ≤ longest_of known) (versions answers)
   pub later : AllByRecursion (λ n. longest_of first ≤ n) (versions answers)
 
-pub so_far_start : (settings : Settings) (desk : ℕ) (first : List Tape) → IsSoFar settings desk [] first first []
-so_far_start settings desk first = record { knows = ([], refl); matched = tt; best = tt; rising = tt; within = tt; later = tt }
+pub so_far_start : (settings : Settings) (first : List Tape) → IsSoFar settings [] first first []
+so_far_start settings first = record { knows = ([], refl); matched = tt; best = tt; rising = tt; within = tt; later = tt }
 
 -- all that begins a version is no longer than it
 pub longest_begins : (tape : Tape) (known : List Tape) → AllBegin tape known → longest_of known ≤ length tape
@@ -44,40 +40,13 @@ zip_push R [] (b ∷ ys) x y all here = absurd all
 zip_push R (a ∷ xs) [] x y all here = absurd all
 zip_push R (a ∷ xs) (b ∷ ys) x y all here = (all.0, zip_push R xs ys x y all.1 here)
 
-pub own_mine : (desk : ℕ) (orders : List (ℕ × DeskOrder)) (order : ℕ × DeskOrder) → (order.1.desk == desk) ≡ true
-    → own desk (orders ++ order ∷ []) ≡ own desk orders ++ order ∷ []
-own_mine desk orders order is =
-    filter-append (λ (o : ℕ × DeskOrder). o.1.desk == desk) orders (order ∷ [])
-    ∙ ap (λ (b : Bool). own desk orders ++ (if b then order ∷ [] else [])) is
-
-pub own_other : (desk : ℕ) (orders : List (ℕ × DeskOrder)) (order : ℕ × DeskOrder) → (order.1.desk == desk) ≡ false
-    → own desk (orders ++ order ∷ []) ≡ own desk orders
-own_other desk orders order is =
-    filter-append (λ (o : ℕ × DeskOrder). o.1.desk == desk) orders (order ∷ [])
-    ∙ ap (λ (b : Bool). own desk orders ++ (if b then order ∷ [] else [])) is
-    ∙ append-nil (own desk orders)
-
--- an order of another desk
-pub so_far_other : (settings : Settings) (desk : ℕ) (orders : List (ℕ × DeskOrder)) (order : ℕ × DeskOrder) (first known : List Tape)
-    (answers : List Answer)
-    → (order.1.desk == desk) ≡ false → IsSoFar settings desk orders first known answers
-    → IsSoFar settings desk (orders ++ order ∷ []) first known answers
-so_far_other settings desk orders order first known answers other had = record {
-  knows = had.knows;
-  matched = rw (own_other desk orders order other) had.matched;
-  best = had.best;
-  rising = had.rising;
-  within = had.within;
-  later = had.later;
-}
-
--- an order of its own, answered on a version that begins with all that it knows
-pub so_far_mine : (settings : Settings) (desk : ℕ) (orders : List (ℕ × DeskOrder)) (order : ℕ × DeskOrder) (first known new : List Tape)
+-- an order more, answered on a version that begins with all that it knows
+pub so_far_more : (settings : Settings) (orders : List (ℕ × DeskOrder)) (order : ℕ × DeskOrder) (first known new : List Tape)
     (answers : List Answer) (answer : Answer) (tape : Tape)
-    → (order.1.desk == desk) ≡ true → IsFor order answer → new ≡ tape ∷ known → AllBegin tape known → answer.plan.version ≡ length tape
+    → IsFor order answer → new ≡ tape ∷ known → AllBegin tape known → answer.plan.version ≡ length tape
     → IsBestOn settings tape answer
-    → IsSoFar settings desk orders first known answers → IsSoFar settings desk (orders ++ order ∷ []) first new (answers ++ answer ∷ [])
-so_far_mine settings desk orders order first known new answers answer tape mine for is begins version best had =
+    → IsSoFar settings orders first known answers → IsSoFar settings (orders ++ order ∷ []) first new (answers ++ answer ∷ [])
+so_far_more settings orders order first known new answers answer tape for is begins version best had =
     let le : longest_of known ≤ length tape = longest_begins tape known begins in
     let low : longest_of first ≤ longest_of known = rw had.knows.1 (longest_append had.knows.0 first) in
     let top : length tape ≤ longest_of (tape ∷ known) = omega arith in
@@ -86,7 +55,7 @@ so_far_mine settings desk orders order first known new answers answer tape mine 
     let below = below_all (versions answers) (longest_of known) (length tape) le had.within in
     rw is (record {
       knows = (tape ∷ had.knows.0, ap (λ (k : List Tape). tape ∷ k) had.knows.1);
-      matched = rw (own_mine desk orders order mine) (zip_push IsFor (own desk orders) answers order answer had.matched for);
+      matched = zip_push IsFor orders answers order answer had.matched for;
       best = all_push (λ (a : Answer). SomeOf (λ t. IsBestOn settings t a) (tape ∷ known)) answers answer
           (all_weaker (λ (a : Answer). SomeOf (λ t. IsBestOn settings t a) known)
           (λ (a : Answer). SomeOf (λ t. IsBestOn settings t a) (tape ∷ known)) answers (λ a some. inr some) had.best)
@@ -97,6 +66,6 @@ so_far_mine settings desk orders order first known new answers answer tape mine 
       later = rw all (all_push (λ n. longest_of first ≤ n) (versions answers) (length tape) had.later (omega (arith, low, le)));
     })
 
-pub worked_so_far : (settings : Settings) (desk : ℕ) (orders : List DeskOrder) (first known : List Tape) (answers : List Answer)
-    → IsSoFar settings desk (numbered orders) first known answers → IsWorked settings desk orders known answers
-worked_so_far settings desk orders first known answers had = record { matched = had.matched; best = had.best; rising = had.rising }
+pub worked_so_far : (settings : Settings) (orders : List (ℕ × DeskOrder)) (first known : List Tape) (answers : List Answer)
+    → IsSoFar settings orders first known answers → IsWorked settings orders known answers
+worked_so_far settings orders first known answers had = record { matched = had.matched; best = had.best; rising = had.rising }

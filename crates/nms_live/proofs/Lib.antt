@@ -8,6 +8,7 @@ pub mod FeedFacts
 pub mod KeeperFacts
 pub mod LeftFacts
 pub mod NumberFacts
+pub mod OwnFacts
 pub mod PlaceFacts
 pub mod TapeFacts
 mod FeedLemmas

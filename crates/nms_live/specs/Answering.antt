@@ -1,5 +1,5 @@
 -- Answers of desks to orders: a plan on one version, with its certificate. This product's own rule.
-use Rattle.std.specs.Prelude.{ℕ, ◌≡◌, ◌==◌, ◌⊎◌, ◌++◌, List, length, map, filter, None}
+use Rattle.std.specs.Prelude.{ℕ, ◌≡◌, ◌==◌, ◌<◌, ◌⊎◌, ◌++◌, List, length, map, filter, slice_index_or, None}
 use Rattle.std.specs.List.{AllByRecursion, AllZip, Contains, enumerate_from}
 use Rattle.nms_quote.specs.Roster.{sizes_of}
 use Rattle.nms_quote.specs.Tape.{Tape, version}
@@ -15,6 +15,7 @@ use Rattle.nms_live.specs.Lists.{IsRising, SomeOf}
 use Rattle.nms_quote.specs.declared.answer.Answer.{Answer}
 use Rattle.nms_live.specs.declared.closing.DeskRow.{DeskRow}
 use Rattle.nms_live.specs.declared.desk_work.Desked.{Desked}
+use Rattle.nms_live.specs.declared.own_orders.OwnOrders.{OwnOrders}
 use Rattle.nms_quote.specs.declared.desk_order.DeskOrder.{DeskOrder}
 
 -- the orders with their places, from 0
@@ -24,6 +25,10 @@ numbered orders = enumerate_from 0 orders
 -- those of one desk
 abbrev pub own : ℕ → List (ℕ × DeskOrder) → List (ℕ × DeskOrder)
 own desk orders = filter (λ order. order.1.desk == desk) orders
+
+-- in each row stand the orders of the desk at its place
+abbrev pub AreOwn : List DeskOrder → List OwnOrders → Type 0
+AreOwn orders rows = (k : ℕ) (d : OwnOrders) → k < length rows → (slice_index_or rows k d).orders.items ≡ own k (numbered orders)
 
 -- the answer is to this order: it has its desk, its number and its terms
 abbrev pub IsFor : ℕ × DeskOrder → Answer → Type 0
@@ -47,18 +52,18 @@ versions answers = map (λ answer. answer.plan.version) answers
 abbrev pub of_desk : ℕ → List Answer → List Answer
 of_desk desk answers = filter (λ answer. answer.desk == desk) answers
 
--- what a desk's worker did: an answer to each of its orders, in order, each on a version that the desk knows, and
--- none on an older one than before
-pub record IsWorked (settings : Settings) (desk : ℕ) (orders : List DeskOrder) (known : List Tape) (answers : List Answer) : Type 0 where
-  pub matched : AllZip IsFor (own desk (numbered orders)) answers
+-- what a desk's worker did: an answer to each of the desk's own orders, in order, each on a version that the desk
+-- knows, and none on an older one than before
+pub record IsWorked (settings : Settings) (orders : List (ℕ × DeskOrder)) (known : List Tape) (answers : List Answer) : Type 0 where
+  pub matched : AllZip IsFor orders answers
   pub best : AllByRecursion (λ answer. SomeOf (λ tape. IsBestOn settings tape answer) known) answers
   pub rising : IsRising (versions answers)
 
 -- the desk came back as it went, and unless its worker stopped early, the work is done
-pub record IsDesked (settings : Settings) (orders : List DeskOrder) (place : ℕ) (before : Knowing) (back : Desked) : Type 0 where
+pub record IsDesked (settings : Settings) (orders : List (ℕ × DeskOrder)) (before : Knowing) (back : Desked) : Type 0 where
   pub opening : back.desk.opening ≡ before.opening
   pub sizes : back.desk.sizes ≡ before.sizes
-  pub worked : back.stop ≡ None → IsWorked settings place orders back.desk.known back.answers.items
+  pub worked : back.stop ≡ None → IsWorked settings orders back.desk.known back.answers.items
   pub stopped : IsNoLineIfAny back.stop
 
 -- the answer's version was published, or is the empty one, and on it the answer is the best

@@ -8,7 +8,7 @@ use Rattle.nms_feed.specs.Lane.{AreSendersOf, Sending, Taking}
 use Rattle.nms_fees.specs.Settings.{Settings}
 use Rattle.nms_versions.specs.Taped.{Knowing, tape_of}
 use Rattle.nms_versions.specs.Pages.{Book}
-use Rattle.nms_live.specs.Answering.{IsDesked, IsWorked}
+use Rattle.nms_live.specs.Answering.{IsDesked, IsWorked, numbered, own}
 use Rattle.nms_live.specs.Faults.{IsNoLineIfAny, first_among}
 use Rattle.nms_live.specs.Keeping.{IsWhole, Keeping}
 use Rattle.nms_live.specs.Reading.{IsFed, IsTapeOf, text_of}
@@ -65,23 +65,23 @@ AreReady settings opening desks =
 
 -- what a desk's worker gives back keeps this promise
 abbrev pub KeepsJob : DeskJob → Desked → Type 0
-KeepsJob job back = IsDesked job.setup.value job.orders.value.items job.number job.desk.value back
+KeepsJob job back = IsDesked job.setup.value job.mine.value.orders.items job.desk.value back
 
--- whatever the worker of the desk at a place gives back, its work is done as the desk went
-abbrev pub WillBeDesked : Settings → List DeskOrder → Knowing → ℕ → PromisedHandle Desked DeskJob → Type 0
-WillBeDesked settings orders desk place handle = (back : Desked) → KeepsJob handle.promise back → IsDesked settings orders place desk back
+-- whatever the worker of a desk gives back, its work on these orders is done as the desk went
+abbrev pub WillBeDesked : Settings → List (ℕ × DeskOrder) → Knowing → PromisedHandle Desked DeskJob → Type 0
+WillBeDesked settings orders desk handle = (back : Desked) → KeepsJob handle.promise back → IsDesked settings orders desk back
 
--- each desk's worker was started
+-- each desk's worker was started on the desk's own orders
 abbrev pub AreStarted : Settings → List DeskOrder → List Knowing → List (PromisedHandle Desked DeskJob) → Type 0
 AreStarted settings orders desks handles =
     (k : ℕ) (d : Knowing) (h : PromisedHandle Desked DeskJob) → k < length handles
-    → WillBeDesked settings orders (slice_index_or desks k d) k (slice_index_or handles k h)
+    → WillBeDesked settings (own k (numbered orders)) (slice_index_or desks k d) (slice_index_or handles k h)
 
 -- a worker's desk is of the opening and the roster, and unless it stopped early, its work is done
 pub record IsBack (settings : Settings) (orders : List DeskOrder) (opening : Book) (place : ℕ) (back : Desked) : Type 0 where
   pub opening_is : back.desk.opening ≡ opening
   pub sizes_are : back.desk.sizes ≡ sizes_of settings.roster
-  pub worked : back.stop ≡ None → IsWorked settings place orders back.desk.known back.answers.items
+  pub worked : back.stop ≡ None → IsWorked settings (own place (numbered orders)) back.desk.known back.answers.items
   pub stopped : IsNoLineIfAny back.stop
 
 -- each desk's worker came back

@@ -39,7 +39,7 @@ pub record IsPublishedVersion (live : Live) (number : ℕ) : Type 0 where
 pub record IsBestPlanOn (settings : Settings) (seen : Seen) (answer : Answer) : Type 0 where
   pub of_version : seen.version ≡ answer.plan.version
   -- at each price that it trades at it keeps the limit, and every protected quotation on the side that the order trades
-  -- with that this price would trade through gets its full displayed size
+  -- with, of participants that the order does not name, that this price would trade through gets its full displayed size
   pub never_through : NeverTradesThrough seen answer.plan.order answer.plan.legs.items
   -- it is lawful, and no lawful plan fills more, or as much for less with fees
   pub optimal : IsOptimal (usable seen answer.plan.order settings.fees) answer.plan.order.shares (given_by answer.plan.legs.items)

@@ -10,12 +10,12 @@ ghost use Rattle.nms_live.specs.Keeping.{IsWhole};
 
 use crate::desk_work::{Desked, answer_orders};
 use crate::gate::OpenGate;
-use crate::given::Given;
+use crate::given::{Given, Means};
 use crate::keeper::Keeper;
 use crate::live_fault::LiveFault;
 use nms_quote::Answer;
-use std::alloc::Global;
 use std::collections::VecDeque;
+use std::sync::Wait;
 
 /// A desk's answers.
 #[derive(Drop)]
@@ -27,8 +27,8 @@ pub struct DeskRow {
 }
 
 /// Lets each desk answer its orders again on the whole tape, and settles it.
-pub(crate) fn close_desks(
-    alloc: Global,
+pub(crate) fn close_desks<R: Wait, G>(
+    means: &Means<'_, R, G>,
     given: &Given<'_>,
     keeper: &mut Keeper,
     desks: Vec<Desked>,
@@ -44,10 +44,10 @@ pub(crate) fn close_desks(
 {
     // They are few enough for their numbers.
     let _most = given.setup.desks();
-    let mut rows = Vec::new(alloc);
+    let mut rows = Vec::new(means.alloc);
     let mut number = 0u8;
     for desked in desks {
-        let row = match close_desk(alloc, given, keeper, number, desked) {
+        let row = match close_desk(means, given, keeper, number, desked) {
             Ok(row) => row,
             Err(fault) => return Err(fault),
         };
@@ -61,14 +61,15 @@ pub(crate) fn close_desks(
 }
 
 /// Lets a desk answer its orders again on the whole tape, and settles it.
-fn close_desk(
-    alloc: Global,
+fn close_desk<R: Wait, G>(
+    means: &Means<'_, R, G>,
     given: &Given<'_>,
     keeper: &mut Keeper,
     number: u8,
     desked: Desked,
 ) -> Result<DeskRow, LiveFault>
     requires whole { IsWhole keeper.old }
+    requires place { number < given.now.setup.now.desks }
     requires back { IsBack given.now.setup.now given.now.orders.items keeper.old.taped.opening number desked }
     requires ended { desked.stop ≡ None }
     ensures unchanged { keeper.new ≡ keeper.old }
@@ -81,11 +82,15 @@ fn close_desk(
         stop: _,
     } = desked;
     desk.learn(keeper.receipt());
+    let open = Means {
+        rt: means.rt,
+        alloc: means.alloc,
+        gate: &OpenGate,
+    };
     let closing = match answer_orders(
-        alloc,
-        &OpenGate,
+        &open,
         given.setup,
-        &given.orders,
+        &given.by_desk[usize::from(number)].orders,
         number,
         &mut desk,
     ) {

@@ -8,14 +8,16 @@ ghost use Rattle.nms_live.specs.Answering.{IsBestOn, IsDesked, IsFor, IsWorked, 
 ghost use Rattle.nms_live.specs.Faults.{IsNoLine};
 
 use crate::gate::{Gate, GatePoint, passes};
+use crate::given::Means;
 use crate::live_fault::LiveFault;
+use crate::own_orders::OwnOrders;
 use nms_fees::Setup;
 use nms_quote::{Answer, DeskOrder};
 use nms_sweep::plan;
 use nms_versions::Desk;
-use std::alloc::Global;
 use std::collections::VecDeque;
 use std::snapshot::Snapshot;
+use std::sync::Wait;
 use std::thread::Promise;
 
 /// What a desk's worker gives back: the desk, its answers, and why it stopped early, if so.
@@ -30,9 +32,8 @@ pub struct Desked {
 #[derive(Drop)]
 pub struct DeskJob {
     pub(crate) setup: Snapshot<Setup>,
-    pub(crate) number: u8,
+    pub(crate) mine: Snapshot<OwnOrders>,
     pub(crate) desk: Snapshot<Desk>,
-    pub(crate) orders: Snapshot<Vec<DeskOrder>>,
 }
 
 impl Promise<Desked> for DeskJob {
@@ -41,19 +42,18 @@ impl Promise<Desked> for DeskJob {
     ghost kept_by = { KeepsJob };
 }
 
-/// Answers a desk's orders.
-pub(crate) fn work<G: Gate>(
-    alloc: Global,
-    gate: &G,
+/// Answers the orders of the desk of this number.
+pub(crate) fn work<R: Wait, G: Gate>(
+    means: &Means<'_, R, G>,
     setup: &Setup,
-    orders: &Vec<DeskOrder>,
+    mine: &OwnOrders,
     number: u8,
     mut desk: Desk,
 ) -> Desked
     requires sizes { desk.sizes ≡ sizes_of setup.now.roster }
-    ensures { IsDesked setup.now orders.now.items number desk result }
+    ensures { IsDesked setup.now mine.now.orders.items desk result }
 {
-    match answer_orders(alloc, gate, setup, orders, number, &mut desk) {
+    match answer_orders(means, setup, &mine.orders, number, &mut desk) {
         Ok(answers) => Desked {
             desk,
             answers,
@@ -61,43 +61,37 @@ pub(crate) fn work<G: Gate>(
         },
         Err(fault) => Desked {
             desk,
-            answers: VecDeque::new(alloc),
+            answers: VecDeque::new(means.alloc),
             stop: Some(fault),
         },
     }
 }
 
-/// Answers a desk's orders in order, each once.
-pub(crate) fn answer_orders<G: Gate>(
-    alloc: Global,
-    gate: &G,
+/// Answers the orders of the desk of this number in order, each once.
+pub(crate) fn answer_orders<R: Wait, G: Gate>(
+    means: &Means<'_, R, G>,
     setup: &Setup,
-    orders: &[DeskOrder],
+    orders: &[(usize, DeskOrder)],
     number: u8,
     desk: &mut Desk,
 ) -> Result<VecDeque<Answer>, LiveFault>
     requires sizes { desk.old.sizes ≡ sizes_of setup.now.roster }
     ensures same { (desk.new.opening ≡ desk.old.opening) × (desk.new.sizes ≡ desk.old.sizes) }
-    ensures worked { IfOk result (λ answers. IsWorked setup.now number orders.now desk.new.known answers.items) }
+    ensures worked { IfOk result (λ answers. IsWorked setup.now orders.now desk.new.known answers.items) }
     ensures knows { (more : List Tape) × (desk.new.known ≡ more ++ desk.old.known) }
     ensures later { IfOk result (λ answers. AllByRecursion (λ version. longest_of desk.old.known ≤ version) (versions answers.items)) }
     ensures fault { IfErr result IsNoLine }
 {
-    let mut answers = VecDeque::new(alloc);
-    let mut looks = 0u64;
+    let mut answers = VecDeque::new(means.alloc);
     for (place, wanted) in orders.iter().enumerate() {
-        if wanted.desk != number {
-            continue;
-        }
         let at = GatePoint::Look {
             desk: number,
-            k: looks,
+            k: place as u64,
         };
-        let answer = match answer_one(gate, at, setup, desk, wanted, place) {
+        let answer = match answer_one(means, at, setup, desk, wanted) {
             Ok(answer) => answer,
             Err(fault) => return Err(fault),
         };
-        looks += 1;
         match answers.push_back(answer) {
             Ok(()) => {}
             Err(_) => return Err(LiveFault::NoMemory),
@@ -107,33 +101,33 @@ pub(crate) fn answer_orders<G: Gate>(
 }
 
 /// Looks, and plans the order on what is seen.
-fn answer_one<G: Gate>(
-    gate: &G,
+fn answer_one<R: Wait, G: Gate>(
+    means: &Means<'_, R, G>,
     at: GatePoint,
     setup: &Setup,
     desk: &mut Desk,
-    wanted: &DeskOrder,
-    number: usize,
+    wanted: &(usize, DeskOrder),
 ) -> Result<Answer, LiveFault>
     requires sizes { desk.old.sizes ≡ sizes_of setup.now.roster }
     ensures same { (desk.new.opening ≡ desk.old.opening) × (desk.new.sizes ≡ desk.old.sizes) }
-    ensures order { IfOk result (IsFor (number, wanted.now)) }
+    ensures order { IfOk result (IsFor wanted.now) }
     ensures best { IfOk result (λ answer. (tape : Tape) × (desk.new.known ≡ tape ∷ desk.old.known) × AllBegin tape desk.old.known
         × (answer.plan.version ≡ length tape) × IsBestOn setup.now tape answer) }
     ensures unchanged { OnErr result (desk.new ≡ desk.old) }
     ensures fault { IfErr result IsNoLine }
 {
-    if !passes(gate, at) {
+    if !passes(means.rt, means.gate, at) {
         return Err(LiveFault::GateLimit);
     }
+    let (number, wanted) = wanted;
     let Ok(view) = desk.look(wanted.order.sym) else {
         return Err(LiveFault::Desk);
     };
     let (plan, certificate) = plan(&view, &wanted.order, setup.fees());
-    gate.done(at);
+    means.gate.done(at);
     Ok(Answer {
         desk: wanted.desk,
-        number,
+        number: *number,
         plan,
         certificate,
     })

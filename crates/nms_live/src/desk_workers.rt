@@ -4,7 +4,7 @@ ghost use Rattle.std.specs.Vec.{vec_len, vec_capacity};
 ghost use Rattle.std.specs.declared.thread.PromisedHandle.{PromisedHandle};
 ghost use Rattle.nms_quote.specs.Roster.{sizes_of};
 ghost use Rattle.nms_versions.specs.Taped.{Knowing};
-ghost use Rattle.nms_live.specs.Answering.{IsDesked};
+ghost use Rattle.nms_live.specs.Answering.{IsDesked, numbered, own};
 ghost use Rattle.nms_live.specs.Crew.{AreStarted, KeepsJob, WillBeDesked};
 ghost use Rattle.nms_live.specs.Faults.{IsNoLine, IsNoLineIfAny, first_among};
 ghost use Rattle.nms_live.specs.declared.desk_work.DeskJob.{DeskJob};
@@ -17,10 +17,11 @@ use crate::given::{Given, Means};
 use crate::live_fault::LiveFault;
 use nms_versions::Desk;
 use std::snapshot::Snapshot;
+use std::sync::Wait;
 use std::thread::{PromisedHandle, Scope, Threads};
 
 /// Makes room for what the desks' workers give back, and starts them.
-pub(crate) fn start_crew<'s, E, R: Threads, G: Gate>(
+pub(crate) fn start_crew<'s, E, R: Threads + Wait + Sync, G: Gate>(
     scope: &'s Scope<'s, E>,
     means: &'s Means<'s, R, G>,
     given: &'s Given<'s>,
@@ -45,7 +46,7 @@ pub(crate) fn start_crew<'s, E, R: Threads, G: Gate>(
 }
 
 /// Starts a worker for each desk, in order of number. Where one can't be started, those before it are waited for.
-fn start_desks<'s, E, R: Threads, G: Gate>(
+fn start_desks<'s, E, R: Threads + Wait + Sync, G: Gate>(
     scope: &'s Scope<'s, E>,
     means: &'s Means<'s, R, G>,
     given: &'s Given<'s>,
@@ -79,7 +80,7 @@ fn start_desks<'s, E, R: Threads, G: Gate>(
 }
 
 /// Starts the worker of a desk, and puts it behind those that were started before.
-fn start_desk<'s, E, R: Threads, G: Gate>(
+fn start_desk<'s, E, R: Threads + Wait + Sync, G: Gate>(
     scope: &'s Scope<'s, E>,
     means: &'s Means<'s, R, G>,
     given: &'s Given<'s>,
@@ -87,25 +88,25 @@ fn start_desk<'s, E, R: Threads, G: Gate>(
     desk: Desk,
     handles: &mut Vec<PromisedHandle<Desked, DeskJob>>,
 ) -> Result<(), LiveFault>
+    requires place { number < given.now.setup.now.desks }
     requires sizes { desk.sizes ≡ sizes_of given.now.setup.now.roster }
     ensures started { OnOk result ((handle : PromisedHandle Desked DeskJob) × (handles.new.items ≡ handles.old.items ++ handle ∷ [])
-        × WillBeDesked given.now.setup.now given.now.orders.items desk number handle) }
+        × WillBeDesked given.now.setup.now (own number (numbered given.now.orders.items)) desk handle) }
     ensures fault { IfErr result IsNoLine }
 {
-    let (alloc, gate) = (means.alloc, means.gate);
-    let (setup, orders) = (given.setup, &given.orders);
+    let (rt, alloc, gate) = (means.rt, means.alloc, means.gate);
+    let (setup, mine) = (given.setup, &given.by_desk[usize::from(number)]);
     let job = DeskJob {
         setup: Snapshot::of(setup),
-        number,
+        mine: Snapshot::of(mine),
         desk: Snapshot::of(&desk),
-        orders: Snapshot::of(orders),
     };
     let Ok(handle) = scope.spawn_with(
         job,
         move || -> Desked
             requires { desk.sizes ≡ sizes_of setup.now.roster }
-            ensures { IsDesked setup.entry.now orders.entry.now.items number desk result }
-        { work(alloc, gate, setup, orders, number, desk) },
+            ensures { IsDesked setup.entry.now mine.entry.now.orders.items desk result }
+        { work(&Means { rt, alloc, gate }, setup, mine, number, desk) },
     ) else {
         return Err(LiveFault::Open);
     };

@@ -138,7 +138,7 @@ fn send_record<R: Wait, G: Gate>(
         }
     };
     let at = GatePoint::Send { feed, k: index };
-    if !passes(means.gate, at) {
+    if !passes(means.rt, means.gate, at) {
         return Err(LiveFault::GateLimit);
     }
     // Moving a change takes a mention of the types in it: the prover has to have seen them.

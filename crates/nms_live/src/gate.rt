@@ -1,6 +1,8 @@
 //! The gate of a live run: a caller may hold up each send, look and publishing.
-use crate::MOST_TURNS;
+use crate::{MOST_RESTS, MOST_TURNS};
+use nms_feed::Patience;
 use nms_quote::Feed;
+use std::sync::Wait;
 use std::thread;
 
 /// A send, look or publishing of a live run.
@@ -49,12 +51,17 @@ impl Gate for OpenGate {
 }
 
 /// Waits at a gate, and tells whether it opened.
-pub(crate) fn passes<G: Gate>(gate: &G, at: GatePoint) -> bool {
-    for _ in 0..MOST_TURNS {
+pub(crate) fn passes<R: Wait, G: Gate>(rt: &R, gate: &G, at: GatePoint) -> bool {
+    let mut patience = Patience::new();
+    for turn in 0..MOST_TURNS {
         if gate.may(at) {
             return true;
         }
-        thread::yield_now();
+        if turn < MOST_RESTS {
+            patience.wait(rt);
+        } else {
+            thread::yield_now();
+        }
     }
     false
 }

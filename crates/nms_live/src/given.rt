@@ -1,8 +1,10 @@
 //! What a live run is given, and what it works with: two values, which its threads share.
-ghost use Rattle.std.specs.Prelude.{◌≡◌, map};
+ghost use Rattle.std.specs.Prelude.{◌≡◌, length, map};
+ghost use Rattle.nms_live.specs.Answering.{AreOwn};
 ghost use Rattle.nms_live.specs.Reading.{text_of};
 
 use crate::ended::Ended;
+use crate::own_orders::OwnOrders;
 use nms_fees::Setup;
 use nms_quote::{DeskOrder, Feed};
 use std::alloc::Global;
@@ -16,6 +18,10 @@ pub struct Given<'g> {
     /// Which feeds' workers have ended.
     pub(crate) ended: Ended,
     pub(crate) orders: Vec<DeskOrder>,
+    /// The orders of each desk, in order of number.
+    pub(crate) by_desk: Vec<OwnOrders>,
+    ghost all_parted: { length by_desk.items ≡ setup.now.desks },
+    ghost parted: { AreOwn orders.items by_desk.items },
 }
 
 /// What a live run works with.

@@ -119,7 +119,7 @@ impl Keeper {
         let at = GatePoint::Publish {
             k: self.listed.len() as u64,
         };
-        if !passes(means.gate, at) {
+        if !passes(means.rt, means.gate, at) {
             self.stop = Some(LiveFault::GateLimit);
             return;
         }

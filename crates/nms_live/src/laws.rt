@@ -13,9 +13,10 @@ use nms_quote::DeskOrder;
 use nms_rules::a_lawful_plan_never_trades_through;
 
 /// Each plan of a live run names one published version, no older than any that its desk saw before, whose best quotes
-/// are the rule's ranking of the changes published; it keeps the limit, sweeps in full every protected quotation
-/// better than a price it trades at, and no lawful plan on that version fills more, or as much for less with fees
-/// (17 CFR 242.600, 242.611(a), (b)(5) and (6); what is best is this product's own rule).
+/// are the rule's ranking of the changes published; it keeps the limit, sweeps in full every protected quotation, of
+/// participants that the order does not name, better than a price it trades at, and no lawful plan on that version
+/// fills more, or as much for less with fees (17 CFR 242.600, 242.611(a), (b)(1), (5) and (6); what is best is this
+/// product's own rule).
 pub fn each_answer_is_the_best_of_its_version(
     setup: &Setup,
     feeds: &[Vec<u8>],

@@ -17,6 +17,7 @@ mod laws;
 mod live;
 mod live_fault;
 mod living;
+mod own_orders;
 mod taking;
 mod workers;
 
@@ -24,6 +25,9 @@ mod workers;
 pub const MOST_WAITING: u64 = 64;
 /// How many turns a thread waits at a gate. This product's own rule.
 pub const MOST_TURNS: u32 = 1_000_000;
+/// In how many of those turns it may rest, the first ones: so a gate that never opens ends a run within seconds. This
+/// product's own rule.
+pub const MOST_RESTS: u32 = 1_024;
 
 pub use gate::{Gate, GatePoint, OpenGate};
 pub use laws::{a_live_run_is_a_run_of_the_machine, each_answer_is_the_best_of_its_version};

@@ -14,6 +14,7 @@ use crate::given::{Given, Means};
 use crate::keeper::Keeper;
 use crate::live::Live;
 use crate::live_fault::LiveFault;
+use crate::own_orders::part_by_desk;
 use crate::workers::run_in_threads;
 use nms_feed::open_lane;
 use nms_fees::Setup;
@@ -42,11 +43,15 @@ pub fn run_live<R: Threads + Wait + Sync, G: Gate>(
     ensures live { IfOk result (IsLive setup.now (map (λ text. text.items) feeds.items) orders.items) }
     ensures refused { IfErr result (IsLiveFault setup.now.roster (map (λ text. text.items) feeds.items)) }
 {
+    let Some(by_desk) = part_by_desk(alloc, setup.desks(), &orders) else {
+        return Err(LiveFault::NoMemory);
+    };
     let given = Given {
         setup,
         feeds,
         ended: Ended::none(),
         orders,
+        by_desk,
     };
     run_over(&Means { rt, alloc, gate }, &given)
 }
@@ -90,7 +95,7 @@ fn close_all<R: Wait, G>(
     ensures live { IfOk result (IsLive given.now.setup.now (texts_of given.now) given.now.orders.items) }
     ensures fault { IfErr result IsNoLine }
 {
-    match close_desks(means.alloc, given, &mut keeper, desks) {
+    match close_desks(means, given, &mut keeper, desks) {
         Ok(rows) => {
             let (tape, published) = keeper.end(means.rt);
             let Gathered { answers, closing } = gather(

@@ -10,9 +10,8 @@ ghost use Rattle.nms_live.specs.Keeping.{HasTaken, IsSameKeeping, IsWhole};
 use crate::gate::Gate;
 use crate::given::{Given, Means};
 use crate::keeper::Keeper;
-use nms_feed::{NotEmpty, Sender, Taker, close};
+use nms_feed::{NotEmpty, Patience, Sender, Taker, close};
 use std::sync::Wait;
-use std::thread;
 
 /// Takes a change, if there is one, and tells whether there was.
 fn take_one<R: Wait, G: Gate>(
@@ -44,16 +43,16 @@ pub(crate) fn take_until_ended<R: Wait, G: Gate>(
     ensures same { IsSameKeeping keeper.old keeper.new }
     ensures taken { HasTaken keeper.old taker.old.taken → HasTaken keeper.new taker.new.taken }
 {
+    let mut patience = Patience::new();
     for _ in means.rt.forever() {
         if take_one(means, keeper, taker) {
-            continue;
-        }
-        if keeper.has_waiting() {
+            patience = Patience::new();
+        } else if keeper.has_waiting() {
             keeper.publish(means);
         } else if given.feeds_have_ended() {
             return;
         } else {
-            thread::yield_now();
+            patience.wait(means.rt);
         }
     }
     unreachable!()
@@ -74,6 +73,7 @@ pub(crate) fn take_rest<R: Wait, G: Gate>(
         → (marked : List Marked) × IsMerge (map (λ s. s.sent) senders.items) marked × (tape_of keeper.new.taped ≡ changes_in marked) }
 {
     let mut ends = (senders, taker);
+    let mut patience = Patience::new();
     for _ in means.rt.forever() {
         let (senders, taker) = ends;
         match close(senders, taker) {
@@ -83,7 +83,7 @@ pub(crate) fn take_rest<R: Wait, G: Gate>(
             }
             Err(NotEmpty { senders, mut taker }) => {
                 if !take_one(means, keeper, &mut taker) {
-                    thread::yield_now();
+                    patience.wait(means.rt);
                 }
                 ends = (senders, taker);
             }

@@ -9,7 +9,7 @@ use Rattle.nms_live.proofs.PlaceFacts.{row_more}
 use Rattle.nms_live.proofs.closing.close_desks.Goals as goal
 
 pub loop-desked-preserved : goal.loop-desked-preserved
-loop-desked-preserved c =
+loop-desked-preserved g c =
     let at = c.loop-desked in
     let desk = c.in-Some.desked in
     let row = c.in-Ok.row in

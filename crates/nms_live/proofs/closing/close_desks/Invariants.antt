@@ -7,7 +7,7 @@ use Rattle.nms_live.proofs.closing.close_desks.Given as goal
 
 -- the desks so far were settled
 abbrev pub invariant-loop-desked : goal.invariant-loop-desked
-invariant-loop-desked l = record {
+invariant-loop-desked g l = record {
   parted : l.yielded ++ into_iter_items l.desked-iterator ≡ l.fn.desks.items;
   count : l.number ≡ length l.yielded;
   all : length l.rows.items ≡ l.number;

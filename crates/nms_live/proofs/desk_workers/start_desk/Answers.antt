@@ -1,19 +1,21 @@
--- `start_desk`: clause `started`, by `desked_by_job`.
-use Rattle.std.proofs.Common.{ap, ◌∙◌, rules}
+-- `start_desk`: clause `started`, by `desked_by_job`: the row at the desk's number has the desk's own orders.
+use Rattle.std.proofs.Common.{◌≡◌, ap, sym, ◌∙◌, rules}
+use Rattle.nms_live.specs.Answering.{numbered, own}
 use Rattle.nms_live.specs.declared.desk_work.DeskJob.{DeskJob}
+use Rattle.nms_live.specs.declared.own_orders.OwnOrders.{OwnOrders}
 use Rattle.nms_live.proofs.CrewFacts.{desked_by_job}
 use Rattle.nms_live.proofs.desk_workers.start_desk.Goals as goal
 
 pub returns-in-Ok-push-clause-started : goal.returns-in-Ok-push-clause-started
 returns-in-Ok-push-clause-started g c =
     let handle = c.in-Ok.handle in
-    let kept = c.in-Ok.ensures.ok in (
+    let kept = c.in-Ok.ensures.ok in
+    let orders = own c.args.number (numbered c.args.given.now.orders.items) in (
       handle,
       c.in-Ok-push.ensures.items,
-      λ back keeps. desked_by_job c.args.given.now.setup.now c.args.given.now.orders.items c.args.number c.args.desk handle.promise back
+      λ back keeps. desked_by_job c.args.given.now.setup.now orders c.args.desk handle.promise back
           (ap (λ (j : DeskJob). j.setup.value) kept ∙ c.of.ensures)
-          (search (rules, ap (λ (j : DeskJob). j.orders.value.items) kept, c.of-3.ensures))
-          (ap (λ (j : DeskJob). j.number) kept)
-          (ap (λ (j : DeskJob). j.desk.value) kept ∙ c.of-2.ensures)
+          (search (rules, ap (λ (j : DeskJob). j.mine.value.orders.items) kept, c.of-2.ensures))
+          (ap (λ (j : DeskJob). j.desk.value) kept ∙ c.of-3.ensures)
           keeps,
     )

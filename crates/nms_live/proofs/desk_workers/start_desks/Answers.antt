@@ -4,6 +4,7 @@ use Rattle.std.specs.Prelude.{slice_index_or}
 use Rattle.std.specs.Vec.Iter.{into_iter_items}
 use Rattle.std.specs.declared.thread.PromisedHandle.{PromisedHandle}
 use Rattle.nms_versions.specs.Taped.{Knowing}
+use Rattle.nms_live.specs.Answering.{numbered, own}
 use Rattle.nms_live.specs.Crew.{WillBeDesked}
 use Rattle.nms_live.specs.declared.desk_work.DeskJob.{DeskJob}
 use Rattle.nms_live.specs.declared.desk_work.Desked.{Desked}
@@ -28,11 +29,13 @@ loop-desk-preserved g c =
       all = omega (arith, place, ap length pushed, length-append at.handles.items (handle ∷ []));
       started = λ k d h below.
           let P : ℕ → PromisedHandle Desked DeskJob → Type 0 =
-          λ j r. WillBeDesked c.args.given.now.setup.now c.args.given.now.orders.items (slice_index_or c.args.desks.items j d) j r in
+          λ j r. WillBeDesked c.args.given.now.setup.now (own j (numbered c.args.given.now.orders.items))
+          (slice_index_or c.args.desks.items j d) r in
           let there : slice_index_or c.args.desks.items at.number d ≡ desk =
           stands_at c.args.desks.items at.yielded desk rest at.number d parted at.invariant.count in
           let here : P at.number handle =
-          subst (λ (e : Knowing). WillBeDesked c.args.given.now.setup.now c.args.given.now.orders.items e at.number handle) (sym there)
+          subst (λ (e : Knowing). WillBeDesked c.args.given.now.setup.now (own at.number (numbered c.args.given.now.orders.items)) e handle)
+          (sym there)
           started.2 in
           let last : P (length at.handles.items) handle = rw place here in
           rw pushed (row_more P at.handles.items handle (λ j e lt. at.invariant.started j d e lt) last k h (rw (sym pushed) below));

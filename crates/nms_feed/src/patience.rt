@@ -1,0 +1,50 @@
+//! How a thread waits for another one.
+use std::sync::Wait;
+use std::thread::Parker;
+use std::time::Duration;
+use std::{hint, thread};
+
+/// How many turns a thread spins first. This product's own rule.
+const MOST_SPINS: u32 = 64;
+/// In how many turns after those it lets other threads run. This product's own rule.
+const MOST_YIELDS: u32 = 16;
+/// How long it rests in the turn after those, in microseconds. This product's own rule.
+const SHORTEST_REST: u32 = 16;
+/// How long it rests at most in a turn, in microseconds. This product's own rule.
+const LONGEST_REST: u32 = 1024;
+
+/// How long a thread has waited in vain for another one, and so how it waits next: it spins, then it lets others
+/// run, then it rests, each time twice as long. What it waits for is looked at between two turns, and nobody wakes
+/// it. No proof rests on it.
+#[derive(Clone, Copy, Debug, PartialEq, Eq)]
+pub struct Patience {
+    /// How many turns it waited without a rest.
+    turns: u32,
+    /// How long it rests next, in microseconds.
+    rest: u32,
+}
+
+impl Patience {
+    /// Of a thread that has not waited yet.
+    pub fn new() -> Self {
+        Patience {
+            turns: 0,
+            rest: SHORTEST_REST,
+        }
+    }
+
+    /// Waits a turn.
+    pub fn wait<R: Wait>(&mut self, rt: &R) {
+        if self.turns < MOST_SPINS {
+            self.turns += 1;
+            hint::spin_loop();
+        } else if self.turns < MOST_SPINS + MOST_YIELDS {
+            self.turns += 1;
+            thread::yield_now();
+        } else {
+            let rest = Duration::from_micros(u64::from(self.rest));
+            self.rest = self.rest.saturating_mul(2).min(LONGEST_REST);
+            Parker::new().park_timeout(rt, rest);
+        }
+    }
+}
