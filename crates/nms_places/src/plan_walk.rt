@@ -1,0 +1,117 @@
+//! A walk over the records of a plan's text: which of them is due, and what is wrong with the one that came
+//! (`specs/PlanFields`).
+ghost use Rattle.std.specs.Prelude.{◌≡◌, Some, None};
+ghost use Rattle.csv.specs.Records.{fields_of};
+ghost use Rattle.nms_places.specs.PlanFields.{due_place, later_place};
+
+use crate::field_name::FieldName;
+use crate::place::{FieldPlace, Place};
+use crate::plan_place::{cut_place, end_place, head_place, leg_place};
+use crate::record_field::text_at;
+use nms_lines::ByteRecord;
+use nms_quote::Roster;
+
+/// How many legs a plan has at most, and how many cuts.
+const MOST: u8 = 32;
+
+/// What a plan's text has to go on with.
+#[derive(Clone, Copy, Debug, PartialEq, Eq)]
+pub enum PlanDue {
+    /// The record of the plan.
+    Plan,
+    /// A leg, a cut, or the end.
+    Leg,
+    /// A cut, or the end.
+    Cut,
+    /// Nothing: the end came.
+    Nothing,
+}
+
+/// What is wrong with a record of a plan's text.
+#[derive(Clone, Copy, Debug, PartialEq, Eq)]
+pub enum PlanTrouble {
+    /// It is none of those that are due, or one of its fields does not say what a plan says.
+    Wrong(Place),
+    /// It is the 33rd leg, or the 33rd cut.
+    TooMany,
+}
+
+/// How far the records of a plan's text have come.
+#[derive(Clone, Copy, Debug, PartialEq, Eq)]
+pub struct PlanWalk {
+    /// What is due.
+    pub due: PlanDue,
+    /// How many legs came, or cuts where cuts are due, at most 33.
+    pub count: u8,
+}
+
+impl PlanWalk {
+    /// Before the first record.
+    pub fn new() -> Self
+        ensures { result.due ≡ PlanDue.Plan }
+    {
+        PlanWalk {
+            due: PlanDue::Plan,
+            count: 0,
+        }
+    }
+
+    /// What is wrong with the next record. The walk goes on behind it, as its first word says.
+    pub fn next(&mut self, row: &ByteRecord, roster: &Roster) -> Option<PlanTrouble>
+        ensures wrong { (at : Place) → result ≡ Some (PlanTrouble.Wrong at)
+            → due_place self.old.due roster.now (fields_of row.now) ≡ Some at }
+        ensures right { result ≡ None → due_place self.old.due roster.now (fields_of row.now) ≡ None }
+    {
+        let wrong = due_place(self.due, row, roster);
+        self.go_on(row);
+        match wrong {
+            Some(place) => Some(PlanTrouble::Wrong(place)),
+            None if self.count > MOST => Some(PlanTrouble::TooMany),
+            None => None,
+        }
+    }
+
+    /// What is due behind a record.
+    fn go_on(&mut self, row: &ByteRecord) {
+        let next = due_behind(self.due, text_at(row, 0));
+        if next == PlanDue::Cut && self.due != PlanDue::Cut || next == PlanDue::Nothing {
+            self.count = 0;
+        }
+        if self.due != PlanDue::Plan && next != PlanDue::Nothing && self.count <= MOST {
+            self.count += 1;
+        }
+        self.due = next;
+    }
+}
+
+/// What is due behind a record that begins with a word.
+fn due_behind(due: PlanDue, word: &[u8]) -> PlanDue {
+    match (due, word) {
+        (PlanDue::Nothing, _) | (PlanDue::Leg | PlanDue::Cut, b"END") => PlanDue::Nothing,
+        (PlanDue::Cut, _) | (PlanDue::Leg, b"CUT") => PlanDue::Cut,
+        (PlanDue::Plan | PlanDue::Leg, _) => PlanDue::Leg,
+    }
+}
+
+/// What is wrong with a record where that is due.
+fn due_place(due: PlanDue, row: &ByteRecord, roster: &Roster) -> Option<Place>
+    ensures { result ≡ due_place due roster.now (fields_of row.now) }
+{
+    match due {
+        PlanDue::Plan => head_place(row, roster),
+        PlanDue::Leg => later_place(row, leg_place(row, roster)),
+        PlanDue::Cut => later_place(row, cut_place(row)),
+        PlanDue::Nothing => Some(Place::Field(FieldPlace::at(0, FieldName::Kind))),
+    }
+}
+
+/// What is wrong with an end or a cut by the words of these, else what is wrong with a record of another word.
+fn later_place(row: &ByteRecord, other: Option<Place>) -> Option<Place>
+    ensures { result ≡ later_place (fields_of row.now) other }
+{
+    match text_at(row, 0) {
+        b"END" => end_place(row),
+        b"CUT" => cut_place(row),
+        _ => other,
+    }
+}

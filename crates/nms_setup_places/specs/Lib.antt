@@ -1,0 +1,5 @@
+pub use Rattle.nms_fees.specs.Places as Places
+pub mod Tables
+pub mod Forms
+pub mod Findings
+pub mod Examined

@@ -1,0 +1,209 @@
+//! What a value has to be at each key, with its bounds: `specs/Forms`.
+ghost use Rattle.std.specs.Prelude.{◌≡◌};
+ghost use Rattle.toml.specs.View.{view};
+ghost use Rattle.nms_fees.specs.Places.{range_fault, year_fault, cap_fault, feed_fault, is_feed, feed_named, name_fault};
+ghost use Rattle.nms_setup_places.specs.Tables.{array_of, is_name_of, most_in};
+ghost use Rattle.nms_setup_places.specs.Forms.{form_fault, form_of, rows_form_fault};
+
+use crate::choices::{Choices, caps_of};
+use crate::known_key::KnownKey;
+use crate::setup_table::{SetupArray, SetupTable};
+use crate::toml_table::rows_in;
+use nms_fees::{LEAST_QUEUE, MOST_DESKS, MOST_FEE, MOST_QUEUE, MOST_RATE, SetupFault};
+use nms_quote::{
+    Feed, MOST_CHANGES, MOST_FEEDS, MOST_PARTICIPANTS, MOST_SYMBOLS, is_part_name, is_symbol_name,
+};
+use nms_units::MOST_LOT;
+use toml::Value;
+
+/// What a value has to be, with the bounds that it has to keep.
+#[derive(Clone, Copy, Debug, PartialEq, Eq)]
+pub enum Form {
+    /// A whole number from the first to the second.
+    Number(i64, i64),
+    /// The year of caps: 2005 or 2024.
+    Year,
+    /// A whole number up to the first either way, and not over the second, which is its cap.
+    Charge(u32, u32),
+    /// The letter of one of the first so many feeds.
+    Letter(u8),
+    /// The name of an element of the array.
+    Name(SetupArray),
+    /// The elements of the array: at least one, and not too many.
+    Rows(SetupArray),
+}
+
+/// The form that the value at a key of a table has to have, by what the document chooses.
+pub fn form_of(choices: Choices, table: SetupTable, key: KnownKey) -> Form
+    ensures { result ≡ form_of choices table key }
+{
+    match key {
+        KnownKey::TapeLimit => Form::Number(1, MOST_CHANGES as i64),
+        KnownKey::Queue => Form::Number(LEAST_QUEUE as i64, MOST_QUEUE as i64),
+        KnownKey::Desks => Form::Number(1, MOST_DESKS as i64),
+        KnownKey::Caps => Form::Year,
+        KnownKey::Feeds => Form::Number(1, i64::from(MOST_FEEDS)),
+        KnownKey::Participant => Form::Rows(SetupArray::Participant),
+        KnownKey::Symbol => Form::Rows(SetupArray::Symbol),
+        KnownKey::Name => Form::Name(array_of(table)),
+        KnownKey::Feed => Form::Letter(choices.feeds),
+        KnownKey::Fee => Form::Charge(MOST_FEE, choices.caps.fee()),
+        KnownKey::Rate => Form::Charge(MOST_RATE, choices.caps.rate()),
+        KnownKey::Lot => Form::Number(1, i64::from(MOST_LOT)),
+    }
+}
+
+/// The array that a table with a name is of.
+fn array_of(table: SetupTable) -> SetupArray
+    ensures { result ≡ array_of table }
+{
+    match table {
+        SetupTable::Symbol(_) => SetupArray::Symbol,
+        _ => SetupArray::Participant,
+    }
+}
+
+impl Form {
+    /// The fault of a value that has to have this form.
+    pub fn fault_of(self, value: &Value) -> Option<SetupFault>
+        ensures { result ≡ form_fault self (view value.now) }
+    {
+        match self {
+            Form::Number(low, high) => range_fault(value, low, high),
+            Form::Year => year_fault(value),
+            Form::Charge(most, cap) => cap_fault(value, most, cap),
+            Form::Letter(feeds) => feed_fault(value, feeds),
+            Form::Name(array) => name_fault(value, array),
+            Form::Rows(array) => rows_form_fault(value, array),
+        }
+    }
+}
+
+fn range_fault(value: &Value, low: i64, high: i64) -> Option<SetupFault>
+    ensures { result ≡ range_fault low high (view value.now) }
+{
+    let Some(number) = value.as_integer() else {
+        return Some(SetupFault::WrongType);
+    };
+    if low <= number && number <= high {
+        None
+    } else {
+        Some(SetupFault::OutOfRange)
+    }
+}
+
+fn year_fault(value: &Value) -> Option<SetupFault>
+    ensures { result ≡ year_fault (view value.now) }
+{
+    let Some(year) = value.as_integer() else {
+        return Some(SetupFault::WrongType);
+    };
+    match caps_of(year) {
+        Some(_) => None,
+        None => Some(SetupFault::OutOfRange),
+    }
+}
+
+fn cap_fault(value: &Value, most: u32, cap: u32) -> Option<SetupFault>
+    ensures { result ≡ cap_fault most cap (view value.now) }
+{
+    let Some(number) = value.as_integer() else {
+        return Some(SetupFault::WrongType);
+    };
+    let is_within = -i64::from(most) <= number && number <= i64::from(most);
+    if !is_within {
+        Some(SetupFault::OutOfRange)
+    } else if number <= i64::from(cap) {
+        None
+    } else {
+        Some(SetupFault::OverCap)
+    }
+}
+
+fn feed_fault(value: &Value, count: u8) -> Option<SetupFault>
+    ensures { result ≡ feed_fault count (view value.now) }
+{
+    let Some(text) = value.as_str() else {
+        return Some(SetupFault::WrongType);
+    };
+    if is_feed(count, text) {
+        None
+    } else {
+        Some(SetupFault::OutOfRange)
+    }
+}
+
+fn is_feed(count: u8, text: &str) -> bool
+    ensures { result ≡ is_feed count text.now }
+{
+    match feed_named(text) {
+        Some(feed) => feed.place() < count,
+        None => false,
+    }
+}
+
+fn feed_named(text: &str) -> Option<Feed>
+    ensures { result ≡ feed_named text.now }
+{
+    match text {
+        "A" => Some(Feed::A),
+        "B" => Some(Feed::B),
+        "C" => Some(Feed::C),
+        "D" => Some(Feed::D),
+        "E" => Some(Feed::E),
+        "F" => Some(Feed::F),
+        "G" => Some(Feed::G),
+        "H" => Some(Feed::H),
+        _ => None,
+    }
+}
+
+fn name_fault(value: &Value, array: SetupArray) -> Option<SetupFault>
+    ensures { result ≡ name_fault (is_name_of array) (view value.now) }
+{
+    let Some(name) = value.as_str() else {
+        return Some(SetupFault::WrongType);
+    };
+    if is_name_of(array, name.as_bytes()) {
+        None
+    } else {
+        Some(SetupFault::BadName)
+    }
+}
+
+fn is_name_of(array: SetupArray, name: &[u8]) -> bool
+    ensures { result ≡ is_name_of array name.now }
+{
+    match array {
+        SetupArray::Participant => is_part_name(name),
+        SetupArray::Symbol => is_symbol_name(name),
+    }
+}
+
+/// The fault of an array by itself, whatever its elements are.
+fn rows_form_fault(value: &Value, array: SetupArray) -> Option<SetupFault>
+    ensures { result ≡ rows_form_fault array (view value.now) }
+{
+    let Some(rows) = rows_in(value) else {
+        return Some(SetupFault::WrongType);
+    };
+    if rows.is_empty() {
+        Some(SetupFault::OutOfRange)
+    } else if rows.len() <= array.most() {
+        None
+    } else {
+        Some(SetupFault::TooMany)
+    }
+}
+
+impl SetupArray {
+    /// The most elements that the array may have.
+    pub fn most(self) -> usize
+        ensures { result ≡ most_in self }
+    {
+        match self {
+            SetupArray::Participant => usize::from(MOST_PARTICIPANTS),
+            SetupArray::Symbol => usize::from(MOST_SYMBOLS),
+        }
+    }
+}

@@ -1,0 +1,173 @@
+//! All faults of a document: `specs/Findings`.
+ghost use Rattle.std.specs.Prelude.{◌≡◌, ◌++◌, map, IfOk, OnOk, []};
+ghost use Rattle.nms_fees.specs.Setup.{rows_at};
+ghost use Rattle.toml.specs.View.{view, table_view};
+ghost use Rattle.nms_setup_places.specs.Tables.{array_key, keys_of, text_of};
+ghost use Rattle.nms_setup_places.specs.Findings.{finding_at, others_fault, own_fault, key_findings, findings_in, element_findings, again_findings, row_findings, array_findings, findings_of};
+
+use crate::choices::{Choices, choices_in};
+use crate::finding::{Finding, Spot};
+use crate::form::form_of;
+use crate::known_key::KnownKey;
+use crate::naming::earlier_named;
+use crate::setup_table::{SetupArray, SetupTable};
+use crate::toml_table::{rows_at, value_at};
+use nms_fees::SetupFault;
+use std::alloc::{AllocError, Global};
+use toml::{Table, Value};
+
+/// Every fault of a document, in this order: of the keys at its top, of each participant, of each symbol.
+pub fn find_faults(alloc: Global, document: &Table) -> Result<Vec<Finding>, AllocError>
+    ensures { IfOk result (λ found. found.items ≡ findings_of (table_view document.now)) }
+{
+    let choices = choices_in(document);
+    let mut found = Vec::new(alloc);
+    note_table(&mut found, choices, SetupTable::Top, document)?;
+    note_array(&mut found, choices, SetupArray::Participant, document)?;
+    note_array(&mut found, choices, SetupArray::Symbol, document)?;
+    Ok(found)
+}
+
+/// Notes a fault at a place, where there is one.
+fn note(
+    found: &mut Vec<Finding>,
+    table: SetupTable,
+    spot: Spot,
+    fault: Option<SetupFault>,
+) -> Result<(), AllocError>
+    ensures { OnOk result (found.new.items ≡ found.old.items ++ finding_at table spot fault) }
+{
+    let Some(fault) = fault else {
+        return Ok(());
+    };
+    found.push(Finding { table, spot, fault })?;
+    Ok(())
+}
+
+/// Notes the faults of a table's keys.
+fn note_table(
+    found: &mut Vec<Finding>,
+    choices: Choices,
+    table: SetupTable,
+    members: &Table,
+) -> Result<(), AllocError>
+    ensures { OnOk result (found.new.items ≡ found.old.items ++ findings_in choices table (table_view members.now)) }
+{
+    note_keys(found, choices, table, members)?;
+    note(found, table, Spot::OtherKeys, others_fault(table, members))
+}
+
+/// Notes the faults of the keys that may stand in a table.
+fn note_keys(
+    found: &mut Vec<Finding>,
+    choices: Choices,
+    table: SetupTable,
+    members: &Table,
+) -> Result<(), AllocError>
+    ensures { OnOk result (found.new.items ≡ found.old.items ++ key_findings choices table (table_view members.now) (keys_of table)) }
+{
+    for key in table.keys() {
+        let fault = key_fault(choices, table, *key, members);
+        note(found, table, Spot::Key(*key), fault)?;
+    }
+    Ok(())
+}
+
+/// The fault of a key that may stand in a table: that it is absent, or that of its value.
+fn key_fault(
+    choices: Choices,
+    table: SetupTable,
+    key: KnownKey,
+    members: &Table,
+) -> Option<SetupFault>
+    ensures { result ≡ own_fault choices table (table_view members.now) key }
+{
+    match value_at(members, key.text()) {
+        Some(value) => form_of(choices, table, key).fault_of(value),
+        None if key.is_optional() => None,
+        None => Some(SetupFault::Missing),
+    }
+}
+
+/// The fault of the keys that may not stand in a table.
+fn others_fault(table: SetupTable, members: &Table) -> Option<SetupFault>
+    ensures { result ≡ others_fault table (table_view members.now) }
+{
+    for key in members.keys() {
+        if !table.has_key(key.as_str()) {
+            return Some(SetupFault::UnknownKey);
+        }
+    }
+    None
+}
+
+/// Notes the faults of the elements of one of the two arrays.
+fn note_array(
+    found: &mut Vec<Finding>,
+    choices: Choices,
+    array: SetupArray,
+    document: &Table,
+) -> Result<(), AllocError>
+    ensures { OnOk result (found.new.items ≡ found.old.items ++ array_findings choices array [] (rows_at (text_of (array_key array)) (table_view document.now))) }
+{
+    note_rows(found, choices, array, rows_at(document, array.key().text()))
+}
+
+fn note_rows(
+    found: &mut Vec<Finding>,
+    choices: Choices,
+    array: SetupArray,
+    rows: &[Value],
+) -> Result<(), AllocError>
+    ensures { OnOk result (found.new.items ≡ found.old.items ++ array_findings choices array [] (map view rows.now)) }
+{
+    for place in 0..rows.len() {
+        note_row(found, choices, array, &rows[..place], &rows[place])?;
+    }
+    Ok(())
+}
+
+/// Notes the faults of one element of an array, of which these stand before it.
+fn note_row(
+    found: &mut Vec<Finding>,
+    choices: Choices,
+    array: SetupArray,
+    before: &[Value],
+    row: &Value,
+) -> Result<(), AllocError>
+    ensures { OnOk result (found.new.items ≡ found.old.items ++ row_findings choices array (map view before.now) (view row.now)) }
+{
+    let table = array.element(before.len());
+    note_element(found, choices, table, row)?;
+    note_again(found, table, before, row)
+}
+
+/// Notes the faults of an element by itself.
+fn note_element(
+    found: &mut Vec<Finding>,
+    choices: Choices,
+    table: SetupTable,
+    row: &Value,
+) -> Result<(), AllocError>
+    ensures { OnOk result (found.new.items ≡ found.old.items ++ element_findings choices table (view row.now)) }
+{
+    match row.as_table() {
+        Some(members) => note_table(found, choices, table, members),
+        None => note(found, table, Spot::Element, Some(SetupFault::WrongType)),
+    }
+}
+
+/// Notes that an earlier element has the name.
+fn note_again(
+    found: &mut Vec<Finding>,
+    table: SetupTable,
+    before: &[Value],
+    row: &Value,
+) -> Result<(), AllocError>
+    ensures { OnOk result (found.new.items ≡ found.old.items ++ again_findings table (map view before.now) (view row.now)) }
+{
+    match earlier_named(before, row) {
+        Some(first) => note(found, table, Spot::NameOf(first), Some(SetupFault::BadName)),
+        None => Ok(()),
+    }
+}

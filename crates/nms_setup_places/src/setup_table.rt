@@ -1,0 +1,111 @@
+//! The tables of a setup's document: `specs/Tables`.
+ghost use Rattle.std.specs.Prelude.{◌≡◌};
+ghost use Rattle.nms_fees.specs.Places.{is_top_key, is_participant_key, is_symbol_key};
+ghost use Rattle.nms_setup_places.specs.Tables.{array_key, is_key_of, keys_of, row_table};
+
+use crate::known_key::KnownKey;
+
+/// The two arrays of tables in a setup.
+#[derive(Clone, Copy, Debug, PartialEq, Eq)]
+pub enum SetupArray {
+    /// The array `participant`.
+    Participant,
+    /// The array `symbol`.
+    Symbol,
+}
+
+/// A table of a setup's document.
+#[derive(Clone, Copy, Debug, PartialEq, Eq)]
+pub enum SetupTable {
+    /// The document itself.
+    Top,
+    /// An element of the array `participant`, by how many stand before it.
+    Participant(usize),
+    /// An element of the array `symbol`, by how many stand before it.
+    Symbol(usize),
+}
+
+impl SetupArray {
+    /// The key that the array stands at.
+    pub fn key(self) -> KnownKey
+        ensures { result ≡ array_key self }
+    {
+        match self {
+            SetupArray::Participant => KnownKey::Participant,
+            SetupArray::Symbol => KnownKey::Symbol,
+        }
+    }
+
+    /// The element of the array that stands behind so many.
+    pub fn element(self, place: usize) -> SetupTable
+        ensures { result ≡ row_table self place }
+    {
+        match self {
+            SetupArray::Participant => SetupTable::Participant(place),
+            SetupArray::Symbol => SetupTable::Symbol(place),
+        }
+    }
+}
+
+impl SetupTable {
+    /// The keys that may stand in the table.
+    pub fn keys(self) -> &'static [KnownKey]
+        ensures { result.now ≡ keys_of self }
+    {
+        match self {
+            SetupTable::Top => &[
+                KnownKey::TapeLimit,
+                KnownKey::Queue,
+                KnownKey::Desks,
+                KnownKey::Caps,
+                KnownKey::Feeds,
+                KnownKey::Participant,
+                KnownKey::Symbol,
+            ],
+            SetupTable::Participant(_) => {
+                &[
+                    KnownKey::Name,
+                    KnownKey::Feed,
+                    KnownKey::Fee,
+                    KnownKey::Rate,
+                ]
+            }
+            SetupTable::Symbol(_) => &[KnownKey::Name, KnownKey::Lot],
+        }
+    }
+
+    /// Whether a text is one of these keys.
+    pub fn has_key(self, key: &str) -> bool
+        ensures { result ≡ is_key_of self key.now }
+    {
+        match self {
+            SetupTable::Top => is_top_key(key),
+            SetupTable::Participant(_) => is_participant_key(key),
+            SetupTable::Symbol(_) => is_symbol_key(key),
+        }
+    }
+}
+
+fn is_top_key(key: &str) -> bool
+    ensures { result ≡ is_top_key key.now }
+{
+    key == "tape_limit"
+        || key == "queue"
+        || key == "desks"
+        || key == "caps"
+        || key == "feeds"
+        || key == "participant"
+        || key == "symbol"
+}
+
+fn is_participant_key(key: &str) -> bool
+    ensures { result ≡ is_participant_key key.now }
+{
+    key == "name" || key == "feed" || key == "fee" || key == "rate"
+}
+
+fn is_symbol_key(key: &str) -> bool
+    ensures { result ≡ is_symbol_key key.now }
+{
+    key == "name" || key == "lot"
+}

@@ -1,0 +1,5 @@
+mod ListFacts
+mod QuotedFacts
+mod LineFacts
+mod FollowFacts
+mod PieceFacts

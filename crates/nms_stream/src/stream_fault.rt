@@ -1,0 +1,49 @@
+//! Why a stream was not written whole.
+ghost use Rattle.std.specs.Prelude.{◌≡◌};
+ghost use Rattle.nms_stream.specs.Faults.{code_of, status_of};
+
+use nms_board::BoardFault;
+use nms_files::ChangesFault;
+use thiserror::Error;
+
+/// Why a stream was not written whole.
+#[derive(Clone, Copy, Debug, PartialEq, Eq, Error)]
+pub enum StreamFault {
+    /// The file of changes is no tape. Nothing was written.
+    #[error("{0}")]
+    Changes(ChangesFault),
+    /// B1: no board was made. Nothing was written.
+    #[error("{0}")]
+    Board(BoardFault),
+    /// E2: the writer failed. A first part of the stream was written, and nothing else.
+    #[error("E2: the output could not be written")]
+    WriteFault,
+    /// E4: out of memory. A first part of the stream was written, which may be none, and nothing else.
+    #[error("E4: out of memory")]
+    NoMemory,
+}
+
+impl StreamFault {
+    /// The code of the fault: that of the file's fault, `B1`, `E2` or `E4`.
+    pub fn code(self) -> &'static str
+        ensures { result.now ≡ code_of self }
+    {
+        match self {
+            StreamFault::Changes(fault) => fault.code(),
+            StreamFault::Board(fault) => fault.code(),
+            StreamFault::WriteFault => "E2",
+            StreamFault::NoMemory => "E4",
+        }
+    }
+
+    /// The exit status of a program that it ends: that of the file's fault, 1 for the writer, 5 for memory.
+    pub fn status(self) -> u8
+        ensures { result ≡ status_of self }
+    {
+        match self {
+            StreamFault::Changes(fault) => fault.status(),
+            StreamFault::Board(BoardFault::NoMemory) | StreamFault::NoMemory => 5,
+            StreamFault::WriteFault => 1,
+        }
+    }
+}

@@ -1,0 +1,150 @@
+//! A whole stream, written in pieces: `specs/Stream`, `specs/StreamFile`.
+ghost use Rattle.std.specs.Prelude.{◌≡◌, ◌<◌, ◌≤◌, ◌++◌, ◌∷◌, [], All, length, true, false, IfErr, IfSome, OnErr, OnOk};
+ghost use Rattle.std.specs.Io.KnownBytes.{Appends};
+ghost use Rattle.nms_quote.specs.Roster.{holds, sizes_of};
+ghost use Rattle.nms_quote.specs.Tape.{Tape};
+ghost use Rattle.nms_quote.specs.declared.TheConstants.{MOST_CHANGES};
+ghost use Rattle.nms_board.specs.Cells.{takes};
+ghost use Rattle.nms_lines.specs.Text.{text_of};
+ghost use Rattle.nms_lines.specs.Written.{AppendsPart, WritesPart};
+ghost use Rattle.nms_stream.specs.Following.{Follows, IsOf};
+ghost use Rattle.nms_stream.specs.Pieces.{Sends};
+ghost use Rattle.nms_stream.specs.Stream.{lines_between, stream_text};
+ghost use Rattle.nms_stream.specs.StreamFile.{IsStreamFault, StreamsFile, is_begun, is_of_file};
+
+use crate::following::{Follower, follow, open};
+use crate::line::tell_header;
+use crate::stream_fault::StreamFault;
+use nms_fees::Setup;
+use nms_files::read_changes;
+use nms_quote::{Change, Roster, Sym};
+use nms_text::tell;
+use std::alloc::Global;
+use std::io::{Read, Write};
+
+/// How many bytes wait before they are written.
+const PIECE: usize = 65_536;
+
+/// Streams the changes of a file: a header, then a line exactly where the best bid, the best offer or the market of a
+/// symbol that is asked for changes, in order of versions, then of symbols. Without a symbol all of the roster are
+/// asked for.
+///
+/// The file is read first. `Changes` and `Board` leave nothing written, `WriteFault` and `NoMemory` a first part of
+/// the stream, and nothing else. Beyond the file's changes memory is taken for a board and some 128 KiB of lines.
+pub fn stream_file<R: Read + Drop, W: Write>(
+    alloc: Global,
+    setup: &Setup,
+    source: R,
+    asked: Option<Sym>,
+    writer: &mut W,
+) -> Result<(), StreamFault>
+    requires { IfSome asked (λ sym. sym < length setup.now.roster.syms) }
+    ensures written { OnOk result (StreamsFile setup.now (R.remaining source) asked (W.contents writer.old) (W.contents writer.new)) }
+    ensures refused { IfErr result (IsStreamFault setup.now (R.remaining source)) }
+    ensures cut { IfErr result (λ fault. is_begun fault ≡ true → WritesPart (StreamsFile setup.now (R.remaining source) asked (W.contents writer.old)) (W.contents writer.old) (W.contents writer.new)) }
+    ensures unwritten { IfErr result (λ fault. is_begun fault ≡ false → W.contents writer.new ≡ W.contents writer.old) }
+{
+    match read_changes(alloc, setup, source) {
+        Ok(changes) => stream(alloc, setup.roster(), &changes, asked, writer),
+        Err(fault) => Err(StreamFault::Changes(fault)),
+    }
+}
+
+/// Streams changes of a roster, as `stream_file` does those of a file.
+pub fn stream<W: Write>(
+    alloc: Global,
+    roster: &Roster,
+    changes: &[Change],
+    asked: Option<Sym>,
+    writer: &mut W,
+) -> Result<(), StreamFault>
+    requires asked { IfSome asked (λ sym. sym < length roster.now.syms) }
+    requires held { All (λ change. holds (sizes_of roster.now) change ≡ true) changes.now }
+    requires few { length changes.now ≤ MOST_CHANGES }
+    ensures written { OnOk result (Appends (W.contents writer.old) (W.contents writer.new) (stream_text roster.now asked changes.now)) }
+    ensures cut { OnErr result (AppendsPart (W.contents writer.old) (W.contents writer.new) (stream_text roster.now asked changes.now)) }
+    ensures unwritten { IfErr result (λ fault. is_begun fault ≡ false → W.contents writer.new ≡ W.contents writer.old) }
+    ensures own { IfErr result (λ fault. is_of_file fault ≡ false) }
+{
+    let mut out = Vec::new(alloc);
+    match open(alloc, roster) {
+        Ok(mut follower) => stream_along(&mut follower, roster, changes, &asked, &mut out, writer),
+        Err(fault) => Err(StreamFault::Board(fault)),
+    }
+}
+
+/// Writes the header, and the lines along the changes.
+fn stream_along<W: Write>(
+    follower: &mut Follower,
+    roster: &Roster,
+    changes: &[Change],
+    asked: &Option<Sym>,
+    out: &mut Vec<u8>,
+    writer: &mut W,
+) -> Result<(), StreamFault>
+    requires of { IsOf (sizes_of roster.now) follower.old }
+    requires first { Follows (sizes_of roster.now) asked.now follower.old [] }
+    requires empty { out.old.items ≡ [] }
+    requires asked { IfSome asked.now (λ sym. sym < length roster.now.syms) }
+    requires held { All (λ change. holds (sizes_of roster.now) change ≡ true) changes.now }
+    requires few { length changes.now ≤ MOST_CHANGES }
+    ensures written { OnOk result (Appends (W.contents writer.old) (W.contents writer.new) (stream_text roster.now asked.now changes.now)) }
+    ensures cut { OnErr result (AppendsPart (W.contents writer.old) (W.contents writer.new) (stream_text roster.now asked.now changes.now)) }
+    ensures begun { IfErr result (λ fault. is_begun fault ≡ true) }
+{
+    if tell_header(out).is_err() {
+        return Err(StreamFault::NoMemory);
+    }
+    for change in changes {
+        advance(follower, roster, change, asked, out, writer)?;
+    }
+    send(out, writer)
+}
+
+/// Goes on by one change, and writes what waits once there is enough of it.
+fn advance<W: Write>(
+    follower: &mut Follower,
+    roster: &Roster,
+    change: &Change,
+    asked: &Option<Sym>,
+    out: &mut Vec<u8>,
+    writer: &mut W,
+) -> Result<(), StreamFault>
+    requires of { IsOf (sizes_of roster.now) follower.old }
+    requires takes { takes follower.old.board change.now ≡ true }
+    requires asked { IfSome asked.now (λ sym. sym < length roster.now.syms) }
+    ensures of { IsOf (sizes_of roster.now) follower.new }
+    ensures follows { (tape : Tape) → Follows (sizes_of roster.now) asked.now follower.old tape
+        → OnOk result (Follows (sizes_of roster.now) asked.now follower.new (tape ++ change.now ∷ [])) }
+    ensures sends { (tape : Tape) → Follows (sizes_of roster.now) asked.now follower.old tape
+        → OnOk result (Sends (W.contents writer.old) (W.contents writer.new) out.old.items
+        (text_of (lines_between roster.now asked.now tape (tape ++ change.now ∷ []))) out.new.items) }
+    ensures cut { (tape : Tape) → Follows (sizes_of roster.now) asked.now follower.old tape
+        → OnErr result (AppendsPart (W.contents writer.old) (W.contents writer.new)
+        (out.old.items ++ text_of (lines_between roster.now asked.now tape (tape ++ change.now ∷ [])))) }
+    ensures begun { IfErr result (λ fault. is_begun fault ≡ true) }
+{
+    if follow(follower, roster, change, asked, out).is_err() {
+        return Err(StreamFault::NoMemory);
+    }
+    if out.len() < PIECE {
+        return Ok(());
+    }
+    send(out, writer)
+}
+
+/// Writes what waits.
+fn send<W: Write>(out: &mut Vec<u8>, writer: &mut W) -> Result<(), StreamFault>
+    ensures sent { OnOk result (Appends (W.contents writer.old) (W.contents writer.new) out.old.items) }
+    ensures empty { OnOk result (out.new.items ≡ []) }
+    ensures cut { OnErr result (AppendsPart (W.contents writer.old) (W.contents writer.new) out.old.items) }
+    ensures begun { IfErr result (λ fault. is_begun fault ≡ true) }
+{
+    match tell(writer, out) {
+        Ok(()) => {
+            out.clear();
+            Ok(())
+        }
+        Err(_) => Err(StreamFault::WriteFault),
+    }
+}
