@@ -1,4 +1,6 @@
 //! What the words of a request name: a form, a symbol, a version, a feed; and how the reading of a file ended.
+ghost use Rattle.std.specs.Prelude.{◌<◌, length, IfOk, IfSome};
+
 use crate::fault::{About, Fault};
 use crate::files::word_at;
 use crate::screen::Screen;
@@ -21,7 +23,9 @@ pub(crate) fn form_of(screen: Screen, request: &Request) -> Form {
 }
 
 /// The symbol that a word names.
-pub(crate) fn sym_at(setup: &Setup, request: &Request, place: usize) -> Result<Sym, Fault> {
+pub(crate) fn sym_at(setup: &Setup, request: &Request, place: usize) -> Result<Sym, Fault>
+    ensures { IfOk result (λ sym. sym < length setup.now.roster.syms) }
+{
     let word = word_at(request, place);
     match setup.roster().find_sym(word.as_bytes()) {
         Some(sym) => Ok(sym),
@@ -37,7 +41,9 @@ pub(crate) fn some_sym_at(
     setup: &Setup,
     request: &Request,
     place: usize,
-) -> Result<Option<Sym>, Fault> {
+) -> Result<Option<Sym>, Fault>
+    ensures { IfOk result (λ given. IfSome given (λ sym. sym < length setup.now.roster.syms)) }
+{
     match request.words.get(place) {
         Some(_) => Ok(Some(sym_at(setup, request, place)?)),
         None => Ok(None),

@@ -4,10 +4,10 @@ use std::fmt;
 use std::fmt::Write;
 use std::time::{Clock, Duration};
 
-/// Nothing is shown of work that takes less.
-const FIRST: Duration = Duration::from_millis(1000);
-/// How long a line stands before the next.
-const EACH: Duration = Duration::from_millis(250);
+/// Nothing is shown of work that takes fewer milliseconds.
+const FIRST: u64 = 1000;
+/// How many milliseconds a line stands before the next.
+const EACH: u64 = 250;
 
 /// How far a file has been read: bytes, of which it has so many, and ends of lines.
 #[derive(Clone, Copy)]
@@ -16,6 +16,7 @@ pub(crate) struct Progress {
     done: u64,
     lines: u64,
     began: Duration,
+    shown: Duration,
     next: Duration,
 }
 
@@ -27,7 +28,8 @@ impl Progress {
             done: 0,
             lines: 0,
             began,
-            next: began.saturating_add(FIRST),
+            shown: began,
+            next: began.saturating_add(Duration::from_millis(FIRST)),
         }
     }
 
@@ -47,13 +49,14 @@ impl Progress {
         if now < self.next {
             return false;
         }
-        self.next = now.saturating_add(EACH);
+        self.shown = now;
+        self.next = now.saturating_add(Duration::from_millis(EACH));
         true
     }
 
-    /// Milliseconds since the reading began.
+    /// Milliseconds from where the reading began to where this is shown.
     fn passed(&self) -> u64 {
-        let passed = self.next.saturating_sub(self.began).saturating_sub(EACH);
+        let passed = self.shown.saturating_sub(self.began);
         u64::try_from(passed.as_millis()).unwrap_or(u64::MAX)
     }
 }

@@ -16,7 +16,10 @@ static SENTENCES: [(&'static str, &'static str); 27] = [
     ("C1", "this setup is no TOML"),
     ("C2", "a key is absent from this setup"),
     ("C3", "this setup has a key that is not known"),
-    ("C4", "a name in this setup is not of its form, or stands twice"),
+    (
+        "C4",
+        "a name in this setup is not of its form, or stands twice",
+    ),
     ("C5", "a value in this setup is not of its kind"),
     ("C6", "a number in this setup is out of its range"),
     ("C7", "a fee or a rate in this setup is over its cap"),
@@ -24,10 +27,22 @@ static SENTENCES: [(&'static str, &'static str); 27] = [
     ("C9", "memory ran out for the setup"),
     ("F4", "it has more changes than the setup's tape_limit"),
     ("G2", "memory ran out for the words"),
-    ("L1", "the first refused record is of no kind that is read there"),
-    ("L2", "the first refused record has not the number of fields of its kind"),
-    ("L3", "the first refused record names a participant that is not on the roster"),
-    ("L4", "the first refused record names a symbol that is not on the roster"),
+    (
+        "L1",
+        "the first refused record is of no kind that is read there",
+    ),
+    (
+        "L2",
+        "the first refused record has not the number of fields of its kind",
+    ),
+    (
+        "L3",
+        "the first refused record names a participant that is not on the roster",
+    ),
+    (
+        "L4",
+        "the first refused record names a symbol that is not on the roster",
+    ),
     ("L5", "the first refused record has a state that is none"),
     ("L6", "the first refused record has a price that is none"),
     ("L7", "the first refused record has shares that are none"),
