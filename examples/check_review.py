@@ -2,14 +2,14 @@
 """Runs every case of examples/review/, and every call of docs/REVIEW.md, with ./nms_review or the program that is named,
 and compares what it writes on both streams and its status with what must come.
 
-    examples/check_review.py [PROGRAM]
+    examples/check_review.py [PROGRAM [TOOL]]
 
 A file `X.cases` there has cases of the form of cases/commands.cases, of the kind `command`: the words, the files, the
 streams, the status and the texts. The other files there are what docs/REVIEW.md names, and each has to be named. In that
-page a line of four spaces and `./nms_review WORDS` is a call, and the block behind it is what it writes, with the words
-`status N` in the text between them where N is not 0. Beside these the program meets a closed output, one whose reader has
-gone, records of a million bytes, and each byte of a file once. It writes a line for each difference, and last
-`N passed, M failed`; status 1 where one failed.
+page a line of four spaces and `./nms_review WORDS` is a call, or one of `./nms_tool`, which TOOL stands for; the block
+behind it is what it writes, with the words `status N` in the text between them where N is not 0. Beside these the program
+meets a closed output, one whose reader has gone, records of a million bytes, and each byte of a file once. It writes a
+line for each difference, and last `N passed, M failed`; status 1 where one failed.
 """
 import os
 import re
@@ -26,6 +26,8 @@ TOP = os.path.dirname(HERE)
 ROOM = os.path.join(HERE, "review")
 # Memory within which a file of a hundred million bytes is explained: it must not grow with the file.
 LITTLE = 256 << 20
+# A call of the page, what stands between it and its block, and the block.
+CALL = re.compile(r"^    \./(nms_review|nms_tool) (.*)\n((?:(?!    \./nms_|```).*\n)*)```\w*\n([\s\S]*?)```$", re.M)
 
 
 def stored():
@@ -38,19 +40,24 @@ def stored():
                 yield f"{name}: {case.title}", command(case, None).run
 
 
-def page():
+def page(tool):
     """The calls of docs/REVIEW.md, each with the text of the block behind it."""
     with open(os.path.join(TOP, "docs/REVIEW.md"), encoding="utf-8") as file:
         text = file.read()
-    for words, between, block in re.findall(r"^    \./nms_review (.*)\n((?:(?!    \./nms_review|```).*\n)*)```\w*\n([\s\S]*?)```$", text, re.M):
+    for name, words, between, block in CALL.findall(text):
         status = re.search(r"status (\d)", between)
-        yield f"docs/REVIEW.md: {words}", shown(words.split(), int(status[1]) if status else 0, block.encode())
+        other = tool if name == "nms_tool" else None
+        yield f"docs/REVIEW.md: {words}", shown(other, words.split(), int(status[1]) if status else 0, block.encode())
 
 
-def shown(words, status, text):
+def shown(other, words, status, text):
     """A call at the top of the repository that writes this text, or its beginning where it ends with a line `..`."""
+    words, _, _ = parted(words, ">")
+    words, _, given = parted(words, "<")
+
     def run(program):
-        ran = subprocess.run([program, *words], cwd=TOP, stdin=subprocess.DEVNULL, capture_output=True, timeout=MOST)
+        with open(os.path.join(TOP, *given) if given else os.devnull, "rb") as file:
+            ran = subprocess.run([other or program, *words], cwd=TOP, stdin=file, capture_output=True, timeout=MOST)
         came = ran.stdout or ran.stderr
         wanted = text
         if text.endswith(b"\n..\n"):
@@ -59,6 +66,12 @@ def shown(words, status, text):
         if (ran.returncode, came) != (status, wanted):
             raise Wrong(f"status {ran.returncode}, {came!r}, and not {status}, {wanted!r}"[:2000])
     return run
+
+
+def parted(words, sign):
+    """The words before a sign, the sign, and those behind it."""
+    at = words.index(sign) if sign in words else len(words)
+    return words[:at], words[at:at + 1], words[at + 1:]
 
 
 # What no stored text shows.
@@ -145,8 +158,8 @@ def unnamed():
     return [it for it in sorted(os.listdir(ROOM)) if not it.endswith(".cases") and f"examples/review/{it}" not in text]
 
 
-def main(program):
-    runs = [*stored(), *page(), *(in_room(*it) for it in TRIALS)]
+def main(program, tool):
+    runs = [*stored(), *page(tool), *(in_room(*it) for it in TRIALS)]
 
     def run(named):
         name, trial = named
@@ -165,4 +178,5 @@ def main(program):
 
 
 if __name__ == "__main__":
-    sys.exit(main(os.path.realpath(sys.argv[1]) if len(sys.argv) > 1 else f"{TOP}/nms_review"))
+    given = [os.path.realpath(it) for it in sys.argv[1:]]
+    sys.exit(main(*given, *[f"{TOP}/nms_review", f"{TOP}/nms_tool"][len(given):]))

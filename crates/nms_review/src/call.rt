@@ -1,5 +1,5 @@
 //! What the words of a request name: a form, a symbol, a version, a feed; and how the reading of a file ended.
-ghost use Rattle.std.specs.Prelude.{◌<◌, length, IfOk, IfSome};
+ghost use Rattle.std.specs.Prelude.{◌<◌, length, IfSome};
 
 use crate::fault::{About, Fault};
 use crate::files::word_at;
@@ -22,32 +22,24 @@ pub(crate) fn form_of(screen: Screen, request: &Request) -> Form {
     }
 }
 
-/// The symbol that a word names.
-pub(crate) fn sym_at(setup: &Setup, request: &Request, place: usize) -> Result<Sym, Fault>
-    ensures { IfOk result (λ sym. sym < length setup.now.roster.syms) }
+/// The symbol that a word names, where there is one and the setup has it.
+pub(crate) fn sym_at(setup: &Setup, request: &Request, place: usize) -> Option<Sym>
+    ensures { IfSome result (λ sym. sym < length setup.now.roster.syms) }
 {
-    let word = word_at(request, place);
-    match setup.roster().find_sym(word.as_bytes()) {
-        Some(sym) => Ok(sym),
-        None => Err(Fault::usage(
-            About::Word(place),
-            "it is no symbol of the setup; capitals count",
-        )),
-    }
+    setup.roster().find_sym(word_at(request, place).as_bytes())
 }
 
-/// The symbol that a word names, where there is one.
-pub(crate) fn some_sym_at(
-    setup: &Setup,
-    request: &Request,
-    place: usize,
-) -> Result<Option<Sym>, Fault>
-    ensures { IfOk result (λ given. IfSome given (λ sym. sym < length setup.now.roster.syms)) }
-{
-    match request.words.get(place) {
-        Some(_) => Ok(Some(sym_at(setup, request, place)?)),
-        None => Ok(None),
-    }
+/// Whether a word stands there.
+pub(crate) fn has_word(request: &Request, place: usize) -> bool {
+    request.words.len() > place
+}
+
+/// A word that names no symbol.
+pub(crate) fn no_sym(place: usize) -> Fault {
+    Fault::usage(
+        About::Word(place),
+        "it is no symbol of the setup; capitals count",
+    )
 }
 
 /// The version that the first word names.

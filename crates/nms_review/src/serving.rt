@@ -1,5 +1,5 @@
 //! What each subcommand does: its words are read, its files opened, and a library's call answers.
-use crate::call::{ended, form_of, some_sym_at, sym_at, version_of};
+use crate::call::{ended, form_of, has_word, no_sym, sym_at, version_of};
 use crate::explaining::serve_explain;
 use crate::fault::{About, Fault};
 use crate::files::{open_word, read_file, setup_of, word_at};
@@ -84,12 +84,15 @@ where
     T: AllocGlobal + Clock + Eprint + Files,
 {
     let version = version_of(request)?;
-    let sym = some_sym_at(setup, request, 2)?;
+    let sym = sym_at(setup, request, 2);
+    if sym.is_none() && has_word(request, 2) {
+        return Err(no_sym(2));
+    }
     let file = open_word(rt, request, 1)?;
     let mut source = Source::new(rt, screen, file);
     let form = form_of(screen, request);
     let served = show_version(rt.alloc(), setup, &mut source, version, sym, form, answers)
-        .map_err(|fault| Fault::of(fault.code(), fault.status(), About::Word(1)));
+        .map_err(|fault| fault_of(fault.code(), fault.status(), ("A1", About::Word(0)), 1));
     ended(&mut source, served)
 }
 
@@ -104,7 +107,10 @@ fn serve_stream<T, W: Write>(
 where
     T: AllocGlobal + Clock + Eprint + Files,
 {
-    let sym = some_sym_at(setup, request, 1)?;
+    let sym = sym_at(setup, request, 1);
+    if sym.is_none() && has_word(request, 1) {
+        return Err(no_sym(1));
+    }
     let file = open_word(rt, request, 0)?;
     let mut source = Source::new(rt, screen, file);
     let form = form_of(screen, request);
@@ -151,7 +157,7 @@ where
     let mut source = Source::new(rt, screen, file);
     let form = form_of(screen, request);
     let served = explain_why(rt.alloc(), setup, &mut source, name, &text, form, answers)
-        .map_err(|fault| Fault::of(fault.code(), fault.status(), About::Word(0)));
+        .map_err(|fault| fault_of(fault.code(), fault.status(), ("L11", About::Word(1)), 0));
     ended(&mut source, served)
 }
 
@@ -166,7 +172,9 @@ fn serve_draw<T, W: Write>(
 where
     T: AllocGlobal + Clock + Eprint + Files,
 {
-    let sym = sym_at(setup, request, 1)?;
+    let Some(sym) = sym_at(setup, request, 1) else {
+        return Err(no_sym(1));
+    };
     let plan = match &request.plan {
         Some(path) => Some(read_file(rt, path.as_str(), About::Plan)?),
         None => None,
@@ -175,6 +183,16 @@ where
     let file = open_word(rt, request, 0)?;
     let mut source = Source::new(rt, screen, file);
     let served = draw_changes(rt.alloc(), setup, &mut source, sym, plan, answers)
-        .map_err(|fault| Fault::of(fault.code(), fault.status(), About::Word(0)));
+        .map_err(|fault| fault_of(fault.code(), fault.status(), ("L11", About::Plan), 0));
     ended(&mut source, served)
+}
+
+/// A fault of the library: one of them is about something else than the word at a place, where the file stands.
+fn fault_of(code: &'static str, status: u8, other: (&str, About), file: usize) -> Fault {
+    let about = if code == other.0 {
+        other.1
+    } else {
+        About::Word(file)
+    };
+    Fault::of(code, status, about)
 }

@@ -11,7 +11,7 @@ static SENTENCES: [(&'static str, &'static str); 27] = [
     ("E3", "it has more than 10,000,000 records"),
     ("E4", "memory ran out"),
     ("B1", "memory ran out for the board"),
-    ("A1", "the version has more changes than the file"),
+    ("A1", "the file has fewer changes than that version"),
     ("A3", "memory ran out for the judgement"),
     ("C1", "this setup is no TOML"),
     ("C2", "a key is absent from this setup"),
@@ -106,6 +106,10 @@ fn write_tip<E: Write>(fault: &Fault, request: &Request, errors: &mut E) -> Resu
 
 /// The kind of the file that was refused, as `explain` names it.
 fn kind_of(fault: &Fault, request: &Request) -> Option<&'static str> {
+    // Only records and setups have places; a version or a length has none.
+    if fault.status == 6 && !fault.code.starts_with('L') {
+        return None;
+    }
     match (fault.status, fault.about, request.command) {
         (_, _, Sub::Explain) => None,
         (3, _, _) => Some("setup"),
