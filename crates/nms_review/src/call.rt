@@ -60,10 +60,7 @@ pub(crate) fn feed_of(setup: &Setup, request: &Request) -> Result<Feed, Fault> {
     };
     match Feed::at(place) {
         Some(feed) if place < setup.feeds() => Ok(feed),
-        _ => Err(Fault::usage(
-            About::Feed,
-            "it is the letter of no feed of the setup",
-        )),
+        _ => Err(Fault::usage(About::Feed, "it is the letter of no feed of the setup")),
     }
 }
 

@@ -4,9 +4,7 @@ use crate::fault::{About, Fault};
 use crate::files::{open_word, read_file, setup_of, word_at};
 use crate::screen::Screen;
 use crate::source::Source;
-use nms_explain::{
-    explain_changes, explain_feed, explain_orders, explain_plan, explain_script,
-};
+use nms_explain::{explain_changes, explain_feed, explain_orders, explain_plan, explain_script};
 use nms_explain_setup::explain_setup;
 use nms_fees::Setup;
 use nms_review_words::{Kind, Request};
@@ -51,8 +49,9 @@ where
 {
     let file = word_at(request, FILE);
     let text = read_file(rt, file, About::Word(FILE))?;
-    explain_setup(rt.alloc(), file, &text, form_of(screen, request), answers)
-        .map_err(|fault| Fault::of(fault.code(), fault.status(), About::Word(FILE)))
+    explain_setup(rt.alloc(), file, &text, form_of(screen, request), answers).map_err(
+        |fault| Fault::of(fault.code(), fault.status(), About::Word(FILE)),
+    )
 }
 
 /// Says of a file of records what is refused in it.
@@ -89,8 +88,15 @@ where
 {
     let file = word_at(request, FILE);
     let text = read_file(rt, file, About::Word(FILE))?;
-    explain_plan(rt.alloc(), setup, file, &text, form_of(screen, request), answers)
-        .map_err(|fault| Fault::of(fault.code(), fault.status(), About::Word(FILE)))
+    explain_plan(
+        rt.alloc(),
+        setup,
+        file,
+        &text,
+        form_of(screen, request),
+        answers,
+    )
+    .map_err(|fault| Fault::of(fault.code(), fault.status(), About::Word(FILE)))
 }
 
 /// Says of records what is refused among them.

@@ -28,7 +28,9 @@ use telling::tell_fault;
 
 /// Told where a word is no UTF-8, and where memory ran out for the words.
 const NO_TEXT: &str = "nms_review: usage: a word of the call is no UTF-8\n";
+
 const NO_MEMORY: &str = "nms_review: G2: memory ran out for the words\n";
+
 const NOT_WRITTEN: &str = "nms_review: E2: the output could not be written\n";
 
 fn main(rt: HostRuntime) -> ExitCode {

@@ -67,8 +67,11 @@ where
 {
     let file = open_word(rt, request, 0)?;
     let mut source = Source::new(rt, screen, file);
-    let served = write_tape(rt.alloc(), setup, &mut source, answers)
-        .map_err(|fault| Fault::of(fault.code(), fault.status(), About::Word(0)));
+    let served = write_tape(rt.alloc(), setup, &mut source, answers).map_err(|fault| Fault::of(
+        fault.code(),
+        fault.status(),
+        About::Word(0),
+    ));
     ended(&mut source, served)
 }
 
@@ -91,8 +94,9 @@ where
     let file = open_word(rt, request, 1)?;
     let mut source = Source::new(rt, screen, file);
     let form = form_of(screen, request);
-    let served = show_version(rt.alloc(), setup, &mut source, version, sym, form, answers)
-        .map_err(|fault| fault_of(fault.code(), fault.status(), ("A1", About::Word(0)), 1));
+    let served = show_version(rt.alloc(), setup, &mut source, version, sym, form, answers).map_err(
+        |fault| fault_of(fault.code(), fault.status(), ("A1", About::Word(0)), 1),
+    );
     ended(&mut source, served)
 }
 
@@ -114,8 +118,9 @@ where
     let file = open_word(rt, request, 0)?;
     let mut source = Source::new(rt, screen, file);
     let form = form_of(screen, request);
-    let served = stream_changes(rt.alloc(), setup, &mut source, sym, form, answers)
-        .map_err(|fault| Fault::of(fault.code(), fault.status(), About::Word(0)));
+    let served = stream_changes(rt.alloc(), setup, &mut source, sym, form, answers).map_err(
+        |fault| Fault::of(fault.code(), fault.status(), About::Word(0)),
+    );
     ended(&mut source, served)
 }
 
@@ -135,8 +140,9 @@ where
     let file = open_word(rt, request, 0)?;
     let mut source = Source::new(rt, screen, file);
     let form = form_of(screen, request);
-    let served = check_answers(rt.alloc(), setup, &mut source, name, &text, form, answers)
-        .map_err(|fault| Fault::of(fault.code(), fault.status(), About::Word(0)));
+    let served = check_answers(rt.alloc(), setup, &mut source, name, &text, form, answers).map_err(
+        |fault| Fault::of(fault.code(), fault.status(), About::Word(0)),
+    );
     ended(&mut source, served)
 }
 
@@ -156,8 +162,9 @@ where
     let file = open_word(rt, request, 0)?;
     let mut source = Source::new(rt, screen, file);
     let form = form_of(screen, request);
-    let served = explain_why(rt.alloc(), setup, &mut source, name, &text, form, answers)
-        .map_err(|fault| fault_of(fault.code(), fault.status(), ("L11", About::Word(1)), 0));
+    let served = explain_why(rt.alloc(), setup, &mut source, name, &text, form, answers).map_err(
+        |fault| fault_of(fault.code(), fault.status(), ("L11", About::Word(1)), 0),
+    );
     ended(&mut source, served)
 }
 
@@ -182,8 +189,9 @@ where
     let plan = plan.as_ref().map(Vec::as_slice);
     let file = open_word(rt, request, 0)?;
     let mut source = Source::new(rt, screen, file);
-    let served = draw_changes(rt.alloc(), setup, &mut source, sym, plan, answers)
-        .map_err(|fault| fault_of(fault.code(), fault.status(), ("L11", About::Plan), 0));
+    let served = draw_changes(rt.alloc(), setup, &mut source, sym, plan, answers).map_err(
+        |fault| fault_of(fault.code(), fault.status(), ("L11", About::Plan), 0),
+    );
     ended(&mut source, served)
 }
 
