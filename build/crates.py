@@ -1,10 +1,13 @@
 #!/usr/bin/env python3
-"""Proves and builds the program and the crates below it, side by side, and tells on standard error how far it is.
+"""Proves and builds a program and the crates below it, side by side, and tells on standard error how far it is.
 
-Each crate is built in a lane: a folder of its own with its sources and the built crates below it as hard links, since
-`rt lib` locks every folder that it reads. A built crate goes back to its place at once, so an interrupt loses only
-what was under way. `build/times` has each crate's processor seconds, as measured elsewhere, and the jobs that are
-cheapest for it; what this build took is written to `crates/nms_tool/out/times`.
+    build/crates.py [PROGRAM]
+
+The program is `nms_tool`, or the one that is named. Each crate is built in a lane: a folder of its own with its sources
+and the built crates below it as hard links, since `rt lib` locks every folder that it reads. A built crate goes back to
+its place at once, so an interrupt loses only what was under way. `build/times` has each crate's processor seconds, as
+measured elsewhere, and the jobs that are cheapest for it; what this build took is written to `crates/PROGRAM/out/times`,
+and of which crates the program is built to `crates/PROGRAM/out/built_of`.
 """
 import os
 import re
@@ -15,7 +18,7 @@ import sys
 import time
 
 TOP = os.path.dirname(os.path.dirname(os.path.realpath(__file__)))
-PROGRAM = "nms_tool"
+PROGRAM = sys.argv[1] if len(sys.argv) > 1 else "nms_tool"
 OUT = f"{TOP}/crates/{PROGRAM}/out"
 LANES = f"{OUT}/lanes"
 # Memory that a check of the largest crate takes, with some room.
@@ -25,7 +28,7 @@ SILENCE = 30
 
 
 def say(text):
-    print(f"nms_tool: {text}", file=sys.stderr, flush=True)
+    print(f"{PROGRAM}: {text}", file=sys.stderr, flush=True)
 
 
 def listed():
@@ -114,13 +117,13 @@ class Build:
         return f"{100 * sum(self.seconds(it) for it in self.done) / self.whole:.0f} of 100"
 
     def start(self, name):
-        """Starts the proof of a crate. The program itself is also run once, on an empty script."""
+        """Starts the proof of a crate. The program itself is also run once, to tell its version."""
         is_program = name == PROGRAM
         folder = f"{TOP}/crates/{name}" if is_program else lay(self.crates, name)
         idle = self.lanes - self.jobs()
         jobs = max(1, min(idle, self.times.get(name, (0, 1))[1]))
         report = open(f"{OUT}/{name}.report", "w+", encoding="utf-8", errors="replace")
-        words = ["rt", "run" if is_program else "lib", "--jobs", str(jobs)]
+        words = ["rt", "run" if is_program else "lib", "--jobs", str(jobs), *["--", "--version"] * is_program]
         how = {"stdin": subprocess.DEVNULL, "stdout": report, "stderr": subprocess.STDOUT}
         process = subprocess.Popen(words, cwd=folder, **how)
         self.running[process.pid] = name, report, jobs, process
@@ -166,6 +169,8 @@ class Build:
             self.wait()
         with open(f"{OUT}/times", "w", encoding="utf-8") as file:
             file.writelines(self.took)
+        with open(f"{OUT}/built_of", "w", encoding="utf-8") as file:
+            file.write("\n".join([*below(self.crates, PROGRAM), PROGRAM, ""]))
         return not self.failed
 
     def stop(self):

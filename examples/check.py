@@ -19,7 +19,7 @@ from concurrent.futures import ThreadPoolExecutor
 HERE = os.path.dirname(os.path.realpath(__file__))
 TOP = os.path.dirname(HERE)
 # What of this folder is neither run nor given.
-TOOLS = {"README.md", "bundle.sh", "check.py", "refuse.py", "hostile.py", "traced.py", "forge.py", "judge.py"}
+TOOLS = {"README.md", "bundle.sh", "check.py", "check_review.py", "refuse.py", "hostile.py", "traced.py", "forge.py", "judge.py"}
 TOOLS |= {"judge_live.py", "judge_lots.py", "judge_orders.py", "judge_plans.py", "judge_self_help.py"}
 # Kinds of case that no call shows, which crates/nms_examples runs.
 BELOW = {"breach", "lines", "numbers", "plan", "rewrite", "settings", "steps", "text", "trials"}

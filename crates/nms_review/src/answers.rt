@@ -1,0 +1,71 @@
+//! The output for answers, which are written in few and large pieces.
+use std::alloc::{AllocError, Global};
+use std::io;
+use std::io::Write;
+
+/// The most bytes that are kept back.
+const ROOM: usize = 65_536;
+/// Whole lines are written out from so many bytes on.
+const ENOUGH: usize = 49_152;
+/// Takes away the line on which the terminal shows progress.
+pub(crate) const ERASE: &str = "\r\x1b[K";
+
+/// Keeps what is written, and writes it out in pieces that end with a line, but where a line is very long.
+#[derive(Drop)]
+pub(crate) struct Answers<W> {
+    writer: W,
+    text: Vec<u8>,
+    erases: bool,
+}
+
+impl<W: Write> Answers<W> {
+    /// Over a writer. Where it `erases`, a piece takes the place of the line on which the same terminal shows progress.
+    pub(crate) fn new(alloc: Global, writer: W, erases: bool) -> Result<Self, AllocError>
+    where
+        W: Drop,
+    {
+        Ok(Answers {
+            writer,
+            text: Vec::with_capacity(alloc, ROOM)?,
+            erases,
+        })
+    }
+
+    /// Writes out what was kept.
+    fn write_out(&mut self) -> io::Result<()> {
+        if self.erases {
+            self.writer.write_all(ERASE.as_bytes())?;
+        }
+        self.writer.write_all(&self.text)?;
+        self.text.clear();
+        Ok(())
+    }
+
+    /// Whether what is kept ends with a line and is enough for a piece.
+    fn is_piece(&self) -> bool {
+        self.text.len() > ENOUGH && self.text.last() == Some(&b'\n')
+    }
+}
+
+impl<W: Write> Write for Answers<W> {
+    fn write(&mut self, bytes: &[u8]) -> io::Result<usize> {
+        if self.text.len().saturating_add(bytes.len()) > ROOM {
+            self.write_out()?;
+        }
+        if bytes.len() > ROOM {
+            return self.writer.write(bytes);
+        }
+        self.text.extend_from_slice(bytes)?;
+        if self.is_piece() {
+            self.write_out()?;
+        }
+        Ok(bytes.len())
+    }
+
+    fn flush(&mut self) -> io::Result<()> {
+        if !self.text.is_empty() {
+            self.write_out()?;
+        }
+        self.writer.flush()
+    }
+}

@@ -1,0 +1,77 @@
+//! What the words of a request name: a form, a symbol, a version, a feed; and how the reading of a file ended.
+ghost use Rattle.std.specs.Prelude.{◌<◌, length, IfSome};
+
+use crate::fault::{About, Fault};
+use crate::files::word_at;
+use crate::screen::Screen;
+use crate::source::Source;
+use nms_fees::Setup;
+use nms_quote::{Feed, Sym};
+use nms_review_words::Request;
+use nms_show::{Ending, Form};
+use std::time::Clock;
+
+/// The form that a request asks for.
+pub(crate) fn form_of(screen: Screen, request: &Request) -> Form {
+    if request.json {
+        Form::Json
+    } else {
+        Form::Text {
+            colours: screen.answers,
+        }
+    }
+}
+
+/// The symbol that a word names, where there is one and the setup has it.
+pub(crate) fn sym_at(setup: &Setup, request: &Request, place: usize) -> Option<Sym>
+    ensures { IfSome result (λ sym. sym < length setup.now.roster.syms) }
+{
+    setup.roster().find_sym(word_at(request, place).as_bytes())
+}
+
+/// Whether a word stands there.
+pub(crate) fn has_word(request: &Request, place: usize) -> bool {
+    request.words.len() > place
+}
+
+/// A word that names no symbol.
+pub(crate) fn no_sym(place: usize) -> Fault {
+    Fault::usage(
+        About::Word(place),
+        "it is no symbol of the setup; capitals count",
+    )
+}
+
+/// The version that the first word names.
+pub(crate) fn version_of(request: &Request) -> Result<u64, Fault> {
+    let version = word_at(request, 0).parse::<u64>();
+    version.map_err(|_| Fault::usage(About::Word(0), "a version is a number, 0 or more"))
+}
+
+/// The feed that `--feed` names, A where it is not given.
+pub(crate) fn feed_of(setup: &Setup, request: &Request) -> Result<Feed, Fault> {
+    let letter = match &request.feed {
+        Some(word) => word.as_bytes(),
+        None => b"A",
+    };
+    let place = match letter {
+        [letter @ b'A'..=b'H'] => letter - b'A',
+        _ => setup.feeds(),
+    };
+    match Feed::at(place) {
+        Some(feed) if place < setup.feeds() => Ok(feed),
+        _ => Err(Fault::usage(About::Feed, "it is the letter of no feed of the setup")),
+    }
+}
+
+/// How a request ends that has read a file: where the reading failed, the system's reason is told.
+pub(crate) fn ended<T: Clock + Eprint, R>(
+    source: &mut Source<'_, T, R>,
+    served: Result<Ending, Fault>,
+) -> Result<Ending, Fault> {
+    source.clear();
+    match (served, source.failed()) {
+        (Err(fault), Some(error)) if fault.code == "E1" => Err(Fault::unread(error, fault.about)),
+        (served, _) => served,
+    }
+}

@@ -1,0 +1,129 @@
+//! The subcommand `explain`.
+use crate::call::{ended, feed_of, form_of};
+use crate::fault::{About, Fault};
+use crate::files::{open_word, read_file, setup_of, word_at};
+use crate::screen::Screen;
+use crate::source::Source;
+use nms_explain::{explain_changes, explain_feed, explain_orders, explain_plan, explain_script};
+use nms_explain_setup::explain_setup;
+use nms_fees::Setup;
+use nms_review_words::{Kind, Request};
+use nms_show::Ending;
+use std::io::Write;
+use std::rt::Files;
+use std::time::Clock;
+
+/// The place of the file's word: the kind stands before it.
+const FILE: usize = 1;
+
+/// Says of a file what is refused in it, and where.
+pub(crate) fn serve_explain<T, W: Write>(
+    rt: &T,
+    screen: Screen,
+    request: &Request,
+    answers: &mut W,
+) -> Result<Ending, Fault>
+where
+    T: AllocGlobal + Clock + Eprint + Files,
+{
+    match Kind::named(word_at(request, 0)) {
+        Some(Kind::Setup) => serve_setup(rt, screen, request, answers),
+        Some(kind) => {
+            let setup = setup_of(rt, request)?;
+            serve_kind(rt, screen, &setup, kind, request, answers)
+        }
+        // The parser takes no other word there.
+        None => Err(Fault::usage(About::Word(0), "it is no kind of file")),
+    }
+}
+
+/// Says of a setup's file what is wrong in it.
+fn serve_setup<T, W: Write>(
+    rt: &T,
+    screen: Screen,
+    request: &Request,
+    answers: &mut W,
+) -> Result<Ending, Fault>
+where
+    T: AllocGlobal + Files,
+{
+    let file = word_at(request, FILE);
+    let text = read_file(rt, file, About::Word(FILE))?;
+    explain_setup(rt.alloc(), file, &text, form_of(screen, request), answers).map_err(
+        |fault| Fault::of(fault.code(), fault.status(), About::Word(FILE)),
+    )
+}
+
+/// Says of a file of records what is refused in it.
+fn serve_kind<T, W: Write>(
+    rt: &T,
+    screen: Screen,
+    setup: &Setup,
+    kind: Kind,
+    request: &Request,
+    answers: &mut W,
+) -> Result<Ending, Fault>
+where
+    T: AllocGlobal + Clock + Eprint + Files,
+{
+    if kind == Kind::Plan {
+        return serve_plan(rt, screen, setup, request, answers);
+    }
+    let file = open_word(rt, request, FILE)?;
+    let mut source = Source::new(rt, screen, file);
+    let served = serve_records(rt, screen, setup, kind, request, &mut source, answers);
+    ended(&mut source, served)
+}
+
+/// Says of a plan's text what is wrong in it.
+fn serve_plan<T, W: Write>(
+    rt: &T,
+    screen: Screen,
+    setup: &Setup,
+    request: &Request,
+    answers: &mut W,
+) -> Result<Ending, Fault>
+where
+    T: AllocGlobal + Files,
+{
+    let file = word_at(request, FILE);
+    let text = read_file(rt, file, About::Word(FILE))?;
+    explain_plan(
+        rt.alloc(),
+        setup,
+        file,
+        &text,
+        form_of(screen, request),
+        answers,
+    )
+    .map_err(|fault| Fault::of(fault.code(), fault.status(), About::Word(FILE)))
+}
+
+/// Says of records what is refused among them.
+fn serve_records<T, R, W: Write>(
+    rt: &T,
+    screen: Screen,
+    setup: &Setup,
+    kind: Kind,
+    request: &Request,
+    source: &mut Source<'_, T, R>,
+    answers: &mut W,
+) -> Result<Ending, Fault>
+where
+    T: AllocGlobal + Clock + Eprint + Files,
+    R: std::io::Read,
+{
+    let (alloc, file, form) = (rt.alloc(), word_at(request, FILE), form_of(screen, request));
+    let served = match kind {
+        Kind::Script => explain_script(alloc, setup, file, source, form, answers),
+        Kind::Orders => explain_orders(alloc, setup, file, source, form, answers),
+        Kind::Feed => {
+            let feed = feed_of(setup, request)?;
+            explain_feed(alloc, setup, feed, file, source, form, answers)
+        }
+        Kind::Changes | Kind::Plan | Kind::Setup => {
+            explain_changes(alloc, setup, file, source, form, answers)
+        }
+    };
+    served.map_err(|fault| Fault::of(fault.code(), fault.status(), About::Word(FILE)))
+}

@@ -1,0 +1,74 @@
+//! Why a request was not served.
+use nms_show::ShowFault;
+use std::io;
+
+/// Why a request was not served.
+#[derive(Clone, Copy)]
+pub(crate) struct Fault {
+    /// The code, or `usage`.
+    pub(crate) code: &'static str,
+    /// The exit status.
+    pub(crate) status: u8,
+    /// What it is about.
+    pub(crate) about: About,
+    /// What the system says, where a file could not be read.
+    pub(crate) cause: Option<io::Error>,
+    /// What was expected in place of a word.
+    pub(crate) expected: &'static str,
+}
+
+/// What a fault is about.
+#[derive(Clone, Copy, PartialEq, Eq)]
+pub(crate) enum About {
+    /// No word of the call.
+    Nothing,
+    /// The subcommand's own word at that place, from 0.
+    Word(usize),
+    /// The value of `--setup`.
+    Setup,
+    /// The value of `--feed`.
+    Feed,
+    /// The value of `--plan`.
+    Plan,
+}
+
+impl Fault {
+    /// A fault of the library, in what a word names.
+    ///
+    /// Memory and the output are no matter of a file.
+    pub(crate) fn of(code: &'static str, status: u8, about: About) -> Self {
+        let is_own = status == 5 || code == "E2" || code == "L13";
+        Fault {
+            code,
+            status,
+            about: if is_own { About::Nothing } else { about },
+            cause: None,
+            expected: "",
+        }
+    }
+
+    /// E1: a file could not be read.
+    pub(crate) fn unread(error: io::Error, about: About) -> Self {
+        if error.kind() == io::ErrorKind::OutOfMemory {
+            return Fault::of("E4", 5, about);
+        }
+        Fault {
+            cause: Some(error),
+            ..Fault::of("E1", 1, about)
+        }
+    }
+
+    /// A word that is not of its form.
+    pub(crate) fn usage(about: About, expected: &'static str) -> Self {
+        Fault {
+            expected,
+            ..Fault::of("usage", 2, about)
+        }
+    }
+}
+
+impl From<ShowFault> for Fault {
+    fn from(fault: ShowFault) -> Fault {
+        Fault::of(fault.code(), fault.status(), About::Nothing)
+    }
+}

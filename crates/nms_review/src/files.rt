@@ -1,0 +1,51 @@
+//! Files of a call: opened, or read whole.
+use crate::fault::{About, Fault};
+use nms_fees::{Setup, read_setup};
+use nms_review_words::Request;
+use nms_scripts::SETUP_K;
+use std::alloc::Global;
+use std::rt::Files;
+use std::{fs, str};
+
+/// The subcommand's own word at a place, from 0. The parser sees that those it needs are there.
+pub(crate) fn word_at(request: &Request, place: usize) -> &str {
+    match request.words.get(place) {
+        Some(word) => word.as_str(),
+        None => "",
+    }
+}
+
+/// Opens the file that a subcommand's own word names.
+pub(crate) fn open_word<T: Files>(
+    rt: &T,
+    request: &Request,
+    place: usize,
+) -> Result<T::File, Fault> {
+    fs::open(rt, word_at(request, place)).map_err(|error| Fault::unread(error, About::Word(place)))
+}
+
+/// The bytes of a file.
+pub(crate) fn read_file<T: Files + AllocGlobal>(
+    rt: &T,
+    path: &str,
+    about: About,
+) -> Result<Vec<u8>, Fault> {
+    fs::read(rt, path).map_err(|error| Fault::unread(error, about))
+}
+
+/// The setup of the file that the request names, or the built-in one.
+pub(crate) fn setup_of<T: Files + AllocGlobal>(rt: &T, request: &Request) -> Result<Setup, Fault> {
+    let Some(file) = &request.setup else {
+        return read_text(rt.alloc(), SETUP_K);
+    };
+    let bytes = read_file(rt, file.as_str(), About::Setup)?;
+    match str::from_utf8(&bytes) {
+        Ok(text) => read_text(rt.alloc(), text),
+        Err(_) => Err(Fault::of("C1", 3, About::Setup)),
+    }
+}
+
+/// The setup that a text says.
+fn read_text(alloc: Global, text: &str) -> Result<Setup, Fault> {
+    read_setup(alloc, text).map_err(|fault| Fault::of(fault.code(), fault.status(), About::Setup))
+}

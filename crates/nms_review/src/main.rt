@@ -1,0 +1,131 @@
+//! The reviewer's program: explains to people what the quote board refused, answered and planned.
+#![tactic(auto)]
+
+mod answers;
+mod call;
+mod explaining;
+mod fault;
+mod files;
+mod progress;
+mod screen;
+mod serving;
+mod source;
+mod telling;
+
+use answers::Answers;
+use fault::Fault;
+use nms_review_words::{Request, WordsFault, read_words};
+use nms_show::Ending;
+use screen::Screen;
+use serving::serve;
+use std::alloc::Global;
+use std::io::{ErrorKind, IsTerminal, Write};
+use std::process::ExitCode;
+use std::rt::{Env, Files};
+use std::time::Clock;
+use std::{env, io};
+use telling::tell_fault;
+
+/// Told where a word is no UTF-8, and where memory ran out for the words.
+const NO_TEXT: &str = "nms_review: usage: a word of the call is no UTF-8\n";
+
+const NO_MEMORY: &str = "nms_review: G2: memory ran out for the words\n";
+
+const NOT_WRITTEN: &str = "nms_review: E2: the output could not be written\n";
+
+fn main(rt: HostRuntime) -> ExitCode {
+    let screen = Screen {
+        answers: rt.stdout().is_terminal(),
+        errors: rt.stderr().is_terminal(),
+    };
+    ExitCode::from(answer_words(&rt, screen, &mut rt.stderr()))
+}
+
+/// Serves the process's own words, and gives the exit status.
+fn answer_words<T, E: Write>(rt: &T, screen: Screen, errors: &mut E) -> u8
+where
+    T: AllocGlobal + Clock + Env + Eprint + Files + Print,
+{
+    let own = match own_words(rt) {
+        Ok(own) => own,
+        Err(ErrorKind::OutOfMemory) => return tell_early(errors, NO_MEMORY, 5),
+        Err(_) => return tell_early(errors, NO_TEXT, 2),
+    };
+    match words_of(rt.alloc(), &own) {
+        Some(words) => answer(rt, screen, &words, errors),
+        None => tell_early(errors, NO_MEMORY, 5),
+    }
+}
+
+/// Serves these words, and gives the exit status.
+fn answer<T, E: Write>(rt: &T, screen: Screen, words: &[&str], errors: &mut E) -> u8
+where
+    T: AllocGlobal + Clock + Eprint + Files + Print,
+{
+    match read_words(rt.alloc(), words) {
+        Ok(request) => answer_request(rt, screen, &request, errors),
+        Err(WordsFault::Parser { text, help: true }) => tell_help(rt, text.as_str(), errors),
+        Err(WordsFault::Parser { text, help: false }) => tell_early(errors, text.as_str(), 2),
+        Err(WordsFault::NoMemory) => tell_early(errors, NO_MEMORY, 5),
+    }
+}
+
+/// Serves a request, and gives the exit status.
+fn answer_request<T, E: Write>(rt: &T, screen: Screen, request: &Request, errors: &mut E) -> u8
+where
+    T: AllocGlobal + Clock + Eprint + Files + Print,
+{
+    match serve_whole(rt, screen, request) {
+        Ok(ending) => ending.status(),
+        Err(fault) => tell_fault(&fault, request, errors),
+    }
+}
+
+/// Serves a request, and writes out all that it answered, also where it could not be served to its end.
+fn serve_whole<T>(rt: &T, screen: Screen, request: &Request) -> Result<Ending, Fault>
+where
+    T: AllocGlobal + Clock + Eprint + Files + Print,
+{
+    let both = screen.answers && screen.errors;
+    let Ok(mut answers) = Answers::new(rt.alloc(), io::writer(rt), both) else {
+        return Err(Fault::of("E4", 5, fault::About::Nothing));
+    };
+    let served = serve(rt, screen, request, &mut answers);
+    match answers.flush() {
+        Ok(()) => served,
+        Err(_) => served.and(Err(Fault::of("E2", 1, fault::About::Nothing))),
+    }
+}
+
+/// Writes the help, or the version, to standard output.
+fn tell_help<T: Print, E: Write>(rt: &T, help: &str, errors: &mut E) -> u8 {
+    match io::writer(rt).write_all(help.as_bytes()) {
+        Ok(()) => 0,
+        Err(_) => tell_early(errors, NOT_WRITTEN, 1),
+    }
+}
+
+/// Tells a text on standard error, and gives the status. What standard error does not take changes no status.
+fn tell_early<E: Write>(errors: &mut E, text: &str, status: u8) -> u8 {
+    let _ = errors.write_all(text.as_bytes());
+    status
+}
+
+/// Words as they are lent; `None` where there is no memory.
+fn words_of<'a>(alloc: Global, own: &'a [String]) -> Option<Vec<&'a str>> {
+    let mut words = Vec::new(alloc);
+    for word in own {
+        words.push(word.as_str()).ok()?;
+    }
+    Some(words)
+}
+
+/// The words behind the program's name, or why there are none.
+fn own_words<T: AllocGlobal + Env>(rt: &T) -> Result<Vec<String>, ErrorKind> {
+    let all = env::args(rt).map_err(|error| error.kind())?;
+    let mut words = Vec::new(rt.alloc());
+    for word in all.skip(1) {
+        words.push(word).map_err(|_| ErrorKind::OutOfMemory)?;
+    }
+    Ok(words)
+}

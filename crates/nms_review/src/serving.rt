@@ -1,0 +1,206 @@
+//! What each subcommand does: its words are read, its files opened, and a library's call answers.
+use crate::call::{ended, form_of, has_word, no_sym, sym_at, version_of};
+use crate::explaining::serve_explain;
+use crate::fault::{About, Fault};
+use crate::files::{open_word, read_file, setup_of, word_at};
+use crate::screen::Screen;
+use crate::source::Source;
+use nms_drawing::{draw_changes, show_version, stream_changes, write_tape};
+use nms_fees::Setup;
+use nms_review_words::{Request, Sub};
+use nms_show::Ending;
+use nms_verdicts::{check_answers, explain_why};
+use std::io::Write;
+use std::rt::Files;
+use std::time::Clock;
+
+/// Serves a request.
+pub(crate) fn serve<T, W: Write>(
+    rt: &T,
+    screen: Screen,
+    request: &Request,
+    answers: &mut W,
+) -> Result<Ending, Fault>
+where
+    T: AllocGlobal + Clock + Eprint + Files,
+{
+    // What explains a setup needs none.
+    if request.command == Sub::Explain {
+        return serve_explain(rt, screen, request, answers);
+    }
+    let setup = setup_of(rt, request)?;
+    serve_under(rt, screen, &setup, request, answers)
+}
+
+/// Serves a request under a setup.
+fn serve_under<T, W: Write>(
+    rt: &T,
+    screen: Screen,
+    setup: &Setup,
+    request: &Request,
+    answers: &mut W,
+) -> Result<Ending, Fault>
+where
+    T: AllocGlobal + Clock + Eprint + Files,
+{
+    match request.command {
+        Sub::Explain => serve_explain(rt, screen, request, answers),
+        Sub::Tape => serve_tape(rt, screen, setup, request, answers),
+        Sub::At => serve_at(rt, screen, setup, request, answers),
+        Sub::Stream => serve_stream(rt, screen, setup, request, answers),
+        Sub::Check => serve_check(rt, screen, setup, request, answers),
+        Sub::Why => serve_why(rt, screen, setup, request, answers),
+        Sub::Draw => serve_draw(rt, screen, setup, request, answers),
+    }
+}
+
+/// Writes the changes that a script takes.
+fn serve_tape<T, W: Write>(
+    rt: &T,
+    screen: Screen,
+    setup: &Setup,
+    request: &Request,
+    answers: &mut W,
+) -> Result<Ending, Fault>
+where
+    T: AllocGlobal + Clock + Eprint + Files,
+{
+    let file = open_word(rt, request, 0)?;
+    let mut source = Source::new(rt, screen, file);
+    let served = write_tape(rt.alloc(), setup, &mut source, answers).map_err(|fault| Fault::of(
+        fault.code(),
+        fault.status(),
+        About::Word(0),
+    ));
+    ended(&mut source, served)
+}
+
+/// Shows a version.
+fn serve_at<T, W: Write>(
+    rt: &T,
+    screen: Screen,
+    setup: &Setup,
+    request: &Request,
+    answers: &mut W,
+) -> Result<Ending, Fault>
+where
+    T: AllocGlobal + Clock + Eprint + Files,
+{
+    let version = version_of(request)?;
+    let sym = sym_at(setup, request, 2);
+    if sym.is_none() && has_word(request, 2) {
+        return Err(no_sym(2));
+    }
+    let file = open_word(rt, request, 1)?;
+    let mut source = Source::new(rt, screen, file);
+    let form = form_of(screen, request);
+    let served = show_version(rt.alloc(), setup, &mut source, version, sym, form, answers).map_err(
+        |fault| fault_of(fault.code(), fault.status(), ("A1", About::Word(0)), 1),
+    );
+    ended(&mut source, served)
+}
+
+/// Writes a line where a best bid, a best offer or a market changes.
+fn serve_stream<T, W: Write>(
+    rt: &T,
+    screen: Screen,
+    setup: &Setup,
+    request: &Request,
+    answers: &mut W,
+) -> Result<Ending, Fault>
+where
+    T: AllocGlobal + Clock + Eprint + Files,
+{
+    let sym = sym_at(setup, request, 1);
+    if sym.is_none() && has_word(request, 1) {
+        return Err(no_sym(1));
+    }
+    let file = open_word(rt, request, 0)?;
+    let mut source = Source::new(rt, screen, file);
+    let form = form_of(screen, request);
+    let served = stream_changes(rt.alloc(), setup, &mut source, sym, form, answers).map_err(
+        |fault| Fault::of(fault.code(), fault.status(), About::Word(0)),
+    );
+    ended(&mut source, served)
+}
+
+/// Judges every plan of a file of answers.
+fn serve_check<T, W: Write>(
+    rt: &T,
+    screen: Screen,
+    setup: &Setup,
+    request: &Request,
+    answers: &mut W,
+) -> Result<Ending, Fault>
+where
+    T: AllocGlobal + Clock + Eprint + Files,
+{
+    let name = word_at(request, 1);
+    let text = read_file(rt, name, About::Word(1))?;
+    let file = open_word(rt, request, 0)?;
+    let mut source = Source::new(rt, screen, file);
+    let form = form_of(screen, request);
+    let served = check_answers(rt.alloc(), setup, &mut source, name, &text, form, answers).map_err(
+        |fault| Fault::of(fault.code(), fault.status(), About::Word(0)),
+    );
+    ended(&mut source, served)
+}
+
+/// Says why a plan is as it is.
+fn serve_why<T, W: Write>(
+    rt: &T,
+    screen: Screen,
+    setup: &Setup,
+    request: &Request,
+    answers: &mut W,
+) -> Result<Ending, Fault>
+where
+    T: AllocGlobal + Clock + Eprint + Files,
+{
+    let name = word_at(request, 1);
+    let text = read_file(rt, name, About::Word(1))?;
+    let file = open_word(rt, request, 0)?;
+    let mut source = Source::new(rt, screen, file);
+    let form = form_of(screen, request);
+    let served = explain_why(rt.alloc(), setup, &mut source, name, &text, form, answers).map_err(
+        |fault| fault_of(fault.code(), fault.status(), ("L11", About::Word(1)), 0),
+    );
+    ended(&mut source, served)
+}
+
+/// Draws a symbol's day.
+fn serve_draw<T, W: Write>(
+    rt: &T,
+    screen: Screen,
+    setup: &Setup,
+    request: &Request,
+    answers: &mut W,
+) -> Result<Ending, Fault>
+where
+    T: AllocGlobal + Clock + Eprint + Files,
+{
+    let Some(sym) = sym_at(setup, request, 1) else {
+        return Err(no_sym(1));
+    };
+    let plan = match &request.plan {
+        Some(path) => Some(read_file(rt, path.as_str(), About::Plan)?),
+        None => None,
+    };
+    let plan = plan.as_ref().map(Vec::as_slice);
+    let file = open_word(rt, request, 0)?;
+    let mut source = Source::new(rt, screen, file);
+    let served = draw_changes(rt.alloc(), setup, &mut source, sym, plan, answers).map_err(
+        |fault| fault_of(fault.code(), fault.status(), ("L11", About::Plan), 0),
+    );
+    ended(&mut source, served)
+}
+
+/// A fault of the library: one of them is about something else than the word at a place, where the file stands.
+fn fault_of(code: &'static str, status: u8, other: (&str, About), file: usize) -> Fault {
+    let about = if code == other.0 {
+        other.1
+    } else {
+        About::Word(file)
+    };
+    Fault::of(code, status, about)
+}

@@ -1,0 +1,84 @@
+//! A file that is read: how far it is, and why it could not be read.
+use crate::answers::ERASE;
+use crate::progress::Progress;
+use crate::screen::Screen;
+use std::fs::OpenFile;
+use std::io;
+use std::io::Read;
+use std::time::Clock;
+
+/// A file that is read.
+#[derive(Drop)]
+pub(crate) struct Source<'a, T, R> {
+    rt: &'a T,
+    file: R,
+    progress: Option<Progress>,
+    is_shown: bool,
+    failed: Option<io::Error>,
+}
+
+impl<'a, T: Clock + Eprint, R: Read + OpenFile> Source<'a, T, R> {
+    /// Over an open file.
+    pub(crate) fn new(rt: &'a T, screen: Screen, file: R) -> Self {
+        let progress = if screen.errors {
+            progress_of(rt, &file)
+        } else {
+            None
+        };
+        Source {
+            rt,
+            file,
+            progress,
+            is_shown: false,
+            failed: None,
+        }
+    }
+}
+
+impl<T: Clock + Eprint, R> Source<'_, T, R> {
+    /// Why the file could not be read to its end, where that is so.
+    pub(crate) fn failed(&self) -> Option<io::Error> {
+        self.failed
+    }
+
+    /// Takes the line away that shows progress.
+    pub(crate) fn clear(&mut self) {
+        if self.is_shown {
+            let _ = self.rt.eprint(ERASE);
+            self.is_shown = false;
+        }
+    }
+
+    /// Counts what was read, and shows how far it is where it is time for that.
+    fn show(&mut self, bytes: &[u8]) {
+        let Some(progress) = &mut self.progress else {
+            return;
+        };
+        if progress.count(self.rt, bytes) {
+            let _ = self.rt.eprint(*progress);
+            self.is_shown = true;
+        }
+    }
+}
+
+/// The progress of a file that is about to be read.
+fn progress_of<T: Clock, R: OpenFile>(rt: &T, file: &R) -> Option<Progress> {
+    let began = rt.monotonic().ok()?;
+    let total = file.metadata().ok()?.len();
+    Some(Progress::new(total, began))
+}
+
+impl<T: Clock + Eprint, R: Read> Read for Source<'_, T, R> {
+    fn read(&mut self, buf: &mut [u8]) -> io::Result<usize> {
+        match self.file.read(buf) {
+            Ok(count) => {
+                self.show(buf.get(..count).unwrap_or(&[]));
+                Ok(count)
+            }
+            Err(error) => {
+                self.failed = Some(error);
+                Err(error)
+            }
+        }
+    }
+}

@@ -1,0 +1,50 @@
+//! The command line as `clap` reads it.
+use crate::help_text::{ABOUT, AFTER_HELP, VERSION};
+use crate::subcommand::{KINDS, Sub, Word, WordForm};
+use clap::{Arg, ArgAction, Command};
+use std::alloc::{AllocError, Global};
+
+/// The whole command line.
+pub(crate) fn review_command<'a>(alloc: Global) -> Result<Command<'a>, AllocError> {
+    let mut command = top_command(alloc)?;
+    for sub in Sub::ALL {
+        command = command.subcommand(sub_command(alloc, sub)?)?;
+    }
+    Ok(command)
+}
+
+/// The command line without its subcommands.
+fn top_command<'a>(alloc: Global) -> Result<Command<'a>, AllocError> {
+    Command::new(alloc, "nms_review")
+        .about(ABOUT)
+        .version(VERSION)
+        .after_help(AFTER_HELP)
+        .no_binary_name(true)
+        .disable_help_subcommand(true)
+        .subcommand_required(true)
+        .arg_required_else_help(true)
+        .bin_name("nms_review")
+}
+
+/// A subcommand with its own words and its options.
+fn sub_command<'a>(alloc: Global, sub: Sub) -> Result<Command<'a>, AllocError> {
+    let name: &'a str = sub.name();
+    let about: &'a str = sub.about();
+    let mut command = Command::new(alloc, name).about(about);
+    for word in sub.words() {
+        command = command.arg(arg_of(alloc, *word))?;
+    }
+    Ok(command)
+}
+
+/// A word or an option of a subcommand.
+fn arg_of<'a>(alloc: Global, word: Word) -> Arg<'a> {
+    let arg = Arg::new(alloc, word.name).help(word.help);
+    match word.form {
+        WordForm::Needed => arg.required(true),
+        WordForm::OfKinds => arg.required(true).value_parser(KINDS.as_slice()),
+        WordForm::Optional => arg,
+        WordForm::Valued(value) => arg.long(word.name).value_name(value),
+        WordForm::Flag => arg.long(word.name).action(ArgAction::SetTrue),
+    }
+}

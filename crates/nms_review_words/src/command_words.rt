@@ -1,0 +1,100 @@
+//! The words of the command line, read as a request.
+use crate::command_line::review_command;
+use crate::request::Request;
+use crate::subcommand::{Sub, WordForm};
+use crate::words_fault::WordsFault;
+use clap::error::ErrorKind;
+use clap::{ArgMatches, Error};
+use std::alloc::{AllocError, Global};
+
+/// What stands behind the parser's text where an option stands before its subcommand.
+const OPTION_TIP: &str = "
+tip: give options behind the subcommand: nms_review stream CHANGES --setup FILE
+";
+
+/// Reads the words that follow the program's name: a subcommand, its own words and its options.
+///
+/// `Parser` has the parser's text, of a fault or of the help or the version that was asked for. `NoMemory` may come in
+/// place of any answer.
+pub fn read_words<'a>(alloc: Global, words: &'a [&'a str]) -> Result<Request, WordsFault> {
+    match review_command(alloc)?.try_get_matches_from(words) {
+        Ok(matches) => Ok(request_in(alloc, &matches)?),
+        Err(error) => Err(fault_of(alloc, words, &error)),
+    }
+}
+
+/// The parser's text, or want of memory.
+fn fault_of(alloc: Global, words: &[&str], error: &Error) -> WordsFault {
+    let kind = error.kind();
+    if kind == ErrorKind::OutOfMemory {
+        return WordsFault::NoMemory;
+    }
+    match text_of(alloc, words, error) {
+        Ok(text) => WordsFault::Parser {
+            text,
+            help: matches!(kind, ErrorKind::DisplayHelp | ErrorKind::DisplayVersion),
+        },
+        Err(_) => WordsFault::NoMemory,
+    }
+}
+
+/// The parser's text, with a tip for an option that stands before its subcommand.
+fn text_of(alloc: Global, words: &[&str], error: &Error) -> Result<String, AllocError> {
+    match words.first() {
+        Some(word) if is_option(*word) => format!(in alloc; "{error}{OPTION_TIP}"),
+        _ => format!(in alloc; "{error}"),
+    }
+}
+
+/// Whether a word is an option of a subcommand.
+fn is_option(word: &str) -> bool {
+    word == "--json" || word == "--setup" || word.starts_with("--setup=")
+}
+
+/// The request that the matches hold. The parser takes no words without a subcommand.
+fn request_in(alloc: Global, matches: &ArgMatches<'_>) -> Result<Request, AllocError> {
+    let Some((name, inner)) = matches.subcommand() else {
+        return Err(AllocError);
+    };
+    let Some(command) = Sub::named(name) else {
+        return Err(AllocError);
+    };
+    Ok(Request {
+        command,
+        words: own_words(alloc, command, inner)?,
+        setup: value_text(alloc, inner, "setup")?,
+        feed: value_text(alloc, inner, "feed")?,
+        plan: value_text(alloc, inner, "plan")?,
+        json: inner.get_str("json") == Some("true"),
+    })
+}
+
+/// The subcommand's own words, each that has a value.
+fn own_words(
+    alloc: Global,
+    command: Sub,
+    matches: &ArgMatches<'_>,
+) -> Result<Vec<String>, AllocError> {
+    let mut words = Vec::new(alloc);
+    for word in command.words() {
+        if matches!(word.form, WordForm::Valued(_) | WordForm::Flag) {
+            continue;
+        }
+        if let Some(value) = matches.get_str(word.name) {
+            words.push(String::from_str(alloc, value)?)?;
+        }
+    }
+    Ok(words)
+}
+
+/// The text of an option's value, where it has one.
+fn value_text(
+    alloc: Global,
+    matches: &ArgMatches<'_>,
+    name: &str,
+) -> Result<Option<String>, AllocError> {
+    match matches.get_str(name) {
+        Some(value) => Ok(Some(String::from_str(alloc, value)?)),
+        None => Ok(None),
+    }
+}

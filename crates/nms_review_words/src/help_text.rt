@@ -1,0 +1,23 @@
+//! What the help says behind the subcommands.
+
+/// The version that `--version` tells.
+pub(crate) const VERSION: &str = "0.1.0";
+
+pub(crate) const ABOUT: &str =
+    "Explains what the quote board's program refused, answered and planned";
+
+/// The end of the help.
+pub(crate) const AFTER_HELP: &str = "Each subcommand also takes:
+      --setup <FILE>  The file of the setup, in place of the built-in one
+      --json          Prints one JSON object a line (but for tape and draw)
+
+Exit statuses:
+  0  done, and nothing was refused or doubted; or help or the version was asked for
+  1  a file or stream could not be read or written
+  2  the words were refused
+  3  the setup was refused
+  4  a plan is not confirmed
+  5  out of memory
+  6  an input record, a plan or a length was refused
+
+What each code means, and what to do about it, stands in docs/ERRORS.md of the repository; `explain` tells it too.";

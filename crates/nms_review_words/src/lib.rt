@@ -1,0 +1,14 @@
+//! The words of the reviewer's command line: what they ask for, or why they are refused.
+#![tactic(auto)]
+
+mod command_line;
+mod command_words;
+mod help_text;
+mod request;
+mod subcommand;
+mod words_fault;
+
+pub use command_words::read_words;
+pub use request::Request;
+pub use subcommand::{Kind, Sub};
+pub use words_fault::WordsFault;

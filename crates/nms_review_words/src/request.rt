@@ -1,0 +1,19 @@
+//! What the words of the command line ask for.
+use crate::subcommand::Sub;
+
+/// What the words of the command line ask for.
+#[derive(Debug, Drop)]
+pub struct Request {
+    /// What is to be done.
+    pub command: Sub,
+    /// The subcommand's own words, in order.
+    pub words: Vec<String>,
+    /// The file that `--setup` names.
+    pub setup: Option<String>,
+    /// The letter that `--feed` gives, as it was written.
+    pub feed: Option<String>,
+    /// The file that `--plan` names.
+    pub plan: Option<String>,
+    /// Whether `--json` was given.
+    pub json: bool,
+}

@@ -1,0 +1,252 @@
+//! The subcommands, with their own words and options.
+
+/// What the program can be asked to do, each a subcommand of the command line.
+#[derive(Clone, Copy, Debug, PartialEq, Eq)]
+pub enum Sub {
+    /// Says of each refused record of a file where it went wrong. Its own words are `KIND` and `FILE`.
+    Explain,
+    /// Writes the changes that a script takes, as a file of changes. Its own word is `SCRIPT`.
+    Tape,
+    /// Shows any version. Its own words are `VERSION` and `CHANGES`, and `SYM` may stand behind them.
+    At,
+    /// Writes a line where a best bid, a best offer or a market changes. Its own word is `CHANGES`, and `SYM` may stand
+    /// behind it.
+    Stream,
+    /// Judges every plan in the output of a script or a live run. Its own words are `CHANGES` and `ANSWERS`.
+    Check,
+    /// Says why a plan is as it is. Its own words are `CHANGES` and `PLAN`.
+    Why,
+    /// Draws a symbol's day. Its own words are `CHANGES` and `SYM`.
+    Draw,
+}
+
+/// What kind of file is explained.
+#[derive(Clone, Copy, Debug, PartialEq, Eq)]
+pub enum Kind {
+    /// A script.
+    Script,
+    /// A file of changes.
+    Changes,
+    /// A file of orders.
+    Orders,
+    /// The file of one feed, which `--feed` names.
+    Feed,
+    /// The text of a plan and its certificate.
+    Plan,
+    /// A setup.
+    Setup,
+}
+
+/// A word or an option of a subcommand, with its explanation in the help.
+#[derive(Clone, Copy)]
+pub(crate) struct Word {
+    pub(crate) name: &'static str,
+    pub(crate) help: &'static str,
+    pub(crate) form: WordForm,
+}
+
+/// How a word stands in the command line.
+#[derive(Clone, Copy)]
+pub(crate) enum WordForm {
+    /// A word of the subcommand's own that it needs.
+    Needed,
+    /// The kind of a file, which it needs.
+    OfKinds,
+    /// A word that may stand behind those.
+    Optional,
+    /// An option with a value, and what help calls the value.
+    Valued(&'static str),
+    /// An option without one.
+    Flag,
+}
+
+/// The words that name a kind of file.
+pub(crate) static KINDS: [&'static str; 6] = [
+    "script", "changes", "orders", "feed", "plan", "setup",
+];
+
+const CHANGES: Word = Word {
+    name: "CHANGES",
+    help: "The file of the quotation changes",
+    form: WordForm::Needed,
+};
+
+const SETUP: Word = Word {
+    name: "setup",
+    help: "The file of the setup, in place of the built-in one",
+    form: WordForm::Valued("FILE"),
+};
+
+const JSON: Word = Word {
+    name: "json",
+    help: "Prints one JSON object a line",
+    form: WordForm::Flag,
+};
+
+static EXPLAIN: [Word; 5] = [
+    Word {
+        name: "KIND",
+        help: "What the file is",
+        form: WordForm::OfKinds,
+    },
+    Word {
+        name: "FILE",
+        help: "The file to explain",
+        form: WordForm::Needed,
+    },
+    Word {
+        name: "feed",
+        help: "Of a feed: its letter, A where it is not given",
+        form: WordForm::Valued("LETTER"),
+    },
+    SETUP,
+    JSON,
+];
+
+static TAPE: [Word; 2] = [
+    Word {
+        name: "SCRIPT",
+        help: "The file of the script",
+        form: WordForm::Needed,
+    },
+    SETUP,
+];
+
+static AT: [Word; 5] = [
+    Word {
+        name: "VERSION",
+        help: "The number of the version: how many changes it has",
+        form: WordForm::Needed,
+    },
+    CHANGES,
+    Word {
+        name: "SYM",
+        help: "The symbol; all of them in a table where it is not given",
+        form: WordForm::Optional,
+    },
+    SETUP,
+    JSON,
+];
+
+static STREAM: [Word; 4] = [
+    CHANGES,
+    Word {
+        name: "SYM",
+        help: "The symbol; all of them where it is not given",
+        form: WordForm::Optional,
+    },
+    SETUP,
+    JSON,
+];
+
+static CHECK: [Word; 4] = [
+    CHANGES,
+    Word {
+        name: "ANSWERS",
+        help: "The file of what a script, a live run or `plan` answered",
+        form: WordForm::Needed,
+    },
+    SETUP,
+    JSON,
+];
+
+static WHY: [Word; 4] = [
+    CHANGES,
+    Word {
+        name: "PLAN",
+        help: "The file of the plan and its certificate",
+        form: WordForm::Needed,
+    },
+    SETUP,
+    JSON,
+];
+
+static DRAW: [Word; 4] = [
+    CHANGES,
+    Word {
+        name: "SYM",
+        help: "The symbol to draw",
+        form: WordForm::Needed,
+    },
+    Word {
+        name: "plan",
+        help: "The file of a plan, whose legs are drawn where it was made",
+        form: WordForm::Valued("PLAN"),
+    },
+    SETUP,
+];
+
+impl Sub {
+    /// Each of them.
+    pub(crate) const ALL: [Sub; 7] = [
+        Sub::Explain,
+        Sub::Tape,
+        Sub::At,
+        Sub::Stream,
+        Sub::Check,
+        Sub::Why,
+        Sub::Draw,
+    ];
+
+    /// The word that asks for it.
+    pub(crate) fn name(self) -> &'static str {
+        match self {
+            Sub::Explain => "explain",
+            Sub::Tape => "tape",
+            Sub::At => "at",
+            Sub::Stream => "stream",
+            Sub::Check => "check",
+            Sub::Why => "why",
+            Sub::Draw => "draw",
+        }
+    }
+
+    /// What the help says of it.
+    pub(crate) fn about(self) -> &'static str {
+        match self {
+            Sub::Explain =>
+                "Says of each refused record, or of a setup, where it went wrong and what to do",
+            Sub::Tape => "Writes the changes that a script takes, as a file of changes",
+            Sub::At => "Shows a version: a symbol's report, or all symbols in a table",
+            Sub::Stream =>
+                "Writes a line of CSV wherever a best bid, a best offer or a market changes",
+            Sub::Check => "Judges every plan in what a script, a live run or `plan` answered",
+            Sub::Why =>
+                "Says why a plan is as it is: its rows, what it takes, and what each cut shows",
+            Sub::Draw => "Draws a symbol's day as one SVG",
+        }
+    }
+
+    /// Its own words in order, and its options.
+    pub(crate) fn words(self) -> &'static [Word] {
+        match self {
+            Sub::Explain => EXPLAIN.as_slice(),
+            Sub::Tape => TAPE.as_slice(),
+            Sub::At => AT.as_slice(),
+            Sub::Stream => STREAM.as_slice(),
+            Sub::Check => CHECK.as_slice(),
+            Sub::Why => WHY.as_slice(),
+            Sub::Draw => DRAW.as_slice(),
+        }
+    }
+
+    /// The subcommand of that name.
+    pub(crate) fn named(name: &str) -> Option<Sub> {
+        Sub::ALL.iter().copied().find(|sub| sub.name() == name)
+    }
+}
+
+impl Kind {
+    /// The kind that a word names.
+    pub fn named(word: &str) -> Option<Kind> {
+        match word {
+            "script" => Some(Kind::Script),
+            "changes" => Some(Kind::Changes),
+            "orders" => Some(Kind::Orders),
+            "feed" => Some(Kind::Feed),
+            "plan" => Some(Kind::Plan),
+            "setup" => Some(Kind::Setup),
+            _ => None,
+        }
+    }
+}

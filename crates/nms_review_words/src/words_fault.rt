@@ -1,0 +1,20 @@
+//! Why the words of the command line are no request.
+use std::alloc::AllocError;
+use thiserror::Error;
+
+/// Why the words of the command line are no request.
+#[derive(Debug, Drop, Error)]
+pub enum WordsFault {
+    /// G1: the parser's text, of a fault or, where `help` holds, of the help or the version that was asked for.
+    #[error("{text}")]
+    Parser { text: String, help: bool },
+    /// G2: out of memory.
+    #[error("G2: out of memory")]
+    NoMemory,
+}
+
+impl From<AllocError> for WordsFault {
+    fn from(_error: AllocError) -> WordsFault {
+        WordsFault::NoMemory
+    }
+}

@@ -1,0 +1,182 @@
+#!/usr/bin/env python3
+"""Runs every case of examples/review/, and every call of docs/REVIEW.md, with ./nms_review or the program that is named,
+and compares what it writes on both streams and its status with what must come.
+
+    examples/check_review.py [PROGRAM [TOOL]]
+
+A file `X.cases` there has cases of the form of cases/commands.cases, of the kind `command`: the words, the files, the
+streams, the status and the texts. The other files there are what docs/REVIEW.md names, and each has to be named. In that
+page a line of four spaces and `./nms_review WORDS` is a call, or one of `./nms_tool`, which TOOL stands for; the block
+behind it is what it writes, with the words `status N` in the text between them where N is not 0. Beside these the program
+meets a closed output, one whose reader has gone, records of a million bytes, and each byte of a file once. It writes a
+line for each difference, and last `N passed, M failed`; status 1 where one failed.
+"""
+import os
+import re
+import resource
+import subprocess
+import sys
+import tempfile
+from concurrent.futures import ThreadPoolExecutor
+
+from check import MOST, Wrong, cases_of, command
+
+HERE = os.path.dirname(os.path.realpath(__file__))
+TOP = os.path.dirname(HERE)
+ROOM = os.path.join(HERE, "review")
+# Memory within which a file of a hundred million bytes is explained: it must not grow with the file.
+LITTLE = 256 << 20
+# A call of the page, what stands between it and its block, and the block.
+CALL = re.compile(r"^    \./(nms_review|nms_tool) (.*)\n((?:(?!    \./nms_|```).*\n)*)```\w*\n([\s\S]*?)```$", re.M)
+
+
+def stored():
+    """The cases of the files, each with its name."""
+    for name in sorted(it for it in os.listdir(ROOM) if it.endswith(".cases")):
+        with open(os.path.join(ROOM, name), "rb") as file:
+            for case in cases_of(name, file.read()):
+                if case.kind != "command" or not case.has_gives:
+                    raise Wrong(f"{name}: {case.title}: not a command with what it gives")
+                yield f"{name}: {case.title}", command(case, None).run
+
+
+def page(tool):
+    """The calls of docs/REVIEW.md, each with the text of the block behind it."""
+    with open(os.path.join(TOP, "docs/REVIEW.md"), encoding="utf-8") as file:
+        text = file.read()
+    for name, words, between, block in CALL.findall(text):
+        status = re.search(r"status (\d)", between)
+        other = tool if name == "nms_tool" else None
+        yield f"docs/REVIEW.md: {words}", shown(other, words.split(), int(status[1]) if status else 0, block.encode())
+
+
+def shown(other, words, status, text):
+    """A call at the top of the repository that writes this text, or its beginning where it ends with a line `..`."""
+    words, _, _ = parted(words, ">")
+    words, _, given = parted(words, "<")
+
+    def run(program):
+        with open(os.path.join(TOP, *given) if given else os.devnull, "rb") as file:
+            ran = subprocess.run([other or program, *words], cwd=TOP, stdin=file, capture_output=True, timeout=MOST)
+        came = ran.stdout or ran.stderr
+        wanted = text
+        if text.endswith(b"\n..\n"):
+            wanted = text[:-3]
+            came = came[: len(wanted)]
+        if (ran.returncode, came) != (status, wanted):
+            raise Wrong(f"status {ran.returncode}, {came!r}, and not {status}, {wanted!r}"[:2000])
+    return run
+
+
+def parted(words, sign):
+    """The words before a sign, the sign, and those behind it."""
+    at = words.index(sign) if sign in words else len(words)
+    return words[:at], words[at:at + 1], words[at + 1:]
+
+
+# What no stored text shows.
+
+def called(program, words, **how):
+    return subprocess.run([program, *words], stdin=subprocess.DEVNULL, timeout=MOST, **how)
+
+
+def in_room(name, make):
+    """A trial in a folder with a file of changes that `make` writes."""
+    def run(program):
+        with tempfile.TemporaryDirectory(prefix="nms-") as room:
+            path = os.path.join(room, "given.changes")
+            with open(path, "wb") as file:
+                make(file)
+            trial = globals()[name]
+            trial(program, path)
+    return f"trial: {name}", run
+
+
+def must(holds, what):
+    if not holds:
+        raise Wrong(what)
+
+
+def refused(file):
+    """Ten thousand records, each refused: the answer is longer than a pipe holds."""
+    file.write(b"Q,N,ABC,A,10.00000,100,,\n" * 10_000)
+
+
+def closed(program, path):
+    ran = subprocess.run(["bash", "-c", '"$0" explain changes "$1" >&-', program, path], capture_output=True, timeout=MOST, check=False)
+    must((ran.returncode, ran.stderr) == (1, b"nms_review: E2: the output could not be written\n"), f"{ran.returncode}, {ran.stderr!r}")
+
+
+def reader_gone(program, path):
+    read, write = os.pipe()
+    os.close(read)
+    ran = called(program, ["explain", "changes", path], stdout=write, stderr=subprocess.PIPE)
+    os.close(write)
+    must((ran.returncode, ran.stderr) == (1, b"nms_review: E2: the output could not be written\n"), f"{ran.returncode}, {ran.stderr!r}")
+
+
+def long_records(file):
+    """A record of a million bytes, one that a stray quote makes of all behind it, and good ones between."""
+    file.write(b"Q,N,ABC,A,,,10.00,300\nQ,N,ABC," + b"9" * 1_000_000 + b"\nX,N\n" + b'Q,"N,ABC' + b"\nX,N" * 250_000)
+
+
+def long(program, path):
+    ran = called(program, ["explain", "changes", path], capture_output=True)
+    must(ran.returncode == 6 and len(ran.stdout) < 5_000, f"{ran.returncode}, {len(ran.stdout)} bytes")
+
+
+def each_byte(file):
+    file.write(b"".join(b"Q,N," + bytes([it]) + b",A,,,10.00,300\n" for it in range(256) if it not in b'"\r\n'))
+
+
+def harmless(program, path):
+    for words in (["explain", "changes", path], ["explain", "changes", path, "--json"]):
+        ran = called(program, words, capture_output=True)
+        strange = [it for it in ran.stdout if it not in b"\n" and not 0x20 <= it < 0x7F]
+        must(ran.returncode == 6 and not strange, f"{ran.returncode}, bytes {strange[:8]}")
+
+
+def large(file):
+    """A hundred million bytes of records, one of them refused."""
+    file.write(b"Q,N,ABC,A,9.99,100,10.01,100\n" * 3_500_000 + b"Q,N,ABC,A,9.99,100,10.01\n")
+
+
+def small_memory(program, path):
+    def limit():
+        resource.setrlimit(resource.RLIMIT_AS, (LITTLE, LITTLE))
+    ran = called(program, ["explain", "changes", path], capture_output=True, preexec_fn=limit)
+    must(ran.returncode == 6 and b"3500001" in ran.stdout, f"{ran.returncode}, {ran.stdout[:500]!r}")
+
+
+TRIALS = [("closed", refused), ("reader_gone", refused), ("long", long_records), ("harmless", each_byte), ("small_memory", large)]
+
+
+def unnamed():
+    """The files of the folder that the page does not name."""
+    with open(os.path.join(TOP, "docs/REVIEW.md"), encoding="utf-8") as file:
+        text = file.read()
+    return [it for it in sorted(os.listdir(ROOM)) if not it.endswith(".cases") and f"examples/review/{it}" not in text]
+
+
+def main(program, tool):
+    runs = [*stored(), *page(tool), *(in_room(*it) for it in TRIALS)]
+
+    def run(named):
+        name, trial = named
+        try:
+            trial(program)
+        except (Wrong, OSError, subprocess.TimeoutExpired) as fault:
+            return f"{name}: {fault}"
+
+    with ThreadPoolExecutor(os.cpu_count()) as pool:
+        differing = list(filter(None, pool.map(run, runs)))
+    failed = [f"examples/review/{it}: docs/REVIEW.md does not name it" for it in unnamed()]
+    for line in [*failed, *differing]:
+        print(f"DIFFERS: {line}")
+    print(f"{len(runs) - len(differing)} passed, {len(failed) + len(differing)} failed")
+    return 1 if failed or differing else 0
+
+
+if __name__ == "__main__":
+    given = [os.path.realpath(it) for it in sys.argv[1:]]
+    sys.exit(main(*given, *[f"{TOP}/nms_review", f"{TOP}/nms_tool"][len(given):]))
