@@ -53,7 +53,9 @@ fn charge_expected(
         Caps::Of2005 => "as adopted in 2005",
         Caps::Of2024 => "as amended in 2024",
     };
-    format!(in alloc; "{unit}, a whole number from -{most} to {cap}, the cap of 17 CFR 242.610(c) {adopted}")
+    format!(in alloc;
+        "{unit}, a whole number from -{most} to {cap}, the cap of 17 CFR 242.610(c) {adopted}"
+    )
 }
 
 /// What a name has to be.

@@ -1,10 +1,10 @@
 //! Why the text of a setup is refused.
+use crate::findings::{faults_at, tell_finding};
 use crate::hints::text_hint;
 use crate::marked::mark_at;
+use crate::remedies::sentence_of;
 use crate::telling::{Refusal, Summary, tell_refusal, tell_summary};
 use crate::told::Told;
-use crate::findings::{faults_at, tell_finding};
-use crate::remedies::sentence_of;
 use nms_fees::SetupFault;
 use nms_setup_places::{Examined, Finding, NoToml, choices_in, examine};
 use nms_show::{Ending, Form, Item, ShowFault};

@@ -8,8 +8,9 @@ use crate::remedies::sentence_of;
 use crate::telling::{Refusal, tell_refusal};
 use crate::told::Told;
 use nms_fees::SetupFault;
-use nms_setup_places::{Choices, Finding, KnownKey, SetupArray, SetupTable, Spot};
-use nms_setup_places::{name_in, rows_at};
+use nms_setup_places::{
+    Choices, Finding, KnownKey, SetupArray, SetupTable, Spot, name_in, rows_at,
+};
 use nms_show::{Item, ShowFault};
 use std::alloc::{AllocError, Global};
 use std::io::Write;

@@ -18,13 +18,19 @@ pub(crate) fn text_hint(text: &[u8], line: &[u8], place: usize) -> &'static str 
 
 /// Whether a text begins as UTF-16 does: with its byte order mark, or with a letter beside a zero byte.
 fn is_utf16(text: &[u8]) -> bool {
-    matches!(text, [0xFF, 0xFE, ..] | [0xFE, 0xFF, ..] | [0, _, ..] | [_, 0, ..])
+    matches!(
+        text,
+        [0xFF, 0xFE, ..] | [0xFE, 0xFF, ..] | [0, _, ..] | [_, 0, ..]
+    )
 }
 
 /// Whether the first line that is not blank is a record: a kind of capital letters, and a comma behind it.
 fn begins_records(text: &[u8]) -> bool {
     let first = text.trim_ascii_start();
-    let kind = first.iter().take_while(|byte| byte.is_ascii_uppercase()).count();
+    let kind = first
+        .iter()
+        .take_while(|byte| byte.is_ascii_uppercase())
+        .count();
     kind > 0 && first.get(kind) == Some(&b',')
 }
 
@@ -65,7 +71,8 @@ fn kind_hint(key: KnownKey, value: &Value) -> &'static str {
         (KnownKey::Participant, Value::Table(_)) => "write two brackets: [[participant]]",
         (KnownKey::Symbol, Value::Table(_)) => "write two brackets: [[symbol]]",
         (KnownKey::Name | KnownKey::Feed, _) => "names and feeds stand in quotes",
-        (KnownKey::Fee, Value::Float(_)) => "a dollar is 1000000000 nanodollars: 0.0028 dollars are 2800000",
+        (KnownKey::Fee, Value::Float(_)) =>
+            "a dollar is 1000000000 nanodollars: 0.0028 dollars are 2800000",
         (_, Value::String(_)) => "numbers have no quotes",
         (_, Value::Float(_)) => "a whole number has no point",
         _ => "",

@@ -61,7 +61,10 @@ impl<'a> Marked<'a> {
 
     /// The whole line, but for white space round it.
     pub(crate) fn whole(self) -> Marked<'a> {
-        let indent = self.line.len().saturating_sub(self.line.trim_ascii_start().len());
+        let indent = self
+            .line
+            .len()
+            .saturating_sub(self.line.trim_ascii_start().len());
         self.at(indent, self.line.len())
     }
 
