@@ -1,0 +1,131 @@
+//! Why the text of a setup is refused.
+use crate::findings::{faults_at, tell_finding};
+use crate::hints::text_hint;
+use crate::marked::mark_at;
+use crate::remedies::sentence_of;
+use crate::telling::{Refusal, Summary, tell_refusal, tell_summary};
+use crate::told::Told;
+use nms_fees::SetupFault;
+use nms_setup_places::{Examined, Finding, NoToml, choices_in, examine};
+use nms_show::{Ending, Form, Item, ShowFault};
+use std::alloc::Global;
+use std::io::Write;
+use std::str;
+use toml::Table;
+
+/// How many faults are told one by one. The others are counted.
+const MOST_TOLD: usize = 100;
+
+/// Tells why a setup is refused: each of its faults with its line, table, key, value and bound; or that none is. It
+/// ends with `SetupRefused` where there is a fault.
+///
+/// Where the text is no TOML document its one fault is C1, at the place where the parser stopped.
+pub fn explain_setup<W: Write>(
+    alloc: Global,
+    file: &str,
+    text: &[u8],
+    form: Form,
+    answers: &mut W,
+) -> Result<Ending, ShowFault> {
+    let told = Told {
+        alloc,
+        form,
+        file,
+        text,
+    };
+    let utf8 = match str::from_utf8(text) {
+        Ok(utf8) => utf8,
+        Err(error) => {
+            let place = error.valid_up_to();
+            return tell_no_toml(told, place, place, "the bytes are no UTF-8", answers);
+        }
+    };
+    match examine(alloc, utf8) {
+        Ok(Examined::NoToml(NoToml { start, end, error })) => {
+            tell_no_toml(told, start, end, error.message(), answers)
+        }
+        Ok(Examined::Document(document, found)) => tell_document(told, &document, &found, answers),
+        Err(_) => Err(ShowFault::NoMemory),
+    }
+}
+
+/// Tells where and why a text is no TOML document.
+fn tell_no_toml<'a, W: Write>(
+    told: Told<'a>,
+    start: usize,
+    end: usize,
+    expected: &'a str,
+    answers: &mut W,
+) -> Result<Ending, ShowFault> {
+    let marked = mark_at(told.text, start, end);
+    let fault = SetupFault::NotToml;
+    let refusal = Refusal {
+        file: told.file,
+        marked,
+        fault,
+        sentence: sentence_of(fault),
+        table: None,
+        name: None,
+        key: None,
+        found: Item::Absent,
+        expected,
+        hint: text_hint(told.text, marked.line, marked.pair.start),
+    };
+    tell_refusal(told.alloc, told.form, &refusal, answers)?;
+    let summary = Summary {
+        faults: 1,
+        told: 1,
+        least: Some(fault),
+    };
+    tell_summary(told.alloc, told.form, told.file, summary, answers)?;
+    Ok(Ending::SetupRefused)
+}
+
+/// Tells all faults of a document.
+fn tell_document<W: Write>(
+    told: Told<'_>,
+    document: &Table,
+    found: &[Finding],
+    answers: &mut W,
+) -> Result<Ending, ShowFault> {
+    let summary = tell_findings(told, document, found, answers)?;
+    tell_summary(told.alloc, told.form, told.file, summary, answers)?;
+    match summary.least {
+        Some(_) => Ok(Ending::SetupRefused),
+        None => Ok(Ending::Done),
+    }
+}
+
+/// Tells the faults that were found, and says what they come to.
+fn tell_findings<W: Write>(
+    told: Told<'_>,
+    document: &Table,
+    found: &[Finding],
+    answers: &mut W,
+) -> Result<Summary, ShowFault> {
+    let choices = choices_in(document);
+    let mut summary = Summary {
+        faults: 0,
+        told: 0,
+        least: None,
+    };
+    for finding in found {
+        let room = MOST_TOLD.saturating_sub(summary.told);
+        let faults = faults_at(document, finding);
+        tell_finding(told, choices, document, finding, room, answers)?;
+        summary = Summary {
+            faults: summary.faults.saturating_add(faults),
+            told: summary.told.saturating_add(faults.min(room)),
+            least: Some(lesser(summary.least, finding.fault)),
+        };
+    }
+    Ok(summary)
+}
+
+/// Of two faults the one of lesser number.
+fn lesser(least: Option<SetupFault>, fault: SetupFault) -> SetupFault {
+    match least {
+        Some(least) if least.code() <= fault.code() => least,
+        _ => fault,
+    }
+}

@@ -1,0 +1,316 @@
+//! The faults of a document, each as it is told.
+use crate::expected::{expected_at, keys_expected};
+use crate::hints::value_hint;
+use crate::locating::{locate_key, locate_table, row_of};
+use crate::marked::{Marked, mark_at};
+use crate::nearest::{nearest_known, nearest_other};
+use crate::remedies::sentence_of;
+use crate::telling::{Refusal, tell_refusal};
+use crate::told::Told;
+use nms_fees::SetupFault;
+use nms_setup_places::{
+    Choices, Finding, KnownKey, SetupArray, SetupTable, Spot, name_in, rows_at,
+};
+use nms_show::{Item, ShowFault};
+use std::alloc::{AllocError, Global};
+use std::io::Write;
+use toml::{Table, Value};
+
+/// How many faults a finding stands for: each of the keys that may not stand in a table is one.
+pub(crate) fn faults_at(document: &Table, finding: &Finding) -> usize {
+    match (finding.spot, members_of(document, finding.table)) {
+        (Spot::OtherKeys, Some(members)) => members
+            .keys()
+            .filter(|key| !finding.table.has_key(key.as_str()))
+            .count(),
+        _ => 1,
+    }
+}
+
+/// Tells a finding, at most so many of its faults.
+pub(crate) fn tell_finding<W: Write>(
+    told: Told<'_>,
+    choices: Choices,
+    document: &Table,
+    finding: &Finding,
+    room: usize,
+    answers: &mut W,
+) -> Result<(), ShowFault> {
+    if room == 0 {
+        return Ok(());
+    }
+    match finding.spot {
+        Spot::OtherKeys => tell_others(told, document, finding.table, room, answers),
+        Spot::Key(key) => tell_key(told, choices, document, finding, key, answers),
+        Spot::Element => tell_element(told, finding, answers),
+        Spot::NameOf(first) => tell_again(told, document, finding, first, answers),
+    }
+}
+
+/// Tells the fault of a key that may stand in a table.
+fn tell_key<W: Write>(
+    told: Told<'_>,
+    choices: Choices,
+    document: &Table,
+    finding: &Finding,
+    key: KnownKey,
+    answers: &mut W,
+) -> Result<(), ShowFault> {
+    let Ok(expected) = expected_at(told.alloc, choices, finding.table, key) else {
+        return Err(ShowFault::NoMemory);
+    };
+    let text = expected.as_str();
+    match members_of(document, finding.table) {
+        Some(members) if finding.fault == SetupFault::Missing => {
+            tell_absent(told, document, finding.table, members, key, text, answers)
+        }
+        Some(members) => tell_value(told, document, finding, members, key, text, answers),
+        None => Ok(()),
+    }
+}
+
+/// Tells that a key is absent, and which one stands there that is like it.
+fn tell_absent<'a, W: Write>(
+    told: Told<'a>,
+    document: &'a Table,
+    table: SetupTable,
+    members: &'a Table,
+    key: KnownKey,
+    expected: &'a str,
+    answers: &mut W,
+) -> Result<(), ShowFault> {
+    let Ok(hint) = absent_hint(told.alloc, table, members, key) else {
+        return Err(ShowFault::NoMemory);
+    };
+    let fault = SetupFault::Missing;
+    let refusal = Refusal {
+        file: told.file,
+        marked: marked_table(told.text, table),
+        fault,
+        sentence: sentence_of(fault),
+        table: Some(table),
+        name: row_name(document, table),
+        key: Some(key.text()),
+        found: Item::Absent,
+        expected,
+        hint: hint.as_str(),
+    };
+    tell_refusal(told.alloc, told.form, &refusal, answers)
+}
+
+/// The key that stands in the place of one that is absent.
+fn absent_hint(
+    alloc: Global,
+    table: SetupTable,
+    members: &Table,
+    key: KnownKey,
+) -> Result<String, AllocError> {
+    match nearest_other(alloc, table, members, key)? {
+        Some(other) => format!(in alloc; "`{other}` stands there: is it misspelt?"),
+        None => Ok(String::new(alloc)),
+    }
+}
+
+/// Tells the fault of a key's value.
+fn tell_value<'a, W: Write>(
+    told: Told<'a>,
+    document: &'a Table,
+    finding: &Finding,
+    members: &'a Table,
+    key: KnownKey,
+    expected: &'a str,
+    answers: &mut W,
+) -> Result<(), ShowFault> {
+    let table = finding.table;
+    let Some(value) = members.get(key.text()) else {
+        return Ok(());
+    };
+    let at_key = locate_key(told.text, table, key.text().as_bytes());
+    let refusal = Refusal {
+        file: told.file,
+        marked: at_key.unwrap_or(marked_table(told.text, table)),
+        fault: finding.fault,
+        sentence: sentence_of(finding.fault),
+        table: Some(table),
+        name: row_name(document, table),
+        key: Some(key.text()),
+        found: found_at(at_key, finding.fault, value),
+        expected,
+        hint: value_hint(finding, value),
+    };
+    tell_refusal(told.alloc, told.form, &refusal, answers)
+}
+
+/// What stands at a key: how many tables, where it is their number that is refused; else the value as it is written, or
+/// what kind it is of where its line was not found.
+fn found_at<'a>(at_key: Option<Marked<'a>>, fault: SetupFault, value: &'a Value) -> Item<'a> {
+    if let Some(rows) = counted_at(fault, value) {
+        return Item::Number(rows as u64);
+    }
+    let written = match at_key {
+        Some(marked) => marked.value(),
+        None => value.type_str().as_bytes(),
+    };
+    Item::Bytes(written)
+}
+
+/// How many tables there are, where it is their number that is refused.
+fn counted_at(fault: SetupFault, value: &Value) -> Option<usize> {
+    match fault {
+        SetupFault::OutOfRange | SetupFault::TooMany => Some(value.as_array()?.len()),
+        _ => None,
+    }
+}
+
+/// Tells each key that may not stand in a table, at most so many.
+fn tell_others<W: Write>(
+    told: Told<'_>,
+    document: &Table,
+    table: SetupTable,
+    room: usize,
+    answers: &mut W,
+) -> Result<(), ShowFault> {
+    let Some(members) = members_of(document, table) else {
+        return Ok(());
+    };
+    let others = members.keys().filter(|key| !table.has_key(key.as_str()));
+    for key in others.take(room) {
+        tell_other(told, document, table, members, key.as_str(), answers)?;
+    }
+    Ok(())
+}
+
+/// Tells one key that may not stand in a table, with the one that is nearest to it.
+fn tell_other<'a, W: Write>(
+    told: Told<'a>,
+    document: &'a Table,
+    table: SetupTable,
+    members: &'a Table,
+    key: &'a str,
+    answers: &mut W,
+) -> Result<(), ShowFault> {
+    let Ok(hint) = other_hint(told.alloc, table, members, key) else {
+        return Err(ShowFault::NoMemory);
+    };
+    let marked = match locate_key(told.text, table, key.as_bytes()) {
+        Some(marked) => marked.at_key(),
+        None => marked_table(told.text, table),
+    };
+    let fault = SetupFault::UnknownKey;
+    let refusal = Refusal {
+        file: told.file,
+        marked,
+        fault,
+        sentence: sentence_of(fault),
+        table: Some(table),
+        name: row_name(document, table),
+        key: Some(key),
+        found: Item::Bytes(key.as_bytes()),
+        expected: keys_expected(table),
+        hint: hint.as_str(),
+    };
+    tell_refusal(told.alloc, told.form, &refusal, answers)
+}
+
+/// The known key that was meant by another.
+fn other_hint(
+    alloc: Global,
+    table: SetupTable,
+    members: &Table,
+    key: &str,
+) -> Result<String, AllocError> {
+    match nearest_known(alloc, table, members, key)? {
+        Some(known) => {
+            let known = known.text();
+            format!(in alloc; "did you mean `{known}`?")
+        }
+        None => Ok(String::new(alloc)),
+    }
+}
+
+/// Tells an element of an array that is no table.
+fn tell_element<'a, W: Write>(
+    told: Told<'a>,
+    finding: &Finding,
+    answers: &mut W,
+) -> Result<(), ShowFault> {
+    let marked = marked_table(told.text, finding.table);
+    let refusal = Refusal {
+        file: told.file,
+        marked,
+        fault: finding.fault,
+        sentence: sentence_of(finding.fault),
+        table: Some(finding.table),
+        name: None,
+        key: None,
+        found: Item::Bytes(marked.value()),
+        expected: "a table, as behind a line [[participant]] or [[symbol]]",
+        hint: "",
+    };
+    tell_refusal(told.alloc, told.form, &refusal, answers)
+}
+
+/// Tells a name that an earlier element of the array has.
+fn tell_again<'a, W: Write>(
+    told: Told<'a>,
+    document: &'a Table,
+    finding: &Finding,
+    first: usize,
+    answers: &mut W,
+) -> Result<(), ShowFault> {
+    let place = first.saturating_add(1);
+    let alloc = told.alloc;
+    let Ok(expected) = format!(in alloc; "a name of its own: number {place} has it too") else {
+        return Err(ShowFault::NoMemory);
+    };
+    let at_key = locate_key(told.text, finding.table, b"name");
+    let name = row_name(document, finding.table);
+    let refusal = Refusal {
+        file: told.file,
+        marked: at_key.unwrap_or(marked_table(told.text, finding.table)),
+        fault: finding.fault,
+        sentence: "a name that stands twice",
+        table: Some(finding.table),
+        name,
+        key: Some("name"),
+        found: match name {
+            Some(name) => Item::Bytes(name.as_bytes()),
+            None => Item::Absent,
+        },
+        expected: expected.as_str(),
+        hint: "",
+    };
+    tell_refusal(told.alloc, told.form, &refusal, answers)
+}
+
+/// The line that stands for a table: that where it begins, or that of its array's key, or the text's first.
+fn marked_table(text: &[u8], table: SetupTable) -> Marked<'_> {
+    let first = mark_at(text, 0, 0);
+    let Some((array, _)) = row_of(table) else {
+        return first;
+    };
+    if let Some(marked) = locate_table(text, table) {
+        return marked;
+    }
+    let key = array.key().text().as_bytes();
+    locate_key(text, SetupTable::Top, key).unwrap_or(first)
+}
+
+/// The keys of a table of a document, where it is one.
+fn members_of(document: &Table, table: SetupTable) -> Option<&Table> {
+    match table {
+        SetupTable::Top => Some(document),
+        _ => element_of(document, table)?.as_table(),
+    }
+}
+
+/// An element of one of the two arrays.
+fn element_of(document: &Table, table: SetupTable) -> Option<&Value> {
+    let (array, place) = row_of(table)?;
+    rows_at(document, array.key().text()).get(place)
+}
+
+/// The name of an element of one of the two arrays, where it has one.
+fn row_name(document: &Table, table: SetupTable) -> Option<&str> {
+    name_in(element_of(document, table)?)
+}

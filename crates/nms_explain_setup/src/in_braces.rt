@@ -1,0 +1,66 @@
+//! Where an element of an array in brackets stands, and a key of an element in braces.
+use crate::nest::Nest;
+use crate::toml_line::{Pair, pair_in};
+
+/// How many bytes stand before the element of an array that has so many before it.
+pub(crate) fn element_in(array: &[u8], place: usize) -> Option<usize> {
+    let mut nest = Nest::outer();
+    let mut before = 0usize;
+    for at in 0..array.len() {
+        let rest = array.get(at..)?;
+        let byte = *rest.first()?;
+        if nest.is_plain_at(1) {
+            if byte == b',' {
+                before = before.saturating_add(1);
+            } else if before == place && begins_value(byte) {
+                return Some(at);
+            }
+        }
+        nest = nest.behind(rest);
+        if nest.is_plain_at(0) {
+            return None;
+        }
+    }
+    None
+}
+
+/// Whether a byte in an array begins a value.
+fn begins_value(byte: u8) -> bool {
+    !byte.is_ascii_whitespace() && byte != b'#' && byte != b']'
+}
+
+/// Where a key stands in a table in braces: how many bytes stand before it, and the key with its value from there on.
+pub(crate) fn key_in(table: &[u8], key: &[u8]) -> Option<(usize, Pair)> {
+    let mut nest = Nest::outer();
+    let mut may_begin = false;
+    for at in 0..table.len() {
+        let rest = table.get(at..)?;
+        if may_begin && nest.is_plain_at(1) {
+            if let Some(pair) = pair_from(rest, key) {
+                return Some((at, pair));
+            }
+        }
+        may_begin = keys_begin_behind(nest, *rest.first()?, may_begin);
+        nest = nest.behind(rest);
+        if nest.is_plain_at(0) {
+            return None;
+        }
+    }
+    None
+}
+
+/// Whether a key may begin behind a byte of a table in braces, where one may begin at it or not.
+fn keys_begin_behind(nest: Nest, byte: u8, may_begin: bool) -> bool {
+    match byte {
+        b'{' => nest.is_plain_at(0),
+        b',' => nest.is_plain_at(1),
+        b'#' => may_begin,
+        _ => may_begin && (nest.is_comment() || byte.is_ascii_whitespace()),
+    }
+}
+
+/// A key with its value, where a text begins with that key.
+fn pair_from(rest: &[u8], key: &[u8]) -> Option<Pair> {
+    let line = rest.split(|byte| *byte == b'\n').next()?;
+    pair_in(line, key).filter(|pair| pair.key == 0)
+}

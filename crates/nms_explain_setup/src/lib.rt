@@ -1,0 +1,19 @@
+//! Why a setup is refused, told to people: each fault with its line, its table and its key, what was found and what is
+//! expected.
+#![tactic(auto)]
+
+mod expected;
+mod explaining;
+mod findings;
+mod hints;
+mod in_braces;
+mod locating;
+mod marked;
+mod nearest;
+mod nest;
+mod remedies;
+mod telling;
+mod told;
+mod toml_line;
+
+pub use explaining::explain_setup;

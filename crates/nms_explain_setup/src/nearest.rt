@@ -1,0 +1,57 @@
+//! The key that was meant.
+use nms_setup_places::{KnownKey, SetupTable};
+use std::alloc::{AllocError, Global};
+use strsim::osa_distance;
+use toml::Table;
+
+/// The longest key that is compared, in bytes.
+const LONGEST: usize = 32;
+/// How many keys of a table are looked at for the one that was meant.
+const MOST_COMPARED: usize = 100;
+/// The most edits by which a key is taken for another.
+const MOST_EDITS: usize = 2;
+
+/// The known key that is nearest to a key that is not known, where one is near; absent ones are preferred.
+pub(crate) fn nearest_known(
+    alloc: Global,
+    table: SetupTable,
+    members: &Table,
+    key: &str,
+) -> Result<Option<KnownKey>, AllocError> {
+    let mut nearest = None;
+    let mut least = MOST_EDITS.saturating_add(1).saturating_mul(2);
+    for known in table.keys() {
+        let edits = edits_between(alloc, known.text(), key)?;
+        let stands = usize::from(members.get(known.text()).is_some());
+        let far = edits.saturating_mul(2).saturating_add(stands);
+        if edits <= MOST_EDITS && far < least {
+            least = far;
+            nearest = Some(*known);
+        }
+    }
+    Ok(nearest)
+}
+
+/// The key of a table that is not known and nearest to one that is absent, where one is near.
+pub(crate) fn nearest_other<'a>(
+    alloc: Global,
+    table: SetupTable,
+    members: &'a Table,
+    absent: KnownKey,
+) -> Result<Option<&'a str>, AllocError> {
+    for key in members.keys().take(MOST_COMPARED) {
+        let key = key.as_str();
+        if !table.has_key(key) && nearest_known(alloc, table, members, key)? == Some(absent) {
+            return Ok(Some(key));
+        }
+    }
+    Ok(None)
+}
+
+/// How many edits lead from one key to another: more than are near, where it is long.
+fn edits_between(alloc: Global, known: &str, key: &str) -> Result<usize, AllocError> {
+    if key.len() > LONGEST {
+        return Ok(LONGEST);
+    }
+    osa_distance(alloc, known, key)
+}

@@ -1,0 +1,102 @@
+//! One line of a setup's text: a header, or a key with its value.
+use crate::nest::Nest;
+
+/// The name in a header, and whether it has two brackets.
+pub(crate) fn header_in(line: &[u8]) -> Option<(&[u8], bool)> {
+    let line = line.trim_ascii();
+    if let Some(rest) = line.strip_prefix(b"[[") {
+        return Some((name_before_bracket(rest)?, true));
+    }
+    Some((name_before_bracket(line.strip_prefix(b"[")?)?, false))
+}
+
+fn name_before_bracket(text: &[u8]) -> Option<&[u8]> {
+    let end = text.iter().position(|byte| *byte == b']')?;
+    let name = text.get(..end)?.trim_ascii();
+    match key_at(name) {
+        Some((key, rest)) if rest.is_empty() => Some(key),
+        _ => Some(name),
+    }
+}
+
+/// A key with its value, by the bytes of their line.
+#[derive(Clone, Copy, Debug, PartialEq, Eq)]
+pub(crate) struct Pair {
+    /// How many bytes stand before the key, and before its end.
+    pub(crate) key: usize,
+    pub(crate) key_end: usize,
+    /// How many stand before the value, and before its end.
+    pub(crate) start: usize,
+    pub(crate) end: usize,
+}
+
+impl Pair {
+    /// The same, behind so many more bytes.
+    pub(crate) fn moved(self, bytes: usize) -> Pair {
+        Pair {
+            key: self.key.saturating_add(bytes),
+            key_end: self.key_end.saturating_add(bytes),
+            start: self.start.saturating_add(bytes),
+            end: self.end.saturating_add(bytes),
+        }
+    }
+}
+
+/// Where a key with its value stands in a line that begins with it. Of a key with points the line is taken.
+pub(crate) fn pair_in(line: &[u8], key: &[u8]) -> Option<Pair> {
+    let from_key = line.trim_ascii_start();
+    let (found, rest) = key_at(from_key)?;
+    if found != key {
+        return None;
+    }
+    let from_value = match rest.trim_ascii_start() {
+        [b'=', from_value @ ..] => from_value.trim_ascii_start(),
+        [b'.', ..] => from_key,
+        _ => return None,
+    };
+    let start = line.len().saturating_sub(from_value.len());
+    Some(Pair {
+        key: line.len().saturating_sub(from_key.len()),
+        key_end: line.len().saturating_sub(rest.len()),
+        start,
+        end: start.saturating_add(value_in(from_value).len()),
+    })
+}
+
+/// Whether the name in a header is a key, or begins with it and a point.
+pub(crate) fn names_key(name: &[u8], key: &[u8]) -> bool {
+    name == key || matches!(key_at(name), Some((first, [b'.', ..])) if first == key)
+}
+
+/// The key that a text begins with, bare or in quotes, and what stands behind it.
+pub(crate) fn key_at(text: &[u8]) -> Option<(&[u8], &[u8])> {
+    let (first, rest) = text.split_first()?;
+    if *first == b'"' || *first == b'\'' {
+        let end = rest.iter().position(|byte| *byte == *first)?;
+        return Some((rest.get(..end)?, rest.get(end.saturating_add(1)..)?));
+    }
+    let end = text.iter().position(|byte| !is_bare(*byte));
+    let end = end.unwrap_or(text.len());
+    if end == 0 {
+        return None;
+    }
+    Some((text.get(..end)?, text.get(end..)?))
+}
+
+/// Whether a byte may stand in a key without quotes.
+fn is_bare(byte: u8) -> bool {
+    byte.is_ascii_alphanumeric() || byte == b'_' || byte == b'-'
+}
+
+/// The value that a text begins with: what stands before a comment, or before what closes it.
+pub(crate) fn value_in(rest: &[u8]) -> &[u8] {
+    let mut nest = Nest::outer();
+    for place in 0..rest.len() {
+        let (before, from) = rest.split_at(place);
+        if nest.is_plain_at(0) && matches!(from, [b',' | b']' | b'}' | b'#', ..]) {
+            return before.trim_ascii_end();
+        }
+        nest = nest.behind_byte(from);
+    }
+    rest.trim_ascii_end()
+}
