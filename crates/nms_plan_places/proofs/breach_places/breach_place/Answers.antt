@@ -16,7 +16,7 @@ use Rattle.nms_rules.specs.declared.breach_kind.Breach.TheVariants as breach
 use Rattle.nms_plan_places.specs.LegPlaces.{IsBrokenLeg, IsRepeat, breaks}
 use Rattle.nms_plan_places.specs.BreachPlaces.{IsWorst, passed_over}
 use Rattle.nms_plan_places.proofs.FindLemmas.{not-true}
-use Rattle.nms_plan_places.proofs.HoldLemmas.{Holds, told_holds}
+use Rattle.nms_plan_places.proofs.BreachHolds.{Holds, told_holds}
 use Rattle.nms_plan_places.proofs.ThroughLemmas.{all-better, named-among, some-leg}
 use Rattle.nms_plan_places.proofs.breach_places.breach_place.Goals as goal
 
