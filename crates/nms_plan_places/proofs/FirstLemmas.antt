@@ -21,3 +21,9 @@ map-holds P f None each = tt
 
 pub some-holds : {X : Type 0} (P : X → Type 0) (m : Option X) (x : X) → IfSome m P → m ≡ Some x → P x
 some-holds P m x holds is = subst (λ (o : Option _). IfSome o P) is holds
+
+-- a finding of a test, before others
+pub next-holds : {X : Type 0} (P : X → Type 0) (b : Bool) (x : X) (n : Option X) → (b ≡ true → P x) → IfSome n P
+    → IfSome (when b x or_else n) P
+next-holds P true x n here there = here refl
+next-holds P false x n here there = there
