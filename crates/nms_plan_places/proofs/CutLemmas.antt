@@ -10,10 +10,11 @@ use Rattle.nms_quote.specs.declared.certificate.CutKind.{CutKind}
 use Rattle.nms_quote.specs.declared.certificate.CutKind.TheVariants.{TooMuch, TooLittle, Marginal}
 use Rattle.nms_quote.specs.declared.order.OrderSide.{OrderSide}
 use Rattle.nms_rules.specs.Usable.{Usable}
-use Rattle.nms_cert.specs.Doubts.{cuts_doubt, fails_bound}
+use Rattle.nms_cert.specs.Doubts.{cuts_doubt, fails_bound, some_is_extra}
 use Rattle.nms_cert.specs.declared.doubt.Doubt.{Doubt}
-use Rattle.nms_plan_places.specs.DoubtPlaces.{IsBound, IsCutsPlace, IsMarginal}
+use Rattle.nms_plan_places.specs.DoubtPlaces.{IsBound, IsCutsPlace, IsDisorder, IsExtraPlace, IsMarginal}
 use Rattle.nms_plan_places.specs.declared.doubt_places.DoubtPlace.{DoubtPlace}
+use Rattle.nms_plan_places.specs.declared.doubt_places.DoubtPlace.TheVariants as place
 
 pub fails-marginal : (rows : List Usable) (most : ℕ) (cost cutoff : ℤ) (kind : CutKind) → fails_bound rows most cost cutoff kind ≡ true
     → IsMarginal kind
@@ -52,3 +53,14 @@ same-place side side' rows rows' most most' cost cuts cuts' why place s r m k is
     (subst (λ (it : ℕ). IsCutsPlace side rows it cost cuts' why place) m
     (subst (λ (it : List Usable). IsCutsPlace side it most' cost cuts' why place) r
     (subst (λ (it : OrderSide). IsCutsPlace it rows' most' cost cuts' why place) s is)))
+
+pub extra-disordered : (side : OrderSide) (rows : List Usable) (cuts : List Cut) (at : DoubtPlace) → IsDisorder side cuts at
+    → some_is_extra rows cuts ≡ false → IsExtraPlace side rows cuts at
+extra-disordered side rows cuts (place.OutOfOrder cut later) is none = (is, none)
+extra-disordered side rows cuts (place.Breach breach) is none = absurd is
+extra-disordered side rows cuts (place.NotMost found expected) is none = absurd is
+extra-disordered side rows cuts (place.CutMissing row) is none = absurd is
+extra-disordered side rows cuts (place.CutExtra cut) is none = absurd is
+extra-disordered side rows cuts (place.WrongKind cut sums) is none = absurd is
+extra-disordered side rows cuts (place.MarginalRange cut) is none = absurd is
+extra-disordered side rows cuts (place.BoundFails cut bound cost) is none = absurd is

@@ -14,26 +14,12 @@ use Rattle.nms_board.specs.declared.row.Row.{Row}
 use Rattle.nms_rules.specs.Breach.{first_traded_through, is_traded_through}
 use Rattle.nms_rules.specs.Usable.{contra_rows, is_better}
 use Rattle.nms_rules.proofs.Offered.{All-In, Any-In, In, In-All, In-Any, filter-In, map-In}
+use Rattle.nms_plan_places.proofs.FindLemmas.{find-is}
 use Rattle.nms_plan_places.specs.BreachPlaces.{IsWorst, passed_by, passed_over}
 use Rattle.nms_plan_places.specs.declared.leg_place.LegPlace.{LegPlace}
 use Rattle.nms_plan_places.specs.declared.passed_over.PassedOver.{PassedOver}
 
 -- ---- members of what a search finds, of a filter and of a map
-
-some-same : {X : Type 0} (b : Bool) (x y : X) (more : Option X) → b ≡ true → cond b (Some y) more ≡ Some x → y ≡ x
-some-same b x y more holds e = search (rw holds at e)
-
-skipped : {X : Type 0} (b : Bool) (o y more : Option X) → b ≡ false → cond b y more ≡ o → more ≡ o
-skipped b o y more fails e = rw fails at e
-
-find-step : {X : Type 0} (p : X → Bool) (y : X) (ys : List X) (x : X) → (find p ys ≡ Some x → In x ys × (p x ≡ true))
-    → find p (y ∷ ys) ≡ Some x → (p y ≡ true) ⊎ (p y ≡ false) → In x (y ∷ ys) × (p x ≡ true)
-find-step p y ys x later e (inl holds) = let same = some-same (p y) x y (find p ys) holds e in (inl (sym same), ap p (sym same) ∙ holds)
-find-step p y ys x later e (inr fails) = let rest = later (skipped (p y) (Some x) (Some y) (find p ys) fails e) in (inr rest.0, rest.1)
-
-pub find-is : {X : Type 0} (p : X → Bool) (xs : List X) (x : X) → find p xs ≡ Some x → In x xs × (p x ≡ true)
-find-is p [] x e = absurd (false≢true (ap is_some e))
-find-is p (y ∷ ys) x e = find-step p y ys x (find-is p ys x) e (cases_Bool (p y))
 
 In-filter-step : {X : Type 0} (p : X → Bool) (y : X) (ys : List X) (x : X) → (In x ys → In x (filter p ys)) → p x ≡ true
     → (p y ≡ true) ⊎ (p y ≡ false) → In x (y ∷ ys) → In x (filter p (y ∷ ys))

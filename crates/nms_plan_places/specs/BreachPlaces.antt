@@ -1,6 +1,6 @@
 -- Where a breach stands in a plan, what was found there and what was expected: each says so by the breach's own condition
 -- (`Breach` of `nms_rules`). This product's own rule, after 17 CFR 242.600, "trade-through", and 242.611(b)(1).
-use Rattle.std.specs.Prelude.{ℕ, ◌≡◌, ◌≢◌, All, Any, true, false, List, filter, map}
+use Rattle.std.specs.Prelude.{ℕ, ◌≡◌, ◌≢◌, ◌<◌, All, Any, true, false, List, filter, map, slice_index_or}
 use Rattle.nms_quote.specs.Terms.{Terms}
 use Rattle.nms_quote.specs.declared.order.OrderSide.{OrderSide}
 use Rattle.nms_quote.specs.declared.plan.Leg.{Leg}
@@ -26,10 +26,11 @@ passed_by legs row = record { row = row; given = given_by legs row.part }
 abbrev pub passed_over : Seen → Terms → List Leg → List PassedOver
 passed_over seen order legs = map (passed_by legs) (filter (is_traded_through order legs) (contra_rows order.side seen))
 
--- a leg than which none has a worse price
+-- the first leg than which none has a worse price
 pub record IsWorst (seen : Seen) (side : OrderSide) (legs : List Leg) (at : LegPlace) : Type 0 where
   pub stands : IsLegPlace seen side legs at
   pub worst : All (λ leg. is_better side at.leg.price leg.price ≡ false) legs
+  pub first : (k : ℕ) → k < at.number → (d : Leg) → is_better side (slice_index_or legs k d).price at.leg.price ≡ true
 
 -- the quotations that are traded through, all of them at better prices than the plan's worst one, with the one that the breach names
 pub record IsThrough (seen : Seen) (order : Terms) (legs : List Leg) (part : ℕ) (at : LegPlace) (passed : List PassedOver) : Type 0 where

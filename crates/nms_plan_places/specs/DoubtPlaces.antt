@@ -1,7 +1,8 @@
 -- Where a doubt stands in a plan or its certificate, what was found there and what was expected: each says so by the doubt's
 -- own condition (`Doubts` of `nms_cert`). This product's own rule.
-use Rattle.std.specs.Prelude.{ℕ, ℤ, ⊤, ◌≡◌, ◌≢◌, ◌<◌, Any, true, false, List, Some, slice_get}
+use Rattle.std.specs.Prelude.{ℕ, ℤ, ⊤, ◌≡◌, ◌≢◌, ◌+◌, ◌<◌, true, false, not, List, Some, drop, position, slice_get, slice_index_or}
 use Rattle.std.specs.Int.RustNames.{int_lt}
+use Rattle.std.specs.List.{find}
 use Rattle.nms_quote.specs.Terms.{Terms}
 use Rattle.nms_quote.specs.declared.certificate.Cut.{Cut}
 use Rattle.nms_quote.specs.declared.certificate.CutKind.{CutKind}
@@ -13,7 +14,7 @@ use Rattle.nms_fee_book.specs.Fees.{Charges}
 use Rattle.nms_rules.specs.Assignment.{fillable}
 use Rattle.nms_rules.specs.Cutoff.{least_cost, pool, swept}
 use Rattle.nms_rules.specs.Usable.{Usable, is_better, rank_of, usable}
-use Rattle.nms_cert.specs.Doubts.{has_cut, has_row, is_out_of_range, is_wrong_kind}
+use Rattle.nms_cert.specs.Doubts.{has_cut, has_row, is_not_better, is_out_of_range, is_wrong_kind, some_is_extra}
 use Rattle.nms_cert.specs.declared.doubt.Doubt.{Doubt}
 use Rattle.nms_cert.specs.declared.doubt.Doubt.TheVariants as doubt
 use Rattle.nms_plan_places.specs.BreachPlaces.{IsBreachPlace}
@@ -51,32 +52,45 @@ IsShort seen order fees plan (place.NotMost found expected) =
     (found ≡ plan.filled) × (expected ≡ fillable (usable seen order fees) order.shares) × (found ≢ expected)
 IsShort seen order fees plan _ = ⊥
 
--- a usable row at whose price no cut is
+-- the first usable row, by participant place, at whose price no cut is
 abbrev pub IsMissingPlace : List Usable → List Cut → DoubtPlace → Type 0
-IsMissingPlace rows cuts (place.CutMissing row) = Any (λ it. it ≡ row) rows × (has_cut cuts row.price ≡ false)
+IsMissingPlace rows cuts (place.CutMissing row) =
+    (find (λ it. not (has_cut cuts it.price)) rows ≡ Some row) × (has_cut cuts row.price ≡ false)
 IsMissingPlace rows cuts _ = ⊥
 
--- a cut that is not at a better price than one behind it
+-- the first cut that is not at a better price than one behind it, and the first such one
+pub record IsOutOfOrder (side : OrderSide) (cuts : List Cut) (at later : CutPlace) : Type 0 where
+  pub stands : IsCutPlace cuts at
+  pub stands_too : IsCutPlace cuts later
+  pub before : at.number < later.number
+  pub worse : is_better side at.cut.price later.cut.price ≡ false
+  -- each before it is better than all behind it
+  pub first : (k : ℕ) → k < at.number → (d : Cut) → is_not_better side (slice_index_or cuts k d).price (drop (k + 1) cuts) ≡ false
+  -- and it is better than each between the two
+  pub next : (k : ℕ) → at.number < k → k < later.number → (d : Cut) → is_better side at.cut.price (slice_index_or cuts k d).price ≡ true
+
 abbrev pub IsDisorder : OrderSide → List Cut → DoubtPlace → Type 0
-IsDisorder side cuts (place.OutOfOrder at later) =
-    IsCutPlace cuts at × IsCutPlace cuts later × (at.number < later.number) × (is_better side at.cut.price later.cut.price ≡ false)
+IsDisorder side cuts (place.OutOfOrder at later) = IsOutOfOrder side cuts at later
 IsDisorder side cuts _ = ⊥
 
--- a cut at no usable price, or one that is out of order
+-- the first cut at no usable price, or else, where each is at one, a cut that is out of order
 abbrev pub IsExtraPlace : OrderSide → List Usable → List Cut → DoubtPlace → Type 0
 IsExtraPlace side rows cuts (place.CutExtra at) = IsCutPlace cuts at × (has_row rows at.cut.price ≡ false)
-IsExtraPlace side rows cuts other = IsDisorder side cuts other
+    × (position (λ cut. not (has_row rows cut.price)) cuts ≡ Some at.number)
+IsExtraPlace side rows cuts other = IsDisorder side cuts other × (some_is_extra rows cuts ≡ false)
 
--- a cut that says what the sums at its price deny
+-- the first cut that says what the sums at its price deny
 abbrev pub IsKindPlace : OrderSide → List Usable → ℕ → List Cut → DoubtPlace → Type 0
 IsKindPlace side rows most cuts (place.WrongKind at sums) =
     IsCutPlace cuts at × AreSums rows most (rank_of side at.cut.price) sums
     × (is_wrong_kind rows most (rank_of side at.cut.price) at.cut.kind ≡ true)
+    × (position (λ cut. is_wrong_kind rows most (rank_of side cut.price) cut.kind) cuts ≡ Some at.number)
 IsKindPlace side rows most cuts _ = ⊥
 
--- a cut whose marginal is out of its range
+-- the first cut whose marginal is out of its range
 abbrev pub IsRangePlace : List Cut → DoubtPlace → Type 0
 IsRangePlace cuts (place.MarginalRange at) = IsCutPlace cuts at × (is_out_of_range at.cut.kind ≡ true)
+    × (position (λ cut. is_out_of_range cut.kind) cuts ≡ Some at.number)
 IsRangePlace cuts _ = ⊥
 
 -- the cut of that number, with its own bound, which is below what the plan costs

@@ -1,11 +1,11 @@
 -- Legs of a plan, each beside the quotation that it goes to, and the legs that have a breach by themselves. The conditions are
 -- those of `Breach` of `nms_rules`. This product's own rule.
-use Rattle.std.specs.Prelude.{◌≡◌, ◌<◌, Bool, true, false, List, Some, position, slice_get}
+use Rattle.std.specs.Prelude.{ℕ, ◌≡◌, ◌==◌, ◌+◌, ◌<◌, Bool, true, false, List, Some, drop, position, slice_get, slice_index_or}
 use Rattle.nms_quote.specs.Terms.{Terms}
 use Rattle.nms_quote.specs.declared.order.OrderSide.{OrderSide}
 use Rattle.nms_quote.specs.declared.plan.Leg.{Leg}
 use Rattle.nms_board.specs.View.{Seen}
-use Rattle.nms_rules.specs.Breach.{has_no_shares, has_other_price, is_beyond_limit, is_over_size, lacks_quotation, row_for}
+use Rattle.nms_rules.specs.Breach.{goes_to, has_no_shares, has_other_price, is_beyond_limit, is_over_size, lacks_quotation, row_for}
 use Rattle.nms_rules.specs.declared.breach_kind.Breach.{Breach}
 use Rattle.nms_rules.specs.declared.breach_kind.Breach.TheVariants as breach
 use Rattle.nms_plan_places.specs.declared.leg_place.LegPlace.{LegPlace}
@@ -36,9 +36,13 @@ pub record IsBrokenLeg (seen : Seen) (order : Terms) (legs : List Leg) (why : Br
   pub holds : breaks seen order why place.leg ≡ true
   pub first : position (breaks seen order why) legs ≡ Some place.number
 
--- two legs to one participant
+-- the first leg with one behind it that goes to the same participant, and the first such one
 pub record IsRepeat (seen : Seen) (side : OrderSide) (legs : List Leg) (one other : LegPlace) : Type 0 where
   pub stands : IsLegPlace seen side legs one
   pub stands_too : IsLegPlace seen side legs other
   pub before : one.number < other.number
   pub same : one.leg.part ≡ other.leg.part
+  -- none before it has one behind it
+  pub first : (k : ℕ) → k < one.number → (d : Leg) → goes_to (slice_index_or legs k d).part (drop (k + 1) legs) ≡ false
+  -- none between the two goes there
+  pub next : (k : ℕ) → one.number < k → k < other.number → (d : Leg) → ((slice_index_or legs k d).part == one.leg.part) ≡ false

@@ -1,8 +1,9 @@
 //! Which cut of a certificate a doubt speaks of (specs/DoubtPlaces).
-ghost use Rattle.std.specs.Prelude.{◌≡◌, ◌<◌, ◌≤◌, false, length, not, position, slice_index_or, true};
+ghost use Rattle.std.specs.Prelude.{ℕ, ◌≡◌, ◌+◌, ◌<◌, ◌≤◌, drop, false, length, not, position, slice_index_or, true};
+ghost use Rattle.std.specs.List.{find};
 ghost use Rattle.nms_quote.specs.declared.certificate.Cut.{Cut};
 ghost use Rattle.nms_rules.specs.Usable.{is_better, rank_of};
-ghost use Rattle.nms_cert.specs.Doubts.{has_cut, has_row, is_out_of_order, is_out_of_range, is_wrong_kind};
+ghost use Rattle.nms_cert.specs.Doubts.{has_cut, has_row, is_not_better, is_out_of_order, is_out_of_range, is_wrong_kind};
 
 use nms_board::MOST_ROWS;
 use nms_quote::{Cut, CutKind, OrderSide};
@@ -12,11 +13,11 @@ use nms_units::{Money, Price};
 /// The most that a marginal may be, in nanodollars, and the least with a minus.
 const MOST_MARGINAL: i128 = 1_000_000_000_000_000_000;
 
-/// The place of the first row at whose price no cut is.
-pub(crate) fn row_without_cut(rows: &[UsableRow], cuts: &[Cut]) -> Option<usize>
-    ensures { result ≡ position (λ row. not (has_cut cuts.now row.price)) rows.now }
+/// The first row at whose price no cut is.
+pub(crate) fn row_without_cut(rows: &[UsableRow], cuts: &[Cut]) -> Option<UsableRow>
+    ensures { result ≡ find (λ row. not (has_cut cuts.now row.price)) rows.now }
 {
-    rows.iter().position(|row| !has_cut(cuts, row.price))
+    rows.iter().find(|row| !has_cut(cuts, row.price)).copied()
 }
 
 /// Whether some cut is at a price.
@@ -40,12 +41,14 @@ fn has_row(rows: &[UsableRow], price: Price) -> bool
     rows.iter().any(|row| row.price == price)
 }
 
-/// The numbers of a cut and of the first one behind it than whose price its own is not better.
+/// The numbers of the first cut with one behind it than whose price its own is not better, and of the first such one.
 pub(crate) fn out_of_order_in(side: OrderSide, cuts: &[Cut]) -> (usize, usize)
     requires { is_out_of_order side cuts.now ≡ true }
     ensures before { result.0 < result.1 }
     ensures within { result.1 < length cuts.now }
     ensures worse { (d : Cut) → is_better side (slice_index_or cuts.now result.0 d).price (slice_index_or cuts.now result.1 d).price ≡ false }
+    ensures first { (k : ℕ) → k < result.0 → (d : Cut) → is_not_better side (slice_index_or cuts.now k d).price (drop (k + 1) cuts.now) ≡ false }
+    ensures next { (d : Cut) (k : ℕ) → result.0 < k → k < result.1 → is_better side (slice_index_or cuts.now result.0 d).price (slice_index_or cuts.now k d).price ≡ true }
 {
     for first in 0..cuts.len() {
         let price = cuts[first].price;

@@ -1,5 +1,6 @@
 //! Where a doubt stands in a plan or its certificate (specs/DoubtPlaces).
-ghost use Rattle.std.specs.Prelude.{◌≡◌, ◌==◌, ◌≤◌, ◌||◌, Any, Some, false, length, not, true};
+ghost use Rattle.std.specs.Prelude.{◌≡◌, ◌==◌, ◌≤◌, ◌||◌, Some, false, length, not, position, true};
+ghost use Rattle.std.specs.List.{find};
 ghost use Rattle.nms_rules.specs.Assignment.{fillable};
 ghost use Rattle.nms_rules.specs.Usable.{rank_of, usable};
 ghost use Rattle.nms_cert.specs.Doubts.{cuts_doubt, doubt_of, first_failing, is_out_of_order, is_out_of_range, some_is_extra, some_is_out_of_range};
@@ -171,11 +172,11 @@ fn disordered(side: OrderSide, cuts: &[Cut]) -> DoubtPlace
 /// The first usable quotation at whose price no cut is.
 fn missing_row(rows: &[UsableRow], cuts: &[Cut]) -> UsableRow
     requires { some_lacks_cut rows.now cuts.now ≡ true }
-    ensures own { Any (λ row. row ≡ result) rows.now }
+    ensures first { find (λ row. not (has_cut cuts.now row.price)) rows.now ≡ Some result }
     ensures lacks { has_cut cuts.now result.price ≡ false }
 {
     match row_without_cut(rows, cuts) {
-        Some(place) => rows[place],
+        Some(row) => row,
         None => unreachable!(),
     }
 }
@@ -187,6 +188,7 @@ fn wrong_cut(side: OrderSide, rows: &[UsableRow], most: u64, cuts: &[Cut]) -> Cu
     requires cuts { length cuts.now ≤ MOST_ROWS }
     ensures own { IsCutPlace cuts.now result }
     ensures wrong { is_wrong_kind rows.now most (rank_of side result.cut.price) result.cut.kind ≡ true }
+    ensures first { position (λ cut. is_wrong_kind rows.now most (rank_of side cut.price) cut.kind) cuts.now ≡ Some result.number }
 {
     match wrong_kind_in(side, rows, most, cuts) {
         Some(number) => cut_place(cuts, number),
@@ -200,6 +202,7 @@ fn ranging_cut(cuts: &[Cut]) -> CutPlace
     requires few { length cuts.now ≤ MOST_ROWS }
     ensures own { IsCutPlace cuts.now result }
     ensures out { is_out_of_range result.cut.kind ≡ true }
+    ensures first { position (λ cut. is_out_of_range cut.kind) cuts.now ≡ Some result.number }
 {
     match out_of_range_in(cuts) {
         Some(number) => cut_place(cuts, number),

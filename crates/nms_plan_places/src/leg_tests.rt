@@ -1,8 +1,8 @@
 //! Which leg of a plan has a breach (specs/LegPlaces).
-ghost use Rattle.std.specs.Prelude.{◌≡◌, ◌==◌, ◌<◌, ◌≤◌, length, position, slice_index_or, true};
+ghost use Rattle.std.specs.Prelude.{ℕ, ◌≡◌, ◌==◌, ◌+◌, ◌<◌, ◌≤◌, drop, false, length, position, slice_index_or, true};
 ghost use Rattle.std.specs.List.{list_any};
 ghost use Rattle.nms_quote.specs.declared.plan.Leg.{Leg};
-ghost use Rattle.nms_rules.specs.Breach.{has_other_price, has_repeat, is_over_size, lacks_quotation, row_for};
+ghost use Rattle.nms_rules.specs.Breach.{goes_to, has_other_price, has_repeat, is_over_size, lacks_quotation, row_for};
 ghost use Rattle.nms_rules.specs.Usable.{is_allowed};
 ghost use Rattle.nms_plan_places.specs.LegPlaces.{IsBrokenLeg, breaks};
 
@@ -87,12 +87,14 @@ fn is_over_size(view: &View, order: &Order, leg: &Leg) -> bool
     }
 }
 
-/// The numbers of a leg and of the first one behind it that goes to the same participant.
+/// The numbers of the first leg with one behind it that goes to the same participant, and of the first such one.
 pub(crate) fn repeat_in(legs: &[Leg]) -> (usize, usize)
     requires { has_repeat legs.now ≡ true }
     ensures before { result.0 < result.1 }
     ensures within { result.1 < length legs.now }
     ensures same { (d : Leg) → (slice_index_or legs.now result.0 d).part ≡ (slice_index_or legs.now result.1 d).part }
+    ensures first { (k : ℕ) → k < result.0 → (d : Leg) → goes_to (slice_index_or legs.now k d).part (drop (k + 1) legs.now) ≡ false }
+    ensures next { (d : Leg) (k : ℕ) → result.0 < k → k < result.1 → ((slice_index_or legs.now k d).part == (slice_index_or legs.now result.0 d).part) ≡ false }
 {
     for first in 0..legs.len() {
         let part = legs[first].part;

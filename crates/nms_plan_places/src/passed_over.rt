@@ -1,5 +1,5 @@
 //! The quotations that a plan trades through, and its worst price (specs/BreachPlaces).
-ghost use Rattle.std.specs.Prelude.{◌≡◌, ◌<◌, ◌≤◌, All, false, length, slice_index_or};
+ghost use Rattle.std.specs.Prelude.{ℕ, ◌≡◌, ◌<◌, ◌≤◌, All, false, length, slice_index_or, true};
 ghost use Rattle.nms_quote.specs.declared.plan.Leg.{Leg};
 ghost use Rattle.nms_rules.specs.Breach.{has_leg_beyond, is_traded_through};
 ghost use Rattle.nms_rules.specs.Usable.{is_better, is_binding};
@@ -89,6 +89,7 @@ pub(crate) fn worst_of(side: OrderSide, legs: &[Leg]) -> usize
     requires { 0 < length legs.now }
     ensures within { result < length legs.now }
     ensures worst { (d : Leg) → All (λ leg. is_better side (slice_index_or legs.now result d).price leg.price ≡ false) legs.now }
+    ensures first { (d : Leg) (k : ℕ) → k < result → is_better side (slice_index_or legs.now k d).price (slice_index_or legs.now result d).price ≡ true }
 {
     let mut worst = 0;
     for at in 0..legs.len() {
