@@ -1,0 +1,7 @@
+mod BreachHolds
+mod CutLemmas
+mod DoubtHolds
+mod FindLemmas
+mod FirstLemmas
+mod RepeatLemmas
+mod ThroughLemmas

@@ -1,0 +1,12 @@
+-- `repeat_in`: what holds in each turn of its loop: `some` and `none`.
+use Rattle.std.proofs.Common.{ℕ, ◌≡◌, ◌<◌, ◌+◌, drop, false, get_or, true}
+use Rattle.nms_quote.specs.declared.plan.Leg.{Leg}
+use Rattle.nms_rules.specs.Breach.{goes_to, has_repeat}
+use Rattle.nms_plan_places.proofs.leg_tests.repeat_in.Given as goal
+
+-- two of the legs from here on go to one participant, and none so far has one behind it that goes to the same
+abbrev pub invariant-loop-first : goal.invariant-loop-first
+invariant-loop-first l = record {
+  some : has_repeat (drop l.first l.legs) ≡ true;
+  none : (k : ℕ) → k < l.first → (d : Leg) → goes_to (get_or l.legs k d).part (drop (k + 1) l.legs) ≡ false;
+}
