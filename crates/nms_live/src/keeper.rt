@@ -54,6 +54,15 @@ impl Keeper {
         }
     }
 
+    /// Makes room for so many changes more, and for as many publishings, where there is memory: so nothing that was
+    /// taken in has to move while the feeds send.
+    pub(crate) fn make_room(&mut self, changes: usize)
+        ensures { self.new ≡ self.old }
+    {
+        self.publisher.make_room(changes);
+        let _room = self.listed.reserve(changes);
+    }
+
     /// Why it stopped, if it did.
     pub(crate) fn stop(&self) -> Option<LiveFault>
         ensures stop { result ≡ self.now.stop }

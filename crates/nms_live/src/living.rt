@@ -73,6 +73,7 @@ fn run_over<R: Threads + Wait + Sync, G: Gate>(
         return Err(LiveFault::Open);
     };
     let mut keeper = Keeper::new(means.alloc, publisher);
+    keeper.make_room(given.records());
     match run_in_threads(means, given, &mut keeper, ends, desks) {
         Ok(desks) => close_all(means, given, keeper, desks),
         Err(fault) => {
