@@ -33,13 +33,13 @@ pub struct Means<'m, R, G> {
 }
 
 impl<'g> Given<'g> {
-    /// How many records the feeds have at most, where each ends with a line feed.
-    pub(crate) fn records(&self) -> usize {
+    /// How many changes the tape comes to at most, where each record of the feeds ends with a line feed.
+    pub(crate) fn most_changes(&self) -> usize {
         let mut records = self.feeds.len();
         for text in &self.feeds {
             records = records.saturating_add(line_feeds(text));
         }
-        records
+        records.min(self.setup.tape_limit() as usize)
     }
 
     /// Whether the workers of all feeds have ended.
