@@ -1,15 +1,33 @@
-//! The runs of `crates/nms_bench` in ordinary Rust over the upstream queue, with no proofs: two threads send
-//! changes, the first thread takes them. Each line of standard input is `lane CAPACITY CHANGES`.
+//! The runs of `crates/nms_bench` in ordinary Rust over the upstream queue, with no proofs: one to eight threads send
+//! changes, one more takes them. Each line of standard input is `lane CAPACITY SENDERS CHANGES`.
 #![allow(dead_code)]
 use crossbeam_queue::ArrayQueue;
 use std::io::Read;
+use std::sync::atomic::{AtomicBool, Ordering};
 use std::thread;
 
 #[derive(Clone, Copy)]
 enum Feed {
     A,
     B,
+    C,
+    D,
+    E,
+    F,
+    G,
+    H,
 }
+
+const FEEDS: [Feed; 8] = [
+    Feed::A,
+    Feed::B,
+    Feed::C,
+    Feed::D,
+    Feed::E,
+    Feed::F,
+    Feed::G,
+    Feed::H,
+];
 
 #[derive(Clone, Copy)]
 enum QState {
@@ -68,25 +86,35 @@ fn send_all(lane: &Lane, feed: Feed, change: &Change, changes: u32) -> u64 {
     sent
 }
 
-/// Takes so many changes.
-fn take_all(lane: &Lane, changes: u64) -> u64 {
+/// Takes changes until all senders have ended and nothing is left.
+fn take_all(lane: &Lane, ended: &AtomicBool) -> u64 {
     let mut taken = 0;
-    while taken < changes {
-        match lane.pop() {
-            Some(_) => taken += 1,
-            None => thread::yield_now(),
+    let mut has_ended = false;
+    loop {
+        if lane.pop().is_some() {
+            taken += 1;
+            continue;
         }
+        if has_ended {
+            return taken;
+        }
+        has_ended = ended.load(Ordering::SeqCst);
+        thread::yield_now();
     }
-    taken
 }
 
-fn run(capacity: usize, change: &Change, changes: u32) -> (u64, u64, u64) {
+fn run(capacity: usize, senders: usize, change: &Change, changes: u32) -> (Vec<u64>, u64) {
     let lane = &Lane::new(capacity);
+    let ended = &AtomicBool::new(false);
     thread::scope(|scope| {
-        let a = scope.spawn(move || send_all(lane, Feed::A, change, changes));
-        let b = scope.spawn(move || send_all(lane, Feed::B, change, changes));
-        let taken = take_all(lane, 2 * u64::from(changes));
-        (a.join().unwrap(), b.join().unwrap(), taken)
+        let handles: Vec<_> = FEEDS[..senders]
+            .iter()
+            .map(|feed| scope.spawn(move || send_all(lane, *feed, change, changes)))
+            .collect();
+        let taker = scope.spawn(move || take_all(lane, ended));
+        let sent = handles.into_iter().map(|handle| handle.join().unwrap()).collect();
+        ended.store(true, Ordering::SeqCst);
+        (sent, taker.join().unwrap())
     })
 }
 
@@ -107,10 +135,9 @@ fn main() {
         offer: side(200),
     };
     for line in input.lines() {
-        let sizes = line.strip_prefix("lane ").unwrap();
-        let (capacity, changes) = sizes.split_once(' ').unwrap();
-        let capacity = capacity.parse().unwrap();
-        let (a, b, taken) = run(capacity, &change, changes.parse().unwrap());
-        println!("{line} {a} {b} {taken}");
+        let sizes: Vec<&str> = line.strip_prefix("lane ").unwrap().split(' ').collect();
+        let (capacity, senders) = (sizes[0].parse().unwrap(), sizes[1].parse().unwrap());
+        let (sent, taken) = run(capacity, senders, &change, sizes[2].parse().unwrap());
+        println!("{line} {sent:?} {taken}");
     }
 }

@@ -1,29 +1,37 @@
-//! The lane: two threads send changes, the first thread takes them.
-ghost use Rattle.std.specs.Prelude.{◌≡◌, ◌≤◌, [], length};
+//! The lane: one to eight threads send changes, one more takes them.
+ghost use Rattle.std.specs.Prelude.{◌≡◌, ℕ, ◌<◌, ◌≤◌, [], All, length, slice_index_or, IfSome};
+ghost use Rattle.nms_quote.specs.declared.TheConstants.{MOST_FEEDS};
+ghost use Rattle.nms_feed.specs.Lane.{AreSendersOf, Sending};
 ghost use Rattle.nms_feed.specs.declared.TheConstants.{LEAST_CAPACITY, MOST_CAPACITY};
 
 use crate::Failed;
-use crate::callers::{close_two, open_two};
-use nms_feed::{Delivered, LEAST_CAPACITY, MOST_CAPACITY, Sender, Taker};
-use nms_quote::{Change, Part, QState, SideQuote, Sym};
+use nms_feed::{Delivered, LEAST_CAPACITY, MOST_CAPACITY, Sender, Taker, close, open_lane};
+use nms_quote::{Change, MOST_FEEDS, Part, QState, SideQuote, Sym};
 use nms_units::{Price, Shares};
-use std::alloc::Global;
 use std::sync::Wait;
+use std::sync::atomic::{AtomicBool, Ordering};
 use std::thread;
 use std::thread::Threads;
 
-/// Runs a lane of a capacity, with so many changes from each thread. Tells how many each sent and how many were
-/// taken.
+/// Runs a lane of a capacity, with so many changes from each of so many threads. Tells how many each sent and how many
+/// were taken.
 pub(crate) fn measure<R: AllocGlobal + Threads + Wait + Sync>(
     rt: &R,
     capacity: usize,
+    senders: u8,
     changes: u32,
 ) -> Result<Delivered, Failed> {
     if capacity < LEAST_CAPACITY || MOST_CAPACITY < capacity {
         return Err(Failed);
     }
+    if senders < 1 || MOST_FEEDS < senders {
+        return Err(Failed);
+    }
     let change = quotation().ok_or(Failed)?;
-    run(rt, rt.alloc(), capacity, &change, changes)
+    match open_lane(rt.alloc(), capacity, senders) {
+        Ok((ends, taker)) => run(rt, ends, taker, &change, changes),
+        Err(_) => Err(Failed),
+    }
 }
 
 /// A quotation of both sides.
@@ -38,42 +46,67 @@ fn quotation() -> Option<Change> {
     })
 }
 
-/// Sends so many changes from each of two threads, and takes them on this one.
+/// Sends so many changes from each sender of a new lane, each in a thread of its own, and takes them meanwhile.
 fn run<R: Threads + Wait + Sync>(
     rt: &R,
-    alloc: Global,
-    capacity: usize,
+    senders: Vec<Sender>,
+    taker: Taker,
     change: &Change,
     changes: u32,
 ) -> Result<Delivered, Failed>
-    requires { (LEAST_CAPACITY ≤ capacity) × (capacity ≤ MOST_CAPACITY) }
+    requires all { AreSendersOf taker senders.items }
+    requires new { All (λ sender. sender.sent ≡ []) senders.items }
 {
-    let Some((a, b, taker)) = open_two(alloc, capacity) else {
+    let ended = &AtomicBool::new(false);
+    let (back, taker) = thread::join(
+        rt,
+        move || -> Option<Vec<Sender>>
+            requires { All (λ sender. sender.sent ≡ []) senders.items }
+            ensures count { IfSome result (λ back. length back.items ≡ length senders.items) }
+            ensures lanes { IfSome result (λ back. (k : ℕ) (d : Sending) → k < length senders.items → (slice_index_or back.items k d).lane ≡ (slice_index_or senders.items k d).lane) }
+            ensures feeds { IfSome result (λ back. (k : ℕ) (d : Sending) → k < length senders.items → (slice_index_or back.items k d).feed ≡ (slice_index_or senders.items k d).feed) }
+        {
+            let back = send_from_each(rt, senders, change, changes);
+            ended.store(true, Ordering::SeqCst);
+            back
+        },
+        move || -> Taker
+            ensures { (result.lane ≡ taker.lane) × (result.senders ≡ taker.senders) }
+        { take_all(rt, taker, ended) },
+    );
+    let Some(back) = back else {
         return Err(Failed);
     };
-    let (a, (b, taker)) = thread::join(
+    match close(back, taker) {
+        Ok(delivered) => Ok(delivered),
+        Err(_) => Err(Failed),
+    }
+}
+
+/// Sends a change so many times from each sender, each in a thread of its own. `None` where there was no memory.
+fn send_from_each<R: Threads + Wait + Sync>(
+    rt: &R,
+    senders: Vec<Sender>,
+    change: &Change,
+    changes: u32,
+) -> Option<Vec<Sender>>
+    requires { All (λ sender. sender.sent ≡ []) senders.items }
+    ensures count { IfSome result (λ back. length back.items ≡ length senders.items) }
+    ensures lanes { IfSome result (λ back. (k : ℕ) (d : Sending) → k < length senders.items → (slice_index_or back.items k d).lane ≡ (slice_index_or senders.items k d).lane) }
+    ensures feeds { IfSome result (λ back. (k : ℕ) (d : Sending) → k < length senders.items → (slice_index_or back.items k d).feed ≡ (slice_index_or senders.items k d).feed) }
+{
+    let sent = thread::map_vec(
         rt,
-        move || -> Sender
-            requires { a.sent ≡ [] }
-            ensures { (result.lane ≡ a.lane) × (result.feed ≡ a.feed) }
-        { send_all(rt, a, change, changes) },
-        move || -> (Sender, Taker)
-            requires { b.sent ≡ [] }
-            ensures { (result.0.lane ≡ b.lane) × (result.0.feed ≡ b.feed) × (result.1.lane ≡ taker.lane) × (result.1.senders ≡ taker.senders) }
-        {
-            thread::join(
-                rt,
-                move || -> Sender
-                    requires { b.sent ≡ [] }
-                    ensures { (result.lane ≡ b.lane) × (result.feed ≡ b.feed) }
-                { send_all(rt, b, change, changes) },
-                move || -> Taker
-                    ensures { (result.lane ≡ taker.lane) × (result.senders ≡ taker.senders) }
-                { take_all(rt, taker, 2 * u64::from(changes)) },
-            )
-        },
+        senders,
+        &|sender: Sender| -> Sender
+            requires { sender.sent ≡ [] }
+            ensures { (result.lane ≡ sender.lane) × (result.feed ≡ sender.feed) }
+        { send_all(rt, sender, change, changes) },
     );
-    close_two(alloc, a, b, taker).ok_or(Failed)
+    match sent {
+        Ok(back) => Some(back),
+        Err(_) => None,
+    }
 }
 
 /// Sends a change so many times.
@@ -88,19 +121,21 @@ pub(crate) fn send_all<R: Wait>(rt: &R, mut sender: Sender, change: &Change, cha
     sender
 }
 
-/// Takes so many changes.
-fn take_all<R: Wait>(rt: &R, mut taker: Taker, changes: u64) -> Taker
+/// Takes changes until all senders have ended and nothing is left.
+fn take_all<R: Wait>(rt: &R, mut taker: Taker, ended: &AtomicBool) -> Taker
     ensures { (result.lane ≡ taker.lane) × (result.senders ≡ taker.senders) }
 {
-    let mut taken = 0;
+    let mut has_ended = false;
     for _ in rt.forever() {
-        if taken >= changes {
+        if taker.take(rt).is_some() {
+            continue;
+        }
+        if has_ended {
             break;
         }
-        match taker.take(rt) {
-            Some(_) => taken += 1,
-            None => thread::yield_now(),
-        }
+        // What was sent before the end is still taken.
+        has_ended = ended.load(Ordering::SeqCst);
+        thread::yield_now();
     }
     taker
 }

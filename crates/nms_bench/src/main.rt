@@ -1,5 +1,5 @@
 //! Measures the lane and the looks, and makes the calls of `docs/CALLING.md`. Each line of standard input is a run:
-//! `lane CAPACITY CHANGES` through a lane of that capacity with so many changes from each of two threads, or
+//! `lane CAPACITY SENDERS CHANGES` through a lane of that capacity with so many changes from each of so many threads, or
 //! `looks DESKS LOOKS` with so many looks by each of so many desks, or `machine`, `sweep`, `threads` or `again` with the
 //! place of a symbol and a number of changes.
 #![tactic(auto)]
@@ -41,13 +41,14 @@ fn run_all<R: AllocGlobal + Threads + Wait + Clock + Sync, W: Write>(
     let text = str::from_utf8(input).map_err(|_| Failed)?;
     for line in text.lines() {
         let (kind, sizes) = line.split_once(' ').ok_or(Failed)?;
-        let (first, second) = sizes.split_once(' ').ok_or(Failed)?;
-        let second = second.parse::<u32>().map_err(|_| Failed)?;
+        let (first, rest) = sizes.split_once(' ').ok_or(Failed)?;
         if kind == "lane" {
-            let capacity = first.parse::<usize>().map_err(|_| Failed)?;
-            let Delivered { sent, taken } = lane::measure(rt, capacity, second)?;
+            let Delivered { sent, taken } = run_lane(rt, first, rest)?;
             writeln!(answers, "{line} {sent:?} {taken}").map_err(|_| Failed)?;
-        } else if kind == "looks" {
+            continue;
+        }
+        let second = rest.parse::<u32>().map_err(|_| Failed)?;
+        if kind == "looks" {
             let desks = first.parse::<u8>().map_err(|_| Failed)?;
             let rows = looks::measure(rt, desks, second)?;
             writeln!(answers, "{line} {rows}").map_err(|_| Failed)?;
@@ -58,4 +59,17 @@ fn run_all<R: AllocGlobal + Threads + Wait + Clock + Sync, W: Write>(
         }
     }
     Ok(())
+}
+
+/// Runs a lane of a capacity, with senders and changes as the rest of a line says.
+fn run_lane<R: AllocGlobal + Threads + Wait + Sync>(
+    rt: &R,
+    capacity: &str,
+    rest: &str,
+) -> Result<Delivered, Failed> {
+    let capacity = capacity.parse::<usize>().map_err(|_| Failed)?;
+    let (senders, changes) = rest.split_once(' ').ok_or(Failed)?;
+    let senders = senders.parse::<u8>().map_err(|_| Failed)?;
+    let changes = changes.parse::<u32>().map_err(|_| Failed)?;
+    lane::measure(rt, capacity, senders, changes)
 }

@@ -33,10 +33,28 @@ pub struct Means<'m, R, G> {
 }
 
 impl<'g> Given<'g> {
+    /// How many changes the tape comes to at most, where each record of the feeds ends with a line feed.
+    pub(crate) fn most_changes(&self) -> usize {
+        let mut records = self.feeds.len();
+        for text in &self.feeds {
+            records = records.saturating_add(line_feeds(text));
+        }
+        records.min(self.setup.tape_limit() as usize)
+    }
+
     /// Whether the workers of all feeds have ended.
     pub(crate) fn feeds_have_ended(&self) -> bool {
         self.ended.have_first(self.feeds.len())
     }
+}
+
+/// How many line feeds a text has.
+fn line_feeds(text: &[u8]) -> usize {
+    let mut found = 0usize;
+    for byte in text {
+        found = found.saturating_add(usize::from(*byte == b'\n'));
+    }
+    found
 }
 
 /// The text of a feed, of those that stand in order of place. A feed beyond them has no bytes.

@@ -41,14 +41,18 @@ impl Model for Keeper {
 }
 
 impl Keeper {
-    /// Keeps a tape that was just opened.
-    pub(crate) fn new(alloc: Global, publisher: Publisher) -> Self
+    /// Keeps a tape that was just opened. It makes room for so many changes and publishings, where there is memory: so
+    /// nothing that was taken in has to move while the feeds send.
+    pub(crate) fn new(alloc: Global, mut publisher: Publisher, changes: usize) -> Self
         requires { publisher.published ≡ [] }
         ensures { result ≡ record { taped = publisher; listed = []; stop = None } }
     {
+        publisher.make_room(changes);
+        let mut listed = Vec::new(alloc);
+        let _room = listed.reserve(changes);
         Keeper {
             publisher,
-            listed: Vec::new(alloc),
+            listed,
             waiting: 0,
             stop: None,
         }

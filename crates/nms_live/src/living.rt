@@ -72,7 +72,7 @@ fn run_over<R: Threads + Wait + Sync, G: Gate>(
     let Ok((publisher, desks)) = open_tape(means.alloc, means.rt, given.setup) else {
         return Err(LiveFault::Open);
     };
-    let mut keeper = Keeper::new(means.alloc, publisher);
+    let mut keeper = Keeper::new(means.alloc, publisher, given.most_changes());
     match run_in_threads(means, given, &mut keeper, ends, desks) {
         Ok(desks) => close_all(means, given, keeper, desks),
         Err(fault) => {

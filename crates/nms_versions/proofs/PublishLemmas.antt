@@ -11,6 +11,7 @@ use Rattle.nms_quote.specs.declared.TheConstants.{MOST_CHANGES}
 use Rattle.nms_quote.specs.declared.change.Change.{Change}
 use Rattle.nms_board.specs.Cells.{Board, StandsFor, after, takes}
 use Rattle.nms_board.proofs.Offered.{sizes_after, stands_after, takes_by}
+use Rattle.nms_versions.specs.Fresh.{items_of}
 use Rattle.nms_versions.specs.History.{Chronicle}
 use Rattle.nms_versions.specs.Published.{Batches, NoneEmpty, changes, committed, lengths_from, publications}
 use Rattle.nms_versions.specs.Publishing.{Follows, IsSound, IsTaped}
@@ -110,7 +111,7 @@ takes_batch (change ∷ batch) board tape stands held room =
 pub follows : (sealed : Sealed) (waiting : List Batch) (history : Chronicle) (tape pending : List Change) (published limit : ℕ)
     (batch : Batch)
     → IsSound sealed waiting history → IsTaped history tape pending published limit sealed.boards.sizes
-    → batch.seen.book ≡ history.opening → batch.seen.log ≡ history.published ++ pending ∷ [] → batch.changes.items ≡ pending
+    → batch.seen.book ≡ history.opening → batch.seen.log ≡ history.published ++ pending ∷ [] → items_of batch.changes ≡ pending
     → Follows sealed batch
 follows sealed waiting history tape pending published limit batch sound taped book log items = record {
   book = book ∙ sym sound.book;

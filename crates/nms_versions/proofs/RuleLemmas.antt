@@ -6,6 +6,7 @@ use lib.ListN.{get_elem?}
 use Rattle.crossbeam_utils.specs.Register.{Admits, Forks, Merges, Turns, TurnsAt}
 use Rattle.atomic_table.proofs.Lists.{at_set, at_snoc, set_again}
 use Rattle.nms_board.specs.Cells.{StandsFor}
+use Rattle.nms_versions.specs.Fresh.{items_of}
 use Rattle.nms_versions.specs.Published.{changes}
 use Rattle.nms_versions.specs.Publishing.{Follows}
 use Rattle.nms_versions.specs.Rule.{IsOf, Kept, Names, absorbed, after_taken, unnamed}
@@ -28,15 +29,15 @@ reads seat known shown views kept at = (
 pub shows : (seat : ℕ) (known : Known) (sealed next : Sealed) (batch : Batch) → Follows sealed batch → next ≡ absorbed sealed batch
     → TurnsAt Kept seat known sealed next (λ before old new after. after ≡ before)
 shows seat known sealed next batch f is views kept at =
-    let tape : changes batch.seen.log ≡ changes sealed.seen.log ++ batch.changes.items = ap changes f.log
-    ∙ changes-push sealed.seen.log batch.changes.items in
-    let took = takes_batch batch.changes.items sealed.boards (changes sealed.seen.log) kept.stands f.held
+    let tape : changes batch.seen.log ≡ changes sealed.seen.log ++ items_of batch.changes = ap changes f.log
+    ∙ changes-push sealed.seen.log (items_of batch.changes) in
+    let took = takes_batch (items_of batch.changes) sealed.boards (changes sealed.seen.log) kept.stands f.held
     (omega (arith, ap length tape, f.room)) in
     let now : Kept (absorbed sealed batch) views = record {
       stands = subst (StandsFor (absorbed sealed batch).boards) (sym tape) took;
       each = λ j other there. record {
         book = λ named e. (kept.each j other there).book named e ∙ sym f.book;
-        sizes = λ named e. (kept.each j other there).sizes named e ∙ sym (sizes_taken batch.changes.items sealed.boards);
+        sizes = λ named e. (kept.each j other there).sizes named e ∙ sym (sizes_taken (items_of batch.changes) sealed.boards);
       };
     } in (
       known,
@@ -50,7 +51,7 @@ knows_nothing : (shown : Sealed) → IsOf shown unnamed
 knows_nothing shown = record { book = λ named e. absurd (none-some named e); sizes = λ named e. absurd (none-some named e) }
 
 -- the writer shows a board with nothing more on it, and knows its opening from then on
-pub names : (seat : ℕ) (known : Known) (sealed next : Sealed) (batch : Batch) → batch.changes.items ≡ [] → batch.seen ≡ sealed.seen
+pub names : (seat : ℕ) (known : Known) (sealed next : Sealed) (batch : Batch) → items_of batch.changes ≡ [] → batch.seen ≡ sealed.seen
     → next ≡ absorbed sealed batch
     → TurnsAt Kept seat known sealed next Names
 names seat known sealed next batch nothing seen is views kept at =

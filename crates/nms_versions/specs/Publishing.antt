@@ -3,6 +3,7 @@ use Rattle.std.specs.Prelude.{ℕ, ◌≡◌, ◌<◌, ◌≤◌, true, List, []
 use Rattle.nms_quote.specs.Roster.{Sizes, holds}
 use Rattle.nms_quote.specs.declared.TheConstants.{MOST_CHANGES}
 use Rattle.nms_quote.specs.declared.change.Change.{Change}
+use Rattle.nms_versions.specs.Fresh.{items_of}
 use Rattle.nms_versions.specs.History.{Chronicle}
 use Rattle.nms_versions.specs.Published.{NoneEmpty, changes}
 use Rattle.nms_versions.specs.declared.batch.Batch.{Batch}
@@ -27,6 +28,6 @@ pub record IsTaped (history : Chronicle) (tape pending : List Change) (published
 -- a batch that goes behind what is shown: its changes are of the roster, and the tape has room for them
 pub record Follows (sealed : Sealed) (batch : Batch) : Type 0 where
   pub book : batch.seen.book ≡ sealed.seen.book
-  pub log : batch.seen.log ≡ sealed.seen.log ++ batch.changes.items ∷ []
-  pub held : All (λ change. holds sealed.boards.sizes change ≡ true) batch.changes.items
+  pub log : batch.seen.log ≡ sealed.seen.log ++ items_of batch.changes ∷ []
+  pub held : All (λ change. holds sealed.boards.sizes change ≡ true) (items_of batch.changes)
   pub room : length (changes batch.seen.log) ≤ MOST_CHANGES

@@ -8,6 +8,7 @@ use Rattle.logbook.specs.Pages.{Book}
 use Rattle.nms_quote.specs.Roster.{Sizes}
 use Rattle.nms_quote.specs.declared.change.Change.{Change}
 use Rattle.nms_board.specs.Cells.{Board, StandsFor, after, takes}
+use Rattle.nms_versions.specs.Fresh.{items_of}
 use Rattle.nms_versions.specs.Published.{changes}
 use Rattle.nms_versions.specs.declared.batch.Batch.{Batch}
 use Rattle.nms_versions.specs.declared.sealed.Sealed.{Sealed}
@@ -19,7 +20,7 @@ after_taken board change = if takes board change then after board change else bo
 
 -- a board once it has taken in a batch: the changes applied, and the history as far as the batch
 abbrev pub absorbed : Sealed → Batch → Sealed
-absorbed sealed batch = record { boards = fold after_taken sealed.boards batch.changes.items; seen = batch.seen }
+absorbed sealed batch = record { boards = fold after_taken sealed.boards (items_of batch.changes); seen = batch.seen }
 
 -- it knows of no opening
 abbrev pub unnamed : Known

@@ -1,10 +1,12 @@
 //! What is given to the pair of boards at once.
 use crate::history::Token;
 use nms_quote::Change;
+use std::sync::Arc;
 
-/// The changes of one publishing, with the history as far as it.
+/// The changes of one publishing, with the history as far as it. The publisher has their buffer too, and uses it
+/// again once the pair has let it go.
 #[derive(Drop)]
 pub struct Batch {
-    pub(crate) changes: Vec<Change>,
+    pub(crate) changes: Arc<Vec<Change>>,
     pub(crate) seen: Token,
 }

@@ -2,11 +2,13 @@
 //! run time it is a word, which nothing but the publisher reaches.
 ghost use Rattle.std.specs.Prelude.{◌≡◌, ◌<◌, ◌++◌, ◌∷◌, [], true, false, length, MatchBool};
 ghost use Rattle.nms_quote.specs.declared.TheConstants.{MOST_CHANGES};
+ghost use Rattle.nms_versions.specs.Fresh.{items_of};
 
 use logbook::{Gain, Offer, Pen, Plain, Play, Rule, Seen, Start, Word};
 use nms_quote::Change;
 use std::collections::LinkedList;
 use std::marker::Model;
+use std::sync::Arc;
 
 /// What was seen of a history. It has no bytes.
 pub type Token = Seen<LinkedList<Change>, u64, OneHistory>;
@@ -69,10 +71,11 @@ impl Plain<u64, LinkedList<Change>, u64> for Opening {
 }
 
 /// Publishing asks for the batch.
-impl Plain<Vec<Change>, LinkedList<Change>, u64> for Closing {
+impl Plain<Arc<Vec<Change>>, LinkedList<Change>, u64> for Closing {
     ghost use Rattle.std.specs.Prelude.{None};
+    ghost use Rattle.nms_versions.specs.Fresh.{items_of};
 
-    ghost ask = { λ batch. batch.items };
+    ghost ask = { λ batch. items_of batch };
 
     ghost state = { λ batch. None };
 }
@@ -159,15 +162,15 @@ impl History {
     }
 
     /// Publishes the open batch: these changes.
-    pub(crate) fn close(&mut self, batch: &Vec<Change>)
+    pub(crate) fn close(&mut self, batch: &Arc<Vec<Change>>)
         requires open { self.old.is_open ≡ true }
-        requires some { 0 < length batch.now.items }
+        requires some { 0 < length (items_of batch.now) }
         requires room { length self.old.published < MOST_CHANGES }
-        ensures { self.new ≡ record self.old { published = self.old.published ++ batch.now.items ∷ []; is_open = false } }
+        ensures { self.new ≡ record self.old { published = self.old.published ++ items_of batch.now ∷ []; is_open = false } }
     {
         let mut offer: Offer<LinkedList<Change>, u64, OneHistory, Nothing> = self
             .seen
-            .plain::<Nothing, Vec<Change>, Closing>(batch);
+            .plain::<Nothing, Arc<Vec<Change>>, Closing>(batch);
         let open = self.batches + 1;
         self.word
             .compare_exchange::<Closing, Nothing>(

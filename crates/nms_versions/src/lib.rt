@@ -5,6 +5,7 @@
 mod append_fault;
 mod batch;
 mod desk;
+mod fresh;
 mod history;
 mod known;
 mod laws;

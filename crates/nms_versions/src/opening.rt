@@ -1,11 +1,13 @@
 //! Opening: a publisher, with the desks that it publishes to (specs/Taped).
 ghost use Rattle.std.specs.Prelude.{◌≡◌, ◌∷◌, [], drop, replicate, IfOk};
 ghost use Rattle.nms_quote.specs.Roster.{sizes_of};
+ghost use Rattle.nms_versions.specs.Fresh.{items_of};
 ghost use Rattle.nms_versions.specs.Rule.{IsNamed, Names, sizes_known, unnamed};
 ghost use Rattle.nms_versions.specs.Taped.{opened, unseeing};
 
 use crate::batch::Batch;
 use crate::desk::Desk;
+use crate::fresh::Fresh;
 use crate::history::{History, Token};
 use crate::memory::Memory;
 use crate::open_fault::OpenFault;
@@ -16,7 +18,7 @@ use left_right::writer::Writer;
 use nms_board::Boards;
 use nms_fees::Setup;
 use std::alloc::Global;
-use std::sync::Wait;
+use std::sync::{Arc, Wait};
 
 /// Opens an empty tape with the empty version published, and as many desks as the setup's `desks()`, in order of
 /// number. Both boards are made here. It waits for nobody. `NoMemory` and `NoPlace` leave nothing.
@@ -38,7 +40,7 @@ pub fn open_tape<R: Wait>(
                 writer,
                 history,
                 tape: Vec::new(alloc),
-                fresh: Vec::new(alloc),
+                fresh: Fresh::new(),
                 published: 0,
                 limit: setup.tape_limit(),
             };
@@ -80,11 +82,14 @@ fn open_pair<R: Wait>(
         boards: other,
         seen: seen.again(),
     };
+    let Ok(changes) = Arc::new(alloc, Vec::new(alloc)) else {
+        return Err(OpenFault::NoMemory);
+    };
     let Ok(writer) = Writer::new(alloc, first, second, usize::from(setup.desks())) else {
         return Err(OpenFault::NoMemory);
     };
     let empty = Batch {
-        changes: Vec::new(alloc),
+        changes,
         seen: seen.again(),
     };
     name_opening(rt, writer, empty)
@@ -93,7 +98,7 @@ fn open_pair<R: Wait>(
 /// Publishes the empty batch.
 fn name_opening<R: Wait>(rt: &R, writer: PairWriter, empty: Batch) -> Result<PairWriter, OpenFault>
     requires idle { drop writer.behind writer.log.items ≡ [] }
-    requires empty { empty.changes.items ≡ [] }
+    requires empty { items_of empty.changes ≡ [] }
     requires seen { empty.seen ≡ writer.desk.shown.value.seen }
     ensures idle { IfOk result (λ named. drop named.behind named.log.items ≡ []) }
     ensures shown { IfOk result (λ named. named.desk.shown.value ≡ writer.desk.shown.value) }

@@ -10,16 +10,21 @@ ghost use Rattle.nms_versions.specs.Taped.{tape_of};
 
 use crate::append_fault::AppendFault;
 use crate::batch::Batch;
+use crate::fresh::Fresh;
 use crate::history::History;
 use crate::receipt::Receipt;
 use crate::rule::{PairWriter, Showing};
-use core::mem::{replace, replace_with};
+use core::mem::replace_with;
 use nms_quote::{Change, SideQuote};
 use nms_units::Lot;
 use std::alloc::Global;
 use std::marker::Model;
 use std::sync::Wait;
-use std::thread;
+use std::thread::Parker;
+use std::time::Duration;
+
+/// How long it rests before it tries again, where there was no memory, in microseconds. This product's own rule.
+const REST: u64 = 1_000;
 
 /// Appends changes to the tape, and publishes it to the desks of its opening. It is not `Drop`: end it by `close`.
 pub struct Publisher {
@@ -29,7 +34,7 @@ pub struct Publisher {
     /// All that was appended.
     pub(crate) tape: Vec<Change>,
     /// What was appended since the last publishing.
-    pub(crate) fresh: Vec<Change>,
+    pub(crate) fresh: Fresh,
     /// How many changes the published version has.
     pub(crate) published: u64,
     pub(crate) limit: u64,
@@ -45,13 +50,13 @@ impl Model for Publisher {
     ghost view = { λ p. record {
       opening = p.history.opening;
       published = p.history.published;
-      pending = p.fresh.items;
+      pending = p.fresh;
       sizes = p.writer.desk.shown.value.boards.sizes;
       limit = p.limit;
     } };
 
     ghost invariant = { λ p. IsSound p.writer.desk.shown.value (drop p.writer.behind p.writer.log.items) p.history
-        × IsTaped p.history p.tape.items p.fresh.items p.published p.limit p.writer.desk.shown.value.boards.sizes };
+        × IsTaped p.history p.tape.items p.fresh p.published p.limit p.writer.desk.shown.value.boards.sizes };
 }
 
 impl Publisher {
@@ -76,15 +81,14 @@ impl Publisher {
         if self.tape.reserve(1).is_err() {
             return Err(AppendFault::NoMemory);
         }
-        if self.fresh.reserve(1).is_err() {
-            return Err(AppendFault::NoMemory);
-        }
         if !self.history.be_open() {
             return Err(AppendFault::NoMemory);
         }
         let change = &change;
+        if !self.fresh.push(self.alloc, change) {
+            return Err(AppendFault::NoMemory);
+        }
         put(&mut self.tape, *change);
-        put(&mut self.fresh, *change);
         Ok(())
     }
 
@@ -98,13 +102,24 @@ impl Publisher {
         if self.fresh.is_empty() {
             return;
         }
-        self.history.close(&self.fresh);
+        let changes = self.fresh.lend();
+        self.history.close(&changes);
         let batch = Batch {
-            changes: replace(&mut self.fresh, Vec::new(self.alloc)),
+            changes,
             seen: self.history.token(),
         };
         replace_with(&mut self.writer, (rt, batch), publish_batch);
+        self.fresh.begin();
         self.published = self.tape.len() as u64;
+    }
+
+    /// Makes room for so many changes more, as far as the tape's limit goes and there is memory, so that none of them
+    /// waits until the tape has moved. Where there is no memory the tape grows as it is appended to.
+    pub fn make_room(&mut self, changes: usize)
+        ensures { self.new ≡ self.old }
+    {
+        let most = self.limit.saturating_sub(self.tape.len() as u64);
+        let _room = self.tape.reserve(changes.min(most as usize));
     }
 
     /// Word of the published version, and of all publications, for a desk.
@@ -172,7 +187,7 @@ fn publish_batch<R: Wait>(writer: PairWriter, with: (&R, Batch)) -> (PairWriter,
     (writer, ())
 }
 
-/// Gives a batch to the pair. The pair has room for it since the opening.
+/// Gives a batch to the pair. The pair has room for it since the opening; else it would wait for memory.
 fn give<R: Wait>(rt: &R, writer: &mut PairWriter, batch: Batch)
     ensures desk { writer.new.desk ≡ writer.old.desk }
     ensures pending { drop writer.new.behind writer.new.log.items ≡ drop writer.old.behind writer.old.log.items ++ batch ∷ [] }
@@ -183,7 +198,7 @@ fn give<R: Wait>(rt: &R, writer: &mut PairWriter, batch: Batch)
             Ok(()) => return,
             Err(back) => batch = back,
         }
-        thread::yield_now();
+        Parker::new().park_timeout(rt, Duration::from_micros(REST));
     }
     unreachable!()
 }

@@ -23,8 +23,7 @@ invariant_of-self-2 c =
     ap (λ t. holds t.sizes c.args.change) c.self.view_is ∙ c.requires.held in
     let tape : c.put.new.tape.items ≡ c.self.inside.tape.items ++ c.args.change ∷ [] = c.put.ensures
     ∙ ap (λ (t : List Change). t ++ c.args.change ∷ []) c.reserve.ensures.items in
-    let fresh : c.put-2.new.tape.items ≡ c.self.inside.fresh.items ++ c.args.change ∷ [] = c.put-2.ensures
-    ∙ ap (λ (t : List Change). t ++ c.args.change ∷ []) c.reserve-2.ensures.items in
+    let fresh : c.push.new.self ≡ c.self.inside.fresh ++ c.args.change ∷ [] = search rules in
     let sound = c.self.invariant.0 in (
       record {
         book = sound.book ∙ sym (ap (λ (h : Chronicle). h.opening) opened);

@@ -1,7 +1,7 @@
 -- `Publisher::publish`: clauses `publications` and `whole`, the call of `close`, the call of `replace_with` and
 -- the invariant of what it leaves, by `batch_room`, `changes-push`, `committed_some`, `follows`, `no_items`,
 -- `publications_push` and `taped_close`.
-use Rattle.std.proofs.Common.{◌≡◌, ◌<◌, ◌↔◌, ◌⊎◌, ◌++◌, [], length, List, ap, sym, subst, ◌∙◌, arith, rules}
+use Rattle.std.proofs.Common.{◌≡◌, ◌<◌, ◌↔◌, ◌⊎◌, ◌++◌, ◌∷◌, [], false, length, List, ap, sym, subst, ◌∙◌, arith, rules}
 use Rattle.std.specs.List.{Contains}
 use Rattle.nms_quote.specs.declared.change.Change.{Change}
 use Rattle.nms_versions.specs.History.{Chronicle}
@@ -12,7 +12,7 @@ use Rattle.nms_versions.proofs.publisher.Publisher.publish.Goals as goal
 
 pub returns-then-is_empty-clause-publications : goal.returns-then-is_empty-clause-publications
 returns-then-is_empty-clause-publications g c n =
-    let none = no_items c.self.inside.fresh.items (search rules) in
+    let none = no_items c.self.inside.fresh (rw c.if-is_empty.true at c.is_empty.ensures) in
     let log : Batches = c.self.inside.history.published in
     subst (λ (t : Taped). Contains (publications t.published) n ↔ Contains (publications t.published) n ⊎ (n ≡ length (tape_of t)))
     c.self.view_is
@@ -21,7 +21,7 @@ returns-then-is_empty-clause-publications g c n =
 
 pub close-requires-clause-room : goal.close-requires-clause-room
 close-requires-clause-room g c =
-    let some : 0 < length c.self.inside.fresh.items = search rules in
+    let some : 0 < length c.self.inside.fresh = rw c.if-is_empty.false at c.is_empty.ensures in
     let short = batch_room _ _ _ _ _ _ c.self.invariant.1 in
     omega (arith, some, short.0)
 
@@ -30,13 +30,21 @@ replace_with-requires g c = (
   c.self.invariant.0.idle,
   follows _ _ _ _ _ _ _ _ c.self.invariant.0 c.self.invariant.1
       (c.token.ensures.book ∙ ap (λ (h : Chronicle). h.opening) c.close.ensures)
-      (c.token.ensures.log ∙ ap (λ (h : Chronicle). h.published) c.close.ensures) (ap (λ v. v.items) c.replace.ensures.value),
+      (c.token.ensures.log ∙ ap (λ (h : Chronicle). h.published) c.close.ensures
+      ∙ ap (λ (lent : List Change). c.self.inside.history.published ++ lent ∷ []) c.lend-changes.ensures) c.lend-changes.ensures,
 )
 
 pub invariant_of-self : goal.invariant_of-self
 invariant_of-self g c =
-    let some : 0 < length c.self.inside.fresh.items = search rules in
-    let fresh : c.replace.new.dest.items ≡ [] = ap (λ v. v.items) c.replace.ensures.after ∙ c.new.ensures.items in
+    let some : 0 < length c.self.inside.fresh = rw c.if-is_empty.false at c.is_empty.ensures in
+    let closed : c.close.new.self ≡ record c.self.inside.history {
+      published = c.self.inside.history.published ++ c.self.inside.fresh ∷ [];
+      is_open = false;
+    } = c.close.ensures ∙ ap (λ (lent : List Change). record c.self.inside.history {
+      published = c.self.inside.history.published ++ lent ∷ [];
+      is_open = false;
+    }) c.lend-changes.ensures in
+    let fresh : c.begin.new.self ≡ [] = c.begin.ensures in
     let count : c.len.result ≡ length c.self.inside.tape.items = search rules in
     let seen : c.replace_with.new.dest.desk.shown.value.seen ≡ c.token.result = c.replace_with.ensures.1.0 in
     let sizes : c.replace_with.new.dest.desk.shown.value.boards.sizes ≡ c.self.inside.writer.desk.shown.value.boards.sizes =
@@ -46,21 +54,24 @@ invariant_of-self g c =
         log = ap (λ s. s.log) seen ∙ c.token.ensures.log;
         idle = c.replace_with.ensures.0;
       },
-      rw (sizes, fresh, count) (taped_close _ _ _ _ _ _ _ c.self.invariant.1 some c.close.ensures),
+      rw (sizes, fresh, count) (taped_close _ _ _ _ _ _ _ c.self.invariant.1 some closed),
     )
 
 pub returns-clause-whole : goal.returns-clause-whole
 returns-clause-whole g c =
-    ap (λ (h : Chronicle). changes h.published) c.close.ensures ∙ changes-push c.self.inside.history.published c.self.inside.fresh.items
+    ap (λ (h : Chronicle). changes h.published) c.close.ensures
+    ∙ ap (λ (lent : List Change). changes (c.self.inside.history.published ++ lent ∷ [])) c.lend-changes.ensures
+    ∙ changes-push c.self.inside.history.published c.self.inside.fresh
     ∙ ap tape_of c.self.view_is
 
 pub returns-clause-publications : goal.returns-clause-publications
 returns-clause-publications g c n =
-    let some : 0 < length c.self.inside.fresh.items = search rules in
+    let some : 0 < length c.self.inside.fresh = rw c.if-is_empty.false at c.is_empty.ensures in
     let log : Batches = c.self.inside.history.published in
-    let pending : List Change = c.self.inside.fresh.items in
-    let now : committed log pending ≡ c.close.new.self.published = committed_some log pending some
-    ∙ sym (ap (λ (h : Chronicle). h.published) c.close.ensures) in
+    let pending : List Change = c.self.inside.fresh in
+    let closed : c.close.new.self.published ≡ log ++ pending ∷ [] = ap (λ (h : Chronicle). h.published) c.close.ensures
+    ∙ ap (λ (lent : List Change). log ++ lent ∷ []) c.lend-changes.ensures in
+    let now : committed log pending ≡ c.close.new.self.published = committed_some log pending some ∙ sym closed in
     subst (λ (t : Taped). Contains (publications c.close.new.self.published) n ↔ Contains (publications t.published) n
     ⊎ (n ≡ length (tape_of t))) c.self.view_is
     (subst (λ (b : Batches). Contains (publications b) n ↔ Contains (publications log) n ⊎ (n ≡ length (changes log ++ pending))) now
