@@ -1,0 +1,309 @@
+//! The records of a script, of a file of changes or of orders, and of a feed, explained.
+use crate::expectation::{expected_field, layout_of};
+use crate::explain_fault::ExplainFault;
+use crate::hints::{hint_of, hint_of_feed, parted_number};
+use crate::line_count::LineCount;
+use crate::record_source::{RecordSource, RecordText};
+use crate::refusal::{Refusal, tell_refusal};
+use crate::span::{Point, Span, name_span, open_quote, point_at, span_of};
+use crate::tally::{Tally, tell_remark};
+use nms_fees::Setup;
+use nms_lines::{ByteRecord, LineFault, Reader, Reading, open_records, read_line, read_next};
+use nms_places::{Counts, FieldName, FieldPlace, Place, kind_of, place_of, text_at, unknown_name};
+use nms_quote::{Feed, Roster};
+use nms_show::{Ending, Form, Item};
+use std::alloc::Global;
+use std::io::{Read, Write};
+
+/// What is asked for.
+#[derive(Clone, Copy)]
+struct Asked<'a> {
+    alloc: Global,
+    roster: &'a Roster,
+    file: &'a str,
+    from: Reading,
+    form: Form,
+}
+
+/// Tells each refused record of a script, and whether anything was published. It does nothing that the script asks for,
+/// so that what a full queue or a full tape would refuse is not told.
+///
+/// The answers are not flushed. At a fault what was told before stands.
+pub fn explain_script<R: Read + Drop, W: Write>(
+    alloc: Global,
+    setup: &Setup,
+    file: &str,
+    source: R,
+    form: Form,
+    answers: &mut W,
+) -> Result<Ending, ExplainFault> {
+    let from = Reading::Script {
+        desks: setup.desks(),
+    };
+    let tally = explain_file(alloc, setup, file, source, from, form, answers)?;
+    if !tally.publishes {
+        let remark = "nothing was published: no record `F` and no record `P` was taken";
+        tell_remark(alloc, file, form, remark, answers).map_err(ExplainFault::Show)?;
+    }
+    Ok(ending_of(&tally))
+}
+
+/// Tells each refused record of a file of changes, as `explain_script` does.
+pub fn explain_changes<R: Read + Drop, W: Write>(
+    alloc: Global,
+    setup: &Setup,
+    file: &str,
+    source: R,
+    form: Form,
+    answers: &mut W,
+) -> Result<Ending, ExplainFault> {
+    let from = Reading::Changes;
+    let tally = explain_file(alloc, setup, file, source, from, form, answers)?;
+    Ok(ending_of(&tally))
+}
+
+/// Tells each refused record of a file of orders, as `explain_script` does.
+pub fn explain_orders<R: Read + Drop, W: Write>(
+    alloc: Global,
+    setup: &Setup,
+    file: &str,
+    source: R,
+    form: Form,
+    answers: &mut W,
+) -> Result<Ending, ExplainFault> {
+    let from = Reading::Orders {
+        desks: setup.desks(),
+    };
+    let tally = explain_file(alloc, setup, file, source, from, form, answers)?;
+    Ok(ending_of(&tally))
+}
+
+/// Tells each refused record of the file of a feed, and whether all of them are of other feeds.
+pub fn explain_feed<R: Read + Drop, W: Write>(
+    alloc: Global,
+    setup: &Setup,
+    feed: Feed,
+    file: &str,
+    source: R,
+    form: Form,
+    answers: &mut W,
+) -> Result<Ending, ExplainFault> {
+    let from = Reading::FromFeed(feed);
+    let tally = explain_file(alloc, setup, file, source, from, form, answers)?;
+    if tally.records > 0 && tally.count(LineFault::WrongFeed) == tally.records {
+        let remark = if setup.feeds() > 2 {
+            "each record's participant is on another feed: swapped?"
+        } else {
+            "each record's participant is on the other feed: swapped?"
+        };
+        tell_remark(alloc, file, form, remark, answers).map_err(ExplainFault::Show)?;
+    }
+    Ok(ending_of(&tally))
+}
+
+/// How a file ends of which so many records were refused.
+fn ending_of(tally: &Tally) -> Ending {
+    if tally.refused > 0 {
+        Ending::Refused
+    } else {
+        Ending::Done
+    }
+}
+
+/// Tells each refused record of a file, and how many there were.
+fn explain_file<R: Read + Drop, W: Write>(
+    alloc: Global,
+    setup: &Setup,
+    file: &str,
+    source: R,
+    from: Reading,
+    form: Form,
+    answers: &mut W,
+) -> Result<Tally, ExplainFault> {
+    let asked = Asked {
+        alloc,
+        roster: setup.roster(),
+        file,
+        from,
+        form,
+    };
+    let mut tally = Tally::new();
+    let mut reader = open_records(alloc, RecordSource::new(source));
+    let mut row = ByteRecord::new(alloc);
+    explain_records(&mut tally, &asked, &mut reader, &mut row, answers)?;
+    tally
+        .tell(alloc, file, form, answers)
+        .map_err(ExplainFault::Show)?;
+    Ok(tally)
+}
+
+/// Tells each refused record that a reader gives, and counts all.
+fn explain_records<R: Read, W: Write>(
+    tally: &mut Tally,
+    asked: &Asked<'_>,
+    reader: &mut Reader<RecordSource<R>>,
+    row: &mut ByteRecord,
+    answers: &mut W,
+) -> Result<(), ExplainFault> {
+    for _ in 0..u64::MAX {
+        if !read_next(reader, row).map_err(ExplainFault::Record)? {
+            break;
+        }
+        match read_line(row, asked.roster, asked.from) {
+            Ok(line) => tally.take(&line),
+            Err(fault) => {
+                tally.refuse(fault);
+                tell_fault(asked, reader, tally.records, row, fault, answers)?;
+            }
+        }
+    }
+    Ok(())
+}
+
+/// Tells a refused record, the one of that number.
+fn tell_fault<R: Read, W: Write>(
+    asked: &Asked<'_>,
+    reader: &Reader<RecordSource<R>>,
+    number: u64,
+    row: &ByteRecord,
+    fault: LineFault,
+    answers: &mut W,
+) -> Result<(), ExplainFault> {
+    let record = record_of(reader, row);
+    let refusal = refusal_of(asked, record, number, row, fault);
+    tell_refusal(asked.alloc, asked.form, &refusal, answers).map_err(ExplainFault::Show)
+}
+
+/// The text of the record that a reader gave last, and its line.
+pub(crate) fn record_of<'a, R: Read>(
+    reader: &'a Reader<RecordSource<R>>,
+    row: &ByteRecord,
+) -> RecordText<'a> {
+    let before = match row.position() {
+        Some(position) => position.byte,
+        None => 0,
+    };
+    reader.get_ref().record(before, reader.position().byte)
+}
+
+/// What is said of a refused record.
+fn refusal_of<'a>(
+    asked: &Asked<'a>,
+    record: RecordText<'a>,
+    number: u64,
+    row: &'a ByteRecord,
+    fault: LineFault,
+) -> Refusal<'a> {
+    let RecordText { text, line } = record;
+    let finding = match place_of(row, fault) {
+        Place::Count => count_of(row, text),
+        Place::Field(at) => field_of(asked, text, row, fault, at),
+    };
+    let hint = match finding.field {
+        Some(at) if fault == LineFault::WrongFeed && at.name == FieldName::Participant => {
+            hint_of_feed(text_at(row, at.place), asked.roster)
+        }
+        _ => hint_of(fault, number, text, row),
+    };
+    Refusal {
+        file: asked.file,
+        number,
+        line,
+        text,
+        span: finding.span,
+        code: fault.code(),
+        field: finding.field,
+        found: finding.found,
+        expected: finding.expected,
+        hint,
+        quote: quote_at(text, line),
+    }
+}
+
+/// The place in the file of a quote that opens a field over a line end, in a record that begins on that line.
+pub(crate) fn quote_at(text: &[u8], line: u64) -> Option<Point> {
+    let at = open_quote(text)?;
+    Some(point_at(text, LineCount::at(line), at))
+}
+
+/// What was found where, and what is expected there.
+#[derive(Clone, Copy)]
+struct Finding<'a> {
+    field: Option<FieldPlace>,
+    span: Span,
+    found: Item<'a>,
+    expected: &'a str,
+}
+
+/// What is said of a record with another number of fields than its kind.
+fn count_of<'a>(row: &'a ByteRecord, text: &'a [u8]) -> Finding<'a> {
+    Finding {
+        field: None,
+        span: surplus_span(row, text),
+        found: Item::Number(row.len() as u64),
+        expected: layout_of(kind_of(row)),
+    }
+}
+
+/// Where a record has too many fields, or its end where it has too few: the quote that opens a field over a line end,
+/// the number that a comma parts, the comma that stands last, or else the fields behind the last that there may be.
+fn surplus_span(row: &ByteRecord, text: &[u8]) -> Span {
+    let end = text.len();
+    if let Some(start) = open_quote(text) {
+        return Span {
+            start,
+            end: start.saturating_add(1),
+        };
+    }
+    if let Some(place) = parted_number(row) {
+        return Span {
+            start: span_of(text, place).start,
+            end: span_of(text, place.saturating_add(1)).end,
+        };
+    }
+    let most = kind_of(row).map_or(0, |kind| Counts::of_kind(kind).most);
+    let start = span_of(text, most).start;
+    if start == end && row.len() > most {
+        return Span {
+            start: end.saturating_sub(1),
+            end,
+        };
+    }
+    Span { start, end }
+}
+
+/// What is said of a field.
+fn field_of<'a>(
+    asked: &Asked<'a>,
+    text: &'a [u8],
+    row: &'a ByteRecord,
+    fault: LineFault,
+    at: FieldPlace,
+) -> Finding<'a> {
+    let field = span_of(text, at.place);
+    let found = text_at(row, at.place);
+    let span = if at.name == FieldName::Names {
+        unknown_span(text, field, found, asked.roster)
+    } else {
+        field
+    };
+    let found = if at.name == FieldName::Names {
+        text.get(span.start..span.end).unwrap_or(&[])
+    } else {
+        found
+    };
+    Finding {
+        field: Some(at),
+        span,
+        found: Item::Bytes(found),
+        expected: expected_field(fault, at.name, asked.from),
+    }
+}
+
+/// Where the first name stands that is not on the roster, of those that a field joins.
+fn unknown_span(text: &[u8], field: Span, names: &[u8], roster: &Roster) -> Span {
+    match unknown_name(names, roster) {
+        Some(nth) => name_span(text, field, nth),
+        None => field,
+    }
+}

@@ -1,0 +1,108 @@
+//! What is expected where a record was refused.
+use nms_lines::{Kind, LineFault, Reading};
+use nms_places::FieldName;
+use nms_quote::Feed;
+
+/// What is expected of a field that was refused.
+pub(crate) fn expected_field(fault: LineFault, name: FieldName, from: Reading) -> &'static str {
+    match fault {
+        LineFault::UnknownKind => expected_kind(from),
+        LineFault::FieldCount => "as many fields as the kind has",
+        LineFault::UnknownParticipant => expected_participant(name),
+        LineFault::UnknownSymbol => "a symbol of the setup",
+        LineFault::BadState => expected_letter(name),
+        LineFault::BadPrice => expected_price(name),
+        LineFault::BadShares => expected_shares(name),
+        LineFault::HalfSide => expected_half(name),
+        LineFault::WrongFeed => expected_sender(name, from),
+        LineFault::BadDesk => "a desk: 1 or 2 digits, below the setup's number of desks",
+        LineFault::BadLot => "a round lot: 1 to 4 digits, from 1 to 1000",
+    }
+}
+
+/// The kinds that come there.
+fn expected_kind(from: Reading) -> &'static str {
+    match from {
+        Reading::Script { .. } => "a kind of a script: Q, S, X, R, T, F, P, L, N, E or O",
+        Reading::FromFeed(_) | Reading::Changes => "a kind of a change: Q, S, X or R",
+        Reading::Orders { .. } => "the kind of an order: O",
+    }
+}
+
+fn expected_participant(name: FieldName) -> &'static str {
+    match name {
+        FieldName::Names => "participants of the setup, joined by one + each",
+        _ => "a participant of the setup",
+    }
+}
+
+fn expected_letter(name: FieldName) -> &'static str {
+    match name {
+        FieldName::Side => "B or S",
+        FieldName::Flag => "M, or nothing before an eighth field",
+        FieldName::Average => "AVG",
+        _ => "A, M or H",
+    }
+}
+
+fn expected_price(name: FieldName) -> &'static str {
+    match name {
+        FieldName::Bid | FieldName::Offer => {
+            "dollars: 1 to 7 digits, at most a point and 1 to 4 digits; zero only beside shares that are 0"
+        }
+        _ => "dollars above zero: 1 to 7 digits, at most a point and 1 to 4 digits",
+    }
+}
+
+fn expected_shares(name: FieldName) -> &'static str {
+    match name {
+        FieldName::Shares => "shares: 1 to 9 digits, at least 1",
+        _ => "shares: 1 to 9 digits",
+    }
+}
+
+fn expected_half(name: FieldName) -> &'static str {
+    match name {
+        FieldName::Bid | FieldName::Offer => "a price beside the shares, or neither",
+        _ => "shares beside the price, or neither",
+    }
+}
+
+fn expected_sender(name: FieldName, from: Reading) -> &'static str {
+    match (name, from) {
+        (FieldName::Kind, _) => "no round lot: these come on feed A",
+        (_, Reading::FromFeed(feed)) => participant_of(feed),
+        _ => "a participant of this feed",
+    }
+}
+
+fn participant_of(feed: Feed) -> &'static str {
+    match feed {
+        Feed::A => "a participant of feed A",
+        Feed::B => "a participant of feed B",
+        Feed::C => "a participant of feed C",
+        Feed::D => "a participant of feed D",
+        Feed::E => "a participant of feed E",
+        Feed::F => "a participant of feed F",
+        Feed::G => "a participant of feed G",
+        Feed::H => "a participant of feed H",
+    }
+}
+
+/// The fields of a record of the kind.
+pub(crate) fn layout_of(kind: Option<Kind>) -> &'static str {
+    match kind {
+        Some(Kind::Quote) => "8: Q,part,sym,state,bid,bidshares,offer,offershares",
+        Some(Kind::State) => "4: S,part,sym,state",
+        Some(Kind::Withdraw) => "2: X,part",
+        Some(Kind::Lot) => "3: R,sym,lot, or 4: R,sym,AVG,price",
+        Some(Kind::TakeOne) => "1: T",
+        Some(Kind::TakeAll) => "1: F",
+        Some(Kind::Publish) => "1: P",
+        Some(Kind::Tell) => "2: L,desk",
+        Some(Kind::Best) => "3: N,desk,sym",
+        Some(Kind::Through) => "4: E,desk,sym,price",
+        Some(Kind::Sweep) => "6 to 8: O,desk,side,sym,shares,limit, then a flag, then names",
+        None => "a kind",
+    }
+}

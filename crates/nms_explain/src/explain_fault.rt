@@ -1,0 +1,33 @@
+//! Why a file was not explained to its end.
+use nms_lines::RecordFault;
+use nms_show::ShowFault;
+use thiserror::Error;
+
+/// Why a file was not explained to its end. What was told before stands.
+#[derive(Clone, Copy, Debug, PartialEq, Eq, Error)]
+pub enum ExplainFault {
+    /// The file could not be read, or memory ran out: E1 or E4.
+    #[error("{0}")]
+    Record(#[from] RecordFault),
+    /// The answer could not be written, or memory ran out: E2 or E4.
+    #[error("{0}")]
+    Show(#[from] ShowFault),
+}
+
+impl ExplainFault {
+    /// The code of the fault, `E1`, `E2` or `E4`.
+    pub fn code(self) -> &'static str {
+        match self {
+            ExplainFault::Record(fault) => fault.code(),
+            ExplainFault::Show(fault) => fault.code(),
+        }
+    }
+
+    /// The exit status of a program that it ends: 1 for the file or the writer, 5 for memory.
+    pub fn status(self) -> u8 {
+        match self {
+            ExplainFault::Record(fault) => fault.status(),
+            ExplainFault::Show(fault) => fault.status(),
+        }
+    }
+}

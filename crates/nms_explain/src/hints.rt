@@ -1,0 +1,155 @@
+//! What a refused record looks like instead.
+use memchr::memchr;
+use nms_lines::{ByteRecord, LineFault};
+use nms_places::{Counts, kind_of, text_at};
+use nms_quote::{Feed, Roster};
+
+/// What a refused record looks like instead, where it looks like something.
+pub(crate) fn hint_of(
+    fault: LineFault,
+    number: u64,
+    text: &[u8],
+    row: &ByteRecord,
+) -> &'static str {
+    match fault {
+        LineFault::UnknownKind => hint_of_kind(number, text),
+        LineFault::FieldCount => hint_of_count(text, row),
+        _ => "",
+    }
+}
+
+/// What a record of no kind looks like, the first of a file more than any other.
+pub(crate) fn hint_of_kind(number: u64, text: &[u8]) -> &'static str {
+    if memchr(0, text).is_some() || text.starts_with(b"\xFF\xFE") || text.starts_with(b"\xFE\xFF") {
+        return "this looks like UTF-16: save the file as ASCII or UTF-8";
+    }
+    let first = text.split(|byte| *byte == b',').next().unwrap_or(&[]);
+    let by_word = hint_of_word(first);
+    if !by_word.is_empty() {
+        return by_word;
+    }
+    let by_mark = hint_of_marks(first);
+    if by_mark.is_empty() && number == 1 && is_word(first) {
+        return "this looks like a header row: there is none";
+    }
+    by_mark
+}
+
+/// What a record looks like that begins with a word.
+fn hint_of_word(first: &[u8]) -> &'static str {
+    match first {
+        b"PLAN" | b"LEG" | b"CUT" | b"END" =>
+            "this looks like the text of a plan: were files swapped?",
+        b"Q" | b"S" | b"X" | b"R" => "this looks like a file of changes: were files swapped?",
+        b"O" => "this looks like a file of orders: were files swapped?",
+        b"L" | b"N" | b"E" | b"T" | b"F" | b"P" =>
+            "this looks like a script: only a script has this kind",
+        b"PUB" | b"TOLD" | b"BEST" | b"THRU" | b"ROW" | b"ERR" | b"TAPE" | b"ANSWER" => {
+            "this looks like the answers of a run: were files swapped?"
+        }
+        [b'a'..=b'z'] => "kinds are capital letters",
+        _ => "",
+    }
+}
+
+/// What a record looks like by the marks that stand before its first comma.
+fn hint_of_marks(first: &[u8]) -> &'static str {
+    match first {
+        [b'#' | b'/' | b'-' | b'*', ..] => "this looks like a comment: there are none",
+        [b'{', ..] => "this looks like JSON: records are fields between commas",
+        [b'[', ..] => "this looks like a setup: were files swapped?",
+        [b' ', ..] => "no space may stand before a kind",
+        _ if memchr(b'\t', first).is_some() => "tabs stand between the fields: commas are expected",
+        _ if memchr(b';', first).is_some() =>
+            "semicolons stand between the fields: commas are expected",
+        _ if memchr(b'=', first).is_some() => "this looks like a setup: were files swapped?",
+        _ => "",
+    }
+}
+
+/// Whether a text is a word of two letters or more.
+fn is_word(text: &[u8]) -> bool {
+    text.len() > 1
+        && text
+            .iter()
+            .all(|byte| byte.is_ascii_alphabetic() || *byte == b'_')
+}
+
+/// Why a record may have another number of fields.
+fn hint_of_count(text: &[u8], row: &ByteRecord) -> &'static str {
+    if parted_number(row).is_some() {
+        return "a comma within a number parts it in two: write numbers without separators";
+    }
+    if text.last() == Some(&b',') && has_more(row) {
+        return "a comma too many stands at the end";
+    }
+    if memchr(b';', text).is_some() {
+        return "a semicolon stands in this record: commas are expected";
+    }
+    ""
+}
+
+/// Whether a record has more fields than its kind.
+fn has_more(row: &ByteRecord) -> bool {
+    surplus(row) > 0
+}
+
+/// How many fields a record has more than its kind.
+fn surplus(row: &ByteRecord) -> usize {
+    match kind_of(row) {
+        Some(kind) => row.len().saturating_sub(Counts::of_kind(kind).most),
+        None => 0,
+    }
+}
+
+/// How many fields stand before a number that a comma parts in two, as in `1,000.00`, where numbers parted like this are
+/// what the record has too many fields by.
+pub(crate) fn parted_number(row: &ByteRecord) -> Option<usize> {
+    let mut first = None;
+    let mut count: usize = 0;
+    let mut is_free = true;
+    for place in 1..row.len() {
+        let begins = is_free && is_head(text_at(row, place - 1)) && is_tail(text_at(row, place));
+        if begins {
+            first = first.or(Some(place - 1));
+            count = count.saturating_add(1);
+        }
+        is_free = !begins;
+    }
+    if count > 0 && count == surplus(row) {
+        first
+    } else {
+        None
+    }
+}
+
+/// Whether a text may be what stands before a comma within a number: 1 to 3 digits.
+fn is_head(text: &[u8]) -> bool {
+    !text.is_empty() && text.len() <= 3 && text.iter().all(|byte| byte.is_ascii_digit())
+}
+
+/// Whether a text may be what stands behind a comma within a number: 3 digits, and a point or nothing.
+fn is_tail(text: &[u8]) -> bool {
+    match text {
+        [b'0'..=b'9', b'0'..=b'9', b'0'..=b'9'] => true,
+        [b'0'..=b'9', b'0'..=b'9', b'0'..=b'9', b'.', ..] => true,
+        _ => false,
+    }
+}
+
+/// On which feed a participant sends.
+pub(crate) fn hint_of_feed(name: &[u8], roster: &Roster) -> &'static str {
+    let Some(part) = roster.find_part(name) else {
+        return "";
+    };
+    match roster.feed_of(part) {
+        Feed::A => "it sends on feed A",
+        Feed::B => "it sends on feed B",
+        Feed::C => "it sends on feed C",
+        Feed::D => "it sends on feed D",
+        Feed::E => "it sends on feed E",
+        Feed::F => "it sends on feed F",
+        Feed::G => "it sends on feed G",
+        Feed::H => "it sends on feed H",
+    }
+}

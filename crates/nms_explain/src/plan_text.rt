@@ -1,0 +1,248 @@
+//! The text of a plan, explained.
+use crate::changes::{quote_at, record_of};
+use crate::explain_fault::ExplainFault;
+use crate::hints::hint_of_kind;
+use crate::record_source::{RecordSource, RecordText};
+use crate::refusal::{Refusal, tell_missing, tell_refusal};
+use crate::span::{Point, Span, span_of};
+use crate::tally::{tell_count, tell_counts};
+use nms_fees::Setup;
+use nms_lines::{ByteRecord, Reader, open_records, read_next};
+use nms_places::{FieldName, FieldPlace, Place, PlanDue, PlanTrouble, PlanWalk, text_at};
+use nms_quote::Roster;
+use nms_show::{Ending, Form, Item, ShowFault};
+use std::alloc::Global;
+use std::io::{Read, Write};
+
+/// The code of a text that is no plan's.
+const CODE: &str = "L11";
+
+/// What is asked for.
+#[derive(Clone, Copy)]
+struct Asked<'a> {
+    alloc: Global,
+    roster: &'a Roster,
+    file: &'a str,
+    form: Form,
+}
+
+/// What came of the records of a plan's text so far.
+#[derive(Clone, Copy, Debug, PartialEq, Eq)]
+struct Came {
+    walk: PlanWalk,
+    records: u64,
+    refused: u64,
+}
+
+/// Tells each record of a plan's text that does not say what a plan says where it stands: its own field, or that another
+/// record is due. The text is a plan's where nothing is told.
+///
+/// The answers are not flushed. At a fault what was told before stands.
+pub fn explain_plan<W: Write>(
+    alloc: Global,
+    setup: &Setup,
+    file: &str,
+    text: &[u8],
+    form: Form,
+    answers: &mut W,
+) -> Result<Ending, ExplainFault> {
+    let asked = Asked {
+        alloc,
+        roster: setup.roster(),
+        file,
+        form,
+    };
+    let mut came = Came {
+        walk: PlanWalk::new(),
+        records: 0,
+        refused: 0,
+    };
+    let mut reader = open_records(alloc, RecordSource::new(text));
+    let mut row = ByteRecord::new(alloc);
+    explain_records(&mut came, &asked, &mut reader, &mut row, answers)?;
+    tell_end(&came, &asked, reader.get_ref().end(), answers).map_err(ExplainFault::Show)
+}
+
+/// Tells each wrong record that a reader gives.
+fn explain_records<R: Read, W: Write>(
+    came: &mut Came,
+    asked: &Asked<'_>,
+    reader: &mut Reader<RecordSource<R>>,
+    row: &mut ByteRecord,
+    answers: &mut W,
+) -> Result<(), ExplainFault> {
+    for _ in 0..u64::MAX {
+        if !read_next(reader, row).map_err(ExplainFault::Record)? {
+            break;
+        }
+        let due = came.walk.due;
+        came.records = came.records.saturating_add(1);
+        if let Some(trouble) = came.walk.next(row, asked.roster) {
+            came.refused = came.refused.saturating_add(1);
+            tell_trouble(asked, reader, came.records, row, due, trouble, answers)?;
+        }
+    }
+    Ok(())
+}
+
+/// Tells a wrong record, the one of that number.
+fn tell_trouble<R: Read, W: Write>(
+    asked: &Asked<'_>,
+    reader: &Reader<RecordSource<R>>,
+    number: u64,
+    row: &ByteRecord,
+    due: PlanDue,
+    trouble: PlanTrouble,
+    answers: &mut W,
+) -> Result<(), ExplainFault> {
+    let record = record_of(reader, row);
+    let refusal = refusal_of(asked, record, number, row, due, trouble);
+    tell_refusal(asked.alloc, asked.form, &refusal, answers).map_err(ExplainFault::Show)
+}
+
+/// Tells which record is missing where the text ends, and how many there were.
+fn tell_end<W: Write>(
+    came: &Came,
+    asked: &Asked<'_>,
+    end: Point,
+    answers: &mut W,
+) -> Result<Ending, ShowFault> {
+    let Asked {
+        alloc,
+        file,
+        form,
+        ..
+    } = *asked;
+    let missing = missing_at(came.walk.due);
+    if !missing.is_empty() {
+        tell_missing(alloc, form, file, end, CODE, missing, answers)?;
+    }
+    tell_counts(alloc, file, form, came.records, came.refused, answers)?;
+    if came.refused > 0 {
+        tell_count(alloc, file, form, CODE, came.refused, answers)?;
+    }
+    if came.refused == 0 && missing.is_empty() {
+        Ok(Ending::Done)
+    } else {
+        Ok(Ending::Refused)
+    }
+}
+
+/// Which record is missing where the records of a plan's text end.
+fn missing_at(due: PlanDue) -> &'static str {
+    match due {
+        PlanDue::Plan => "PLAN",
+        PlanDue::Leg => "LEG, CUT or END",
+        PlanDue::Cut => "CUT or END",
+        PlanDue::Nothing => "",
+    }
+}
+
+/// What is said of a wrong record.
+fn refusal_of<'a>(
+    asked: &Asked<'a>,
+    record: RecordText<'a>,
+    number: u64,
+    row: &'a ByteRecord,
+    due: PlanDue,
+    trouble: PlanTrouble,
+) -> Refusal<'a> {
+    let RecordText { text, line } = record;
+    let (field, expected) = match trouble {
+        PlanTrouble::TooMany => (Some(first_field()), "at most 32 legs and 32 cuts"),
+        PlanTrouble::Wrong(Place::Count) => (None, layout_of(text_at(row, 0))),
+        PlanTrouble::Wrong(Place::Field(at)) => (Some(at), expected_of(due, at.name)),
+    };
+    let (span, found) = match field {
+        Some(at) => (span_of(text, at.place), Item::Bytes(text_at(row, at.place))),
+        None => (whole(text), Item::Number(row.len() as u64)),
+    };
+    Refusal {
+        file: asked.file,
+        number,
+        line,
+        text,
+        span,
+        code: CODE,
+        field,
+        found,
+        expected,
+        hint: hint_for(due, number, text),
+        quote: quote_at(text, line),
+    }
+}
+
+/// All of a record.
+fn whole(text: &[u8]) -> Span {
+    Span {
+        start: 0,
+        end: text.len(),
+    }
+}
+
+/// What the first record looks like instead of a plan's, and a record behind the end.
+fn hint_for(due: PlanDue, number: u64, text: &[u8]) -> &'static str {
+    match due {
+        PlanDue::Plan if !text.starts_with(b"PLAN,") => hint_of_kind(number, text),
+        PlanDue::Nothing => "a file has one plan alone, from PLAN to END",
+        _ => "",
+    }
+}
+
+/// The first field of a record.
+fn first_field() -> FieldPlace {
+    FieldPlace {
+        place: 0,
+        name: FieldName::Kind,
+    }
+}
+
+/// The fields of a record that begins with a word.
+fn layout_of(word: &[u8]) -> &'static str {
+    match word {
+        b"PLAN" =>
+            "9: PLAN,version,side,sym,shares,limit,flag,filled,cost, or 10: names behind them",
+        b"LEG" => "4: LEG,part,price,shares",
+        b"CUT" => "4: CUT,price,kind,value",
+        _ => "1: END",
+    }
+}
+
+/// What is expected of a field.
+fn expected_of(due: PlanDue, name: FieldName) -> &'static str {
+    match name {
+        FieldName::Kind => expected_word(due),
+        FieldName::Version => "a version: 1 to 8 digits",
+        FieldName::Side => "B or S",
+        FieldName::Symbol => "a symbol of the setup",
+        FieldName::Participant => "a participant of the setup",
+        FieldName::Names => "participants of the setup, joined by one + each",
+        FieldName::Limit | FieldName::Price => {
+            "dollars above zero: 1 to 7 digits, at most a point and 1 to 4 digits"
+        }
+        FieldName::Flag => "M, or nothing",
+        FieldName::Cost =>
+            "money: digits, a point and nine digits, with a minus where money is received",
+        FieldName::Says => "TOOMUCH, TOOLITTLE or MARGINAL",
+        FieldName::Value => "money behind MARGINAL, nothing behind TOOMUCH and TOOLITTLE",
+        _ => expected_shares(due, name),
+    }
+}
+
+/// What is expected of a field of shares.
+fn expected_shares(due: PlanDue, name: FieldName) -> &'static str {
+    match (due, name) {
+        (PlanDue::Plan, FieldName::Shares) => "shares: 1 to 9 digits, at least 1",
+        _ => "shares: 1 to 9 digits",
+    }
+}
+
+/// The word that a record has to begin with.
+fn expected_word(due: PlanDue) -> &'static str {
+    match due {
+        PlanDue::Plan => "PLAN",
+        PlanDue::Leg => "LEG, CUT or END",
+        PlanDue::Cut => "CUT or END",
+        PlanDue::Nothing => "nothing behind END",
+    }
+}

@@ -1,0 +1,99 @@
+//! Where a field stands in the text of its record, and where that is in the file.
+use crate::line_count::LineCount;
+use crate::scan::Quoting;
+use memchr::memrchr2;
+
+/// Where something stands in the text of a record: its first byte, and the one behind its last.
+#[derive(Clone, Copy, Debug, PartialEq, Eq)]
+pub(crate) struct Span {
+    pub(crate) start: usize,
+    pub(crate) end: usize,
+}
+
+/// A place in a file.
+#[derive(Clone, Copy, Debug, PartialEq, Eq)]
+pub(crate) struct Point {
+    /// The line, from 1.
+    pub(crate) line: u64,
+    /// The column, a byte of the line, from 1.
+    pub(crate) column: u64,
+}
+
+/// Where the field behind so many others stands, with its quotes; the end of the text where it has fewer.
+pub(crate) fn span_of(text: &[u8], place: usize) -> Span {
+    let mut quoting = Quoting::Start;
+    let mut start = 0;
+    let mut passed = 0;
+    for at in 0..text.len() {
+        let within = quoting == Quoting::Within;
+        quoting = quoting.behind(text[at]);
+        if text[at] == b',' && !within {
+            if passed == place {
+                return Span { start, end: at };
+            }
+            passed = passed.saturating_add(1);
+            start = at + 1;
+        }
+    }
+    let end = text.len();
+    if passed == place {
+        Span { start, end }
+    } else {
+        Span { start: end, end }
+    }
+}
+
+/// Where the first quote stands that opens a field which goes on over a line end, or to the end of the text.
+pub(crate) fn open_quote(text: &[u8]) -> Option<usize> {
+    let mut quoting = Quoting::Start;
+    let mut opened = 0;
+    for at in 0..text.len() {
+        let next = quoting.behind(text[at]);
+        if next == Quoting::Within {
+            if quoting == Quoting::Start {
+                opened = at;
+            }
+            if text[at] == b'\n' || text[at] == b'\r' {
+                return Some(opened);
+            }
+        }
+        quoting = next;
+    }
+    if quoting == Quoting::Within {
+        Some(opened)
+    } else {
+        None
+    }
+}
+
+/// The place in the file of a byte of a text that begins at the start of a line, with the lines before it.
+pub(crate) fn point_at(text: &[u8], lines: LineCount, at: usize) -> Point {
+    let before = text.get(..at).unwrap_or(text);
+    let in_line = match memrchr2(b'\n', b'\r', before) {
+        Some(last) => before.len().saturating_sub(last),
+        None => before.len().saturating_add(1),
+    };
+    Point {
+        line: lines.behind(before).line,
+        column: in_line as u64,
+    }
+}
+
+/// Where the name behind so many others stands, of those that a field joins by `+`.
+pub(crate) fn name_span(text: &[u8], field: Span, nth: usize) -> Span {
+    let mut start = field.start;
+    let mut passed = 0;
+    for at in field.start..field.end.min(text.len()) {
+        if text[at] == b'+' {
+            if passed == nth {
+                return Span { start, end: at };
+            }
+            passed = passed.saturating_add(1);
+            start = at + 1;
+        }
+    }
+    Span {
+        start,
+        end: field.end,
+    }
+}

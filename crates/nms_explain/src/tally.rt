@@ -1,0 +1,192 @@
+//! How many records were read, and how many were refused by each code.
+ghost use Rattle.std.specs.Prelude.{◌<◌};
+
+use nms_lines::{Line, LineFault};
+use nms_show::{Form, Item, ShowFault, write_line, write_object};
+use std::alloc::Global;
+use std::io::Write;
+
+/// The faults of a record, in the order of their codes.
+const FAULTS: [LineFault; 11] = [
+    LineFault::UnknownKind,
+    LineFault::FieldCount,
+    LineFault::UnknownParticipant,
+    LineFault::UnknownSymbol,
+    LineFault::BadState,
+    LineFault::BadPrice,
+    LineFault::BadShares,
+    LineFault::HalfSide,
+    LineFault::WrongFeed,
+    LineFault::BadDesk,
+    LineFault::BadLot,
+];
+
+/// What came of the records so far.
+#[derive(Clone, Copy, Debug, PartialEq, Eq)]
+pub(crate) struct Tally {
+    /// How many there were.
+    pub(crate) records: u64,
+    /// How many of them were refused.
+    pub(crate) refused: u64,
+    /// Whether one of them publishes.
+    pub(crate) publishes: bool,
+    by_fault: [u64; 11],
+}
+
+impl Tally {
+    /// Before the first record.
+    pub(crate) fn new() -> Self {
+        Tally {
+            records: 0,
+            refused: 0,
+            publishes: false,
+            by_fault: [0; 11],
+        }
+    }
+
+    /// Counts a record that was taken.
+    pub(crate) fn take(&mut self, line: &Line) {
+        self.records = self.records.saturating_add(1);
+        if matches!(*line, Line::TakeAll | Line::Publish) {
+            self.publishes = true;
+        }
+    }
+
+    /// Counts a refused record.
+    pub(crate) fn refuse(&mut self, fault: LineFault) {
+        self.records = self.records.saturating_add(1);
+        self.refused = self.refused.saturating_add(1);
+        let count = &mut self.by_fault[place_of_fault(fault)];
+        *count = count.saturating_add(1);
+    }
+
+    /// How many records were refused by a fault.
+    pub(crate) fn count(&self, fault: LineFault) -> u64 {
+        self.by_fault[place_of_fault(fault)]
+    }
+
+    /// Writes how many records there were, and how many were refused by each code.
+    pub(crate) fn tell<W: Write>(
+        &self,
+        alloc: Global,
+        file: &str,
+        form: Form,
+        answers: &mut W,
+    ) -> Result<(), ShowFault> {
+        tell_counts(alloc, file, form, self.records, self.refused, answers)?;
+        for fault in FAULTS {
+            let count = self.count(fault);
+            if count > 0 {
+                tell_count(alloc, file, form, fault.code(), count, answers)?;
+            }
+        }
+        Ok(())
+    }
+}
+
+/// The place of a fault among the faults, from 0.
+fn place_of_fault(fault: LineFault) -> usize
+    ensures { result < 11 }
+{
+    match fault {
+        LineFault::UnknownKind => 0,
+        LineFault::FieldCount => 1,
+        LineFault::UnknownParticipant => 2,
+        LineFault::UnknownSymbol => 3,
+        LineFault::BadState => 4,
+        LineFault::BadPrice => 5,
+        LineFault::BadShares => 6,
+        LineFault::HalfSide => 7,
+        LineFault::WrongFeed => 8,
+        LineFault::BadDesk => 9,
+        LineFault::BadLot => 10,
+    }
+}
+
+/// Writes how many records a file has, and how many of them were refused.
+pub(crate) fn tell_counts<W: Write>(
+    alloc: Global,
+    file: &str,
+    form: Form,
+    records: u64,
+    refused: u64,
+    answers: &mut W,
+) -> Result<(), ShowFault> {
+    if form.is_json() {
+        return write_object(
+            alloc,
+            answers,
+            &[
+                ("what", Item::Text("summary")),
+                ("file", Item::Bytes(file.as_bytes())),
+                ("records", Item::Number(records)),
+                ("refused", Item::Number(refused)),
+            ],
+        );
+    }
+    let items = [
+        Item::Bytes(file.as_bytes()),
+        Item::Text(": records: "),
+        Item::Number(records),
+        Item::Text("; refused: "),
+        Item::Number(refused),
+    ];
+    write_line(answers, form, &items)
+}
+
+/// Writes how many records were refused by a code.
+pub(crate) fn tell_count<'a, W: Write>(
+    alloc: Global,
+    file: &'a str,
+    form: Form,
+    code: &'a str,
+    count: u64,
+    answers: &mut W,
+) -> Result<(), ShowFault> {
+    if form.is_json() {
+        return write_object(
+            alloc,
+            answers,
+            &[
+                ("what", Item::Text("count")),
+                ("file", Item::Bytes(file.as_bytes())),
+                ("code", Item::Text(code)),
+                ("records", Item::Number(count)),
+            ],
+        );
+    }
+    let items = [
+        Item::Text("    "),
+        Item::Text(code),
+        Item::Text(": "),
+        Item::Number(count),
+    ];
+    write_line(answers, form, &items)
+}
+
+/// Writes a remark on the whole file.
+pub(crate) fn tell_remark<'a, W: Write>(
+    alloc: Global,
+    file: &'a str,
+    form: Form,
+    remark: &'a str,
+    answers: &mut W,
+) -> Result<(), ShowFault> {
+    if form.is_json() {
+        return write_object(
+            alloc,
+            answers,
+            &[
+                ("what", Item::Text("remark")),
+                ("file", Item::Bytes(file.as_bytes())),
+                ("remark", Item::Text(remark)),
+            ],
+        );
+    }
+    let items = [
+        Item::Bytes(file.as_bytes()),
+        Item::Text(": "),
+        Item::Text(remark),
+    ];
+    write_line(answers, form, &items)
+}
