@@ -3,6 +3,7 @@
 use crate::day::{Day, Span};
 use crate::picture::put;
 use crate::scale::Scale;
+use nms_quote::Side;
 use nms_show::{Item, ShowFault};
 use std::io::Write;
 
@@ -21,96 +22,72 @@ pub(crate) fn write_curves<W: Write>(
     answers: &mut W,
 ) -> Result<(), ShowFault> {
     put(answers, &[Item::Text(OFFER)])?;
-    write_offers(day, scale, answers)?;
+    write_curve(day, scale, Side::Offer, answers)?;
     put(answers, &[Item::Text(HOLLOW), Item::Text(BID)])?;
-    write_bids(day, scale, answers)?;
+    write_curve(day, scale, Side::Bid, answers)?;
     put(answers, &[Item::Text("\"/>")])
 }
 
-/// Writes the steps of the best offer.
-fn write_offers<W: Write>(day: &Day, scale: &Scale, answers: &mut W) -> Result<(), ShowFault> {
-    let mut was = 0;
-    for (column, place) in day.columns.iter().zip(0..u64::MAX) {
-        write_span(&column.offer, scale, place, was, answers)?;
-        was = column.offer.last;
-    }
-    Ok(())
-}
-
-/// Writes the steps of the best bid.
-fn write_bids<W: Write>(day: &Day, scale: &Scale, answers: &mut W) -> Result<(), ShowFault> {
-    let mut was = 0;
-    for (column, place) in day.columns.iter().zip(0..u64::MAX) {
-        write_span(&column.bid, scale, place, was, answers)?;
-        was = column.bid.last;
-    }
-    Ok(())
-}
-
-/// Writes what a side shows within a column, behind one that ended with the price `was`, 0 for none.
-fn write_span<W: Write>(
-    span: &Span,
+/// Writes the steps of a side.
+fn write_curve<W: Write>(
+    day: &Day,
     scale: &Scale,
-    place: u64,
-    was: u64,
+    side: Side,
     answers: &mut W,
 ) -> Result<(), ShowFault> {
-    if span.low == 0 {
-        return Ok(());
+    let mut was = 0;
+    let mut end = 0_u64;
+    for column in &day.columns {
+        let span = column.span(side);
+        if was != span.first {
+            turn(scale, end, was, span.first, answers)?;
+        }
+        end = end.saturating_add(1);
+        write_within(&span, scale, end, answers)?;
+        was = span.last;
     }
-    begin_span(span, scale, place, was, answers)?;
+    turn(scale, end, was, 0, answers)
+}
+
+/// Goes on to a column, and there from the price before to another one, each 0 for none.
+fn turn<W: Write>(
+    scale: &Scale,
+    column: u64,
+    was: u64,
+    price: u64,
+    answers: &mut W,
+) -> Result<(), ShowFault> {
+    let x = Item::Number(scale.column(column));
+    let y = Item::Number(scale.down(price));
+    match (was, price) {
+        (0, 0) => Ok(()),
+        (0, _) => put(answers, &[Item::Text("M"), x, Item::Text(" "), y]),
+        (_, 0) => put(answers, &[Item::Text("H"), x]),
+        _ => put(answers, &[Item::Text("H"), x, Item::Text("V"), y]),
+    }
+}
+
+/// Writes what a side shows within a column with several prices: up to the highest, down to the lowest, to the last one;
+/// and to the column's end where there is none then.
+fn write_within<W: Write>(
+    span: &Span,
+    scale: &Scale,
+    end: u64,
+    answers: &mut W,
+) -> Result<(), ShowFault> {
     if span.low != span.high {
-        put(
-            answers,
-            &[
-                Item::Text("V"),
-                Item::Number(scale.down(span.high)),
-                Item::Text("V"),
-                Item::Number(scale.down(span.low)),
-            ],
-        )?;
+        let high = Item::Number(scale.down(span.high));
+        let low = Item::Number(scale.down(span.low));
+        put(answers, &[Item::Text("V"), high, Item::Text("V"), low])?;
     }
-    end_span(span, scale, place, answers)
-}
-
-/// Goes on from the column before, or begins where that ended with nothing.
-fn begin_span<W: Write>(
-    span: &Span,
-    scale: &Scale,
-    place: u64,
-    was: u64,
-    answers: &mut W,
-) -> Result<(), ShowFault> {
-    let y = Item::Number(scale.down(span.first));
-    if was == span.first {
-        Ok(())
-    } else if was > 0 {
-        put(answers, &[Item::Text("V"), y])
-    } else {
+    if span.last == 0 && span.low > 0 {
+        put(answers, &[Item::Text("H"), Item::Number(scale.column(end))])
+    } else if span.low != span.high {
         put(
             answers,
-            &[
-                Item::Text("M"),
-                Item::Number(scale.column(place)),
-                Item::Text(" "),
-                y,
-            ],
+            &[Item::Text("V"), Item::Number(scale.down(span.last))],
         )
-    }
-}
-
-/// Goes to the column's end, at its last price where it has one then.
-fn end_span<W: Write>(
-    span: &Span,
-    scale: &Scale,
-    place: u64,
-    answers: &mut W,
-) -> Result<(), ShowFault> {
-    let end = Item::Number(scale.column(place.saturating_add(1)));
-    if span.low == span.high || span.last == 0 {
-        put(answers, &[Item::Text("H"), end])
     } else {
-        let last = Item::Number(scale.down(span.last));
-        put(answers, &[Item::Text("V"), last, Item::Text("H"), end])
+        Ok(())
     }
 }

@@ -1,7 +1,7 @@
 //! A symbol's day in at most 1,500 columns, each with all that its versions show.
 use nms_board::Boards;
 use nms_nbbo::{Market, market_between};
-use nms_quote::{Change, Sym};
+use nms_quote::{Change, Side, Sym};
 use nms_stream::{Quoted, quoted_on};
 use std::alloc::{AllocError, Global};
 
@@ -30,6 +30,16 @@ pub(crate) struct Column {
     pub(crate) offer: Span,
     pub(crate) locked: bool,
     pub(crate) crossed: bool,
+}
+
+impl Column {
+    /// What a side shows.
+    pub(crate) fn span(&self, side: Side) -> Span {
+        match side {
+            Side::Bid => self.bid,
+            Side::Offer => self.offer,
+        }
+    }
 }
 
 /// Versions that stand side by side, all of them locked or all of them crossed.

@@ -305,16 +305,6 @@ fn columns(items: [Item<'_>; 8]) -> [Column<'_>; 8] {
         offer_price,
         offer_shares,
     ] = items;
-    let left = |item, width| Column {
-        item,
-        width,
-        right: false,
-    };
-    let right = |item, width| Column {
-        item,
-        width,
-        right: true,
-    };
     [
         left(symbol, 8),
         left(market, 8),
@@ -325,4 +315,22 @@ fn columns(items: [Item<'_>; 8]) -> [Column<'_>; 8] {
         right(offer_price, 12),
         right(offer_shares, 9),
     ]
+}
+
+/// A column whose text begins at its left end.
+fn left(item: Item<'_>, width: usize) -> Column<'_> {
+    Column {
+        item,
+        width,
+        right: false,
+    }
+}
+
+/// A column of a number, which ends at its right end. Where there is none, no spaces are owed.
+fn right(item: Item<'_>, width: usize) -> Column<'_> {
+    Column {
+        item,
+        width,
+        right: !matches!(item, Item::Absent),
+    }
 }

@@ -143,10 +143,7 @@ pub(crate) fn write_notes<W: Write>(
 fn range_of(day: &Day, side: Side) -> Span {
     let mut range = NOTHING;
     for column in &day.columns {
-        let span = match side {
-            Side::Bid => &column.bid,
-            Side::Offer => &column.offer,
-        };
+        let span = column.span(side);
         if span.low > 0 {
             range.low = if range.low == 0 {
                 span.low
