@@ -240,43 +240,69 @@ fn show_best<W: Write>(
     form: Form,
     answers: &mut W,
 ) -> Result<(), DrawingFault> {
+    let items = items_of(roster, sym, quoted);
+    if form.is_json() {
+        return show_object(alloc, version, items, answers);
+    }
+    // Columns at the end in which nothing stands would be written as spaces.
+    let shown = match (quoted.bid, quoted.offer) {
+        (_, Some(_)) => 8,
+        (Some(_), None) => 5,
+        (None, None) => 2,
+    };
+    write_row(answers, form, &columns(items)[..shown])?;
+    Ok(())
+}
+
+/// A symbol, its market, and each best row's participant, price and shares.
+fn items_of<'a>(roster: &'a Roster, sym: Sym, quoted: &Quoted) -> [Item<'a>; 8] {
     let market = word_of_market(market_between(quoted.bid, quoted.offer));
     let (bid, bid_price, bid_shares) = fields_of(roster, &quoted.bid);
     let (offer, offer_price, offer_shares) = fields_of(roster, &quoted.offer);
-    let symbol = Item::Text(sym_name(roster, sym));
-    if form.is_json() {
-        write_object(
-            alloc,
-            answers,
-            &[
-                ("what", Item::Text("symbol")),
-                ("version", Item::Number(version)),
-                ("symbol", symbol),
-                ("market", Item::Text(market)),
-                ("bid_participant", bid),
-                ("bid_price", bid_price),
-                ("bid_shares", bid_shares),
-                ("offer_participant", offer),
-                ("offer_price", offer_price),
-                ("offer_shares", offer_shares),
-            ],
-        )?;
-        return Ok(());
-    }
-    let market = Item::Text(market);
-    write_row(
+    [
+        Item::Text(sym_name(roster, sym)),
+        Item::Text(market),
+        bid,
+        bid_price,
+        bid_shares,
+        offer,
+        offer_price,
+        offer_shares,
+    ]
+}
+
+/// Writes these as an object.
+fn show_object<W: Write>(
+    alloc: Global,
+    version: u64,
+    items: [Item<'_>; 8],
+    answers: &mut W,
+) -> Result<(), DrawingFault> {
+    let [
+        symbol,
+        market,
+        bid,
+        bid_price,
+        bid_shares,
+        offer,
+        offer_price,
+        offer_shares,
+    ] = items;
+    write_object(
+        alloc,
         answers,
-        form,
-        &columns([
-            symbol,
-            market,
-            bid,
-            bid_price,
-            bid_shares,
-            offer,
-            offer_price,
-            offer_shares,
-        ]),
+        &[
+            ("what", Item::Text("symbol")),
+            ("version", Item::Number(version)),
+            ("symbol", symbol),
+            ("market", market),
+            ("bid_participant", bid),
+            ("bid_price", bid_price),
+            ("bid_shares", bid_shares),
+            ("offer_participant", offer),
+            ("offer_price", offer_price),
+            ("offer_shares", offer_shares),
+        ],
     )?;
     Ok(())
 }
@@ -326,11 +352,11 @@ fn left(item: Item<'_>, width: usize) -> Column<'_> {
     }
 }
 
-/// A column of a number, which ends at its right end. Where there is none, no spaces are owed.
+/// A column of a number, which ends at its right end.
 fn right(item: Item<'_>, width: usize) -> Column<'_> {
     Column {
         item,
         width,
-        right: !matches!(item, Item::Absent),
+        right: true,
     }
 }
