@@ -9,6 +9,8 @@ mod lines;
 mod object;
 mod show_fault;
 mod shown;
+#[cfg(test)]
+mod tests;
 mod under;
 
 pub use ending::Ending;

@@ -1,0 +1,94 @@
+//! Why an answer was not written whole.
+use nms_board::BoardFault;
+use nms_files::ChangesFault;
+use nms_lines::{PlanTextFault, RecordFault};
+use nms_show::ShowFault;
+use nms_stream::StreamFault;
+use thiserror::Error;
+
+/// Why an answer was not written whole.
+#[derive(Clone, Copy, Debug, PartialEq, Eq, Error)]
+pub enum DrawingFault {
+    /// The file of changes is no tape. Nothing was written.
+    #[error("{0}")]
+    Changes(ChangesFault),
+    /// E1 or E4: the script could not be read, or memory ran out. Nothing was written.
+    #[error("{0}")]
+    Record(RecordFault),
+    /// E3: the script has more than 10,000,000 records. Nothing was written.
+    #[error("E3: the input is too long")]
+    TooLong,
+    /// B1: no board was made. Nothing was written.
+    #[error("{0}")]
+    Board(BoardFault),
+    /// A1: there are fewer changes than the version has. Nothing was written.
+    #[error("A1: the version has more changes than there are")]
+    VersionBeyondTape,
+    /// L11 or L12: the text of the plan is none, or memory ran out. Nothing was written.
+    #[error("{0}")]
+    Plan(PlanTextFault),
+    /// E2: the writer failed. A first part of the answer was written.
+    #[error("E2: the output could not be written")]
+    WriteFault,
+    /// E4: out of memory. A first part of the answer was written, which may be none.
+    #[error("E4: out of memory")]
+    NoMemory,
+}
+
+impl DrawingFault {
+    /// The code of the fault.
+    pub fn code(self) -> &'static str {
+        match self {
+            DrawingFault::Changes(fault) => fault.code(),
+            DrawingFault::Record(fault) => fault.code(),
+            DrawingFault::TooLong => "E3",
+            DrawingFault::Board(fault) => fault.code(),
+            DrawingFault::VersionBeyondTape => "A1",
+            DrawingFault::Plan(PlanTextFault::BadPlanText) => "L11",
+            DrawingFault::Plan(PlanTextFault::NoMemory) => "L12",
+            DrawingFault::Plan(PlanTextFault::WriteFault) => "L13",
+            DrawingFault::WriteFault => "E2",
+            DrawingFault::NoMemory => "E4",
+        }
+    }
+
+    /// Whether the plan's text was refused, and not the changes.
+    pub fn is_of_plan(self) -> bool {
+        self == DrawingFault::Plan(PlanTextFault::BadPlanText)
+    }
+
+    /// The exit status of a program that it ends: 1 for a stream, 5 for memory, 6 for what was read.
+    pub fn status(self) -> u8 {
+        match self {
+            DrawingFault::Changes(fault) => fault.status(),
+            DrawingFault::Record(fault) => fault.status(),
+            DrawingFault::TooLong
+            | DrawingFault::VersionBeyondTape
+            | DrawingFault::Plan(PlanTextFault::BadPlanText) => 6,
+            DrawingFault::Board(_)
+            | DrawingFault::NoMemory
+            | DrawingFault::Plan(PlanTextFault::NoMemory) => 5,
+            DrawingFault::WriteFault | DrawingFault::Plan(PlanTextFault::WriteFault) => 1,
+        }
+    }
+}
+
+impl From<ShowFault> for DrawingFault {
+    fn from(fault: ShowFault) -> Self {
+        match fault {
+            ShowFault::WriteFault => DrawingFault::WriteFault,
+            ShowFault::NoMemory => DrawingFault::NoMemory,
+        }
+    }
+}
+
+impl From<StreamFault> for DrawingFault {
+    fn from(fault: StreamFault) -> Self {
+        match fault {
+            StreamFault::Changes(fault) => DrawingFault::Changes(fault),
+            StreamFault::Board(fault) => DrawingFault::Board(fault),
+            StreamFault::WriteFault => DrawingFault::WriteFault,
+            StreamFault::NoMemory => DrawingFault::NoMemory,
+        }
+    }
+}

@@ -1,0 +1,147 @@
+//! Lines of a stream as JSON: a writer that takes the stream and gives each line on as an object. So the JSON says what
+//! the proved stream says, line by line.
+use nms_show::{Item, ShowFault, write_object};
+use std::alloc::Global;
+use std::io::{Error, ErrorKind, Result, Write};
+use std::{mem, str};
+
+/// A writer of a stream whose lines are given on as objects. The header is left out.
+#[derive(Drop)]
+pub(crate) struct JsonLines<'a, W> {
+    alloc: Global,
+    answers: &'a mut W,
+    /// The beginning of a line whose end was not yet written.
+    begun: Vec<u8>,
+    is_behind_header: bool,
+    wants_memory: bool,
+}
+
+impl<'a, W: Write> JsonLines<'a, W> {
+    /// One that has taken nothing.
+    pub(crate) fn new(alloc: Global, answers: &'a mut W) -> Self {
+        JsonLines {
+            alloc,
+            answers,
+            begun: Vec::new(alloc),
+            is_behind_header: false,
+            wants_memory: false,
+        }
+    }
+
+    /// Whether a write failed for want of memory.
+    pub(crate) fn wants_memory(&self) -> bool {
+        self.wants_memory
+    }
+
+    /// Takes a piece of the stream: a line's rest with its end, or the beginning of one.
+    fn take(&mut self, piece: &[u8]) -> std::result::Result<(), ShowFault> {
+        let Some((b'\n', rest)) = piece.split_last() else {
+            return self.keep(piece);
+        };
+        if self.begun.is_empty() {
+            return self.tell(rest);
+        }
+        self.keep(rest)?;
+        let line = mem::replace(&mut self.begun, Vec::new(self.alloc));
+        self.tell(&line)
+    }
+
+    /// Keeps the beginning of a line.
+    fn keep(&mut self, piece: &[u8]) -> std::result::Result<(), ShowFault> {
+        match self.begun.extend_from_slice(piece) {
+            Ok(()) => Ok(()),
+            Err(_) => Err(ShowFault::NoMemory),
+        }
+    }
+
+    /// Gives a line on as an object.
+    fn tell(&mut self, line: &[u8]) -> std::result::Result<(), ShowFault> {
+        if self.is_behind_header {
+            return write_fields(self.alloc, self.answers, line);
+        }
+        self.is_behind_header = true;
+        Ok(())
+    }
+}
+
+impl<W: Write> Write for JsonLines<'_, W> {
+    fn write(&mut self, bytes: &[u8]) -> Result<usize> {
+        for piece in bytes.split_inclusive(|byte| *byte == b'\n') {
+            match self.take(piece) {
+                Ok(()) => {}
+                Err(fault) => {
+                    self.wants_memory = fault == ShowFault::NoMemory;
+                    return Err(Error::from(ErrorKind::WriteZero));
+                }
+            }
+        }
+        Ok(bytes.len())
+    }
+
+    fn flush(&mut self) -> Result<()> {
+        self.answers.flush()
+    }
+}
+
+/// Writes the object of a line.
+fn write_fields<W: Write>(
+    alloc: Global,
+    answers: &mut W,
+    line: &[u8],
+) -> std::result::Result<(), ShowFault> {
+    let (version, rest) = field_of(line);
+    let (symbol, rest) = field_of(rest);
+    let (market, rest) = field_of(rest);
+    let (bid_participant, rest) = field_of(rest);
+    let (bid_price, rest) = field_of(rest);
+    let (bid_shares, rest) = field_of(rest);
+    let (offer_participant, rest) = field_of(rest);
+    let (offer_price, offer_shares) = field_of(rest);
+    write_object(
+        alloc,
+        answers,
+        &[
+            ("what", Item::Text("line")),
+            ("version", number_in(version)),
+            ("symbol", text_in(symbol)),
+            ("market", text_in(market)),
+            ("bid_participant", text_in(bid_participant)),
+            ("bid_price", text_in(bid_price)),
+            ("bid_shares", number_in(bid_shares)),
+            ("offer_participant", text_in(offer_participant)),
+            ("offer_price", text_in(offer_price)),
+            ("offer_shares", number_in(offer_shares)),
+        ],
+    )
+}
+
+/// The first field of a line, and what stands behind its comma.
+fn field_of(line: &[u8]) -> (&[u8], &[u8]) {
+    match line.iter().position(|byte| *byte == b',') {
+        Some(end) => (
+            line.get(..end).unwrap_or(line),
+            line.get(end.saturating_add(1)..).unwrap_or(&[]),
+        ),
+        None => (line, &[]),
+    }
+}
+
+/// A field as a text, `null` where it is empty.
+fn text_in(field: &[u8]) -> Item<'_> {
+    if field.is_empty() {
+        Item::Absent
+    } else {
+        Item::Bytes(field)
+    }
+}
+
+/// A field as a number, `null` where it is empty.
+fn number_in(field: &[u8]) -> Item<'_> {
+    match str::from_utf8(field) {
+        Ok(text) => match text.parse::<u64>() {
+            Ok(number) => Item::Number(number),
+            Err(_) => Item::Absent,
+        },
+        Err(_) => Item::Absent,
+    }
+}

@@ -1,0 +1,23 @@
+//! The changes of a day for people: as a file, at a version, as a stream, as a picture.
+#![tactic(auto)]
+
+mod change_text;
+mod curve;
+mod day;
+mod drawing;
+mod drawing_fault;
+mod json_lines;
+mod legs;
+mod names;
+mod picture;
+mod scale;
+mod streamed;
+mod taking;
+mod version;
+mod words;
+
+pub use drawing::draw_changes;
+pub use drawing_fault::DrawingFault;
+pub use streamed::stream_changes;
+pub use taking::write_tape;
+pub use version::show_version;

@@ -1,0 +1,362 @@
+//! What is known at any version: the report of one symbol, or a table of all.
+ghost use Rattle.std.specs.Prelude.{◌≡◌, ◌<◌, ◌≤◌, All, IfOk, IfSome, length, true};
+ghost use Rattle.nms_quote.specs.Roster.{holds, sizes_of};
+ghost use Rattle.nms_quote.specs.declared.TheConstants.{MOST_CHANGES};
+
+use crate::drawing_fault::DrawingFault;
+use crate::names::{part_name, sym_name};
+use nms_board::{Boards, Row, View};
+use nms_fees::Setup;
+use nms_files::read_changes;
+use nms_nbbo::{Clause, Pair, PairPlace, best, market, market_between, next_pair};
+use nms_quote::{Change, Roster, Side, Sym};
+use nms_show::{Column, Ending, Form, Item, write_object, write_row};
+use nms_stream::{Quoted, quoted_on, word_of_market};
+use nms_text::report;
+use std::alloc::Global;
+use std::io::{Read, Write};
+
+/// Writes what is known at a version, the first so many changes of a file: of one symbol the report, or of all symbols
+/// a table of their best bids and offers. As JSON, an object for each row and pair, or for each symbol.
+///
+/// Where the file has fewer changes it is `VersionBeyondTape`, and nothing is written. It is not flushed.
+pub fn show_version<R: Read + Drop, W: Write>(
+    alloc: Global,
+    setup: &Setup,
+    source: R,
+    version: u64,
+    sym: Option<Sym>,
+    form: Form,
+    answers: &mut W,
+) -> Result<Ending, DrawingFault>
+    requires { IfSome sym (λ sym. sym < length setup.now.roster.syms) }
+{
+    let changes = match read_changes(alloc, setup, source) {
+        Ok(changes) => changes,
+        Err(fault) => return Err(DrawingFault::Changes(fault)),
+    };
+    if version > changes.len() as u64 {
+        return Err(DrawingFault::VersionBeyondTape);
+    }
+    let board = board_after(alloc, setup.roster(), &changes[..version as usize])?;
+    match sym {
+        Some(sym) => show_symbol(alloc, setup.roster(), &board, sym, form, answers)?,
+        None => show_all(alloc, setup.roster(), &board, form, answers)?,
+    }
+    Ok(Ending::Done)
+}
+
+/// The board after these changes.
+fn board_after(alloc: Global, roster: &Roster, changes: &[Change]) -> Result<Boards, DrawingFault>
+    requires held { All (λ change. holds (sizes_of roster.now) change ≡ true) changes.now }
+    requires few { length changes.now ≤ MOST_CHANGES }
+    ensures { IfOk result (λ board. board.sizes ≡ sizes_of roster.now) }
+{
+    match Boards::new(alloc, roster) {
+        Ok(mut board) => {
+            board.apply_all(changes);
+            Ok(board)
+        }
+        Err(fault) => Err(DrawingFault::Board(fault)),
+    }
+}
+
+/// Writes the report of a symbol.
+fn show_symbol<W: Write>(
+    alloc: Global,
+    roster: &Roster,
+    board: &Boards,
+    sym: Sym,
+    form: Form,
+    answers: &mut W,
+) -> Result<(), DrawingFault>
+    requires sizes { board.now.sizes ≡ sizes_of roster.now }
+    requires sym { sym < length roster.now.syms }
+{
+    let view = board.view(sym);
+    if form.is_json() {
+        return show_view(alloc, roster, &view, answers);
+    }
+    let mut text = Vec::new(alloc);
+    if report(&view, roster, &mut text).is_err() {
+        return Err(DrawingFault::NoMemory);
+    }
+    match answers.write_all(&text) {
+        Ok(()) => Ok(()),
+        Err(_) => Err(DrawingFault::WriteFault),
+    }
+}
+
+/// Writes a view as objects: the symbol, its rows, its pairs.
+fn show_view<W: Write>(
+    alloc: Global,
+    roster: &Roster,
+    view: &View,
+    answers: &mut W,
+) -> Result<(), DrawingFault> {
+    let symbol = sym_name(roster, view.sym());
+    write_object(
+        alloc,
+        answers,
+        &[
+            ("what", Item::Text("symbol")),
+            ("version", Item::Number(view.version())),
+            ("symbol", Item::Text(symbol)),
+            ("market", Item::Text(word_of_market(market(view)))),
+        ],
+    )?;
+    for side in [Side::Bid, Side::Offer] {
+        let first = best(view, side);
+        for row in view.rows(side) {
+            show_one(alloc, roster, side, row, first == Some(*row), answers)?;
+        }
+    }
+    show_pairs(alloc, roster, view, answers)
+}
+
+/// Writes a row as an object.
+fn show_one<W: Write>(
+    alloc: Global,
+    roster: &Roster,
+    side: Side,
+    row: &Row,
+    is_best: bool,
+    answers: &mut W,
+) -> Result<(), DrawingFault> {
+    let side = match side {
+        Side::Bid => "BID",
+        Side::Offer => "OFFER",
+    };
+    write_object(
+        alloc,
+        answers,
+        &[
+            ("what", Item::Text("row")),
+            ("side", Item::Text(side)),
+            ("participant", Item::Text(part_name(roster, row.part))),
+            ("price", Item::of_price(row.price)),
+            ("shares", Item::Number(u64::from(row.size))),
+            ("receipt", Item::Number(row.receipt)),
+            ("protected", Item::Flag(row.protected)),
+            ("best", Item::Flag(is_best)),
+        ],
+    )?;
+    Ok(())
+}
+
+/// Writes the pairs that lock or cross as objects.
+fn show_pairs<W: Write>(
+    alloc: Global,
+    roster: &Roster,
+    view: &View,
+    answers: &mut W,
+) -> Result<(), DrawingFault> {
+    let mut from = PairPlace::new(0);
+    // Two participants of 32 make at most 1,024 pairs.
+    for _ in 0..1024 {
+        let Some(place) = from else {
+            return Ok(());
+        };
+        let Some((pair, behind)) = next_pair(view, place) else {
+            return Ok(());
+        };
+        show_pair(alloc, roster, &pair, answers)?;
+        from = Some(behind);
+    }
+    Ok(())
+}
+
+/// Writes a pair as an object.
+fn show_pair<W: Write>(
+    alloc: Global,
+    roster: &Roster,
+    pair: &Pair,
+    answers: &mut W,
+) -> Result<(), DrawingFault> {
+    let kind = if pair.crossed { "CROSS" } else { "LOCK" };
+    let clause = match pair.clause {
+        Clause::Protected => "PROTECTED",
+        Clause::Manual => "MANUAL",
+        Clause::Neither => "NEITHER",
+    };
+    write_object(
+        alloc,
+        answers,
+        &[
+            ("what", Item::Text("pair")),
+            ("kind", Item::Text(kind)),
+            (
+                "bid_participant",
+                Item::Text(part_name(roster, pair.bid.part)),
+            ),
+            (
+                "offer_participant",
+                Item::Text(part_name(roster, pair.offer.part)),
+            ),
+            (
+                "later_participant",
+                Item::Text(part_name(roster, pair.later)),
+            ),
+            ("clause", Item::Text(clause)),
+        ],
+    )?;
+    Ok(())
+}
+
+/// Writes the best bid and offer of each symbol.
+fn show_all<W: Write>(
+    alloc: Global,
+    roster: &Roster,
+    board: &Boards,
+    form: Form,
+    answers: &mut W,
+) -> Result<(), DrawingFault> {
+    if !form.is_json() {
+        write_row(answers, form, &columns(HEADS.map(Item::Strong)))?;
+    }
+    for place in 0..roster.syms() as u16 {
+        if let Some(sym) = Sym::new(place) {
+            if board.has_sym(sym) {
+                let quoted = quoted_on(board, sym);
+                show_best(alloc, roster, board.applied(), sym, &quoted, form, answers)?;
+            }
+        }
+    }
+    Ok(())
+}
+
+/// The heads of the table of all symbols.
+const HEADS: [&str; 8] = [
+    "SYMBOL", "MARKET", "BID", "PRICE", "SHARES", "OFFER", "PRICE", "SHARES",
+];
+
+/// Writes the best bid and offer of a symbol: a row of the table, or an object.
+fn show_best<W: Write>(
+    alloc: Global,
+    roster: &Roster,
+    version: u64,
+    sym: Sym,
+    quoted: &Quoted,
+    form: Form,
+    answers: &mut W,
+) -> Result<(), DrawingFault> {
+    let items = items_of(roster, sym, quoted);
+    if form.is_json() {
+        return show_object(alloc, version, items, answers);
+    }
+    // Columns at the end in which nothing stands would be written as spaces.
+    let shown = match (quoted.bid, quoted.offer) {
+        (_, Some(_)) => 8,
+        (Some(_), None) => 5,
+        (None, None) => 2,
+    };
+    write_row(answers, form, &columns(items)[..shown])?;
+    Ok(())
+}
+
+/// A symbol, its market, and each best row's participant, price and shares.
+fn items_of<'a>(roster: &'a Roster, sym: Sym, quoted: &Quoted) -> [Item<'a>; 8] {
+    let market = word_of_market(market_between(quoted.bid, quoted.offer));
+    let (bid, bid_price, bid_shares) = fields_of(roster, &quoted.bid);
+    let (offer, offer_price, offer_shares) = fields_of(roster, &quoted.offer);
+    [
+        Item::Text(sym_name(roster, sym)),
+        Item::Text(market),
+        bid,
+        bid_price,
+        bid_shares,
+        offer,
+        offer_price,
+        offer_shares,
+    ]
+}
+
+/// Writes these as an object.
+fn show_object<W: Write>(
+    alloc: Global,
+    version: u64,
+    items: [Item<'_>; 8],
+    answers: &mut W,
+) -> Result<(), DrawingFault> {
+    let [
+        symbol,
+        market,
+        bid,
+        bid_price,
+        bid_shares,
+        offer,
+        offer_price,
+        offer_shares,
+    ] = items;
+    write_object(
+        alloc,
+        answers,
+        &[
+            ("what", Item::Text("symbol")),
+            ("version", Item::Number(version)),
+            ("symbol", symbol),
+            ("market", market),
+            ("bid_participant", bid),
+            ("bid_price", bid_price),
+            ("bid_shares", bid_shares),
+            ("offer_participant", offer),
+            ("offer_price", offer_price),
+            ("offer_shares", offer_shares),
+        ],
+    )?;
+    Ok(())
+}
+
+/// A best row's participant, price and shares.
+fn fields_of<'a>(roster: &'a Roster, row: &Option<Row>) -> (Item<'a>, Item<'a>, Item<'a>) {
+    match row {
+        None => (Item::Absent, Item::Absent, Item::Absent),
+        Some(row) => (
+            Item::Text(part_name(roster, row.part)),
+            Item::of_price(row.price),
+            Item::Number(u64::from(row.size)),
+        ),
+    }
+}
+
+/// The columns of the table.
+fn columns(items: [Item<'_>; 8]) -> [Column<'_>; 8] {
+    let [
+        symbol,
+        market,
+        bid,
+        bid_price,
+        bid_shares,
+        offer,
+        offer_price,
+        offer_shares,
+    ] = items;
+    [
+        left(symbol, 8),
+        left(market, 8),
+        left(bid, 5),
+        right(bid_price, 12),
+        right(bid_shares, 9),
+        left(offer, 5),
+        right(offer_price, 12),
+        right(offer_shares, 9),
+    ]
+}
+
+/// A column whose text begins at its left end.
+fn left(item: Item<'_>, width: usize) -> Column<'_> {
+    Column {
+        item,
+        width,
+        right: false,
+    }
+}
+
+/// A column of a number, which ends at its right end.
+fn right(item: Item<'_>, width: usize) -> Column<'_> {
+    Column {
+        item,
+        width,
+        right: true,
+    }
+}
