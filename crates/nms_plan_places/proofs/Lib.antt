@@ -1,0 +1,5 @@
+mod CutLemmas
+mod FindLemmas
+mod HoldLemmas
+mod RepeatLemmas
+mod ThroughLemmas

@@ -1,0 +1,26 @@
+//! How a request ends that was served.
+
+/// How a request ends that was served: all that was asked for was told.
+#[derive(Clone, Copy, Debug, PartialEq, Eq)]
+pub enum Ending {
+    /// Nothing was refused or doubted.
+    Done,
+    /// A plan was judged and is not confirmed.
+    Doubted,
+    /// An input record or a plan's text was refused.
+    Refused,
+    /// A setup was refused.
+    SetupRefused,
+}
+
+impl Ending {
+    /// The exit status: 0, 4 for a doubt, 6 for a record or a plan's text, 3 for a setup.
+    pub fn status(self) -> u8 {
+        match self {
+            Ending::Done => 0,
+            Ending::Doubted => 4,
+            Ending::Refused => 6,
+            Ending::SetupRefused => 3,
+        }
+    }
+}

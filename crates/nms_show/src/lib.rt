@@ -1,0 +1,22 @@
+//! What is printed for people, and for their programs: lines, tables and JSON, in which no byte of a file reaches a
+//! terminal that could harm it.
+#![tactic(auto)]
+
+mod ending;
+mod form;
+mod item;
+mod lines;
+mod object;
+mod show_fault;
+mod shown;
+#[cfg(test)]
+mod tests;
+mod under;
+
+pub use ending::Ending;
+pub use form::Form;
+pub use item::{Column, Item};
+pub use lines::{write_line, write_row};
+pub use object::write_object;
+pub use show_fault::ShowFault;
+pub use under::write_under;

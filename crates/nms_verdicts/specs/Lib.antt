@@ -1,0 +1,1 @@
+pub use Rattle.nms_board.specs.Cells as Cells
