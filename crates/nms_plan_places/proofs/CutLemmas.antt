@@ -1,5 +1,5 @@
 -- What a failing bound says of its cut, and doubts of the same cuts under equal names.
-use Rattle.std.proofs.Common.{ℕ, ℤ, ◌≡◌, ◌<◌, true, false, List, Some, length, get_or, refl, ap, sym, subst, ◌∙◌}
+use Rattle.std.proofs.Common.{ℕ, ℤ, ◌≡◌, ◌<◌, true, false, List, length, get_or, ap, subst, ◌∙◌}
 use Rattle.std.specs.Int.RustNames.{int_lt}
 use Rattle.std.specs.List.{list_any}
 use Rattle.std.proofs.Common.{Bool, ◌⊎◌, inl, inr}
@@ -9,7 +9,6 @@ use Rattle.nms_quote.specs.declared.certificate.Cut.{Cut}
 use Rattle.nms_quote.specs.declared.certificate.CutKind.{CutKind}
 use Rattle.nms_quote.specs.declared.certificate.CutKind.TheVariants.{TooMuch, TooLittle, Marginal}
 use Rattle.nms_quote.specs.declared.order.OrderSide.{OrderSide}
-use Rattle.nms_rules.specs.Cutoff.{least_cost}
 use Rattle.nms_rules.specs.Usable.{Usable}
 use Rattle.nms_cert.specs.Doubts.{cuts_doubt, fails_bound}
 use Rattle.nms_cert.specs.declared.doubt.Doubt.{Doubt}

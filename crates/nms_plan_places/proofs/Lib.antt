@@ -1,5 +1,7 @@
+mod BreachHolds
 mod CutLemmas
+mod DoubtHolds
 mod FindLemmas
-mod HoldLemmas
+mod FirstLemmas
 mod RepeatLemmas
 mod ThroughLemmas

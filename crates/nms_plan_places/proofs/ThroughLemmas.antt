@@ -1,6 +1,6 @@
 -- The quotations that legs trade through: all are at better prices than the worst leg's, and the first of them is among them.
-use Rattle.std.proofs.Common.{ℕ, ◌≡◌, ◌<◌, ◌≤◌, Bool, true, false, List, [], ◌∷◌, length, map, Option, Some, None, All, Any}
-use Rattle.std.proofs.Common.{◌⊎◌, inl, inr, refl, ap, sym, ◌∙◌, subst, arith, cond}
+use Rattle.std.proofs.Common.{ℕ, ◌≡◌, ◌<◌, Bool, true, false, List, [], ◌∷◌, length, map, Option, Some, All, Any}
+use Rattle.std.proofs.Common.{◌⊎◌, inl, inr, ap, sym, ◌∙◌, arith, cond}
 use Rattle.std.specs.List.{find, filter}
 use Rattle.std.specs.Option.{is_some}
 use Rattle.std.proofs.lemmas.Bool.{and_parts, both_ways, cases_Bool, false≢true, lt-ltb, ltb-false, ltb-true}
@@ -11,7 +11,7 @@ use Rattle.nms_quote.specs.declared.order.OrderSide.TheVariants.{Buy, Sell}
 use Rattle.nms_quote.specs.declared.plan.Leg.{Leg}
 use Rattle.nms_board.specs.View.{Seen}
 use Rattle.nms_board.specs.declared.row.Row.{Row}
-use Rattle.nms_rules.specs.Breach.{first_traded_through, has_leg_beyond, is_traded_through}
+use Rattle.nms_rules.specs.Breach.{first_traded_through, is_traded_through}
 use Rattle.nms_rules.specs.Usable.{contra_rows, is_better}
 use Rattle.nms_rules.proofs.Offered.{All-In, Any-In, In, In-All, In-Any, filter-In, map-In}
 use Rattle.nms_plan_places.specs.BreachPlaces.{IsWorst, passed_by, passed_over}

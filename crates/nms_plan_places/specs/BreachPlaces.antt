@@ -1,6 +1,6 @@
 -- Where a breach stands in a plan, what was found there and what was expected: each says so by the breach's own condition
 -- (`Breach` of `nms_rules`). This product's own rule, after 17 CFR 242.600, "trade-through", and 242.611(b)(1).
-use Rattle.std.specs.Prelude.{ℕ, ◌≡◌, ◌≢◌, All, Any, Bool, true, false, List, filter, map}
+use Rattle.std.specs.Prelude.{ℕ, ◌≡◌, ◌≢◌, All, Any, true, false, List, filter, map}
 use Rattle.nms_quote.specs.Terms.{Terms}
 use Rattle.nms_quote.specs.declared.order.OrderSide.{OrderSide}
 use Rattle.nms_quote.specs.declared.plan.Leg.{Leg}

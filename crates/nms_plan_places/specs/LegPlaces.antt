@@ -1,6 +1,6 @@
 -- Legs of a plan, each beside the quotation that it goes to, and the legs that have a breach by themselves. The conditions are
 -- those of `Breach` of `nms_rules`. This product's own rule.
-use Rattle.std.specs.Prelude.{ℕ, ◌≡◌, ◌<◌, Bool, true, false, List, Some, position, slice_get}
+use Rattle.std.specs.Prelude.{◌≡◌, ◌<◌, Bool, true, false, List, Some, position, slice_get}
 use Rattle.nms_quote.specs.Terms.{Terms}
 use Rattle.nms_quote.specs.declared.order.OrderSide.{OrderSide}
 use Rattle.nms_quote.specs.declared.plan.Leg.{Leg}

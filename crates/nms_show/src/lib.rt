@@ -9,8 +9,6 @@ mod lines;
 mod object;
 mod show_fault;
 mod shown;
-#[cfg(test)]
-mod tests;
 mod under;
 
 pub use ending::Ending;

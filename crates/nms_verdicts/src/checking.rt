@@ -2,6 +2,7 @@
 ghost use Rattle.std.specs.Prelude.{◌≡◌, ◌≤◌, All, length, true};
 ghost use Rattle.nms_quote.specs.Roster.{holds, sizes_of};
 ghost use Rattle.nms_quote.specs.declared.TheConstants.{MOST_CHANGES};
+ghost use Rattle.nms_verdicts.specs.Verdicts.{IsAt};
 
 use crate::judging::judge;
 use crate::pieces::{Piece, pieces_of};
@@ -126,8 +127,7 @@ fn check_on<W: Write>(
 ) -> Result<Ending, VerdictFault>
     requires held { All (λ change. holds (sizes_of setup.now.roster) change ≡ true) changes.now }
     requires few { length changes.now ≤ MOST_CHANGES }
-    requires sizes { board.old.sizes ≡ sizes_of setup.now.roster }
-    requires applied { board.old.applied ≤ length changes.now }
+    requires at { IsAt (sizes_of setup.now.roster) changes.now board.old }
 {
     write_head(answers, form, file)?;
     let mut counts = Counts::default();
@@ -181,10 +181,8 @@ fn check_piece<W: Write>(
 ) -> Result<Outcome, VerdictFault>
     requires held { All (λ change. holds (sizes_of setup.now.roster) change ≡ true) changes.now }
     requires few { length changes.now ≤ MOST_CHANGES }
-    requires sizes { board.old.sizes ≡ sizes_of setup.now.roster }
-    requires applied { board.old.applied ≤ length changes.now }
-    ensures sizes { board.new.sizes ≡ sizes_of setup.now.roster }
-    ensures applied { board.new.applied ≤ length changes.now }
+    requires at { IsAt (sizes_of setup.now.roster) changes.now board.old }
+    ensures at { IsAt (sizes_of setup.now.roster) changes.now board.new }
 {
     match read_plan(alloc, text, setup.roster()) {
         Ok((plan, certificate)) => check_plan(
@@ -220,10 +218,8 @@ fn check_plan<W: Write>(
 ) -> Result<Outcome, VerdictFault>
     requires held { All (λ change. holds (sizes_of setup.now.roster) change ≡ true) changes.now }
     requires few { length changes.now ≤ MOST_CHANGES }
-    requires sizes { board.old.sizes ≡ sizes_of setup.now.roster }
-    requires applied { board.old.applied ≤ length changes.now }
-    ensures sizes { board.new.sizes ≡ sizes_of setup.now.roster }
-    ensures applied { board.new.applied ≤ length changes.now }
+    requires at { IsAt (sizes_of setup.now.roster) changes.now board.old }
+    ensures at { IsAt (sizes_of setup.now.roster) changes.now board.new }
 {
     let verdict = match judge(alloc, setup, changes, board, plan, certificate) {
         Ok(verdict) => verdict,
@@ -288,12 +284,17 @@ fn write_totals<W: Write>(
     plans: u64,
     counts: Counts,
 ) -> Result<(), ShowFault> {
+    let words = if plans == 1 {
+        "1 plan: |confirmed| confirmed, |doubted| doubted, |unreadable| unreadable"
+    } else {
+        "|plans| plans: |confirmed| confirmed, |doubted| doubted, |unreadable| unreadable"
+    };
     tell(
         alloc,
         answers,
         form,
         &[],
-        &["|plans| plans: |confirmed| confirmed, |doubted| doubted, |unreadable| unreadable"],
+        &[words],
         &[
             ("what", Item::Text("totals")),
             ("plans", Item::Number(plans)),

@@ -75,7 +75,7 @@ fn tell_cut<W: Write>(
             ("swept", Item::Number(first)),
             ("pool", Item::Number(more)),
             ("most", Item::Number(most)),
-            ("bound", bound.map_or(Item::Absent, Item::of_money)),
+            ("bound", bound_item(bound)),
             ("cost", Item::of_money(plan.cost)),
             ("holds", Item::Flag(holds)),
         ],
@@ -97,6 +97,14 @@ fn bound_of(rows: &[UsableRow], most: u64, cutoff: Rank, kind: CutKind) -> Optio
             Some(least_cost(rows, most, cutoff, marginal))
         }
         _ => None,
+    }
+}
+
+/// A bound, where there is one.
+fn bound_item(bound: Option<Money>) -> Item<'static> {
+    match bound {
+        Some(bound) => Item::of_money(bound),
+        None => Item::Absent,
     }
 }
 

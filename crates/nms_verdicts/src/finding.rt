@@ -1,7 +1,7 @@
 //! What was found where a doubt stands, what was expected, and the words for it.
 use crate::names::name_of;
 use crate::verdict::Verdict;
-use nms_plan_places::{BreachPlace, CutPlace, CutSums, DoubtPlace, LegPlace};
+use nms_plan_places::{BreachPlace, CutPlace, CutSums, DoubtPlace, LegPlace, PassedOver};
 use nms_quote::{CutKind, Order, Plan, Roster};
 use nms_show::Item;
 
@@ -187,8 +187,7 @@ fn of_leg_breach<'a>(place: &BreachPlace, roster: &'a Roster, order: &Order) -> 
             )
         },
         BreachPlace::TradedThrough { worst, passed } => {
-            let best = passed.as_slice().first();
-            let expected = best.map_or(Item::Absent, |passed| Item::of_price(passed.row.price));
+            let expected = first_price(passed.as_slice());
             of_leg(roster, worst, "", leg_price(worst), expected)
         }
         _ => of_plan("", Item::Absent, Item::Absent),
@@ -203,6 +202,14 @@ fn why_none(order: &Order, leg: &LegPlace) -> &'static str {
             "      its |contra| is passed over: the order names its participant under self-help"
         }
         Some(_) => "      its |contra| is manual, and the order does not allow manual ones",
+    }
+}
+
+/// The price of the first quotation that is traded through.
+fn first_price(passed: &[PassedOver]) -> Item<'static> {
+    match passed.first() {
+        Some(first) => Item::of_price(first.row.price),
+        None => Item::Absent,
     }
 }
 

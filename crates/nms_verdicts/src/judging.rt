@@ -1,12 +1,13 @@
-//! Plans judged on the versions that they name, by one board that is moved forward.
+//! Plans judged on the versions that they name, by one board that is moved forward: `specs/Verdicts`.
 ghost use Rattle.std.specs.Prelude.{◌≡◌, ◌≤◌, All, IfOk, OnOk, length, true};
 ghost use Rattle.nms_quote.specs.Roster.{holds, sizes_of};
 ghost use Rattle.nms_quote.specs.declared.TheConstants.{MOST_CHANGES};
+ghost use Rattle.nms_verdicts.specs.Verdicts.{IsAt, IsVerdict, IsVerdictOn};
 
 use crate::verdict::Verdict;
 use nms_board::{BoardFault, Boards, View};
 use nms_cert::confirm;
-use nms_fees::Setup;
+use nms_fees::{FeeBook, Setup};
 use nms_plan_places::doubt_place;
 use nms_quote::{Certificate, Change, Plan, Roster};
 use std::alloc::Global;
@@ -24,18 +25,22 @@ pub(crate) fn judge(
 ) -> Result<Verdict, BoardFault>
     requires held { All (λ change. holds (sizes_of setup.now.roster) change ≡ true) changes.now }
     requires few { length changes.now ≤ MOST_CHANGES }
-    requires sizes { board.old.sizes ≡ sizes_of setup.now.roster }
-    requires applied { board.old.applied ≤ length changes.now }
-    ensures sizes { board.new.sizes ≡ sizes_of setup.now.roster }
-    ensures applied { board.new.applied ≤ length changes.now }
+    requires at { IsAt (sizes_of setup.now.roster) changes.now board.old }
+    ensures at { IsAt (sizes_of setup.now.roster) changes.now board.new }
+    ensures judged { IfOk result (IsVerdict setup.now changes.now plan.now certificate.now.items) }
 {
     if plan.version > changes.len() as u64 {
         return Ok(Verdict::Beyond {
             changes: changes.len() as u64,
         });
     }
-    move_to(alloc, setup.roster(), changes, board, plan.version)?;
-    Ok(judge_on(setup, &board.view(plan.order.sym), plan, certificate))
+    match move_to(alloc, setup.roster(), changes, board, plan.version) {
+        Ok(()) => {
+            let view = board.view(plan.order.sym);
+            Ok(judge_on(setup.fees(), &view, plan, certificate))
+        }
+        Err(fault) => Err(fault),
+    }
 }
 
 /// Moves a board to a version of the changes.
@@ -49,25 +54,47 @@ fn move_to(
     requires held { All (λ change. holds (sizes_of roster.now) change ≡ true) changes.now }
     requires few { length changes.now ≤ MOST_CHANGES }
     requires within { version ≤ length changes.now }
-    requires sizes { board.old.sizes ≡ sizes_of roster.now }
-    requires applied { board.old.applied ≤ length changes.now }
-    ensures sizes { board.new.sizes ≡ sizes_of roster.now }
-    ensures applied { board.new.applied ≤ length changes.now }
+    requires at { IsAt (sizes_of roster.now) changes.now board.old }
+    ensures at { IsAt (sizes_of roster.now) changes.now board.new }
+    ensures moved { OnOk result (board.new.applied ≡ version) }
 {
-    if board.applied() > version {
-        *board = Boards::new(alloc, roster)?;
+    if board.applied() <= version {
+        advance(roster, changes, board, version);
+        return Ok(());
     }
+    match Boards::new(alloc, roster) {
+        Ok(opening) => {
+            *board = opening;
+            advance(roster, changes, board, version);
+            Ok(())
+        }
+        Err(fault) => Err(fault),
+    }
+}
+
+/// Moves a board forward.
+fn advance(roster: &Roster, changes: &[Change], board: &mut Boards, version: u64)
+    requires held { All (λ change. holds (sizes_of roster.now) change ≡ true) changes.now }
+    requires few { length changes.now ≤ MOST_CHANGES }
+    requires within { version ≤ length changes.now }
+    requires behind { board.old.applied ≤ version }
+    requires at { IsAt (sizes_of roster.now) changes.now board.old }
+    ensures at { IsAt (sizes_of roster.now) changes.now board.new }
+    ensures moved { board.new.applied ≡ version }
+{
+    let _ = roster;
     board.apply_all(&changes[board.applied() as usize..version as usize]);
-    Ok(())
 }
 
 /// Judges a plan on what is seen.
-fn judge_on(setup: &Setup, view: &View, plan: &Plan, certificate: &Certificate) -> Verdict {
-    match confirm(view, &plan.order, setup.fees(), plan, certificate) {
+fn judge_on(fees: &FeeBook, view: &View, plan: &Plan, certificate: &Certificate) -> Verdict
+    ensures { IsVerdictOn view.now fees.now plan.now certificate.now.items result }
+{
+    match confirm(view, &plan.order, fees, plan, certificate) {
         Ok(()) => Verdict::Confirmed,
         Err(doubt) => Verdict::Doubted {
             doubt,
-            place: doubt_place(view, &plan.order, plan, setup.fees(), certificate, doubt),
+            place: doubt_place(view, &plan.order, plan, fees, certificate, doubt),
         },
     }
 }

@@ -128,12 +128,15 @@ fn push_piece<'a>(
         Ok((plan, _)) => plan.version,
         Err(_) => u64::MAX,
     };
+    let plan = (pieces.len() as u64).saturating_add(1);
+    let line = begun.line;
     pieces.push(Piece {
         text,
-        plan: (pieces.len() as u64).saturating_add(1),
-        line: begun.line,
+        plan,
+        line,
         version,
-    })
+    })?;
+    Ok(())
 }
 
 /// How many bytes the first line of a text takes, its end among them.

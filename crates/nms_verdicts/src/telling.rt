@@ -20,13 +20,13 @@ pub(crate) struct Heading(
 );
 
 /// Tells of a thing: an object with these facts, or their row under these headings, where there are any, and these lines.
-pub(crate) fn tell<W: Write>(
+pub(crate) fn tell<'a, W: Write>(
     alloc: Global,
     answers: &mut W,
     form: Form,
     headings: &[Heading],
-    lines: &[&str],
-    facts: &[(&str, Item<'_>)],
+    lines: &[&'a str],
+    facts: &[(&str, Item<'a>)],
 ) -> Result<(), ShowFault> {
     if form.is_json() {
         return write_object(alloc, answers, facts);
@@ -52,7 +52,7 @@ pub(crate) fn tell_head<W: Write>(
     tell_row(answers, form, headings, &[])
 }
 
-/// Writes the facts that stand under headings; without facts their titles.
+/// Writes the facts that stand under headings; without facts their titles. Behind the last one the line ends.
 fn tell_row<W: Write>(
     answers: &mut W,
     form: Form,
@@ -66,33 +66,38 @@ fn tell_row<W: Write>(
     };
     let mut columns = [empty; MOST_COLUMNS];
     let mut place: usize = 0;
+    let mut used: usize = 0;
     for heading in headings {
+        let next = place.saturating_add(1);
         if let Some(column) = columns.get_mut(place) {
             *column = column_of(*heading, facts);
+            if !matches!(column.item, Item::Absent) {
+                used = next;
+            }
         }
-        place = place.saturating_add(1);
+        place = next;
     }
-    write_row(answers, form, columns.get(..place).unwrap_or(&columns))
+    write_row(answers, form, columns.get(..used).unwrap_or(&columns))
 }
 
 /// The fact that stands under a heading; without facts its title.
 fn column_of<'a>(heading: Heading, facts: &[(&str, Item<'a>)]) -> Column<'a> {
     let Heading(title, key, width, right) = heading;
-    let item = if facts.is_empty() {
-        Item::Strong(title)
-    } else {
-        value_of(facts, key.as_bytes())
+    let item = match facts {
+        [] if title.is_empty() => Item::Absent,
+        [] => Item::Strong(title),
+        _ => value_of(facts, key.as_bytes()),
     };
     Column { item, width, right }
 }
 
 /// Writes a line of words, in which the value of a fact stands for its key between two bars. Of no words, and among objects,
 /// nothing is written.
-pub(crate) fn tell_line<W: Write>(
+pub(crate) fn tell_line<'a, W: Write>(
     answers: &mut W,
     form: Form,
-    words: &str,
-    facts: &[(&str, Item<'_>)],
+    words: &'a str,
+    facts: &[(&str, Item<'a>)],
 ) -> Result<(), ShowFault> {
     if form.is_json() || words.is_empty() {
         return Ok(());

@@ -1,7 +1,6 @@
 -- `breach_place`: what its calls ask for, and all that it promises, by `told` (the breach that is told holds by itself).
-use Rattle.std.proofs.Common.{ℕ, ◌≡◌, ◌<◌, length, refl, ap, sym, subst, ◌∙◌}
-use Rattle.std.specs.Prelude.{List, Some, true}
-use Rattle.std.specs.List.{list_any}
+use Rattle.std.proofs.Common.{◌≡◌, refl, ap, sym, subst, ◌∙◌}
+use Rattle.std.specs.Prelude.{List, Some}
 use Rattle.std.proofs.lemmas.Bool.{eq-eqb, false≢true}
 use Rattle.std.proofs.lemmas.Bool.Decides.{Decides-int_eq}
 use Rattle.nms_quote.specs.Terms.{Terms}
@@ -9,14 +8,14 @@ use Rattle.nms_quote.specs.declared.plan.Leg.{Leg}
 use Rattle.nms_quote.specs.declared.plan.Plan.{Plan}
 use Rattle.nms_board.specs.View.{Seen}
 use Rattle.nms_fee_book.specs.Fees.{Charges}
-use Rattle.nms_rules.specs.Breach.{breach_of, has_repeat}
+use Rattle.nms_rules.specs.Breach.{breach_of}
 use Rattle.nms_rules.specs.Faultless.{cost_of, sum_of}
 use Rattle.nms_rules.specs.declared.breach_kind.Breach.{Breach}
 use Rattle.nms_rules.specs.declared.breach_kind.Breach.TheVariants as breach
-use Rattle.nms_plan_places.specs.LegPlaces.{IsBrokenLeg, IsRepeat, breaks}
+use Rattle.nms_plan_places.specs.LegPlaces.{IsBrokenLeg, IsRepeat}
 use Rattle.nms_plan_places.specs.BreachPlaces.{IsWorst, passed_over}
 use Rattle.nms_plan_places.proofs.FindLemmas.{not-true}
-use Rattle.nms_plan_places.proofs.HoldLemmas.{Holds, told_holds}
+use Rattle.nms_plan_places.proofs.BreachHolds.{Holds, told_holds}
 use Rattle.nms_plan_places.proofs.ThroughLemmas.{all-better, named-among, some-leg}
 use Rattle.nms_plan_places.proofs.breach_places.breach_place.Goals as goal
 

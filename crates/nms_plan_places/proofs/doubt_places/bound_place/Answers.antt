@@ -1,5 +1,5 @@
 -- `bound_place`: that the cut has a marginal in its range, and all that it promises, by `found-at` (it is the first that fails).
-use Rattle.std.proofs.Common.{ℕ, ◌≡◌, Bool, get_or, refl, true, ap, ◌∙◌}
+use Rattle.std.proofs.Common.{ℕ, ◌≡◌, Bool, get_or, refl, ap, ◌∙◌}
 use Rattle.std.proofs.lemmas.List.Quantifiers.{position-Some}
 use Rattle.nms_quote.specs.declared.certificate.Cut.{Cut}
 use Rattle.nms_rules.specs.Usable.{rank_of}

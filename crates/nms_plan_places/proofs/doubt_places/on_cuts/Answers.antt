@@ -1,5 +1,5 @@
 -- `on_cuts`: what its call asks for, and all that it promises, by `same-doubt` and `same-place`.
-use Rattle.std.proofs.Common.{ℕ, ◌≡◌, List, ap, ◌∙◌}
+use Rattle.std.proofs.Common.{◌≡◌, List, ap, ◌∙◌}
 use Rattle.nms_quote.specs.Terms.{Terms}
 use Rattle.nms_rules.specs.Assignment.{fillable}
 use Rattle.nms_rules.specs.Usable.{Usable, usable}

@@ -1,7 +1,6 @@
 -- `first_broken`: that there is such a leg, and all that it promises, by `some_position` and `found-at`.
 use Rattle.std.proofs.Common.{ap, subst, sym, ◌∙◌}
 use Rattle.std.specs.Prelude.{Some}
-use Rattle.std.proofs.lemmas.List.Quantifiers.{position-Some}
 use Rattle.nms_quote.specs.Terms.{Terms}
 use Rattle.nms_plan_places.specs.LegPlaces.{IsLegPlace, breaks}
 use Rattle.nms_plan_places.proofs.FindLemmas.{found-at, some_position}

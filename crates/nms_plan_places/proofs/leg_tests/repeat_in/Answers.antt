@@ -1,5 +1,5 @@
 -- `repeat_in`: clause `same`, by `behind-at`, and the turns of its loop, by `repeat-more` and `repeat-none`.
-use Rattle.std.proofs.Common.{ℕ, ◌≡◌, ◌==◌, ◌+◌, Bool, None, Some, drop, get_or, ap, sym, ◌∙◌}
+use Rattle.std.proofs.Common.{◌≡◌, ◌==◌, ◌+◌, Bool, None, Some, drop, get_or, ap, sym, ◌∙◌}
 use Rattle.std.specs.List.{position}
 use Rattle.std.proofs.lemmas.Bool.{eqb-true}
 use Rattle.std.proofs.lemmas.List.{get_or_default, take_rest}
