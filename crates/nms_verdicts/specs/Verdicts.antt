@@ -1,0 +1,35 @@
+-- What a verdict says of a plan: just what an audit finds on the plan's own version of the changes, for its own order, and
+-- where a doubt stands. This product's own rule.
+use Rattle.std.specs.Prelude.{ℕ, ◌≡◌, ◌<◌, ◌≤◌, List, length, Option, Some, None}
+use Rattle.nms_quote.specs.Roster.{Sizes}
+use Rattle.nms_quote.specs.Tape.{Tape, version}
+use Rattle.nms_quote.specs.declared.certificate.Cut.{Cut}
+use Rattle.nms_quote.specs.declared.plan.Plan.{Plan}
+use Rattle.nms_board.specs.Cells.{Board, StandsFor}
+use Rattle.nms_board.specs.View.{Seen}
+use Rattle.nms_fee_book.specs.Fees.{Charges}
+use Rattle.nms_fees.specs.Settings.{Settings}
+use Rattle.nms_cert.specs.Doubts.{doubt_of}
+use Rattle.nms_files.specs.Audit.{seen_by}
+use Rattle.nms_plan_places.specs.DoubtPlaces.{IsDoubtPlace}
+use Rattle.nms_verdicts.specs.declared.verdict.Verdict.{Verdict}
+use Rattle.nms_verdicts.specs.declared.verdict.Verdict.TheVariants as verdict
+
+-- on what is seen: no doubt holds, or that doubt is the first that does, and stands there
+abbrev pub IsVerdictOn : Seen → Charges → Plan → List Cut → Verdict → Type 0
+IsVerdictOn seen fees plan cuts verdict.Confirmed = doubt_of seen plan.order fees plan cuts ≡ None
+IsVerdictOn seen fees plan cuts (verdict.Beyond changes) = ⊥
+IsVerdictOn seen fees plan cuts (verdict.Doubted doubt place) =
+    (doubt_of seen plan.order fees plan cuts ≡ Some doubt) × IsDoubtPlace seen plan.order fees plan cuts doubt place
+
+-- on the plan's version of the changes, where it is not longer than they are
+abbrev pub IsVerdict : Settings → Tape → Plan → List Cut → Verdict → Type 0
+IsVerdict settings tape plan cuts (verdict.Beyond changes) = (length tape < plan.version) × (changes ≡ length tape)
+IsVerdict settings tape plan cuts judged =
+    (plan.version ≤ length tape) × IsVerdictOn (seen_by settings tape plan) settings.fees plan cuts judged
+
+-- a board of a roster's sizes that stands behind some of the changes
+pub record IsAt (sizes : Sizes) (tape : Tape) (board : Board) : Type 0 where
+  pub same : board.sizes ≡ sizes
+  pub within : board.applied ≤ length tape
+  pub stands : StandsFor board (version board.applied tape)

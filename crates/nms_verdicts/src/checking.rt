@@ -1,0 +1,308 @@
+//! The plans of a file of answers, each judged on its own version.
+ghost use Rattle.std.specs.Prelude.{◌≡◌, ◌≤◌, All, length, true};
+ghost use Rattle.nms_quote.specs.Roster.{holds, sizes_of};
+ghost use Rattle.nms_quote.specs.declared.TheConstants.{MOST_CHANGES};
+ghost use Rattle.nms_verdicts.specs.Verdicts.{IsAt};
+
+use crate::judging::judge;
+use crate::pieces::{Piece, pieces_of};
+use crate::plan_telling::{PlanNumber, tell_plan};
+use crate::telling::{Heading, tell, tell_head, tell_line};
+use crate::verdict_fault::VerdictFault;
+use nms_board::Boards;
+use nms_fees::Setup;
+use nms_files::read_changes;
+use nms_lines::{PlanTextFault, read_plan};
+use nms_quote::{Certificate, Change, Plan};
+use nms_show::{Ending, Form, Item, ShowFault};
+use std::alloc::Global;
+use std::io::{Read, Write};
+
+/// The table of verdicts.
+const HEADINGS: [Heading; 14] = [
+    Heading("plan", "plan", 6, true),
+    Heading("line", "line", 8, true),
+    Heading("version", "version", 8, true),
+    Heading("side", "side", 4, false),
+    Heading("symbol", "symbol", 8, false),
+    Heading("shares", "shares", 9, true),
+    Heading("limit", "limit", 12, true),
+    Heading("verdict", "verdict", 9, false),
+    Heading("code", "code", 4, false),
+    Heading("", "breach", 3, false),
+    Heading("leg", "leg", 3, true),
+    Heading("cut", "cut", 3, true),
+    Heading("found", "found", 20, true),
+    Heading("expected", "expected", 20, true),
+];
+
+/// What came of a plan.
+#[derive(Clone, Copy)]
+enum Outcome {
+    Confirmed,
+    Doubted,
+    Unreadable,
+}
+
+/// How many plans there were of each outcome.
+#[derive(Clone, Copy, Default)]
+struct Counts {
+    confirmed: u64,
+    doubted: u64,
+    unreadable: u64,
+}
+
+/// Judges every plan in the answers of a script or of a live run, each on its own version of the changes, and writes a table
+/// of verdicts and a line of totals, or an object a plan as JSON: by version, those of one version as they stand, and last
+/// those that can't be read.
+///
+/// The changes are read whole, and go over the board once; the answers are searched for records `PLAN` to `END`, and all else
+/// there is passed over. What stands where a plan should and is none is told as L11. `Doubted` where a plan is doubted, else
+/// `Refused` where one can't be read, else `Done`. Nothing is flushed.
+pub fn check_answers<R: Read + Drop, W: Write>(
+    alloc: Global,
+    setup: &Setup,
+    changes: R,
+    file: &str,
+    text: &[u8],
+    form: Form,
+    answers: &mut W,
+) -> Result<Ending, VerdictFault> {
+    match read_changes(alloc, setup, changes) {
+        Ok(changes) => check_text(alloc, setup, &changes, file, text, form, answers),
+        Err(fault) => Err(VerdictFault::Changes(fault)),
+    }
+}
+
+/// Judges the plans of a text.
+fn check_text<W: Write>(
+    alloc: Global,
+    setup: &Setup,
+    changes: &[Change],
+    file: &str,
+    text: &[u8],
+    form: Form,
+    answers: &mut W,
+) -> Result<Ending, VerdictFault>
+    requires held { All (λ change. holds (sizes_of setup.now.roster) change ≡ true) changes.now }
+    requires few { length changes.now ≤ MOST_CHANGES }
+{
+    match pieces_of(alloc, setup.roster(), text) {
+        Ok(pieces) => check_pieces(alloc, setup, changes, file, &pieces, form, answers),
+        Err(_) => Err(VerdictFault::Show(ShowFault::NoMemory)),
+    }
+}
+
+/// Judges the plans of pieces.
+fn check_pieces<W: Write>(
+    alloc: Global,
+    setup: &Setup,
+    changes: &[Change],
+    file: &str,
+    pieces: &[Piece<'_>],
+    form: Form,
+    answers: &mut W,
+) -> Result<Ending, VerdictFault>
+    requires held { All (λ change. holds (sizes_of setup.now.roster) change ≡ true) changes.now }
+    requires few { length changes.now ≤ MOST_CHANGES }
+{
+    match Boards::new(alloc, setup.roster()) {
+        Ok(mut board) => check_on(
+            alloc, setup, changes, &mut board, file, pieces, form, answers,
+        ),
+        Err(fault) => Err(VerdictFault::Board(fault)),
+    }
+}
+
+/// Judges the plans of pieces, between the head of a table and a line of totals.
+fn check_on<W: Write>(
+    alloc: Global,
+    setup: &Setup,
+    changes: &[Change],
+    board: &mut Boards,
+    file: &str,
+    pieces: &[Piece<'_>],
+    form: Form,
+    answers: &mut W,
+) -> Result<Ending, VerdictFault>
+    requires held { All (λ change. holds (sizes_of setup.now.roster) change ≡ true) changes.now }
+    requires few { length changes.now ≤ MOST_CHANGES }
+    requires at { IsAt (sizes_of setup.now.roster) changes.now board.old }
+{
+    write_head(answers, form, file)?;
+    let mut counts = Counts::default();
+    for piece in pieces {
+        let number = PlanNumber {
+            file,
+            plan: piece.plan,
+            line: piece.line,
+        };
+        let outcome = check_piece(
+            alloc, setup, changes, board, piece.text, number, form, answers,
+        )?;
+        counts = counted(counts, outcome);
+    }
+    write_totals(alloc, answers, form, pieces.len() as u64, counts)?;
+    Ok(ending_of(counts))
+}
+
+/// The counts with one more.
+fn counted(counts: Counts, outcome: Outcome) -> Counts {
+    let mut counts = counts;
+    match outcome {
+        Outcome::Confirmed => counts.confirmed = counts.confirmed.saturating_add(1),
+        Outcome::Doubted => counts.doubted = counts.doubted.saturating_add(1),
+        Outcome::Unreadable => counts.unreadable = counts.unreadable.saturating_add(1),
+    }
+    counts
+}
+
+/// How a request ends that judged so many plans.
+fn ending_of(counts: Counts) -> Ending {
+    if counts.doubted > 0 {
+        Ending::Doubted
+    } else if counts.unreadable > 0 {
+        Ending::Refused
+    } else {
+        Ending::Done
+    }
+}
+
+/// Reads a plan, judges it, and writes its verdict.
+fn check_piece<W: Write>(
+    alloc: Global,
+    setup: &Setup,
+    changes: &[Change],
+    board: &mut Boards,
+    text: &[u8],
+    number: PlanNumber<'_>,
+    form: Form,
+    answers: &mut W,
+) -> Result<Outcome, VerdictFault>
+    requires held { All (λ change. holds (sizes_of setup.now.roster) change ≡ true) changes.now }
+    requires few { length changes.now ≤ MOST_CHANGES }
+    requires at { IsAt (sizes_of setup.now.roster) changes.now board.old }
+    ensures at { IsAt (sizes_of setup.now.roster) changes.now board.new }
+{
+    match read_plan(alloc, text, setup.roster()) {
+        Ok((plan, certificate)) => check_plan(
+            alloc,
+            setup,
+            changes,
+            board,
+            &plan,
+            &certificate,
+            number,
+            form,
+            answers,
+        ),
+        Err(PlanTextFault::BadPlanText) => {
+            write_unreadable(alloc, answers, form, number)?;
+            Ok(Outcome::Unreadable)
+        }
+        Err(fault) => Err(VerdictFault::Plan(fault)),
+    }
+}
+
+/// Judges a plan that was read, and writes its verdict.
+fn check_plan<W: Write>(
+    alloc: Global,
+    setup: &Setup,
+    changes: &[Change],
+    board: &mut Boards,
+    plan: &Plan,
+    certificate: &Certificate,
+    number: PlanNumber<'_>,
+    form: Form,
+    answers: &mut W,
+) -> Result<Outcome, VerdictFault>
+    requires held { All (λ change. holds (sizes_of setup.now.roster) change ≡ true) changes.now }
+    requires few { length changes.now ≤ MOST_CHANGES }
+    requires at { IsAt (sizes_of setup.now.roster) changes.now board.old }
+    ensures at { IsAt (sizes_of setup.now.roster) changes.now board.new }
+{
+    let verdict = match judge(alloc, setup, changes, board, plan, certificate) {
+        Ok(verdict) => verdict,
+        Err(fault) => return Err(VerdictFault::Board(fault)),
+    };
+    match tell_plan(
+        alloc,
+        answers,
+        form,
+        &HEADINGS,
+        setup.roster(),
+        number,
+        plan,
+        &verdict,
+    ) {
+        Ok(()) if verdict.is_confirmed() => Ok(Outcome::Confirmed),
+        Ok(()) => Ok(Outcome::Doubted),
+        Err(fault) => Err(VerdictFault::Show(fault)),
+    }
+}
+
+/// Writes what the table is, and its head.
+fn write_head<W: Write>(answers: &mut W, form: Form, file: &str) -> Result<(), ShowFault> {
+    tell_line(
+        answers,
+        form,
+        "The plans in |file|, each judged on its own version of the changes:",
+        &[("file", Item::Bytes(file.as_bytes()))],
+    )?;
+    tell_head(answers, form, &HEADINGS)
+}
+
+/// Writes that a plan's text is none.
+fn write_unreadable<W: Write>(
+    alloc: Global,
+    answers: &mut W,
+    form: Form,
+    number: PlanNumber<'_>,
+) -> Result<(), ShowFault> {
+    tell(
+        alloc,
+        answers,
+        form,
+        &[],
+        &[
+            "|verdict| |code|: plan |plan|, at line |line|, is not the text of a plan from PLAN to END",
+        ],
+        &[
+            ("what", Item::Text("plan")),
+            ("file", Item::Bytes(number.file.as_bytes())),
+            ("plan", Item::Number(number.plan)),
+            ("line", Item::Number(number.line)),
+            ("verdict", Item::Alarm("UNREADABLE")),
+            ("code", Item::Text("L11")),
+        ],
+    )
+}
+
+/// Writes how many plans had which verdict.
+fn write_totals<W: Write>(
+    alloc: Global,
+    answers: &mut W,
+    form: Form,
+    plans: u64,
+    counts: Counts,
+) -> Result<(), ShowFault> {
+    let words = if plans == 1 {
+        "1 plan: |confirmed| confirmed, |doubted| doubted, |unreadable| unreadable"
+    } else {
+        "|plans| plans: |confirmed| confirmed, |doubted| doubted, |unreadable| unreadable"
+    };
+    tell(
+        alloc,
+        answers,
+        form,
+        &[],
+        &[words],
+        &[
+            ("what", Item::Text("totals")),
+            ("plans", Item::Number(plans)),
+            ("confirmed", Item::Number(counts.confirmed)),
+            ("doubted", Item::Number(counts.doubted)),
+            ("unreadable", Item::Number(counts.unreadable)),
+        ],
+    )
+}

@@ -1,0 +1,137 @@
+//! The cuts of a certificate, each with its bound beside the plan's cost.
+ghost use Rattle.std.specs.Prelude.{◌≤◌, length};
+
+use crate::finding::marginal_of;
+use crate::telling::tell;
+use nms_board::MOST_ROWS;
+use nms_quote::{Cut, CutKind, Plan};
+use nms_rules::{Rank, UsableRow, least_cost, pool, swept};
+use nms_show::{Form, Item, ShowFault};
+use nms_units::{MOST_SHARES, Money};
+use std::alloc::Global;
+use std::io::Write;
+
+/// The most that a marginal may be, in nanodollars, and the least with a minus.
+const MOST_MARGINAL: i128 = 1_000_000_000_000_000_000;
+
+/// Tells what each cut says, where so many shares can be filled.
+pub(crate) fn tell_cuts<W: Write>(
+    alloc: Global,
+    answers: &mut W,
+    form: Form,
+    plan: &Plan,
+    rows: &[UsableRow],
+    most: u64,
+    cuts: &[Cut],
+) -> Result<(), ShowFault>
+    requires rows { length rows.now ≤ MOST_ROWS }
+    requires most { most ≤ MOST_SHARES }
+{
+    let mut number: u64 = 0;
+    for cut in cuts {
+        number = number.saturating_add(1);
+        tell_cut(alloc, answers, form, plan, rows, most, number, cut)?;
+    }
+    Ok(())
+}
+
+/// Tells what one cut says: the sums at its price, and the least that a plan with that worst price costs by its marginal.
+fn tell_cut<W: Write>(
+    alloc: Global,
+    answers: &mut W,
+    form: Form,
+    plan: &Plan,
+    rows: &[UsableRow],
+    most: u64,
+    number: u64,
+    cut: &Cut,
+) -> Result<(), ShowFault>
+    requires rows { length rows.now ≤ MOST_ROWS }
+    requires most { most ≤ MOST_SHARES }
+{
+    let cutoff = Rank::of(plan.order.side, cut.price);
+    let (first, more) = (swept(rows, cutoff), pool(rows, cutoff));
+    let bound = bound_of(rows, most, cutoff, cut.kind);
+    let holds = match cut.kind {
+        CutKind::TooMuch => first > most,
+        CutKind::TooLittle => first + more < most,
+        CutKind::Marginal(_) => bound.is_some_and(|bound| plan.cost <= bound),
+    };
+    tell(
+        alloc,
+        answers,
+        form,
+        &[],
+        &[
+            "Cut |cut|, worst price |price|, |kind|: |swept| shares at better prices must be swept first, and |pool| more may be taken.",
+            words_of(cut.kind, holds, bound.is_some()),
+        ],
+        &[
+            ("what", Item::Text("cut")),
+            ("cut", Item::Number(number)),
+            ("price", Item::of_price(cut.price)),
+            ("kind", kind_of(cut.kind)),
+            ("marginal", marginal_of(cut.kind)),
+            ("swept", Item::Number(first)),
+            ("pool", Item::Number(more)),
+            ("most", Item::Number(most)),
+            ("bound", bound_item(bound)),
+            ("cost", Item::of_money(plan.cost)),
+            ("holds", Item::Flag(holds)),
+        ],
+    )
+}
+
+/// The least that a plan with this worst price costs by a cut's marginal: where it has one in its range, and no more must be
+/// swept than can be filled.
+fn bound_of(rows: &[UsableRow], most: u64, cutoff: Rank, kind: CutKind) -> Option<Money>
+    requires rows { length rows.now ≤ MOST_ROWS }
+    requires most { most ≤ MOST_SHARES }
+{
+    match kind {
+        CutKind::Marginal(marginal) if swept(rows, cutoff) <= most => {
+            let number = marginal.get();
+            if number < -MOST_MARGINAL || number > MOST_MARGINAL {
+                return None;
+            }
+            Some(least_cost(rows, most, cutoff, marginal))
+        }
+        _ => None,
+    }
+}
+
+/// A bound, where there is one.
+fn bound_item(bound: Option<Money>) -> Item<'static> {
+    match bound {
+        Some(bound) => Item::of_money(bound),
+        None => Item::Absent,
+    }
+}
+
+/// What a cut's kind is called.
+fn kind_of(kind: CutKind) -> Item<'static> {
+    match kind {
+        CutKind::TooMuch => Item::Text("TOOMUCH"),
+        CutKind::TooLittle => Item::Text("TOOLITTLE"),
+        CutKind::Marginal(_) => Item::Text("MARGINAL"),
+    }
+}
+
+/// The words for what follows from a cut that holds, or that does not, with its bound where it has one.
+fn words_of(kind: CutKind, holds: bool, has_bound: bool) -> &'static str {
+    match (kind, holds, has_bound) {
+        (CutKind::TooMuch, true, _) => {
+            "  That is more than can be filled, |most|: no lawful plan that fills as many has this worst price."
+        }
+        (CutKind::TooLittle, true, _) => {
+            "  Together that is less than can be filled, |most|: no lawful plan that fills as many has this worst price."
+        }
+        (CutKind::Marginal(_), true, _) => {
+            "  Each lawful plan with this worst price that fills as many costs at least |bound|; this plan costs |cost|."
+        }
+        (_, false, true) => {
+            "  It does not hold: by it a plan may cost as little as |bound|; this plan costs |cost|."
+        }
+        (_, false, false) => "  What it says does not hold.",
+    }
+}

@@ -1,0 +1,20 @@
+//! What is told of plans: a verdict on each plan of the answers of a script or of a live run, and why a plan is, or is
+//! not, the best lawful one.
+#![tactic(auto)]
+
+mod checking;
+mod cuts;
+mod finding;
+mod judging;
+mod names;
+mod pieces;
+mod plan_telling;
+mod rows;
+mod telling;
+mod verdict;
+mod verdict_fault;
+mod why;
+
+pub use checking::check_answers;
+pub use verdict_fault::VerdictFault;
+pub use why::explain_why;

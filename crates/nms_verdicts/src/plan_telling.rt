@@ -1,0 +1,193 @@
+//! A plan with its verdict.
+use crate::finding::{Finding, finding_of};
+use crate::names::{code_item, name_of, push_named, quotation_of, symbol_of, verb_of};
+use crate::telling::{Heading, tell};
+use crate::verdict::Verdict;
+use nms_plan_places::{BreachPlace, DoubtPlace, PassedOver};
+use nms_quote::{Plan, Roster};
+use nms_show::{Form, Item, ShowFault};
+use std::alloc::Global;
+use std::io::Write;
+
+/// Which plan of which file it is, and the line that it begins at.
+#[derive(Clone, Copy)]
+pub(crate) struct PlanNumber<'a> {
+    /// The file.
+    pub(crate) file: &'a str,
+    /// Which plan of it, counted from 1.
+    pub(crate) plan: u64,
+    /// Its first line, counted from 1.
+    pub(crate) line: u64,
+}
+
+/// Tells of a plan and its verdict: as a row under headings with what is doubtful, or without headings as sentences.
+pub(crate) fn tell_plan<W: Write>(
+    alloc: Global,
+    answers: &mut W,
+    form: Form,
+    headings: &[Heading],
+    roster: &Roster,
+    number: PlanNumber<'_>,
+    plan: &Plan,
+    verdict: &Verdict,
+) -> Result<(), ShowFault> {
+    let mut names = Vec::new(alloc);
+    if push_named(&mut names, roster, &plan.order).is_err() {
+        return Err(ShowFault::NoMemory);
+    }
+    tell_named(
+        alloc, answers, form, headings, roster, number, plan, verdict, &names,
+    )?;
+    tell_passed(alloc, answers, form, roster, number, plan, verdict)
+}
+
+/// The same, but for the quotations that are traded through, where these are named under self-help.
+fn tell_named<W: Write>(
+    alloc: Global,
+    answers: &mut W,
+    form: Form,
+    headings: &[Heading],
+    roster: &Roster,
+    number: PlanNumber<'_>,
+    plan: &Plan,
+    verdict: &Verdict,
+    names: &[u8],
+) -> Result<(), ShowFault> {
+    let finding = finding_of(verdict, roster, plan);
+    let sentences = sentences_of(plan, verdict);
+    let all = [
+        sentences[0],
+        sentences[1],
+        sentences[2],
+        sentences[3],
+        finding.place,
+        finding.words,
+    ];
+    let lines = if headings.is_empty() {
+        &all[..]
+    } else {
+        &all[4..]
+    };
+    tell(
+        alloc,
+        answers,
+        form,
+        headings,
+        lines,
+        &facts_of(roster, number, plan, verdict, &finding, names),
+    )
+}
+
+/// What is told of a plan and its verdict.
+fn facts_of<'a>(
+    roster: &'a Roster,
+    number: PlanNumber<'a>,
+    plan: &Plan,
+    verdict: &Verdict,
+    finding: &Finding<'a>,
+    names: &'a [u8],
+) -> [(&'static str, Item<'a>); 25] {
+    let order = &plan.order;
+    [
+        ("what", Item::Text("plan")),
+        ("file", Item::Bytes(number.file.as_bytes())),
+        ("plan", Item::Number(number.plan)),
+        ("line", Item::Number(number.line)),
+        ("version", Item::Number(plan.version)),
+        ("side", verb_of(order.side)),
+        ("contra", quotation_of(order.side)),
+        ("symbol", symbol_of(roster, order.sym)),
+        ("shares", Item::Number(u64::from(order.shares.get()))),
+        ("limit", Item::of_price(order.limit)),
+        ("manual", Item::Flag(order.manual)),
+        ("self_help", Item::Bytes(names)),
+        ("filled", Item::Number(u64::from(plan.filled))),
+        ("cost", Item::of_money(plan.cost)),
+        ("verdict", word_of(verdict)),
+        ("code", code_item(verdict.code())),
+        ("breach", code_item(verdict.breach())),
+        ("leg", finding.leg),
+        ("cut", finding.cut),
+        ("participant", finding.participant),
+        ("price", finding.price),
+        ("sent", finding.sent),
+        ("found", finding.found),
+        ("expected", finding.expected),
+        ("other", finding.other),
+    ]
+}
+
+/// The word of a verdict.
+fn word_of(verdict: &Verdict) -> Item<'static> {
+    if verdict.is_confirmed() {
+        Item::Strong("CONFIRMED")
+    } else {
+        Item::Alarm("DOUBT")
+    }
+}
+
+/// The sentences on a plan's order, on what it fills, and its verdict.
+fn sentences_of(plan: &Plan, verdict: &Verdict) -> [&'static str; 4] {
+    [
+        if plan.order.manual {
+            "|file|: on version |version|, to |side| |shares| |symbol| at |limit| or better, with manual quotations too"
+        } else {
+            "|file|: on version |version|, to |side| |shares| |symbol| at |limit| or better, with protected quotations alone"
+        },
+        if plan.order.self_help.is_empty() {
+            ""
+        } else {
+            "Under self-help it passes over the quotations of |self_help|."
+        },
+        "It fills |filled| shares for |cost| with fees.",
+        match (verdict.code(), verdict.breach()) {
+            (None, _) => "|verdict|",
+            (Some(_), None) => "|verdict| |code|",
+            (Some(_), Some(_)) => "|verdict| |code| |breach|",
+        },
+    ]
+}
+
+/// Tells of each quotation that a plan trades through.
+fn tell_passed<W: Write>(
+    alloc: Global,
+    answers: &mut W,
+    form: Form,
+    roster: &Roster,
+    number: PlanNumber<'_>,
+    plan: &Plan,
+    verdict: &Verdict,
+) -> Result<(), ShowFault> {
+    for passed in passed_in(verdict) {
+        tell(
+            alloc,
+            answers,
+            form,
+            &[],
+            &[
+                "      past the better protected |contra| of |participant| at |price|: |displayed| displayed, |sent| sent there",
+            ],
+            &[
+                ("what", Item::Text("traded_through")),
+                ("plan", Item::Number(number.plan)),
+                ("contra", quotation_of(plan.order.side)),
+                ("participant", name_of(roster, passed.row.part)),
+                ("price", Item::of_price(passed.row.price)),
+                ("displayed", Item::Number(u64::from(passed.row.size))),
+                ("sent", Item::Number(passed.given)),
+            ],
+        )?;
+    }
+    Ok(())
+}
+
+/// The quotations that a plan trades through.
+fn passed_in(verdict: &Verdict) -> &[PassedOver] {
+    match verdict {
+        Verdict::Doubted {
+            place: DoubtPlace::Breach(BreachPlace::TradedThrough { passed, .. }),
+            ..
+        } => passed.as_slice(),
+        _ => &[],
+    }
+}

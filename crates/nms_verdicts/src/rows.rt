@@ -1,0 +1,125 @@
+//! The quotations on the side that an order trades with, in rank order, and what its plan does with each.
+use crate::names::name_of;
+use crate::telling::{Heading, tell, tell_head};
+use nms_board::{Row, View};
+use nms_fees::Setup;
+use nms_quote::{Leg, OrderSide, Part, Plan};
+use nms_rules::{UsableRow, contra, is_better, is_usable};
+use nms_show::{Form, Item, ShowFault};
+use nms_units::Price;
+use std::alloc::Global;
+use std::io::Write;
+
+/// The table of quotations.
+const HEADINGS: [Heading; 7] = [
+    Heading("from", "participant", 6, false),
+    Heading("price", "price", 12, true),
+    Heading("displayed", "displayed", 9, true),
+    Heading("state", "state", 9, false),
+    Heading("a share with the fee", "unit_cost", 24, true),
+    Heading("sent", "sent", 9, true),
+    Heading("", "note", 0, false),
+];
+
+/// Tells of the quotations on the side that a plan's order trades with, best first: what a share costs at each with the
+/// fee, whether it is protected, and what the plan sends there.
+pub(crate) fn tell_rows<W: Write>(
+    alloc: Global,
+    answers: &mut W,
+    form: Form,
+    setup: &Setup,
+    view: &View,
+    plan: &Plan,
+) -> Result<(), ShowFault> {
+    tell_head(answers, form, &HEADINGS)?;
+    for place in 0..32_u8 {
+        let Some(row) = view.ranked(contra(plan.order.side), place) else {
+            break;
+        };
+        tell_row(alloc, answers, form, setup, plan, &row)?;
+    }
+    Ok(())
+}
+
+/// Tells of one quotation.
+fn tell_row<W: Write>(
+    alloc: Global,
+    answers: &mut W,
+    form: Form,
+    setup: &Setup,
+    plan: &Plan,
+    row: &Row,
+) -> Result<(), ShowFault> {
+    let unit = UsableRow::of(&plan.order, setup.fees(), row);
+    let sent = sent_to(plan.legs.as_slice(), row.part);
+    tell(
+        alloc,
+        answers,
+        form,
+        &HEADINGS,
+        &[],
+        &[
+            ("what", Item::Text("quotation")),
+            ("participant", name_of(setup.roster(), row.part)),
+            ("price", Item::of_price(row.price)),
+            ("displayed", Item::Number(u64::from(row.size))),
+            ("state", state_of(row.protected)),
+            ("unit_cost", Item::of_money(unit.cost)),
+            ("sent", Item::Number(sent)),
+            ("note", Item::Text(note_of(plan, row, sent))),
+        ],
+    )
+}
+
+/// The word of a quotation's state.
+fn state_of(protected: bool) -> Item<'static> {
+    if protected {
+        Item::Text("protected")
+    } else {
+        Item::Text("manual")
+    }
+}
+
+/// The shares that legs send to a participant.
+fn sent_to(legs: &[Leg], part: Part) -> u64 {
+    let mut sent: u64 = 0;
+    for leg in legs {
+        if leg.part == part {
+            sent = sent.saturating_add(u64::from(leg.shares.get()));
+        }
+    }
+    sent
+}
+
+/// What a plan that sends so many shares to a quotation does with it, in a word or two.
+fn note_of(plan: &Plan, row: &Row, sent: u64) -> &'static str {
+    if !is_usable(&plan.order, row) {
+        return why_unusable(plan, row);
+    }
+    let must = row.protected && trades_beyond(plan.order.side, plan.legs.as_slice(), row.price);
+    let full = sent >= u64::from(row.size);
+    match (must, full, sent) {
+        (true, true, _) => "must be swept, and is",
+        (true, false, _) => "must be swept, and is not",
+        (false, true, _) => "taken in full",
+        (false, false, 0) => "left",
+        (false, false, _) => "taken in part",
+    }
+}
+
+/// Whether some leg has a worse price than this one.
+fn trades_beyond(side: OrderSide, legs: &[Leg], price: Price) -> bool {
+    legs.iter().any(|leg| is_better(side, price, leg.price))
+}
+
+/// Why a plan's order may not trade with a quotation.
+fn why_unusable(plan: &Plan, row: &Row) -> &'static str {
+    let order = &plan.order;
+    if is_better(order.side, order.limit, row.price) {
+        "beyond the limit"
+    } else if order.self_help.has(row.part) {
+        "passed over: self-help"
+    } else {
+        "manual, not allowed"
+    }
+}

@@ -1,0 +1,130 @@
+//! One thing is told: as a JSON object with all that is known of it, or as a row of a table and lines of words.
+use nms_show::{Column, Form, Item, ShowFault, write_line, write_object, write_row};
+use std::alloc::Global;
+use std::io::Write;
+
+/// The most columns that a table has.
+const MOST_COLUMNS: usize = 16;
+
+/// The most texts and values that a line is made of.
+const MOST_ITEMS: usize = 24;
+
+/// A column: what is written above it, the key of the fact that stands in it, how many characters it takes at least, and
+/// whether it stands at the column's right end.
+#[derive(Clone, Copy)]
+pub(crate) struct Heading(
+    pub(crate) &'static str,
+    pub(crate) &'static str,
+    pub(crate) usize,
+    pub(crate) bool,
+);
+
+/// Tells of a thing: an object with these facts, or their row under these headings, where there are any, and these lines.
+pub(crate) fn tell<'a, W: Write>(
+    alloc: Global,
+    answers: &mut W,
+    form: Form,
+    headings: &[Heading],
+    lines: &[&'a str],
+    facts: &[(&str, Item<'a>)],
+) -> Result<(), ShowFault> {
+    if form.is_json() {
+        return write_object(alloc, answers, facts);
+    }
+    if !headings.is_empty() {
+        tell_row(answers, form, headings, facts)?;
+    }
+    for words in lines {
+        tell_line(answers, form, words, facts)?;
+    }
+    Ok(())
+}
+
+/// Writes the head of a table; of objects there is none.
+pub(crate) fn tell_head<W: Write>(
+    answers: &mut W,
+    form: Form,
+    headings: &[Heading],
+) -> Result<(), ShowFault> {
+    if form.is_json() {
+        return Ok(());
+    }
+    tell_row(answers, form, headings, &[])
+}
+
+/// Writes the facts that stand under headings; without facts their titles. Behind the last one the line ends.
+fn tell_row<W: Write>(
+    answers: &mut W,
+    form: Form,
+    headings: &[Heading],
+    facts: &[(&str, Item<'_>)],
+) -> Result<(), ShowFault> {
+    let empty = Column {
+        item: Item::Absent,
+        width: 0,
+        right: false,
+    };
+    let mut columns = [empty; MOST_COLUMNS];
+    let mut place: usize = 0;
+    let mut used: usize = 0;
+    for heading in headings {
+        let next = place.saturating_add(1);
+        if let Some(column) = columns.get_mut(place) {
+            *column = column_of(*heading, facts);
+            if !matches!(column.item, Item::Absent) {
+                used = next;
+            }
+        }
+        place = next;
+    }
+    write_row(answers, form, columns.get(..used).unwrap_or(&columns))
+}
+
+/// The fact that stands under a heading; without facts its title.
+fn column_of<'a>(heading: Heading, facts: &[(&str, Item<'a>)]) -> Column<'a> {
+    let Heading(title, key, width, right) = heading;
+    let item = if !facts.is_empty() {
+        value_of(facts, key.as_bytes())
+    } else if title.is_empty() {
+        Item::Absent
+    } else {
+        Item::Strong(title)
+    };
+    Column { item, width, right }
+}
+
+/// Writes a line of words, in which the value of a fact stands for its key between two bars. Of no words, and among objects,
+/// nothing is written.
+pub(crate) fn tell_line<'a, W: Write>(
+    answers: &mut W,
+    form: Form,
+    words: &'a str,
+    facts: &[(&str, Item<'a>)],
+) -> Result<(), ShowFault> {
+    if form.is_json() || words.is_empty() {
+        return Ok(());
+    }
+    let mut items = [Item::Absent; MOST_ITEMS];
+    let mut place: usize = 0;
+    for piece in words.as_bytes().split(|byte| *byte == b'|') {
+        if let Some(item) = items.get_mut(place) {
+            *item = if place % 2 == 0 {
+                Item::Bytes(piece)
+            } else {
+                value_of(facts, piece)
+            };
+        }
+        place = place.saturating_add(1);
+    }
+    write_line(answers, form, &items)
+}
+
+/// The value of the fact that has a key.
+fn value_of<'a>(facts: &[(&str, Item<'a>)], key: &[u8]) -> Item<'a> {
+    for (name, item) in facts {
+        if name.as_bytes() == key {
+            return *item;
+        }
+    }
+    Item::Absent
+}

@@ -1,0 +1,49 @@
+//! What comes of judging a plan.
+use nms_cert::Doubt;
+use nms_plan_places::DoubtPlace;
+
+/// What comes of judging a plan.
+#[derive(Drop)]
+pub(crate) enum Verdict {
+    /// It is lawful, no lawful plan fills more, and none that fills as much costs less.
+    Confirmed,
+    /// A1: its version has more changes than there are.
+    Beyond {
+        /// How many changes there are.
+        changes: u64,
+    },
+    /// K1 to K7: what is doubtful, and where.
+    Doubted {
+        /// The doubt.
+        doubt: Doubt,
+        /// Where it stands.
+        place: DoubtPlace,
+    },
+}
+
+impl Verdict {
+    /// The code of what is doubtful.
+    pub(crate) fn code(&self) -> Option<&'static str> {
+        match self {
+            Verdict::Confirmed => None,
+            Verdict::Beyond { .. } => Some("A1"),
+            Verdict::Doubted { doubt, .. } => Some(doubt.code()),
+        }
+    }
+
+    /// The code of the breach, where that is what is doubtful.
+    pub(crate) fn breach(&self) -> Option<&'static str> {
+        match self {
+            Verdict::Doubted {
+                doubt: Doubt::Breach(breach),
+                ..
+            } => Some(breach.code()),
+            _ => None,
+        }
+    }
+
+    /// Whether it is confirmed.
+    pub(crate) fn is_confirmed(&self) -> bool {
+        matches!(self, Verdict::Confirmed)
+    }
+}

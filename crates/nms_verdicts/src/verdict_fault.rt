@@ -1,0 +1,52 @@
+//! Why plans were not judged.
+use nms_board::BoardFault;
+use nms_files::ChangesFault;
+use nms_lines::PlanTextFault;
+use nms_show::ShowFault;
+use thiserror::Error;
+
+/// Why plans were not judged, or not to the end.
+#[derive(Clone, Copy, Debug, PartialEq, Eq, Error)]
+pub enum VerdictFault {
+    /// The file of changes is no tape. Nothing was written.
+    #[error("{0}")]
+    Changes(ChangesFault),
+    /// B1: no memory for a board. What was written before stands.
+    #[error("{0}")]
+    Board(BoardFault),
+    /// L11 or L12: the text is that of no plan, or there was no memory to read it. Of many plans, one that can't be
+    /// read is told as such and is no fault.
+    #[error("{0}")]
+    Plan(PlanTextFault),
+    /// E2 or E4: the output could not be written, or memory ran out. A first part of it may have been written.
+    #[error("{0}")]
+    Show(ShowFault),
+}
+
+impl VerdictFault {
+    /// The code of the fault: that of the file, `B1`, `L11`, `L12`, `E2` or `E4`.
+    pub fn code(&self) -> &'static str {
+        match self {
+            VerdictFault::Changes(fault) => fault.code(),
+            VerdictFault::Board(fault) => fault.code(),
+            VerdictFault::Plan(fault) => fault.code(),
+            VerdictFault::Show(fault) => fault.code(),
+        }
+    }
+
+    /// The exit status of a program that it ends.
+    pub fn status(&self) -> u8 {
+        match self {
+            VerdictFault::Changes(fault) => fault.status(),
+            VerdictFault::Board(BoardFault::NoMemory) => 5,
+            VerdictFault::Plan(fault) => fault.status(),
+            VerdictFault::Show(fault) => fault.status(),
+        }
+    }
+}
+
+impl From<ShowFault> for VerdictFault {
+    fn from(fault: ShowFault) -> Self {
+        VerdictFault::Show(fault)
+    }
+}

@@ -1,0 +1,214 @@
+//! Why a plan is, or is not, the best lawful one.
+ghost use Rattle.std.specs.Prelude.{◌≡◌, ◌≤◌, All, length, true};
+ghost use Rattle.nms_quote.specs.Roster.{holds, sizes_of};
+ghost use Rattle.nms_quote.specs.declared.TheConstants.{MOST_CHANGES};
+
+use crate::cuts::tell_cuts;
+use crate::judging::judge;
+use crate::plan_telling::{PlanNumber, tell_plan};
+use crate::rows::tell_rows;
+use crate::telling::{tell, tell_line};
+use crate::verdict::Verdict;
+use crate::verdict_fault::VerdictFault;
+use nms_board::{Boards, View};
+use nms_fees::Setup;
+use nms_files::read_changes;
+use nms_lines::read_plan;
+use nms_quote::{Certificate, Change, Plan};
+use nms_rules::{fillable, usable_rows};
+use nms_show::{Ending, Form, Item, ShowFault};
+use std::alloc::Global;
+use std::io::{Read, Write};
+
+/// Says why the plan of a text is, or is not, the best lawful one on its version of the changes: what is doubtful first;
+/// then the quotations in rank order with what a share costs and what is sent there; how many shares can be filled; and
+/// each cut's bound beside the plan's cost.
+///
+/// `Doubted` where the plan is doubted, else `Done`. A text that is no plan is a fault. Nothing is flushed.
+pub fn explain_why<R: Read + Drop, W: Write>(
+    alloc: Global,
+    setup: &Setup,
+    changes: R,
+    file: &str,
+    plan: &[u8],
+    form: Form,
+    answers: &mut W,
+) -> Result<Ending, VerdictFault> {
+    match read_changes(alloc, setup, changes) {
+        Ok(changes) => explain_text(alloc, setup, &changes, file, plan, form, answers),
+        Err(fault) => Err(VerdictFault::Changes(fault)),
+    }
+}
+
+/// Says it of the plan of a text.
+fn explain_text<W: Write>(
+    alloc: Global,
+    setup: &Setup,
+    changes: &[Change],
+    file: &str,
+    text: &[u8],
+    form: Form,
+    answers: &mut W,
+) -> Result<Ending, VerdictFault>
+    requires held { All (λ change. holds (sizes_of setup.now.roster) change ≡ true) changes.now }
+    requires few { length changes.now ≤ MOST_CHANGES }
+{
+    match read_plan(alloc, text, setup.roster()) {
+        Ok((plan, certificate)) => explain_plan(
+            alloc,
+            setup,
+            changes,
+            file,
+            &plan,
+            &certificate,
+            form,
+            answers,
+        ),
+        Err(fault) => Err(VerdictFault::Plan(fault)),
+    }
+}
+
+/// Says it of a plan.
+fn explain_plan<W: Write>(
+    alloc: Global,
+    setup: &Setup,
+    changes: &[Change],
+    file: &str,
+    plan: &Plan,
+    certificate: &Certificate,
+    form: Form,
+    answers: &mut W,
+) -> Result<Ending, VerdictFault>
+    requires held { All (λ change. holds (sizes_of setup.now.roster) change ≡ true) changes.now }
+    requires few { length changes.now ≤ MOST_CHANGES }
+{
+    let mut board = match Boards::new(alloc, setup.roster()) {
+        Ok(board) => board,
+        Err(fault) => return Err(VerdictFault::Board(fault)),
+    };
+    let verdict = match judge(alloc, setup, changes, &mut board, plan, certificate) {
+        Ok(verdict) => verdict,
+        Err(fault) => return Err(VerdictFault::Board(fault)),
+    };
+    let view = board.view(plan.order.sym);
+    let told = tell_judged(
+        alloc,
+        setup,
+        &view,
+        file,
+        plan,
+        certificate,
+        &verdict,
+        form,
+        answers,
+    );
+    match told {
+        Ok(()) if verdict.is_confirmed() => Ok(Ending::Done),
+        Ok(()) => Ok(Ending::Doubted),
+        Err(fault) => Err(VerdictFault::Show(fault)),
+    }
+}
+
+/// Tells of a plan and its verdict, and where its version is one of the changes of what is seen there.
+fn tell_judged<W: Write>(
+    alloc: Global,
+    setup: &Setup,
+    view: &View,
+    file: &str,
+    plan: &Plan,
+    certificate: &Certificate,
+    verdict: &Verdict,
+    form: Form,
+    answers: &mut W,
+) -> Result<(), ShowFault> {
+    let number = PlanNumber {
+        file,
+        plan: 1,
+        line: 1,
+    };
+    tell_plan(
+        alloc,
+        answers,
+        form,
+        &[],
+        setup.roster(),
+        number,
+        plan,
+        verdict,
+    )?;
+    match verdict {
+        Verdict::Beyond { .. } => Ok(()),
+        Verdict::Confirmed | Verdict::Doubted { .. } => tell_seen(
+            alloc,
+            setup,
+            view,
+            plan,
+            certificate,
+            verdict,
+            form,
+            answers,
+        ),
+    }
+}
+
+/// Tells of the quotations, of what can be filled, of each cut, and what follows of a plan that is confirmed.
+fn tell_seen<W: Write>(
+    alloc: Global,
+    setup: &Setup,
+    view: &View,
+    plan: &Plan,
+    certificate: &Certificate,
+    verdict: &Verdict,
+    form: Form,
+    answers: &mut W,
+) -> Result<(), ShowFault> {
+    tell_rows(alloc, answers, form, setup, view, plan)?;
+    let rows = usable_rows(view, &plan.order, setup.fees());
+    let rows = rows.as_slice();
+    let most = fillable(rows, plan.order.shares);
+    tell_most(alloc, answers, form, plan, most)?;
+    tell_cuts(
+        alloc,
+        answers,
+        form,
+        plan,
+        rows,
+        most,
+        certificate.as_slice(),
+    )?;
+    let last = if verdict.is_confirmed() {
+        "Each lawful plan that fills as many has one of these worst prices, so none costs less."
+    } else {
+        ""
+    };
+    tell_line(answers, form, last, &[])
+}
+
+/// Tells how many shares can be filled, and why no more.
+fn tell_most<W: Write>(
+    alloc: Global,
+    answers: &mut W,
+    form: Form,
+    plan: &Plan,
+    most: u64,
+) -> Result<(), ShowFault> {
+    let asked = u64::from(plan.order.shares.get());
+    let words = if most == asked {
+        "No lawful plan fills more than |most|: all that is asked for."
+    } else {
+        "No lawful plan fills more than |most|: all that may be traded with, which is less than is asked for."
+    };
+    tell(
+        alloc,
+        answers,
+        form,
+        &[],
+        &[words],
+        &[
+            ("what", Item::Text("fillable")),
+            ("most", Item::Number(most)),
+            ("asked", Item::Number(asked)),
+            ("filled", Item::Number(u64::from(plan.filled))),
+        ],
+    )
+}
