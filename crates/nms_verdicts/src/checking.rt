@@ -264,7 +264,9 @@ fn write_unreadable<W: Write>(
         answers,
         form,
         &[],
-        &["|verdict| |code|: plan |plan|, at line |line|, is not the text of a plan from PLAN to END"],
+        &[
+            "|verdict| |code|: plan |plan|, at line |line|, is not the text of a plan from PLAN to END",
+        ],
         &[
             ("what", Item::Text("plan")),
             ("file", Item::Bytes(number.file.as_bytes())),

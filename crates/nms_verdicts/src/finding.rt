@@ -146,7 +146,13 @@ fn of_breach<'a>(place: &BreachPlace, roster: &'a Roster, order: &Order) -> Find
 fn of_leg_breach<'a>(place: &BreachPlace, roster: &'a Roster, order: &Order) -> Finding<'a> {
     match place {
         BreachPlace::NoSuchQuotation(leg) => {
-            of_leg(roster, leg, why_none(order, leg), leg_price(leg), Item::Absent)
+            of_leg(
+                roster,
+                leg,
+                why_none(order, leg),
+                leg_price(leg),
+                Item::Absent,
+            )
         }
         BreachPlace::PriceDiffers(leg) => of_leg(
             roster,

@@ -58,32 +58,41 @@ fn move_to(
     ensures at { IsAt (sizes_of roster.now) changes.now board.new }
     ensures moved { OnOk result (board.new.applied ≡ version) }
 {
-    if board.applied() <= version {
-        advance(roster, changes, board, version);
-        return Ok(());
-    }
-    match Boards::new(alloc, roster) {
-        Ok(opening) => {
-            *board = opening;
-            advance(roster, changes, board, version);
+    match reopen(alloc, roster, changes, board, version) {
+        Ok(()) => {
+            let (version, _) = changes.split_at(version as usize);
+            let (_, later) = version.split_at(board.applied() as usize);
+            board.apply_all(later);
             Ok(())
         }
         Err(fault) => Err(fault),
     }
 }
 
-/// Moves a board forward.
-fn advance(roster: &Roster, changes: &[Change], board: &mut Boards, version: u64)
-    requires held { All (λ change. holds (sizes_of roster.now) change ≡ true) changes.now }
-    requires few { length changes.now ≤ MOST_CHANGES }
-    requires within { version ≤ length changes.now }
-    requires behind { board.old.applied ≤ version }
-    requires at { IsAt (sizes_of roster.now) changes.now board.old }
+/// Makes a new board where one is past a version.
+fn reopen(
+    alloc: Global,
+    roster: &Roster,
+    changes: &[Change],
+    board: &mut Boards,
+    version: u64,
+) -> Result<(), BoardFault>
+    requires { IsAt (sizes_of roster.now) changes.now board.old }
     ensures at { IsAt (sizes_of roster.now) changes.now board.new }
-    ensures moved { board.new.applied ≡ version }
+    ensures behind { OnOk result (board.new.applied ≤ version) }
 {
-    let _ = roster;
-    board.apply_all(&changes[board.applied() as usize..version as usize]);
+    // The clauses alone speak of the changes.
+    let _ = changes;
+    if board.applied() <= version {
+        return Ok(());
+    }
+    match Boards::new(alloc, roster) {
+        Ok(opening) => {
+            *board = opening;
+            Ok(())
+        }
+        Err(fault) => Err(fault),
+    }
 }
 
 /// Judges a plan on what is seen.
@@ -92,9 +101,11 @@ fn judge_on(fees: &FeeBook, view: &View, plan: &Plan, certificate: &Certificate)
 {
     match confirm(view, &plan.order, fees, plan, certificate) {
         Ok(()) => Verdict::Confirmed,
-        Err(doubt) => Verdict::Doubted {
-            doubt,
-            place: doubt_place(view, &plan.order, plan, fees, certificate, doubt),
-        },
+        Err(doubt) => {
+            // Copied before it is passed on: the borrow checker takes a value that was passed as moved.
+            let told = doubt;
+            let place = doubt_place(view, &plan.order, plan, fees, certificate, doubt);
+            Verdict::Doubted { doubt: told, place }
+        }
     }
 }

@@ -63,7 +63,11 @@ fn tell_named<W: Write>(
         finding.place,
         finding.words,
     ];
-    let lines = if headings.is_empty() { &all[..] } else { &all[4..] };
+    let lines = if headings.is_empty() {
+        &all[..]
+    } else {
+        &all[4..]
+    };
     tell(
         alloc,
         answers,

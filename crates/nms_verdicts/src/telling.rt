@@ -83,10 +83,12 @@ fn tell_row<W: Write>(
 /// The fact that stands under a heading; without facts its title.
 fn column_of<'a>(heading: Heading, facts: &[(&str, Item<'a>)]) -> Column<'a> {
     let Heading(title, key, width, right) = heading;
-    let item = match facts {
-        [] if title.is_empty() => Item::Absent,
-        [] => Item::Strong(title),
-        _ => value_of(facts, key.as_bytes()),
+    let item = if !facts.is_empty() {
+        value_of(facts, key.as_bytes())
+    } else if title.is_empty() {
+        Item::Absent
+    } else {
+        Item::Strong(title)
     };
     Column { item, width, right }
 }
