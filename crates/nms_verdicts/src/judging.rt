@@ -81,6 +81,7 @@ fn reopen(
     ensures at { IsAt (sizes_of roster.now) changes.now board.new }
     ensures behind { OnOk result (board.new.applied ≤ version) }
 {
+    // The clauses alone speak of the changes.
     let _ = changes;
     if board.applied() <= version {
         return Ok(());
