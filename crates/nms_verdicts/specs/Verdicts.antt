@@ -1,6 +1,6 @@
 -- What a verdict says of a plan: just what an audit finds on the plan's own version of the changes, for its own order, and
 -- where a doubt stands. This product's own rule.
-use Rattle.std.specs.Prelude.{ℕ, ◌≡◌, ◌<◌, ◌≤◌, List, length, Option, Some, None}
+use Rattle.std.specs.Prelude.{◌≡◌, ◌<◌, ◌≤◌, List, length, Some, None}
 use Rattle.nms_quote.specs.Roster.{Sizes}
 use Rattle.nms_quote.specs.Tape.{Tape, version}
 use Rattle.nms_quote.specs.declared.certificate.Cut.{Cut}
