@@ -3,9 +3,9 @@
 
     day.py CHANGES FILE [SEED]
 
-Four participants quote ABC, and every fourth change is of PNY. Prices drift; one participant in eight changes is slow
-and quotes where the market was some changes ago, so that markets lock and cross. Now and then a participant withdraws
-or quotes by hand. The same number and seed give the same bytes.
+Four participants quote ABC, and every fourth change is of PNY. Prices drift. In some eight stretches of the day quotations
+are late, and stand where the market was some changes ago, so that it locks and crosses. Now and then a participant
+withdraws or quotes by hand. The same number and seed give the same bytes.
 """
 import random
 import sys
@@ -18,7 +18,7 @@ def side(price, draw):
 
 
 def day(changes, draw):
-    cents, past = 18968, []
+    cents, past, slow = 18968, [], 0
     for number in range(changes):
         cents += draw.choice((-1, 0, 0, 0, 1)) if number % 3 == 0 else 0
         past.append(cents)
@@ -26,7 +26,9 @@ def day(changes, draw):
         if draw.random() < 0.001:
             yield f"X,{part}"
             continue
-        late = draw.randint(20, 80) if draw.random() < 0.125 else 0
+        if draw.random() < 8 / changes:
+            slow = number + changes // 40
+        late = draw.randint(20, 80) if number < slow and draw.random() < 0.5 else 0
         at = past[max(0, len(past) - 1 - late)]
         sym, at = ("PNY", at // 8) if number % 4 == 3 else ("ABC", at)
         half = draw.randint(1, 4)

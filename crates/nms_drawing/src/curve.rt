@@ -39,7 +39,7 @@ fn write_curve<W: Write>(
     let mut end = 0_u64;
     for column in &day.columns {
         let span = column.span(side);
-        if was != span.first {
+        if was != span.first || span.low != span.high {
             turn(scale, end, was, span.first, answers)?;
         }
         end = end.saturating_add(1);

@@ -23,13 +23,13 @@ pub(crate) struct Span {
     pub(crate) last: u64,
 }
 
-/// A column: both sides, and whether a version of it is locked or crossed.
+/// A column: both sides, and how many of its versions are locked and crossed.
 #[derive(Clone, Copy)]
 pub(crate) struct Column {
     pub(crate) bid: Span,
     pub(crate) offer: Span,
-    pub(crate) locked: bool,
-    pub(crate) crossed: bool,
+    pub(crate) locked: u64,
+    pub(crate) crossed: u64,
 }
 
 impl Column {
@@ -156,15 +156,15 @@ fn add(day: &mut Day, version: u64, moment: &Moment) -> Result<(), AllocError> {
         day.columns.push(Column {
             bid: NOTHING,
             offer: NOTHING,
-            locked: false,
-            crossed: false,
+            locked: 0,
+            crossed: 0,
         })?;
     }
     if let Some(column) = day.columns.last_mut() {
         widen(&mut column.bid, moment.bid);
         widen(&mut column.offer, moment.offer);
-        column.locked = column.locked || moment.locked;
-        column.crossed = column.crossed || moment.crossed;
+        column.locked = column.locked.saturating_add(u64::from(moment.locked));
+        column.crossed = column.crossed.saturating_add(u64::from(moment.crossed));
     }
     if moment.locked || moment.crossed {
         add_marked(day, version, moment.crossed)?;

@@ -3,7 +3,7 @@
 use crate::curve::write_curves;
 use crate::day::{Column, Day};
 use crate::legs::write_legs;
-use crate::scale::{LEFT, MOST_TICKS, Scale, step_of};
+use crate::scale::{HIGH, LEFT, MOST_TICKS, Scale, TOP, share, step_of};
 use crate::words::{Drawn, write_heading, write_notes, write_title, write_words};
 use nms_quote::{Plan, Roster, Sym};
 use nms_show::{Form, Item, ShowFault, write_line};
@@ -64,32 +64,38 @@ pub(crate) fn write_picture<W: Write>(
     put(answers, &[Item::Text("</svg>")])
 }
 
-/// How a column is hatched.
+/// How a column is hatched: as crossed or as locked, and how high.
 #[derive(Clone, Copy, PartialEq, Eq)]
-enum Hatching {
-    Plain,
-    Locked,
-    Crossed,
+struct Hatching {
+    is_crossed: bool,
+    high: u64,
 }
 
-/// How a column is hatched: one with a crossed version as crossed.
-fn hatching_of(column: &Column) -> Hatching {
-    if column.crossed {
-        Hatching::Crossed
-    } else if column.locked {
-        Hatching::Locked
+/// How a column is hatched: as high as the share of its versions that are locked or crossed, and three high at least, so
+/// that it is seen; as crossed where one of them is crossed.
+fn hatching_of(column: &Column, each: u64) -> Hatching {
+    let marked = column.locked.saturating_add(column.crossed);
+    let high = if marked == 0 {
+        0
     } else {
-        Hatching::Plain
+        share(HIGH, marked, each).clamp(3, HIGH)
+    };
+    Hatching {
+        is_crossed: column.crossed > 0,
+        high,
     }
 }
 
-/// Hatches the columns with locked and crossed versions, each run of them as one.
+/// Hatches the columns with locked and crossed versions, those side by side that look alike as one.
 fn write_hatchings<W: Write>(day: &Day, scale: &Scale, answers: &mut W) -> Result<(), ShowFault> {
     let mut begun = 0;
-    let mut end = 0;
-    let mut now = Hatching::Plain;
+    let mut end = 0_u64;
+    let mut now = Hatching {
+        is_crossed: false,
+        high: 0,
+    };
     for column in &day.columns {
-        let next = hatching_of(column);
+        let next = hatching_of(column, day.each);
         if next != now {
             write_hatching(now, scale, begun, end, answers)?;
             begun = end;
@@ -100,7 +106,7 @@ fn write_hatchings<W: Write>(day: &Day, scale: &Scale, answers: &mut W) -> Resul
     write_hatching(now, scale, begun, end, answers)
 }
 
-/// Hatches a run of columns. A narrow one is made three wide, so that it is seen.
+/// Hatches columns side by side. A narrow one is made three wide, so that it is seen.
 fn write_hatching<W: Write>(
     hatching: Hatching,
     scale: &Scale,
@@ -108,17 +114,24 @@ fn write_hatching<W: Write>(
     to: u64,
     answers: &mut W,
 ) -> Result<(), ShowFault> {
-    let fill = match hatching {
-        Hatching::Plain => return Ok(()),
-        Hatching::Locked => "\" fill=\"url(#locked)\"/>",
-        Hatching::Crossed => "\" fill=\"url(#crossed)\"/>",
+    if hatching.high == 0 {
+        return Ok(());
+    }
+    let fill = if hatching.is_crossed {
+        "\" fill=\"url(#crossed)\"/>"
+    } else {
+        "\" fill=\"url(#locked)\"/>"
     };
     let start = scale.column(from);
     let width = scale.column(to).saturating_sub(start).max(3);
     put(
         answers,
         &[
-            Item::Text("<rect y=\"110\" height=\"680\" x=\""),
+            Item::Text("<rect y=\""),
+            Item::Number(TOP.saturating_add(HIGH).saturating_sub(hatching.high)),
+            Item::Text("\" height=\""),
+            Item::Number(hatching.high),
+            Item::Text("\" x=\""),
             Item::Number(start),
             Item::Text("\" width=\""),
             Item::Number(width),

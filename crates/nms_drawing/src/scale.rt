@@ -5,11 +5,11 @@ use nms_quote::Plan;
 /// The plot within a picture of 2,000 by 1,000.
 pub(crate) const LEFT: u64 = 150;
 
-const TOP: u64 = 110;
+pub(crate) const TOP: u64 = 110;
 
 const WIDE: u64 = 1500;
 
-const HIGH: u64 = 680;
+pub(crate) const HIGH: u64 = 680;
 /// The steps between ticks: the least is taken that goes into a range twelve times at most.
 const STEPS: [u64; 3] = [1, 2, 5];
 /// The most ticks of an axis.
@@ -101,7 +101,7 @@ impl Scale {
 }
 
 /// A part of a length, of which the whole is another.
-fn share(length: u64, part: u64, whole: u64) -> u64 {
+pub(crate) fn share(length: u64, part: u64, whole: u64) -> u64 {
     length.saturating_mul(part).checked_div(whole).unwrap_or(0)
 }
 

@@ -15,7 +15,7 @@ const LINES: &str =
 /// What a column of several versions leaves out.
 const LEFT_OUT: &str =
     " versions and shows their first, lowest, highest and last prices: the order between these is \
-left out. It is hatched where one of them is locked or crossed.";
+left out. It is hatched as high as the share of them that is locked or crossed.";
 
 /// What became of a plan.
 #[derive(Clone, Copy, PartialEq, Eq)]
