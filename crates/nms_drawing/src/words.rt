@@ -14,8 +14,8 @@ const LINES: &str =
     "<desc id=\"desc\">The solid line is the best bid, the hollow one the best offer.";
 /// What a column of several versions leaves out.
 const LEFT_OUT: &str =
-    " versions and shows their first, lowest, highest and last prices: the order between these is \
-left out. It is hatched as high as the share of them that is locked or crossed.";
+    " versions: their first, lowest, highest and last prices, without the order between these. It is \
+hatched as high as the share of them that is locked or crossed.";
 
 /// What became of a plan.
 #[derive(Clone, Copy, PartialEq, Eq)]
