@@ -3,20 +3,19 @@ use Rattle.std.proofs.Common.{ℕ, ◌≡◌, ◌<◌, suc, List, [], ◌∷◌,
 use Rattle.std.specs.List.{AllByRecursion}
 use Rattle.std.proofs.lemmas.List.Elements.{All-cons, All-nil}
 use Rattle.std.specs.Prelude.{All}
-use Rattle.atomic_table.specs.Seated.{TableId}
 use Rattle.nms_quote.specs.Merge.{feeds}
 use Rattle.nms_quote.specs.declared.feed.Feed.{Feed}
 use Rattle.nms_feed.specs.Lane.{AreSendersOf, Sending, Taking, fresh}
 
-lanes_of : (lane : TableId) (fs : List Feed) → AllByRecursion (λ s. s.lane ≡ lane) (map (fresh lane) fs)
+lanes_of : (lane : _) (fs : List Feed) → AllByRecursion (λ s. s.lane ≡ lane) (map (fresh lane) fs)
 lanes_of lane [] = tt
 lanes_of lane (f ∷ fs) = (refl, lanes_of lane fs)
 
-feeds_of : (lane : TableId) (fs : List Feed) → map (λ s. s.feed) (map (fresh lane) fs) ≡ fs
+feeds_of : (lane : _) (fs : List Feed) → map (λ s. s.feed) (map (fresh lane) fs) ≡ fs
 feeds_of lane [] = refl
 feeds_of lane (f ∷ fs) = ap (λ l. f ∷ l) (feeds_of lane fs)
 
-none_sent : (lane : TableId) (fs : List Feed) → All (λ s. s.sent ≡ []) (map (fresh lane) fs)
+none_sent : (lane : _) (fs : List Feed) → All (λ s. s.sent ≡ []) (map (fresh lane) fs)
 none_sent lane [] = All-nil (λ (s : Sending). s.sent ≡ [])
 none_sent lane (f ∷ fs) = All-cons (λ (s : Sending). s.sent ≡ []) (fresh lane f) (map (fresh lane) fs) refl (none_sent lane fs)
 
@@ -33,7 +32,7 @@ pub opened_new : (count : ℕ) (taker : Taking) (senders : List Sending) → sen
     → All (λ s. s.sent ≡ []) senders
 opened_new count taker senders are = rw are (none_sent taker.lane (take count feeds))
 
-lanes_back : (lane : TableId) (senders back : List Sending) → length back ≡ length senders
+lanes_back : (lane : _) (senders back : List Sending) → length back ≡ length senders
     → ((k : ℕ) (d : Sending) → k < length senders → (slice_index_or back k d).lane ≡ (slice_index_or senders k d).lane)
     → AllByRecursion (λ s. s.lane ≡ lane) senders → AllByRecursion (λ s. s.lane ≡ lane) back
 lanes_back lane [] [] same each all = tt

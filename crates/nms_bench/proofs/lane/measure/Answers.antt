@@ -2,8 +2,10 @@
 use Rattle.nms_bench.proofs.LaneLemmas.{opened, opened_new}
 use Rattle.nms_bench.proofs.lane.measure.Goals as goal
 
-pub run-requires : goal.run-requires
-run-requires g c = record {
-  all = opened _ c.in-Ok-open_lane.taker c.in-Ok-open_lane.ends.items c.in-Ok-open_lane.ensures.senders c.in-Ok-open_lane.ensures.taker.0;
-  new = opened_new _ c.in-Ok-open_lane.taker c.in-Ok-open_lane.ends.items c.in-Ok-open_lane.ensures.senders;
-}
+pub run-requires-clause-all : goal.run-requires-clause-all
+run-requires-clause-all g c = λ loans lives.
+    opened c.args.senders c.in-Ok.taker c.in-Ok.ends.items c.in-Ok.ensures.senders c.in-Ok.ensures.taker.0
+
+pub run-requires-clause-new : goal.run-requires-clause-new
+run-requires-clause-new g c = λ loans lives.
+    opened_new c.args.senders c.in-Ok.taker c.in-Ok.ends.items c.in-Ok.ensures.senders

@@ -4,8 +4,9 @@ use Rattle.nms_bench.proofs.lane.run.Goals as goal
 
 pub close-requires : goal.close-requires
 close-requires g c =
-    let lent = c.in-Some.ensures in
+    let both = c.join-back.ensures in
+    let back = c.in-Some.is in
     record {
-      all = all_back c.args.taker c.join.result.1 c.args.senders.items c.in-Some.back.items c.requires.all c.join.ensures.1.0 c.join.ensures.1.1
-          lent.count lent.lanes lent.feeds;
+      all = all_back c.args.taker c.join-back.result.1 c.args.senders.items c.in-Some.back.items c.requires.all both.second.0 both.second.1
+          (rw back at both.first.0) (rw back at both.first.1) (rw back at both.first.2);
     }
