@@ -8,5 +8,5 @@ close-requires g c =
     let back = c.in-Some.is in
     record {
       all = all_back c.args.taker c.join-back.result.1 c.args.senders.items c.in-Some.back.items c.requires.all both.second.0 both.second.1
-          (rw back at both.first.0) (rw back at both.first.1) (rw back at both.first.2);
+          (rw back at both.first.0) (rw back at both.first.1.0) (rw back at both.first.1.1);
     }
