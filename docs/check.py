@@ -13,7 +13,7 @@ import sys
 
 TOP = os.path.dirname(os.path.dirname(os.path.realpath(__file__)))
 # Lines of the front page, and words of a sentence there.
-MOST_LINES, MOST_WORDS = 160, 30
+MOST_LINES, MOST_WORDS = 150, 30
 # Columns of a definition or a proof.
 MOST_COLUMNS = 140
 SPAN = re.compile(r"`([^`]+)`")
@@ -308,9 +308,9 @@ def check_table():
     """The table of README.md has each crate of the product, with functions and clauses that are there."""
     page, told = "README.md", set()
     for row in rows(prose(page)):
-        name = row[CELLS][0].strip("`")
-        if "Contract" in row and name in TREE:
-            told.add(name)
+        names = [it for it in SPAN.findall(row[CELLS][0]) if it in TREE] if "Contract" in row else []
+        told.update(names)
+        for name in names:
             for function, clauses in re.findall(r"`([\w:]+)`(?: \(([^)]*)\))?", re.sub(r"\(`[^)]*\)", lambda it: it[0], row["Contract"])):
                 if f"(`{function}`" not in row["Contract"] and f", `{function}`)" not in row["Contract"] \
                         and not re.search(rf"\([^)]*`{function}`[^)]*\)", row["Contract"]):
