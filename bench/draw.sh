@@ -5,10 +5,10 @@
 # it compares the records a second of `stream` with those of a script and of a report of nms_tool on the same changes. It
 # is no part of the gate. Needs python3 and chromium, and both programs built.
 #
-#   bench/draw.sh [FOLDER]      leaves the days, their SVGs and their pictures in FOLDER, /tmp/drawn where none is given
+#   bench/draw.sh [FOLDER]      leaves the days, their SVGs and their pictures in FOLDER, bench/out/drawn where none is given
 set -eu
 cd "$(dirname "$0")/.."
-folder=${1:-/tmp/drawn}
+folder=${1:-bench/out/drawn}
 mkdir -p "$folder"
 sed 's/^tape_limit.*/tape_limit = 10000000/' examples/builtin.toml >"$folder/setup.toml"
 status=0
