@@ -34,9 +34,9 @@ text = without(text, "/// How many random plans", "/// What is asked for")
 text = without(text, "// ---- every small board", "// ---- boards drawn by chance")
 text = text[: text.index("#[test]")]
 for old, new in (
-    ("use crate::sweep::four_participants;\n", ""),
     ("use nms_scripts::SETUP_K;\n", ""),
-    ("use std::alloc::Global;\nuse std::test::Fail;\n", "use crate::Failed;\n"),
+    ("use crate::same::same;\n", ""),
+    ("use std::alloc::Global;\n", "use crate::Failed;\n"),
     ("Setup, read_setup", "read_setup"),
     (" CutKind,", ""),
     ("fees: &FeeBook, number: u32) ->", "fees: &FeeBook, number: u32, seed: u64) ->"),

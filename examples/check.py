@@ -20,7 +20,7 @@ HERE = os.path.dirname(os.path.realpath(__file__))
 TOP = os.path.dirname(HERE)
 # What of this folder is neither run nor given.
 TOOLS = {"README.md", "bundle.sh", "check.py", "check_review.py", "refuse.py", "hostile.py", "traced.py", "forge.py", "judge.py"}
-TOOLS |= {"judge_live.py", "judge_lots.py", "judge_orders.py", "judge_plans.py", "judge_self_help.py"}
+TOOLS |= {"judge_live.py", "judge_lots.py", "judge_orders.py", "judge_plans.py", "judge_sweeps.py"}
 # Kinds of case that no call shows, which crates/nms_examples runs.
 BELOW = {"breach", "lines", "numbers", "plan", "rewrite", "settings", "steps", "text", "trials"}
 # Those that a call shows whole. Of a script it does not tell the counts, of a doubt not the cut: both run them.
@@ -59,7 +59,8 @@ class Call:
             for name, text in self.files.items():
                 os.makedirs(os.path.dirname(os.path.join(room, name)), exist_ok=True)
                 with open(os.path.join(room, name), "wb") as file:
-                    file.write(text)
+                    # A number is so many bytes 0, which take no room on the disk.
+                    file.truncate(text) if isinstance(text, int) else file.write(text)
             given, answers, errors = (os.path.join(room, f".{it}") for it in ("given", "answers", "errors"))
             with open(given, "wb") as file:
                 file.write(self.given if isinstance(self.given, bytes) else b"")
@@ -224,8 +225,17 @@ def call_of(case, statuses, stored):
     raise Wrong("no line `-- gives`" if case.kind in KINDS else "a kind of case that is not known")
 
 
+def longest():
+    """The longest script, with empty lines behind it, one of a record more, and a feed of a byte more than it may have."""
+    records, answers = b"F\n" * 10_000_000, b"PUB,0\n" * 10_000_000
+    yield "ten million records", Call(["script"], 0, answers, b"", given=records + b"\r\n\n")
+    yield "ten million records and one", Call(["script"], 6, answers, b"nms_tool: E3\n", given=records + b"F\n")
+    files = {"orders": b"", "a": 1_000_000_001, "b": b""}
+    yield "a feed of a byte too many", Call(["live", "orders", "a", "b"], 6, b"", b"nms_tool: E3\n", files)
+
+
 def main(program):
-    failed, calls, named = [], [], set(TOOLS)
+    failed, calls, named = [], list(longest()), set(TOOLS)
 
     def take(name, make):
         try:

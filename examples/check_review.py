@@ -148,7 +148,21 @@ def small_memory(program, path):
     must(ran.returncode == 6 and b"3500001" in ran.stdout, f"{ran.returncode}, {ran.stdout[:500]!r}")
 
 
-TRIALS = [("closed", refused), ("reader_gone", refused), ("long", long_records), ("harmless", each_byte), ("small_memory", large)]
+def among(file):
+    """A feed of 200,000 records, of which one has a price with five decimals."""
+    good = b"Q,N,ABC,A,9.99,100,10.01,200\nQ,P,ABC,A,9.98,100,10.02,200\n" * 61_728
+    file.write(good + b"Q,P,ABC,A,9.98,100,10.02500,200\n" + b"X,N\n" * (200_000 - 123_457))
+
+
+def one_found(program, path):
+    words = ["explain", "feed", "given.changes", "--feed", "A"]
+    ran = called(program, words, capture_output=True, cwd=os.path.dirname(path))
+    head, *_, told = ran.stdout.decode().partition("given.changes: records: ")
+    wanted = "given.changes:123457:20: L6: record 123457, field 7, offer\n    Q,P,ABC,A,9.98,100,10.02500,200\n" + " " * 23 + "^^^^^^^^\n"
+    must((ran.returncode, told) == (6, "200000; refused: 1\n    L6: 1\n") and head.startswith(wanted), f"{ran.returncode}, {ran.stdout[:500]!r}")
+
+
+TRIALS = [("closed", refused), ("reader_gone", refused), ("long", long_records), ("harmless", each_byte), ("small_memory", large), ("one_found", among)]
 
 
 def unnamed():

@@ -16,7 +16,7 @@ RANGE = 10**18
 
 def unit_cost(order, part, price):
     """What a share costs with its fee, in nanodollars; the price is in 1/10,000 dollar."""
-    fee, rate = FEES[part]
+    fee, rate = order.get("fees", FEES)[part]
     fee = fee if price >= 10_000 else rate * price
     return fee + (price if order["side"] == "B" else -price) * 100_000
 

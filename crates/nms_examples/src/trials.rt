@@ -74,8 +74,9 @@ fn try_readers<T: AllocGlobal>(rt: &T, setup: &Setup) -> Result<(), Fail> {
     live_streams::the_text_of_a_live_run_is_one_write_and_flushed(rt, setup)
 }
 
-/// How much a roster takes.
+/// How much a roster takes, and what it holds.
 fn try_rosters<T: AllocGlobal>(rt: &T) -> Result<(), Fail> {
+    rosters::a_roster_holds_what_is_of_it_alone(rt)?;
     rosters::a_roster_takes_32_participants_and_tells_each_refusal(rt)?;
     rosters::a_roster_takes_1000_symbols_and_tells_each_refusal(rt)
 }

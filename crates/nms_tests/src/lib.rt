@@ -1,6 +1,6 @@
-//! The tests of the crates below that take threads or long: the lane, published versions, live runs, the longest
-//! script, the cutoffs of an order, the rank order of a board, and the planner against two slow judges. What else no
-//! clause says stands in `nms_examples`.
+//! The tests of the crates below that take threads or long: the lane, published versions, live runs, the cutoffs of an
+//! order, the rank order of a board, and the planner against a plain slow one. What else no clause says stands in
+//! `nms_examples`, and what a call of the program shows in `examples/`.
 //!
 //! They stand here because the gate proves a crate once more for its own tests.
 #![tactic(auto)]
@@ -14,14 +14,10 @@ mod feed;
 #[cfg(test)]
 mod live;
 #[cfg(test)]
-mod long_script;
-#[cfg(test)]
 mod plans;
 #[cfg(test)]
 mod rank_order;
 #[cfg(test)]
 mod same;
-#[cfg(test)]
-mod sweep;
 #[cfg(test)]
 mod versions;

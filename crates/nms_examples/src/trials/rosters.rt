@@ -1,7 +1,7 @@
-//! How much a roster takes.
+//! How much a roster takes, and what it holds.
 use super::same;
 use nms_board::Boards;
-use nms_quote::{Feed, Roster, RosterFault};
+use nms_quote::{Change, Feed, Part, QState, Roster, RosterFault, Sym};
 use nms_units::Lot;
 use std::alloc::Global;
 use std::test::Fail;
@@ -77,4 +77,29 @@ pub(super) fn a_roster_takes_1000_symbols_and_tells_each_refusal<T: AllocGlobal>
     rt: &T,
 ) -> Result<(), Fail> {
     try_symbols(rt.alloc(), &mut Roster::new(rt.alloc())?)
+}
+
+/// A state of the participant at a place in the symbol at a place.
+fn state_at(part: u8, sym: u16) -> Option<Change> {
+    Some(Change::State {
+        part: Part::new(part)?,
+        sym: Sym::new(sym)?,
+        state: QState::Halted,
+    })
+}
+
+/// Compares what a roster of one participant and one symbol holds, and what its board takes.
+fn try_holding(roster: &Roster, boards: &Boards) -> Result<(), Fail> {
+    for (part, sym, told) in [(0, 0, true), (1, 0, false), (0, 1, false), (1, 1, false)] {
+        let change = state_at(part, sym).ok_or("a change")?;
+        same((roster.holds(&change), boards.takes(&change)), (told, told))?;
+    }
+    Ok(())
+}
+
+pub(super) fn a_roster_holds_what_is_of_it_alone<T: AllocGlobal>(rt: &T) -> Result<(), Fail> {
+    let mut roster = Roster::new(rt.alloc())?;
+    same(participant_added(&mut roster, "N"), Ok(0))?;
+    same(symbol_added(&mut roster, "ABC"), Some(Ok(0)))?;
+    try_holding(&roster, &Boards::new(rt.alloc(), &roster)?)
 }

@@ -51,38 +51,59 @@ const OF_Z: &[u8] = b"Q,Z,ABC,A,,,10.02,100\n";
 #[test]
 fn three_feeds_come_to_one_tape(rt: HostRuntime) -> Result<(), Fail> {
     let feeds = [feed_a(), OF_Y, OF_Z];
-    let live = run_worked(&rt, rt.alloc(), &feeds, ["A", "A", "B", "C"]).ok_or("a run")?;
-    let tape = live.tape.as_slice();
-    same(&rt, tape.len(), 4);
-    same(&rt, place_in(tape, 0) < place_in(tape, 1), true);
-    same(&rt, first_told(&live.closing), Some((0, 0, 4, 600)));
-    compare_closing(&rt, rt.alloc(), &live.closing);
+    match run_worked(&rt, rt.alloc(), &feeds, ["A", "A", "B", "C"]) {
+        Some(live) => compare_three(&rt, rt.alloc(), &live),
+        None => return Err("a run")?,
+    }
     Ok(())
+}
+
+/// Compares what three feeds came to.
+fn compare_three<R: Abort>(rt: &R, alloc: Global, live: &Live) {
+    let tape = live.tape.as_slice();
+    same(rt, tape.len(), 4);
+    same(rt, place_in(tape, 0) < place_in(tape, 1), true);
+    same(rt, first_told(&live.closing), Some((0, 0, 4, 600)));
+    compare_closing(rt, alloc, &live.closing);
 }
 
 #[test]
 fn one_feed_is_the_tape(rt: HostRuntime) -> Result<(), Fail> {
     let all: &[u8] =
         b"Q,N,ABC,A,,,10.00,300\nQ,P,ABC,A,,,10.00,500\nQ,Y,ABC,A,,,10.01,200\nQ,Z,ABC,A,,,10.02,100\n";
-    let live = run_worked(&rt, rt.alloc(), &[all], ["A", "A", "A", "A"]).ok_or("a run")?;
+    match run_worked(&rt, rt.alloc(), &[all], ["A", "A", "A", "A"]) {
+        Some(live) => compare_one(&rt, rt.alloc(), &live),
+        None => return Err("a run")?,
+    }
+    Ok(())
+}
+
+/// Compares what one feed came to.
+fn compare_one<R: Abort>(rt: &R, alloc: Global, live: &Live) {
     let tape = live.tape.as_slice();
     for part in 0..4u8 {
-        same(&rt, place_in(tape, part), Some(usize::from(part)));
+        same(rt, place_in(tape, part), Some(usize::from(part)));
     }
-    same(&rt, tape.len(), 4);
-    compare_closing(&rt, rt.alloc(), &live.closing);
-    Ok(())
+    same(rt, tape.len(), 4);
+    compare_closing(rt, alloc, &live.closing);
 }
 
 #[test]
 fn eight_feeds_of_which_six_send_nothing(rt: HostRuntime) -> Result<(), Fail> {
     let none: &[u8] = b"";
     let feeds = [feed_a(), feed_b(), none, none, none, none, none, none];
-    let live = run_worked(&rt, rt.alloc(), &feeds, ["A", "A", "B", "B"]).ok_or("a run")?;
-    same(&rt, has_four(&live.tape, &live.published), true);
-    same(&rt, first_told(&live.closing), Some((0, 0, 4, 600)));
-    compare_closing(&rt, rt.alloc(), &live.closing);
+    match run_worked(&rt, rt.alloc(), &feeds, ["A", "A", "B", "B"]) {
+        Some(live) => compare_eight(&rt, rt.alloc(), &live),
+        None => return Err("a run")?,
+    }
     Ok(())
+}
+
+/// Compares what eight feeds came to.
+fn compare_eight<R: Abort>(rt: &R, alloc: Global, live: &Live) {
+    same(rt, has_four(&live.tape, &live.published), true);
+    same(rt, first_told(&live.closing), Some((0, 0, 4, 600)));
+    compare_closing(rt, alloc, &live.closing);
 }
 
 /// The fault of a run of eight feeds, of which some send a record that is refused.
@@ -199,7 +220,9 @@ fn compare_all<R: Abort>(rt: &R, live: &Live, each: u32) {
 fn eight_feeds_and_sixteen_desks_while_a_thousand_versions_are_published(
     rt: HostRuntime,
 ) -> Result<(), Fail> {
-    let live = run_all(&rt, rt.alloc(), 1100).ok_or("a run")?;
-    compare_all(&rt, &live, 1100);
+    match run_all(&rt, rt.alloc(), 1100) {
+        Some(live) => compare_all(&rt, &live, 1100),
+        None => return Err("a run")?,
+    }
     Ok(())
 }

@@ -1,13 +1,15 @@
 #!/usr/bin/env python3
-"""Plans orders that declare self-help on boards drawn by chance, and compares each plan with every lawful way to trade.
+"""Plans orders on boards drawn by chance, and compares each plan with every lawful way to trade.
 
-    examples/judge_self_help.py [PROGRAM [BOARDS [SEED]]]
+    examples/judge_sweeps.py [PROGRAM [BOARDS [SEED]]]
 
-An order names participants whose quotations are neither usable nor binding for it (17 CFR 242.611(b)(1)). On each board
-one order names one participant, one names two, and one names all. What is judged of a plan: its record says the order,
-with the names by place; its legs are lawful and summed rightly; no lawful way to give shares to the quotations, by the
+On each board one order names nobody, one declares self-help against one participant, one against two, and one against
+all: the quotations of a named participant are neither usable nor binding for it (17 CFR 242.611(b)(1)). Half of the
+boards stand under the built-in setup, half under one whose fees lie whole steps of price apart, so that unit costs tie
+across prices, with round lots of 100 and of 1. What is judged of a plan: its record says the order, with the names by
+place; its legs are in their one order, lawful and summed rightly; no lawful way to give shares to the quotations, by the
 lot, fills more, or as much for less; and each cut says what it has to. A plain slow program tries every way, and knows
-no cutoffs and no order of filling. Names that are none are told by their code. PROGRAM is `nms_tool`; there are 5,000
+no cutoffs and no order of filling. Names that are none are told by their code. PROGRAM is `nms_tool`; there are 6,000
 boards where no number is given. It writes a line for each difference, and last `N passed, M failed`; status 1 where one
 failed.
 """
@@ -16,15 +18,25 @@ import os
 import random
 import subprocess
 import sys
+import tempfile
 from concurrent.futures import ProcessPoolExecutor
 
 sys.dont_write_bytecode = True
-from judge_plans import FEES, LOT, dollars, doubt, is_better, is_named, money, names_of, unit_cost
+from judge_plans import FEES, dollars, doubt, is_better, is_named, money, names_of, unit_cost
 
 TOP = os.path.dirname(os.path.dirname(os.path.realpath(__file__)))
 BOARDS_OF_A_SCRIPT = 25
 # What stands in the eighth field of an order that is refused: one of the names is not on the roster.
 NO_NAMES = ["", "Q", "+", "N+", "+P", "N++P", "N+Q", "n", "N P", "N+P+"]
+# A setup in which a share costs as much with its fee at one participant as a step of price further on at another.
+TIED_FEES = {"N": (300_000, 30), "P": (200_000, 20), "Y": (-100_000, -10), "Z": (300_000, 30)}
+TIED_SETUP = "tape_limit = 99\nqueue = 9\ndesks = 1\n" + "".join(
+    [
+        f'[[participant]]\nname = "{part}"\nfeed = "{"B" if part in "YZ" else "A"}"\nfee = {fee}\nrate = {rate}\n'
+        for part, (fee, rate) in TIED_FEES.items()
+    ]
+    + [f'[[symbol]]\nname = "{sym}"\nlot = {lot}\n' for sym, lot in (("ABC", 100), ("PNY", 1))]
+)
 
 
 def is_lawful(order, rows, given):
@@ -57,7 +69,7 @@ def sums(order, rows, given):
 def best(order, rows):
     """The most that a lawful way fills, and the least that filling it costs, by every way to give lots."""
     found = 0, 0
-    for given in itertools.product(*(range(0, row[2] + 1, LOT) for row in rows)):
+    for given in itertools.product(*(range(0, row[2] + 1, order["lot"]) for row in rows)):
         filled, cost = sums(order, rows, given)
         if (-filled, cost) < (-found[0], found[1]) and is_lawful(order, rows, given):
             found = filled, cost
@@ -71,7 +83,8 @@ def wrong(order, rows, version, records):
     """What is wrong with the records of a plan, or None."""
     filled, cost = best(order, rows)
     flag, names = "M" if order["manual"] else "", names_of(order)
-    head = f"PLAN,{version},{order['side']},ABC,{order['shares']},{dollars(order['limit'])},{flag},{filled},{money(cost)},{names}"
+    asked = f"{order['side']},{order['sym']},{order['shares']},{dollars(order['limit'])},{flag}"
+    head = f"PLAN,{version},{asked},{filled},{money(cost)}{',' + names if names else ''}"
     if records[0] != head:
         return f"{records[0]!r}, and not {head!r}"
     legs = [it.split(",")[1:] for it in records[1:] if it.startswith("LEG,")]
@@ -79,6 +92,8 @@ def wrong(order, rows, version, records):
     cuts = [cut_of(it.split(",")[1:]) for it in records[1:] if it.startswith("CUT,")]
     if len(records) != len(legs) + len(cuts) + 2 or records[-1] != "END":
         return "other records than legs, cuts and the end"
+    if legs != sorted(legs, key=lambda leg: (leg[1] if order["side"] == "B" else -leg[1], list(FEES).index(leg[0]))):
+        return "legs that are not by price and participant"
     given = [sum(leg[2] for leg in legs if leg[0] == row[0]) for row in rows]
     if not is_lawful(order, rows, given) or sums(order, rows, given) != (filled, cost):
         return "legs that are not lawful, or not as good as the best"
@@ -104,14 +119,15 @@ def nanodollars(text):
 # What is drawn.
 
 
-def drawn_orders(chance, base):
-    """Three orders: one names one participant, one two, one all."""
+def drawn_orders(chance, kind, base):
+    """Four orders: one names nobody, one names one participant, one two, one all."""
     side = chance.choice("BS")
-    for count in (1, 2, 4):
+    for count in (0, 1, 2, 4):
         yield {
+            **kind,
             "side": side,
-            "shares": chance.choice([100, 200, 300, 400, 500, 700]),
-            "limit": base + chance.choice([-100, 0, 100, 200]),
+            "shares": chance.choice([1, 2, 3, 4, 5, 7, 12]) * kind["lot"],
+            "limit": base + chance.choice([-1, 0, 1, 2]) * kind["step"],
             "manual": chance.random() < 0.4,
             "self_help": chance.sample(list(FEES), count),
         }
@@ -119,23 +135,41 @@ def drawn_orders(chance, base):
 
 def record_of(chance, order):
     """The record of an order: its names in any order, one of them twice here and there."""
-    names = order["self_help"] + ([chance.choice(order["self_help"])] if chance.random() < 0.2 else [])
-    head = f"O,0,{order['side']},ABC,{order['shares']},{dollars(order['limit'])},{'M' if order['manual'] else ''}"
-    return f"{head},{'+'.join(names)}"
+    names = list(order["self_help"])
+    if names and chance.random() < 0.2:
+        names.append(chance.choice(names))
+    head = f"O,0,{order['side']},{order['sym']},{order['shares']},{dollars(order['limit'])}"
+    if names:
+        return f"{head},{'M' if order['manual'] else ''},{'+'.join(names)}"
+    return f"{head},M" if order["manual"] else head
 
 
-def drawn_script(seed):
+def drawn_kind(chance, is_tied):
+    """The symbol and its lot, how far prices stand apart, the fees, and the price about which all are drawn."""
+    if not is_tied:
+        return {"sym": "ABC", "lot": 100, "step": 100, "fees": FEES}, chance.choice([100_000, 100_000, 9_999])
+    sym, lot = chance.choice([("ABC", 100), ("PNY", 1)])
+    return {"sym": sym, "lot": lot, "step": 1, "fees": TIED_FEES}, chance.choice([100_000, 9_999])
+
+
+def drawn_side(chance, kind, base):
+    """A price, and the shares of up to three lots, with half a lot more here and there, which is not displayed."""
+    price = base + chance.choice([-2, -1, 0, 0, 1, 2]) * kind["step"]
+    return price, chance.choice([0, 1, 2, 3]) * kind["lot"] + chance.choice([0, 0, kind["lot"] // 2])
+
+
+def drawn_script(seed, is_tied):
     """A script, and how each part of its answer has to be: a line, or an order with what it can trade with."""
     chance = random.Random(seed)
-    base = chance.choice([100_000, 100_000, 9_999])
+    kind, base = drawn_kind(chance, is_tied)
     board, script, due = {}, [], []
     for version in range(1, BOARDS_OF_A_SCRIPT + 1):
         part, letter = chance.choice(list(FEES)), chance.choice("AAAAMH")
-        bid, offer = ((base + chance.choice([-200, -100, 0, 0, 100, 200]), chance.choice([0, 100, 200, 300])) for _ in "bo")
+        bid, offer = (drawn_side(chance, kind, base) for _ in "bo")
         board[part] = letter, bid, offer
-        script += [f"Q,{part},ABC,{letter},{dollars(bid[0])},{bid[1]},{dollars(offer[0])},{offer[1]}", "F"]
+        script += [f"Q,{part},{kind['sym']},{letter},{dollars(bid[0])},{bid[1]},{dollars(offer[0])},{offer[1]}", "F"]
         due.append(f"PUB,{version}")
-        for order in drawn_orders(chance, base):
+        for order in drawn_orders(chance, kind, base):
             if chance.random() < 0.05:
                 flag = chance.choice(["", "M", "X"])
                 script.append(f"O,0,B,ABC,100,10.00,{flag},{chance.choice(NO_NAMES)}")
@@ -143,17 +177,27 @@ def drawn_script(seed):
             if chance.random() < 0.02:
                 script.append("O,0,B,ABC,100,10.00,X,N")
                 due.append(f"ERR,{len(script)},L5")
-            at = 2 if order["side"] == "B" else 1
-            shown = [(part, *board[part][at], board[part][0] == "A") for part in FEES if part in board and board[part][0] != "H"]
             script.append(record_of(chance, order))
-            due.append((order, [row for row in shown if row[2]], version))
+            due.append((order, shown(board, order), version))
     return "".join(it + "\n" for it in script), due
 
 
-def judged(program, seed):
-    """How many plans are as they must be, and what is wrong with the first that is not."""
-    script, due = drawn_script(seed)
-    ran = subprocess.run([program], input=script.encode(), capture_output=True, timeout=60)
+def shown(board, order):
+    """What the participants display on the side that an order trades with: whole lots, and nothing of a halted one."""
+    at, rows = 2 if order["side"] == "B" else 1, []
+    for part in FEES:
+        if part in board and board[part][0] != "H":
+            price, shares = board[part][at]
+            rows.append((part, price, shares - shares % order["lot"], board[part][0] == "A"))
+    return [row for row in rows if row[2]]
+
+
+def judged(program, setup, seed):
+    """How many plans are as they must be, and what is wrong with the first that is not. Odd seeds have the second setup."""
+    is_tied = seed % 2 == 1
+    script, due = drawn_script(seed, is_tied)
+    words = [program, "script", "--setup", setup] if is_tied else [program]
+    ran = subprocess.run(words, input=script.encode(), capture_output=True, timeout=60)
     lines, right = iter(ran.stdout.decode(errors="replace").split("\n")), 0
     for it in due:
         line = next(lines, "")
@@ -175,10 +219,12 @@ def judged(program, seed):
 def main():
     given = sys.argv[1:]
     program = os.path.abspath(given[0]) if given else os.path.join(TOP, "nms_tool")
-    scripts = -(-(int(given[1]) if given[1:] else 5000) // BOARDS_OF_A_SCRIPT)
+    scripts = -(-(int(given[1]) if given[1:] else 6000) // BOARDS_OF_A_SCRIPT)
     first = int(given[2]) if given[2:] else 242_611
-    with ProcessPoolExecutor(os.cpu_count()) as pool:
-        runs = list(pool.map(judged, [program] * scripts, range(first, first + scripts)))
+    with tempfile.NamedTemporaryFile("w", suffix=".toml") as setup, ProcessPoolExecutor(os.cpu_count()) as pool:
+        setup.write(TIED_SETUP)
+        setup.flush()
+        runs = list(pool.map(judged, [program] * scripts, [setup.name] * scripts, range(first, first + scripts)))
     failed = [fault for _, fault in runs if fault]
     for fault in failed[:20]:
         print(fault)
