@@ -5,9 +5,9 @@ use std::time::Duration;
 use std::{hint, thread};
 
 /// How many turns a thread spins first. This product's own rule.
-const MOST_SPINS: u32 = 64;
+const MOST_SPINS: u32 = 16;
 /// In how many turns after those it lets other threads run. This product's own rule.
-const MOST_YIELDS: u32 = 16;
+const MOST_YIELDS: u32 = 2;
 /// How long it rests in the turn after those, in microseconds. This product's own rule.
 const SHORTEST_REST: u32 = 16;
 /// How long it rests at most in a turn, in microseconds. This product's own rule.
@@ -31,6 +31,11 @@ impl Patience {
             turns: 0,
             rest: SHORTEST_REST,
         }
+    }
+
+    /// Forgets how long it rested, and not that it waited: its next rest is a short one.
+    pub fn calm(&mut self) {
+        self.rest = SHORTEST_REST;
     }
 
     /// Waits a turn.

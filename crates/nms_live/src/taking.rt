@@ -32,7 +32,8 @@ fn take_one<R: Wait, G: Gate>(
     }
 }
 
-/// Takes changes and publishes them until all feeds have ended and nothing is found any more.
+/// Takes changes and publishes them until all feeds have ended and nothing is found any more. A taker that is ahead of
+/// its feeds publishes what it has and waits a turn: looking again at once, it would publish each change alone.
 pub(crate) fn take_until_ended<R: Wait, G: Gate>(
     means: &Means<'_, R, G>,
     given: &Given<'_>,
@@ -46,14 +47,15 @@ pub(crate) fn take_until_ended<R: Wait, G: Gate>(
     let mut patience = Patience::new();
     for _ in means.rt.forever() {
         if take_one(means, keeper, taker) {
-            patience = Patience::new();
-        } else if keeper.has_waiting() {
+            continue;
+        }
+        if keeper.has_waiting() {
             keeper.publish(means);
+            patience.calm();
         } else if given.feeds_have_ended() {
             return;
-        } else {
-            patience.wait(means.rt);
         }
+        patience.wait(means.rt);
     }
     unreachable!()
 }
