@@ -432,7 +432,7 @@ symbol = [{ name = "ABC", lot = 100 }]
 "#
 }
 
-/// Whether both planners buy so under a setup's text, where the participants offer these.
+/// Whether both planners buy so, where the four participants offer these.
 fn buys_on(
     alloc: Global,
     offers: &[Quoted],
