@@ -7,12 +7,11 @@ ghost use Rattle.nms_plan_places.specs.LegPlaces.{IsRepeat};
 use crate::leg_place::{LegPlace, leg_place};
 use crate::leg_tests::{first_broken, repeat_in};
 use crate::passed_over::{PassedOver, passed_over, worst_of};
-use crate::sums::{cost_of, sum_of};
 use arrayvec::ArrayVec;
 use nms_board::{MOST_ROWS, View};
 use nms_fee_book::FeeBook;
 use nms_quote::{Leg, Order, OrderSide, Plan, Sym};
-use nms_rules::Breach;
+use nms_rules::{Breach, cost_of, sum_of};
 use nms_units::{Money, Price};
 
 /// Where a breach stands in a plan, what was found there, and what was expected.

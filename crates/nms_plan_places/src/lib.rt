@@ -8,7 +8,6 @@ mod doubt_places;
 mod leg_place;
 mod leg_tests;
 mod passed_over;
-mod sums;
 
 pub use breach_places::{BreachPlace, breach_place};
 pub use cut_place::{CutPlace, CutSums};

@@ -1,15 +1,13 @@
 //! The quotations that a plan trades through, and its worst price (specs/BreachPlaces).
 ghost use Rattle.std.specs.Prelude.{ℕ, ◌≡◌, ◌<◌, ◌≤◌, All, false, length, slice_index_or, true};
 ghost use Rattle.nms_quote.specs.declared.plan.Leg.{Leg};
-ghost use Rattle.nms_rules.specs.Breach.{has_leg_beyond, is_traded_through};
-ghost use Rattle.nms_rules.specs.Usable.{is_better, is_binding};
+ghost use Rattle.nms_rules.specs.Usable.{is_better};
 ghost use Rattle.nms_plan_places.specs.BreachPlaces.{passed_over};
 
-use crate::sums::given_to;
 use arrayvec::ArrayVec;
 use nms_board::{MOST_ROWS, Row, View};
 use nms_quote::{Leg, Order, OrderSide};
-use nms_rules::{contra, is_better};
+use nms_rules::{contra, given_to, is_better, is_traded_through};
 use nms_units::Price;
 
 /// A protected quotation that a plan trades through: one of a participant that the order does not name, at a better
@@ -51,37 +49,6 @@ pub(crate) fn passed_over(
         }
     }
     passed
-}
-
-/// Whether the legs trade through a quotation: it is protected and of nobody named, gets less than its full size, and
-/// some leg has a worse price.
-#[tactic(auto, unfolding(nms_rules::specs::Breach::is_traded_through))]
-fn is_traded_through(order: &Order, legs: &[Leg], row: &Row) -> bool
-    requires { length legs.now ≤ MOST_ROWS }
-    ensures { result ≡ is_traded_through order.now legs.now row.now }
-{
-    if !is_binding(order, row) {
-        return false;
-    }
-    if given_to(legs, row.part) >= u64::from(row.size) {
-        return false;
-    }
-    has_leg_beyond(order.side, legs, row.price)
-}
-
-/// Whether an order has to sweep a quotation before it trades at a worse price: nobody named gave it, and it is
-/// protected.
-fn is_binding(order: &Order, row: &Row) -> bool
-    ensures { result ≡ is_binding order.now row.now }
-{
-    !order.self_help.has(row.part) && row.protected
-}
-
-/// Whether some leg has a worse price than this one.
-fn has_leg_beyond(side: OrderSide, legs: &[Leg], price: Price) -> bool
-    ensures { result ≡ has_leg_beyond side price legs.now }
-{
-    legs.iter().any(|leg| is_better(side, price, leg.price))
 }
 
 /// The number of the first leg at the plan's worst price.

@@ -74,7 +74,7 @@ fn check_sums(view: &View, order: &Order, legs: &ArrayVec<Leg, MOST_ROWS>) -> Re
         sum_of(legs.as_slice()) > u64::from(order.shares.get()),
         Breach::OverAsked,
     )?;
-    match first_traded_through(view, order, legs) {
+    match first_traded_through(view, order, legs.as_slice()) {
         Some(row) => Err(Breach::TradedThrough { part: row.part }),
         None => Ok(()),
     }

@@ -1,6 +1,6 @@
 //! What must be swept at a cutoff, what the pool has, and the least that filling so many can cost:
 //! `specs/Cutoff`.
-ghost use Rattle.std.specs.Prelude.{◌≡◌, ◌≤◌, ◌*◌, ◌^◌, ◌+ℤ◌, ◌-ℤ◌, ◌*ℤ◌, ◌≤ℤ◌, neg_ℤ, pos, length};
+ghost use Rattle.std.specs.Prelude.{◌≡◌, ◌≤◌, ◌*◌, ◌^◌, ◌-ℤ◌, ◌≤ℤ◌, neg_ℤ, pos, length};
 ghost use Rattle.std.specs.Int.{int_max};
 ghost use Rattle.nms_rules.specs.Assignment.{fillable, total};
 ghost use Rattle.nms_rules.specs.Cutoff.{is_pooled, is_swept, least_cost, pool, pool_part, savings, savings_part, swept, swept_cost, swept_cost_part, swept_part};
@@ -110,7 +110,7 @@ fn swept_cost_part(row: &UsableRow, cutoff: Rank) -> Money
     ensures high { result ≤ℤ pos (2 ^ 100) }
 {
     if is_swept(row, cutoff) {
-        times(row.cost, u64::from(row.size))
+        row.cost.times(u64::from(row.size))
     } else {
         Money::new(0)
     }
@@ -137,31 +137,10 @@ fn savings_part(row: &UsableRow, cutoff: Rank, marginal: Money) -> Money
     ensures high { result ≤ℤ pos (2 ^ 100) }
 {
     if is_pooled(row, cutoff) {
-        times(saved_by(row, marginal), u64::from(row.size))
+        saved_by(row, marginal).times(u64::from(row.size))
     } else {
         Money::new(0)
     }
-}
-
-/// An amount for each of so many shares.
-fn times(amount: Money, shares: u64) -> Money
-    requires low { neg_ℤ (pos (2 ^ 62)) ≤ℤ amount }
-    requires high { amount ≤ℤ pos (2 ^ 62) }
-    requires shares { shares ≤ 2 ^ 37 }
-    ensures product { result ≡ amount *ℤ pos shares }
-    ensures low { neg_ℤ (pos (2 ^ 100)) ≤ℤ result }
-    ensures high { result ≤ℤ pos (2 ^ 100) }
-{
-    Money::new(amount.get() * i128::from(shares))
-}
-
-/// The sum of two amounts that are far from the ends of their type.
-fn plus(one: Money, other: Money) -> Money
-    requires low { (neg_ℤ (pos (2 ^ 110)) ≤ℤ one) × (neg_ℤ (pos (2 ^ 110)) ≤ℤ other) }
-    requires high { (one ≤ℤ pos (2 ^ 110)) × (other ≤ℤ pos (2 ^ 110)) }
-    ensures { result ≡ one +ℤ other }
-{
-    Money::new(one.get() + other.get())
 }
 
 /// The difference of two amounts that are far from the ends of their type.
@@ -183,7 +162,7 @@ fn swept_cost(rows: &[UsableRow], cutoff: Rank) -> Money
 {
     let mut sum = Money::new(0);
     for row in rows {
-        sum = plus(sum, swept_cost_part(row, cutoff));
+        sum = sum.plus(swept_cost_part(row, cutoff));
     }
     sum
 }
@@ -200,7 +179,7 @@ fn savings(rows: &[UsableRow], cutoff: Rank, marginal: Money) -> Money
 {
     let mut sum = Money::new(0);
     for row in rows {
-        sum = plus(sum, savings_part(row, cutoff, marginal));
+        sum = sum.plus(savings_part(row, cutoff, marginal));
     }
     sum
 }
@@ -217,6 +196,6 @@ pub fn least_cost(rows: &[UsableRow], most: u64, cutoff: Rank, marginal: Money) 
     ensures { result ≡ least_cost rows.now most cutoff marginal }
 {
     let rest = most.saturating_sub(swept(rows, cutoff));
-    let paid = plus(swept_cost(rows, cutoff), times(marginal, rest));
+    let paid = swept_cost(rows, cutoff).plus(marginal.times(rest));
     minus(paid, savings(rows, cutoff, marginal))
 }

@@ -1,11 +1,10 @@
 //! Tests of a leg against the quotation that it goes to, and of all legs together: `specs/Breach`.
-ghost use Rattle.std.specs.Prelude.{◌≡◌, ◌≤◌, ◌^◌, ◌+ℤ◌, ◌≤ℤ◌, neg_ℤ, pos, length};
+ghost use Rattle.std.specs.Prelude.{◌≡◌, ◌≤◌, ◌^◌, ◌≤ℤ◌, neg_ℤ, pos, length};
 ghost use Rattle.nms_rules.specs.Breach.{first_traded_through, goes_to, has_leg_beyond, has_no_shares, has_other_price, has_repeat, is_beyond_limit, is_over_size, is_traded_through, lacks_quotation, row_for, some_has_no_shares, some_has_other_price, some_is_beyond_limit, some_is_over_size, some_lacks_quotation};
 ghost use Rattle.nms_rules.specs.Faultless.{cost_of, given_by, leg_cost, sum_of};
 ghost use Rattle.nms_rules.specs.Usable.{contra, is_better};
 
 use crate::self_help::{is_allowed, is_binding};
-use arrayvec::ArrayVec;
 use nms_board::{MOST_ROWS, Row, View, is_better_price};
 use nms_fee_book::FeeBook;
 use nms_quote::{Leg, Order, OrderSide, Part, Side};
@@ -144,11 +143,12 @@ pub(crate) fn has_repeat(legs: &[Leg]) -> bool
 }
 
 /// The shares of the legs to a participant.
-fn given_to(legs: &ArrayVec<Leg, MOST_ROWS>, part: Part) -> u64
-    ensures { result ≡ given_by legs.now.items part }
+pub fn given_to(legs: &[Leg], part: Part) -> u64
+    requires { length legs.now ≤ MOST_ROWS }
+    ensures { result ≡ given_by legs.now part }
 {
     let mut given = 0;
-    for leg in legs.as_slice() {
+    for leg in legs {
         given += if leg.part == part {
             u64::from(leg.shares.get())
         } else {
@@ -162,9 +162,10 @@ fn given_to(legs: &ArrayVec<Leg, MOST_ROWS>, part: Part) -> u64
 pub(crate) fn first_traded_through(
     view: &View,
     order: &Order,
-    legs: &ArrayVec<Leg, MOST_ROWS>,
+    legs: &[Leg],
 ) -> Option<Row>
-    ensures { result ≡ first_traded_through view.now order.now legs.now.items }
+    requires { length legs.now ≤ MOST_ROWS }
+    ensures { result ≡ first_traded_through view.now order.now legs.now }
 {
     for row in view.rows(contra(order.side)) {
         if is_traded_through(order, legs, row) {
@@ -175,10 +176,11 @@ pub(crate) fn first_traded_through(
 }
 
 /// Whether the legs trade through a quotation: it is protected and of nobody named, gets less than its full size, and
-/// some leg has a worse price.
+/// some leg has a worse price (17 CFR 242.600, "trade-through"; 242.611(b)(1)).
 #[tactic(auto, unfolding(crate::specs::Breach::is_traded_through))]
-fn is_traded_through(order: &Order, legs: &ArrayVec<Leg, MOST_ROWS>, row: &Row) -> bool
-    ensures { result ≡ is_traded_through order.now legs.now.items row.now }
+pub fn is_traded_through(order: &Order, legs: &[Leg], row: &Row) -> bool
+    requires { length legs.now ≤ MOST_ROWS }
+    ensures { result ≡ is_traded_through order.now legs.now row.now }
 {
     if !is_binding(order, row) {
         return false;
@@ -186,7 +188,7 @@ fn is_traded_through(order: &Order, legs: &ArrayVec<Leg, MOST_ROWS>, row: &Row) 
     if given_to(legs, row.part) >= u64::from(row.size) {
         return false;
     }
-    has_leg_beyond(order.side, legs.as_slice(), row.price)
+    has_leg_beyond(order.side, legs, row.price)
 }
 
 /// Whether some leg has a worse price than this one.
@@ -197,7 +199,7 @@ fn has_leg_beyond(side: OrderSide, legs: &[Leg], price: Price) -> bool
 }
 
 /// The shares of all legs.
-pub(crate) fn sum_of(legs: &[Leg]) -> u64
+pub fn sum_of(legs: &[Leg]) -> u64
     requires { length legs.now ≤ MOST_ROWS }
     ensures { result ≡ sum_of legs.now }
 {
@@ -208,34 +210,24 @@ pub(crate) fn sum_of(legs: &[Leg]) -> u64
     sum
 }
 
-/// What all legs cost, with fees.
-pub(crate) fn cost_of(fees: &FeeBook, side: OrderSide, legs: &[Leg]) -> Money
+/// What all legs cost with fees, in nanodollars.
+pub fn cost_of(fees: &FeeBook, side: OrderSide, legs: &[Leg]) -> Money
     requires { length legs.now ≤ MOST_ROWS }
     ensures { result ≡ cost_of fees.now side legs.now }
 {
     let mut cost = Money::new(0);
     for leg in legs {
-        cost = plus(cost, leg_cost(fees, side, leg));
+        cost = cost.plus(leg_cost(fees, side, leg));
     }
     cost
-}
-
-/// The sum of two amounts that are far from the ends of their type.
-fn plus(one: Money, other: Money) -> Money
-    requires low { (neg_ℤ (pos (2 ^ 100)) ≤ℤ one) × (neg_ℤ (pos (2 ^ 100)) ≤ℤ other) }
-    requires high { (one ≤ℤ pos (2 ^ 100)) × (other ≤ℤ pos (2 ^ 100)) }
-    ensures { result ≡ one +ℤ other }
-{
-    Money::new(one.get() + other.get())
 }
 
 /// What a leg costs, with its fee.
 fn leg_cost(fees: &FeeBook, side: OrderSide, leg: &Leg) -> Money
     ensures cost { result ≡ leg_cost fees.now side leg.now }
-    ensures low { neg_ℤ (pos (2 ^ 93)) ≤ℤ result }
-    ensures high { result ≤ℤ pos (2 ^ 93) }
+    ensures low { neg_ℤ (pos (2 ^ 100)) ≤ℤ result }
+    ensures high { result ≤ℤ pos (2 ^ 100) }
 {
-    let unit = fees.unit_cost(leg.part, side, leg.price).get();
-    let shares = leg.shares.get();
-    Money::new(unit * i128::from(shares))
+    fees.unit_cost(leg.part, side, leg.price)
+        .times(u64::from(leg.shares.get()))
 }

@@ -23,7 +23,7 @@ pub use laws::{
     an_accepted_plan_is_best, an_accepted_plan_is_optimal, naming_nobody_changes_nothing,
     naming_one_leaves_the_others,
 };
-pub use leg_test::{contra, is_better};
+pub use leg_test::{contra, cost_of, given_to, is_better, is_traded_through, sum_of};
 pub use rank::Rank;
 pub use through::traded_through;
 pub use usable_row::{UsableRow, is_usable, usable_rows};

@@ -1,5 +1,5 @@
 //! Money in nanodollars: `specs/Money`.
-ghost use Rattle.std.specs.Prelude.{◌≡◌, ℤ, ◌<ℤ◌, pos, neg_ℤ, ◌^◌, ◌<◌, ◌≤◌, Some, IfSome};
+ghost use Rattle.std.specs.Prelude.{◌≡◌, ℤ, ◌<ℤ◌, ◌≤ℤ◌, ◌+ℤ◌, ◌*ℤ◌, pos, neg_ℤ, ◌^◌, ◌<◌, ◌≤◌, Some, IfSome};
 ghost use Rattle.nms_units.specs.Digits.{number_in};
 ghost use Rattle.nms_units.specs.Money.{whole_dollars, nine_decimals, nanodollars, amount_number, money_number, money_reading, three_digits, money_text};
 
@@ -35,6 +35,27 @@ impl Money {
         ensures { result ≡ self }
     {
         self.nanodollars
+    }
+
+    /// The sum of two amounts of at most 2^110 nanodollars either way.
+    pub fn plus(self, other: Self) -> Self
+        requires low { (neg_ℤ (pos (2 ^ 110)) ≤ℤ self) × (neg_ℤ (pos (2 ^ 110)) ≤ℤ other) }
+        requires high { (self ≤ℤ pos (2 ^ 110)) × (other ≤ℤ pos (2 ^ 110)) }
+        ensures { result ≡ self +ℤ other }
+    {
+        Self::new(self.nanodollars + other.nanodollars)
+    }
+
+    /// This amount, of at most 2^62 nanodollars either way, for each of at most 2^37 shares.
+    pub fn times(self, shares: u64) -> Self
+        requires low { neg_ℤ (pos (2 ^ 62)) ≤ℤ self }
+        requires high { self ≤ℤ pos (2 ^ 62) }
+        requires shares { shares ≤ 2 ^ 37 }
+        ensures product { result ≡ self *ℤ pos shares }
+        ensures low { neg_ℤ (pos (2 ^ 100)) ≤ℤ result }
+        ensures high { result ≤ℤ pos (2 ^ 100) }
+    {
+        Self::new(self.nanodollars * i128::from(shares))
     }
 
     /// Reads an optional minus, 1 to 20 digits, a point and nine digits, as dollars.

@@ -7,6 +7,6 @@ use Rattle.nms_rules.proofs.leg_test.cost_of.Given as goal
 abbrev pub invariant-loop-leg : goal.invariant-loop-leg
 invariant-loop-leg l = record {
   cost : l.cost ≡ cost_of l.fees l.side (take l.leg-index l.legs);
-  low : neg_ℤ (pos (l.leg-index * 2 ^ 93)) ≤ℤ l.cost;
-  high : l.cost ≤ℤ pos (l.leg-index * 2 ^ 93);
+  low : neg_ℤ (pos (l.leg-index * 2 ^ 100)) ≤ℤ l.cost;
+  high : l.cost ≤ℤ pos (l.leg-index * 2 ^ 100);
 }

@@ -6,4 +6,4 @@ use Rattle.nms_rules.proofs.leg_test.first_traded_through.Given as goal
 
 -- none of the rows so far
 abbrev pub invariant-loop-row : goal.invariant-loop-row
-invariant-loop-row l = find (is_traded_through l.order l.legs.items) (take l.row-index l.row-items) ≡ None
+invariant-loop-row l = find (is_traded_through l.order l.legs) (take l.row-index l.row-items) ≡ None

@@ -5,6 +5,6 @@ use Rattle.nms_rules.proofs.leg_test.given_to.Given as goal
 
 abbrev pub invariant-loop-leg : goal.invariant-loop-leg
 invariant-loop-leg l = record {
-  given : l.given ≡ given_by (take l.leg-index l.legs.items) l.part;
+  given : l.given ≡ given_by (take l.leg-index l.legs) l.part;
   within : l.given ≤ l.leg-index * 4294967296;
 }
