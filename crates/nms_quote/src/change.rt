@@ -8,7 +8,7 @@ use nms_units::Lot;
 
 /// A participant's change of its quotations, or a new round lot of a symbol. Each participant sends
 /// only its best bid and its best offer in a symbol (this product's own rule).
-#[derive(Clone, Copy, Debug, PartialEq, Eq, Hash)]
+#[derive(Clone, Copy, Debug, PartialEq, Eq)]
 pub enum Change {
     /// Both sides of a symbol, `None` where there is no quotation, and their state.
     Quote {

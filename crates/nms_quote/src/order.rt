@@ -8,7 +8,7 @@ use nms_units::{Price, Shares};
 use std::marker::Model;
 
 /// Which way an order trades.
-#[derive(Clone, Copy, Debug, PartialEq, Eq, Hash)]
+#[derive(Clone, Copy, Debug, PartialEq, Eq)]
 pub enum OrderSide {
     /// Takes offers at the limit price or below.
     Buy,
@@ -17,7 +17,7 @@ pub enum OrderSide {
 }
 
 /// An order to plan: at least one share, at the limit price or better.
-#[derive(Clone, Copy, Debug, PartialEq, Eq, Hash)]
+#[derive(Clone, Copy, Debug, PartialEq, Eq)]
 pub struct Order {
     /// Whether it buys or sells.
     pub side: OrderSide,

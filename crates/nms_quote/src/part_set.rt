@@ -6,7 +6,7 @@ use crate::participant::Part;
 use std::marker::Model;
 
 /// A set of participants' places. It takes no memory.
-#[derive(Clone, Copy, Debug, PartialEq, Eq, Hash)]
+#[derive(Clone, Copy, Debug, PartialEq, Eq)]
 pub struct PartSet {
     mask: u32,
 }

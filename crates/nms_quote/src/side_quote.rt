@@ -6,7 +6,7 @@ use nms_units::{Price, Shares};
 use std::marker::Model;
 
 /// The two sides of a market (17 CFR 242.600, "bid or offer").
-#[derive(Clone, Copy, Debug, Default, PartialEq, Eq, Hash)]
+#[derive(Clone, Copy, Debug, Default, PartialEq, Eq)]
 pub enum Side {
     /// The side of those who would buy: a higher price is better.
     #[default]
@@ -17,7 +17,7 @@ pub enum Side {
 
 /// How a participant's quotations in a symbol stand (17 CFR 242.600, "automated quotation" and
 /// "manual quotation"; `Halted` is this product's own rule).
-#[derive(Clone, Copy, Debug, PartialEq, Eq, Hash)]
+#[derive(Clone, Copy, Debug, PartialEq, Eq)]
 pub enum QState {
     /// Ranked and protected.
     Automated,
@@ -28,7 +28,7 @@ pub enum QState {
 }
 
 /// A price and at least one share: what a participant quotes on one side of a symbol.
-#[derive(Clone, Copy, Debug, PartialEq, Eq, Hash)]
+#[derive(Clone, Copy, Debug, PartialEq, Eq)]
 pub struct SideQuote {
     /// In 1/10,000 dollar.
     pub price: Price,
