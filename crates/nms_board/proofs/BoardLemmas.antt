@@ -24,7 +24,7 @@ use Rattle.nms_board.specs.Quotation.{is_halted, quotation, quotation_of, quotat
 use Rattle.nms_board.specs.Shown.{row_held, row_of_cell, rows_held, seen_on}
 use Rattle.nms_board.specs.View.{view_of}
 use Rattle.nms_board.specs.declared.row.Row.{Row}
-use Rattle.nms_board.specs.declared.cell.Held.{Held}
+use Rattle.nms_board.specs.Holding.{Holding}
 use Rattle.nms_board.specs.declared.cell.Cell.{Cell}
 use Rattle.nms_board.proofs.ListLemmas.{slice_get-set_same, slice_get-set_other, slice_get-replicate_below, filter_map_none}
 use Rattle.nms_board.proofs.ListLemmas.{filter_map_same}
@@ -56,7 +56,7 @@ stands_opening sizes narrow = record {
 
 -- a side whose receipt follows its content is the side after the change
 held_step : (n receipt receipt' : ℕ) (old new : Option Content) → receipt' ≡ (if same_content old new then receipt else n)
-    → (let after : Held = record { quote = new; receipt = receipt' } in after)
+    → (let after : Holding = record { quote = new; receipt = receipt' } in after)
     ≡ held_after n new (record { quote = old; receipt = receipt })
 held_step n receipt receipt' old new e =
     elim (cases_Bool (same_content old new)) [

@@ -12,7 +12,7 @@ use Rattle.nms_quote.specs.declared.side_quote.QState.{QState}
 use Rattle.nms_quote.specs.declared.change.Change.{Change}
 use Rattle.nms_quote.specs.declared.change.Change.TheVariants as change
 use Rattle.nms_board.specs.History.{content_at, lot_listed, state_at, receipt_of, same_content}
-use Rattle.nms_board.specs.declared.cell.Held.{Held}
+use Rattle.nms_board.specs.Holding.{Holding}
 use Rattle.nms_board.specs.declared.cell.Cell.{Cell}
 
 -- the roster's sizes, each symbol's present round lot, a cell for each participant in each symbol, and how many
@@ -40,7 +40,7 @@ abbrev pub place_of : ℕ → ℕ → ℕ
 place_of part sym = MOST_ROWS * sym + part
 
 -- what the tape says of a participant in a symbol
-abbrev pub held_of : ℕ → ℕ → Side → Tape → Held
+abbrev pub held_of : ℕ → ℕ → Side → Tape → Holding
 held_of part sym side tape = record {
   quote = content_at part sym side tape;
   receipt = receipt_of part sym side tape;
@@ -67,7 +67,7 @@ pub record IsBoard (board : Board) : Type 0 where
   pub tape : Tape
   pub stands : StandsFor board tape
 
-abbrev pub nothing_held : Held
+abbrev pub nothing_held : Holding
 nothing_held = record { quote = None; receipt = 0 }
 
 abbrev pub empty_cell : Cell
@@ -83,7 +83,7 @@ opening sizes = record {
 }
 
 -- a side after change number n says its content: the receipt stays where nothing is altered
-abbrev pub held_after : ℕ → Option Content → Held → Held
+abbrev pub held_after : ℕ → Option Content → Holding → Holding
 held_after n content held = if same_content held.quote content then held else record { quote = content; receipt = n }
 
 abbrev pub quoted : ℕ → QState → Option Content → Option Content → Cell → Cell

@@ -6,6 +6,7 @@ pub mod Carried
 pub mod Cells
 pub mod Examples
 pub mod History
+pub mod Holding
 pub mod Kept
 pub mod Laws
 pub mod Quotation

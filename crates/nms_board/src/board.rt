@@ -194,7 +194,7 @@ impl Boards {
             → StandsFor self.new (tape ++ change ∷ []) }
     {
         self.applied += 1;
-        let number = self.applied;
+        let number = self.applied as u32;
         match change {
             Change::Quote { part, sym, .. } => alter(
                 number,
@@ -344,7 +344,7 @@ fn place_of(part: Part, sym: Sym) -> usize
 /// Withdraws the participant's cell in each symbol, as the change of that number. A cell with no quote on
 /// either side stays, and its symbol with it.
 fn withdraw_from(
-    number: u64,
+    number: u32,
     part: Part,
     parts: u8,
     lots: &[Lot],
@@ -377,7 +377,7 @@ fn withdraw_from(
 /// Alters the participant's cell in a symbol, as the change of that number says, and with it the symbol's
 /// rank orders.
 fn alter(
-    number: u64,
+    number: u32,
     change: Change,
     part: Part,
     sym: usize,

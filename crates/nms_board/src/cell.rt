@@ -1,21 +1,45 @@
 //! One participant in one symbol: the cells of `specs/Cells`.
 ghost use Rattle.std.specs.Prelude.{◌≡◌, ℕ, ◌*◌, ◌≤◌, IfOk, false, true, replicate};
+ghost use Rattle.std.specs.Option.{is_some};
 ghost use Rattle.nms_board.specs.Cells.{empty_cell};
 ghost use Rattle.nms_board.specs.History.{on_side, same_content};
 
 use crate::MOST_ROWS;
 use crate::row::Row;
 use nms_quote::{Change, MOST_SYMBOLS, Part, QState, Side, SideQuote};
-use nms_units::Lot;
+use nms_units::{Lot, Price, Shares};
 use std::alloc::{AllocError, Global};
+use std::marker::Model;
 
-/// One side of a participant in a symbol, and the number of the change that last altered it.
+/// One side of a participant in a symbol, and the number of the change that last altered it. It takes 16 bytes, so that
+/// the cells of a symbol, which are passed by one after another, lie close together.
 #[derive(Clone, Copy, Debug, PartialEq, Eq)]
 pub struct Held {
-    /// A price in 1/10,000 dollar and 1 or more shares, `None` where nothing is quoted.
-    pub quote: Option<SideQuote>,
+    /// In 1/10,000 dollar, and the least price where nothing is quoted.
+    price: Price,
+    /// 0 where nothing is quoted.
+    shares: Shares,
     /// The number of that change, 1 to 10,000,000, and 0 where no change altered the side.
-    pub receipt: u64,
+    receipt: u32,
+}
+
+impl Model for Held {
+    ghost use Rattle.std.specs.Prelude.{◌≡◌};
+    ghost use Rattle.nms_board.specs.Holding.{Holding, price_back, price_of, quote_of, shares_back, shares_of};
+
+    ghost Value = { Holding };
+
+    ghost view = { λ h. record { quote = quote_of h.price h.shares; receipt = h.receipt } };
+
+    ghost invariant = { λ h. h.shares ≡ 0 → h.price ≡ 1 };
+
+    ghost inverse = { λ h. record { price = price_of h.quote; shares = shares_of h.quote; receipt = h.receipt } };
+
+    ghost inverse_ok = { λ a h i. record {
+      price = price_back a.price a.shares h i;
+      shares = shares_back a.price a.shares i;
+      receipt = a.receipt;
+    } };
 }
 
 impl Held {
@@ -26,18 +50,58 @@ impl Held {
         ensures { result ≡ nothing_held }
     {
         Held {
-            quote: None,
+            price: Price::new(1).unwrap(),
+            shares: Shares::new(0).unwrap(),
             receipt: 0,
         }
     }
 
+    /// A side that the change of that number altered.
+    fn of(number: u32, quote: Option<SideQuote>) -> Self
+        ensures quote { result.quote ≡ quote }
+        ensures receipt { result.receipt ≡ number }
+    {
+        match quote {
+            Some(quote) => Held {
+                price: quote.price,
+                shares: quote.shares,
+                receipt: number,
+            },
+            None => Held {
+                price: Price::new(1).unwrap(),
+                shares: Shares::new(0).unwrap(),
+                receipt: number,
+            },
+        }
+    }
+
+    /// What is quoted, if something is.
+    pub fn quote(&self) -> Option<SideQuote>
+        ensures { result ≡ self.now.quote }
+    {
+        SideQuote::new(self.price, self.shares)
+    }
+
+    /// The number of the change that last altered the side.
+    pub fn receipt(&self) -> u64
+        ensures { result ≡ self.now.receipt }
+    {
+        u64::from(self.receipt)
+    }
+
+    /// Whether something is quoted.
+    fn is_quoted(&self) -> bool
+        ensures { result ≡ is_some self.now.quote }
+    {
+        self.shares.get() > 0
+    }
+
     /// Takes what the change of that number says: the receipt stays where nothing is altered.
-    pub(crate) fn take(&mut self, number: u64, quote: Option<SideQuote>)
+    pub(crate) fn take(&mut self, number: u32, quote: Option<SideQuote>)
         ensures { self.new ≡ held_after number quote self.old }
     {
-        if !is_same(&self.quote, &quote) {
-            self.quote = quote;
-            self.receipt = number;
+        if !is_same(&self.quote(), &quote) {
+            *self = Held::of(number, quote);
         }
     }
 }
@@ -82,7 +146,7 @@ impl Cell {
     /// Takes a quote of both sides, as the change of that number.
     pub(crate) fn quote(
         &mut self,
-        number: u64,
+        number: u32,
         state: QState,
         bid: Option<SideQuote>,
         offer: Option<SideQuote>,
@@ -103,7 +167,7 @@ impl Cell {
 
     /// Takes a change that speaks of the participant in the symbol, as the change of that number. A new
     /// round lot leaves the cell.
-    pub(crate) fn alter(&mut self, number: u64, change: Change)
+    pub(crate) fn alter(&mut self, number: u32, change: Change)
         ensures { self.new ≡ altered number change self.old }
     {
         match change {
@@ -120,7 +184,7 @@ impl Cell {
     }
 
     /// Takes a withdrawal of both sides, as the change of that number. The state stays.
-    pub(crate) fn withdraw(&mut self, number: u64)
+    pub(crate) fn withdraw(&mut self, number: u32)
         ensures { self.new ≡ withdrawn number self.old }
     {
         self.bid.take(number, None);
@@ -131,7 +195,7 @@ impl Cell {
     pub(crate) fn has_quote(&self) -> bool
         ensures { result ≡ false → (number : ℕ) → withdrawn number self.now ≡ self.now }
     {
-        self.bid.quote.is_some() | self.offer.quote.is_some()
+        self.bid.is_quoted() | self.offer.is_quoted()
     }
 
     /// What is held of a side.
@@ -152,7 +216,7 @@ impl Cell {
         let held_before = was.held(side);
         self.state == was.state
             && held.receipt == held_before.receipt
-            && is_same(&held.quote, &held_before.quote)
+            && is_same(&held.quote(), &held_before.quote())
     }
 
     /// The quotation of a side in lots of that size, if it is one.
@@ -163,14 +227,14 @@ impl Cell {
         if self.state == Some(QState::Halted) {
             return None;
         }
-        let quote = held.quote?;
+        let quote = held.quote()?;
         let size = lot.displayed(quote.shares);
         if size == 0 {
             return None;
         }
         Some(Row {
             price: quote.price,
-            receipt: held.receipt,
+            receipt: held.receipt(),
             size,
             part,
             protected: self.state == Some(QState::Automated),
