@@ -64,7 +64,7 @@ impl Model for Boards {
 impl Boards {
     ghost use Rattle.nms_board.specs.Cells.{Board, StandsFor, after, opening, takes};
     ghost use Rattle.nms_board.specs.Shown.{row_held, rows_held, seen_on};
-    ghost use Rattle.nms_board.specs.View.{rows_on, view_of};
+    ghost use Rattle.nms_board.specs.View.{AreRows, rows_on, view_of};
 
     /// The board of a roster with nothing on it. Every cell of every symbol is made here.
     pub fn new(alloc: Global, roster: &Roster) -> Result<Self, BoardFault>
@@ -256,6 +256,15 @@ impl Boards {
         ensures within { result ≤ MOST_CHANGES }
     {
         self.applied
+    }
+
+    /// A law: the rows of each side of a symbol, as a look at it shows them, stand by participant place, each of at least
+    /// one share, no two of one receipt.
+    pub fn shows_rows(&self, sym: Sym)
+        ensures bids { AreRows (rows_held self.now sym Bid) }
+        ensures offers { AreRows (rows_held self.now sym Offer) }
+    {
+        let _ = (self.applied, sym);
     }
 
     /// The quotations of one symbol; no rows for a symbol out of the roster.

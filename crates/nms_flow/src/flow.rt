@@ -174,6 +174,14 @@ impl Flow {
         self.board.view(sym)
     }
 
+    /// The published version's board, for a caller that reads what a look shows off it, with no view made.
+    pub fn board(&self) -> &Boards
+        ensures board { result.now ≡ self.now.board }
+        ensures went { (desk sym : ℕ) → WentOn self.now self.now (step.Look desk sym, Ok (reply.Seen (seen_on self.now.board sym))) }
+    {
+        &self.board
+    }
+
     /// The best bid and the best offer that a look at a symbol of the roster shows, with no view made.
     pub fn best(&self, sym: Sym) -> BestRows
         requires { sym < length self.now.board.sizes.lots }

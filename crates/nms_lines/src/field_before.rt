@@ -1,11 +1,12 @@
 //! Fields of a record written from the last to the first, each before what stands in a buffer already (`later_fields`
 //! of `specs/Text`): a number gives its last digit first, and the whole record is then appended at once.
-ghost use Rattle.std.specs.Prelude.{◌≡◌, ◌+◌, ◌<◌, ◌≤◌, ◌++◌, ◌∷◌, drop, length};
+ghost use Rattle.std.specs.Prelude.{◌≡◌, ◌+◌, ◌<◌, ◌≤◌, ◌++◌, ◌∷◌, drop, length, IfSome};
 ghost use Rattle.std.specs.Fmt.{decimal};
+ghost use Rattle.nms_units.specs.Money.{amount_text, money_text, three_digits};
 ghost use Rattle.nms_units.specs.Price.{digit_at, price_text};
 
 use itoa::write_digits;
-use nms_units::Price;
+use nms_units::{Money, Price};
 
 /// Writes a text so that it ends at a place, and tells where it starts.
 pub fn word_before(buf: &mut [u8], end: usize, word: &str) -> usize
@@ -68,6 +69,78 @@ fn decimals_before(buf: &mut [u8], end: usize, number: u64) -> usize
     buf[end - 4] = digit(number / 1000 % 10);
     buf[end - 5] = b'.';
     end - 5
+}
+
+/// Writes a comma and an amount of money, which take 12 to 23 bytes, so that they end at a place, and tells where they
+/// start. `None` stands for more than 18 billion dollars, which 64 bits do not hold.
+pub fn money_before(buf: &mut [u8], end: usize, money: Money) -> Option<usize>
+    requires room { 32 ≤ end }
+    requires within { end ≤ length buf.old }
+    ensures start { IfSome result (λ start. end ≤ start + 32) }
+    ensures before { IfSome result (λ start. start < end) }
+    ensures written { IfSome result (λ start. drop start buf.new ≡ 44 ∷ money_text money ++ drop end buf.old) }
+{
+    let number = money.get();
+    let Ok(amount) = u64::try_from(number.unsigned_abs()) else {
+        return None;
+    };
+    let start = amount_before(buf, end, amount);
+    if number < 0 {
+        let start = minus_before(buf, start);
+        Some(comma_before(buf, start))
+    } else {
+        Some(comma_before(buf, start))
+    }
+}
+
+/// Writes nanodollars as dollars with nine decimals so that they end at a place, and tells where they start.
+fn amount_before(buf: &mut [u8], end: usize, amount: u64) -> usize
+    requires room { 30 ≤ end }
+    requires within { end ≤ length buf.old }
+    ensures start { end ≤ result + 30 }
+    ensures before { result < end }
+    ensures written { drop result buf.new ≡ amount_text amount ++ drop end buf.old }
+{
+    let start = three_before(buf, end, amount);
+    let start = three_before(buf, start, amount / 1000);
+    let start = three_before(buf, start, amount / 1_000_000);
+    let start = point_before(buf, start);
+    write_digits(amount / 1_000_000_000, buf, start)
+}
+
+/// Writes a number's last three digits so that they end at a place, and tells where they start.
+fn three_before(buf: &mut [u8], end: usize, number: u64) -> usize
+    requires room { 3 ≤ end }
+    requires within { end ≤ length buf.old }
+    ensures start { result + 3 ≡ end }
+    ensures written { drop result buf.new ≡ three_digits number ++ drop end buf.old }
+{
+    buf[end - 1] = digit(number % 10);
+    buf[end - 2] = digit(number / 10 % 10);
+    buf[end - 3] = digit(number / 100 % 10);
+    end - 3
+}
+
+/// Writes a minus before a place, and tells where it stands.
+fn minus_before(buf: &mut [u8], end: usize) -> usize
+    requires room { 1 ≤ end }
+    requires within { end ≤ length buf.old }
+    ensures start { result + 1 ≡ end }
+    ensures written { drop result buf.new ≡ 45 ∷ drop end buf.old }
+{
+    buf[end - 1] = b'-';
+    end - 1
+}
+
+/// Writes a point before a place, and tells where it stands.
+fn point_before(buf: &mut [u8], end: usize) -> usize
+    requires room { 1 ≤ end }
+    requires within { end ≤ length buf.old }
+    ensures start { result + 1 ≡ end }
+    ensures written { drop result buf.new ≡ 46 ∷ drop end buf.old }
+{
+    buf[end - 1] = b'.';
+    end - 1
 }
 
 /// Writes a comma before a place, and tells where it stands.

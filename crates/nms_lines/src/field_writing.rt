@@ -1,11 +1,10 @@
 //! Fields of a record, each written after a comma (`later_fields` of `specs/Text`).
 ghost use Rattle.std.specs.Prelude.{◌≡◌, ◌+◌, ◌<◌, ◌++◌, ◌∷◌, [], OnOk};
 ghost use Rattle.std.specs.Fmt.{decimal};
-ghost use Rattle.nms_units.specs.Money.{amount_text, money_text, three_digits};
+ghost use Rattle.nms_units.specs.Money.{money_text};
 ghost use Rattle.nms_units.specs.Price.{price_text};
 
-use crate::field_before::{digit, number_before, price_before};
-use itoa::Buffer;
+use crate::field_before::{money_before, number_before, price_before};
 use nms_units::{Money, Price};
 use std::alloc::AllocError;
 use std::io::Write;
@@ -41,15 +40,19 @@ pub fn push_price(out: &mut Vec<u8>, price: Price) -> Result<(), AllocError>
 pub fn push_money(out: &mut Vec<u8>, money: Money) -> Result<(), AllocError>
     ensures { OnOk result (out.new.items ≡ out.old.items ++ 44 ∷ money_text money) }
 {
-    out.push(b',')?;
-    let number = money.get();
-    let Ok(amount) = u64::try_from(number.unsigned_abs()) else {
-        return write!(out, "{money}").map_err(|_| AllocError);
-    };
-    if number < 0 {
-        out.push(b'-')?;
+    let mut field = [0; 32];
+    match money_before(&mut field, 32, money) {
+        Some(start) => out.extend_from_slice(&field[start..]),
+        None => push_wide(out, money),
     }
-    push_amount(out, amount)
+}
+
+/// Appends a comma and an amount of money of any size.
+fn push_wide(out: &mut Vec<u8>, money: Money) -> Result<(), AllocError>
+    ensures { OnOk result (out.new.items ≡ out.old.items ++ 44 ∷ money_text money) }
+{
+    out.push(b',')?;
+    write!(out, "{money}").map_err(|_| AllocError)
 }
 
 /// Ends a record.
@@ -57,29 +60,5 @@ pub fn end_record(out: &mut Vec<u8>) -> Result<(), AllocError>
     ensures { OnOk result (out.new.items ≡ out.old.items ++ 10 ∷ []) }
 {
     out.push(b'\n')?;
-    Ok(())
-}
-
-/// Appends nanodollars as dollars, with nine decimals.
-fn push_amount(out: &mut Vec<u8>, amount: u64) -> Result<(), AllocError>
-    ensures { OnOk result (out.new.items ≡ out.old.items ++ amount_text amount) }
-{
-    out.extend_from_slice(Buffer::new().format(amount / 1_000_000_000).as_bytes())?;
-    out.push(b'.')?;
-    push_three(out, amount / 1_000_000)?;
-    push_three(out, amount / 1000)?;
-    push_three(out, amount)
-}
-
-/// Appends the last three digits of a number.
-fn push_three(out: &mut Vec<u8>, number: u64) -> Result<(), AllocError>
-    ensures { OnOk result (out.new.items ≡ out.old.items ++ three_digits number) }
-{
-    let digits = [
-        digit(number / 100 % 10),
-        digit(number / 10 % 10),
-        digit(number % 10),
-    ];
-    out.extend_from_slice(&digits)?;
     Ok(())
 }

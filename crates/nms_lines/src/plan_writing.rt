@@ -1,15 +1,17 @@
 //! A plan and its certificate as text: `specs/PlanText`.
-ghost use Rattle.std.specs.Prelude.{◌≡◌, ◌≢◌, ◌<◌, ◌++◌, ◌∷◌, [], All, codes, length, map, IfOk, OnOk, Err};
+ghost use Rattle.std.specs.Prelude.{◌≡◌, ◌≢◌, ◌+◌, ◌<◌, ◌≤◌, ◌++◌, ◌∷◌, [], All, codes, drop, length, map, IfOk, IfSome, OnOk, Err};
 ghost use Rattle.std.specs.Fmt.{decimal};
 ghost use Rattle.std.specs.Io.KnownBytes.{Appends};
 ghost use Rattle.std.specs.List.{join_with_byte};
 ghost use Rattle.nms_units.specs.Money.{money_text};
+ghost use Rattle.nms_units.specs.Price.{price_text};
 ghost use Rattle.nms_quote.specs.Roster.{part_text, symbol_text};
 ghost use Rattle.nms_lines.specs.Named.{AreBelow, named_fields, names_text};
 ghost use Rattle.nms_lines.specs.PlanText.{cut_record, end_record, flag_text, kind_fields, leg_record, order_fields, plan_record, plan_text, side_letter};
 ghost use Rattle.nms_lines.specs.Text.{later_fields, text_of};
 ghost use Rattle.nms_lines.specs.Written.{AppendsPart};
 
+use crate::field_before::{money_before, number_before, price_before, text_before, word_before};
 use crate::field_writing::{end_record, push_money, push_number, push_price, push_text};
 use crate::plan_text_fault::PlanTextFault;
 use crate::text_writing::write_text;
@@ -157,11 +159,25 @@ fn append_legs(out: &mut Vec<u8>, roster: &Roster, legs: &[Leg]) -> Result<(), A
 fn append_leg(out: &mut Vec<u8>, roster: &Roster, leg: &Leg) -> Result<(), AllocError>
     ensures { OnOk result (out.new.items ≡ out.old.items ++ text_of (leg_record roster.now leg.now ∷ [])) }
 {
-    out.extend_from_slice(b"LEG")?;
-    push_text(out, name_of_part(roster, leg.part))?;
-    push_price(out, leg.price)?;
-    push_number(out, u64::from(leg.shares.get()))?;
-    end_record(out)
+    let mut buf = [0; 56];
+    buf[55] = b'\n';
+    let start = leg_before(&mut buf, 55, name_of_part(roster, leg.part), leg);
+    out.extend_from_slice(&buf[start..])
+}
+
+/// Writes the fields of a leg to a participant of that name, which take at most 55 bytes, so that they end at a place, and
+/// tells where they start.
+fn leg_before(buf: &mut [u8], end: usize, name: &str, leg: &Leg) -> usize
+    requires room { 55 ≤ end }
+    requires within { end ≤ length buf.old }
+    requires name { length name.now ≤ 4 }
+    ensures within { result ≤ end }
+    ensures written { drop result buf.new ≡ codes "LEG" ++ later_fields (name.now ∷ price_text leg.now.price ∷ decimal leg.now.shares ∷ []) ++ drop end buf.old }
+{
+    let end = number_before(buf, end, u64::from(leg.shares.get()));
+    let end = price_before(buf, end, leg.price);
+    let end = text_before(buf, end, name);
+    word_before(buf, end, "LEG")
 }
 
 /// Appends a record for each cut.
@@ -176,6 +192,50 @@ fn append_cuts(out: &mut Vec<u8>, cuts: &[Cut]) -> Result<(), AllocError>
 
 /// Appends the record of a cut.
 fn append_cut(out: &mut Vec<u8>, cut: &Cut) -> Result<(), AllocError>
+    ensures { OnOk result (out.new.items ≡ out.old.items ++ text_of (cut_record cut.now ∷ [])) }
+{
+    let mut buf = [0; 72];
+    buf[71] = b'\n';
+    match cut_before(&mut buf, 71, cut) {
+        Some(start) => out.extend_from_slice(&buf[start..]),
+        None => append_wide_cut(out, cut),
+    }
+}
+
+/// Writes the fields of a cut, which take at most 70 bytes, so that they end at a place, and tells where they start. `None`
+/// stands for a marginal that 64 bits do not hold.
+fn cut_before(buf: &mut [u8], end: usize, cut: &Cut) -> Option<usize>
+    requires room { 70 ≤ end }
+    requires within { end ≤ length buf.old }
+    ensures within { IfSome result (λ start. start ≤ end) }
+    ensures written { IfSome result (λ start. drop start buf.new ≡ codes "CUT" ++ later_fields (price_text cut.now.price ∷ kind_fields cut.now.kind) ++ drop end buf.old) }
+{
+    let end = kind_before(buf, end, cut.kind)?;
+    let end = price_before(buf, end, cut.price);
+    Some(word_before(buf, end, "CUT"))
+}
+
+/// Writes what a cut says, which takes at most 41 bytes, so that it ends at a place, and tells where it starts. `None`
+/// stands for a marginal that 64 bits do not hold.
+fn kind_before(buf: &mut [u8], end: usize, kind: CutKind) -> Option<usize>
+    requires room { 41 ≤ end }
+    requires within { end ≤ length buf.old }
+    ensures start { IfSome result (λ start. end ≤ start + 41) }
+    ensures before { IfSome result (λ start. start ≤ end) }
+    ensures written { IfSome result (λ start. drop start buf.new ≡ later_fields (kind_fields kind) ++ drop end buf.old) }
+{
+    match kind {
+        CutKind::TooMuch => Some(word_before(buf, end, ",TOOMUCH,")),
+        CutKind::TooLittle => Some(word_before(buf, end, ",TOOLITTLE,")),
+        CutKind::Marginal(money) => {
+            let start = money_before(buf, end, money)?;
+            Some(text_before(buf, start, "MARGINAL"))
+        }
+    }
+}
+
+/// Appends the record of a cut with a marginal of any size.
+fn append_wide_cut(out: &mut Vec<u8>, cut: &Cut) -> Result<(), AllocError>
     ensures { OnOk result (out.new.items ≡ out.old.items ++ text_of (cut_record cut.now ∷ [])) }
 {
     out.extend_from_slice(b"CUT")?;
@@ -202,8 +262,7 @@ fn push_kind(out: &mut Vec<u8>, kind: CutKind) -> Result<(), AllocError>
 fn append_end(out: &mut Vec<u8>) -> Result<(), AllocError>
     ensures { OnOk result (out.new.items ≡ out.old.items ++ text_of (end_record ∷ [])) }
 {
-    out.extend_from_slice(b"END")?;
-    end_record(out)
+    out.extend_from_slice(b"END\n")
 }
 
 /// The name of a symbol, which is nothing where it is not of the roster.
@@ -219,7 +278,8 @@ fn name_of_sym(roster: &Roster, sym: Sym) -> &str
 
 /// The name of a participant, which is nothing where it is not of the roster.
 fn name_of_part(roster: &Roster, part: Part) -> &str
-    ensures { result.now ≡ part_text roster.now part }
+    ensures name { result.now ≡ part_text roster.now part }
+    ensures short { length result.now ≤ 4 }
 {
     if usize::from(part.get()) < roster.parts() {
         roster.part_name(part)

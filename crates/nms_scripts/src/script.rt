@@ -15,6 +15,7 @@ use crate::script_record::serve;
 use nms_fees::Setup;
 use nms_flow::Flow;
 use nms_lines::{ByteRecord, Reader, RecordFault, open_records, read_next};
+use nms_sweep::Planner;
 use nms_text::{ScriptFault, tell};
 use std::alloc::Global;
 use std::io::{Read, Write};
@@ -28,10 +29,11 @@ pub enum Progress {
     Ended,
 }
 
-/// What a script works with: the machine, the record at hand, and the text of its answer.
+/// What a script works with: the machine, the planner, the record at hand, and the text of its answer.
 #[derive(Drop)]
 struct Script {
     flow: Flow,
+    planner: Planner,
     row: ByteRecord,
     answer: Vec<u8>,
 }
@@ -96,6 +98,7 @@ fn open(alloc: Global, setup: &Setup) -> Result<Script, ScriptFault>
     };
     Ok(Script {
         flow,
+        planner: Planner::new(),
         row: ByteRecord::new(alloc),
         answer: Vec::new(alloc),
     })
@@ -131,6 +134,7 @@ fn advance<R: Read, W: Write>(
         setup,
         &script.row,
         done + 1,
+        &mut script.planner,
         &mut script.answer,
     ) else {
         return Err(ScriptFault::NoMemory);

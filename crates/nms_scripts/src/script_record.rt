@@ -16,7 +16,7 @@ use nms_fees::Setup;
 use nms_flow::{Flow, StepFault};
 use nms_lines::{ByteRecord, Line, LineFault, Reading, append_plan, read_line};
 use nms_quote::{Change, Order, Roster, Sym};
-use nms_sweep::plan;
+use nms_sweep::Planner;
 use nms_text::{tell_best, tell_published, tell_refusal, tell_taken, tell_through_head, tell_told};
 use nms_units::Price;
 use std::alloc::AllocError;
@@ -27,6 +27,7 @@ pub(crate) fn serve(
     setup: &Setup,
     row: &ByteRecord,
     number: u64,
+    planner: &mut Planner,
     out: &mut Vec<u8>,
 ) -> Result<bool, AllocError>
     requires { room_of flow.old ≡ room_under setup.now }
@@ -35,7 +36,7 @@ pub(crate) fn serve(
 {
     let desks = setup.desks();
     match read_line(row, setup.roster(), Reading::Script { desks }) {
-        Ok(line) => serve_line(flow, setup, line, number, out),
+        Ok(line) => serve_line(flow, setup, line, number, planner, out),
         Err(fault) => refuse(flow, number, fault, out),
     }
 }
@@ -55,6 +56,7 @@ fn serve_line(
     setup: &Setup,
     line: Line,
     number: u64,
+    planner: &mut Planner,
     out: &mut Vec<u8>,
 ) -> Result<bool, AllocError>
     requires room { room_of flow.old ≡ room_under setup.now }
@@ -72,7 +74,7 @@ fn serve_line(
         Line::Through { desk, sym, price } => {
             serve_through(flow, setup.roster(), desk, sym, price, out)
         }
-        Line::Sweep { desk, order } => serve_sweep(flow, setup, desk, &order, out),
+        Line::Sweep { desk, order } => serve_sweep(flow, setup, desk, &order, planner, out),
     }
 }
 
@@ -238,15 +240,14 @@ fn list_through(
     Ok(false)
 }
 
-/// Lets a desk look, plans its order on what it sees, and appends the plan with its certificate.
-///
-/// Not inlined: a view is large, and the other records are to pay nothing for one.
-#[inline(never)]
+/// Lets a desk look, plans its order on what it sees, and appends the plan with its certificate. The planner reads the
+/// rows off the board, so that no view is made, and keeps its rooms from one order to the next.
 fn serve_sweep(
     flow: &Flow,
     setup: &Setup,
     desk: u8,
     order: &Order,
+    planner: &mut Planner,
     out: &mut Vec<u8>,
 ) -> Result<bool, AllocError>
     requires room { flow.now.board.sizes ≡ sizes_of setup.now.roster }
@@ -254,8 +255,7 @@ fn serve_sweep(
     ensures { IfOk result (Serves (ShowsPlan setup.now desk order.now) flow.now flow.now (Some out.old.items) (Some out.new.items)) }
 {
     let _ = desk;
-    let view = flow.look(order.sym);
-    let (plan, certificate) = plan(&view, order, setup.fees());
-    append_plan(out, setup.roster(), &plan, &certificate)?;
+    planner.plan_on(flow.board(), order, setup.fees());
+    append_plan(out, setup.roster(), planner.plan(), planner.certificate())?;
     Ok(false)
 }

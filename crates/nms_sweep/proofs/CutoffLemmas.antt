@@ -1,22 +1,27 @@
 -- The cutoffs of the usable rows: each usable price once, best first, with the sums at it.
-use Rattle.std.proofs.Common.{◌≡◌, List, All, Any, refl, ap, sym, ◌∙◌, subst}
+use Rattle.std.proofs.Common.{◌≡◌, ◌≤◌, List, length, All, Any, refl, ap, sym, ◌∙◌, subst}
+use Rattle.std.specs.Prelude.{pos}
 use Rattle.std.specs.List.Sorted.{IsPermutation}
 use Rattle.std.proofs.lemmas.List.Sorted.{IsPermutation-sym, IsPermutation-trans}
 use Rattle.nms_quote.specs.Terms.{Terms}
 use Rattle.nms_quote.specs.declared.order.OrderSide.{OrderSide}
 use Rattle.nms_board.specs.View.{Seen}
+use Rattle.nms_board.specs.declared.TheConstants.{MOST_ROWS}
 use Rattle.nms_fee_book.specs.Fees.{Charges}
 use Rattle.nms_rules.specs.Cutoff.{pool, pool_part, swept, swept_cost, swept_cost_part, swept_part}
 use Rattle.nms_rules.specs.Usable.{Usable, rank_of, usable}
 use Rattle.nms_rules.proofs.Offered.{All-In, Any-In, In, In-All}
 use Rattle.nms_sweep.specs.Cutoffs.{AreCutoffs, IsCutoffOf, cutoff_at, cutoffs_of}
 use Rattle.nms_sweep.specs.Order.{IsOrdered}
+use Rattle.nms_sweep.specs.Passed.{AreByPrice, IsPassed}
 use Rattle.nms_sweep.specs.declared.cutoffs.Cutoff.{Cutoff}
+use Rattle.nms_sweep.specs.declared.cutoffs.Passed.{Passed}
 use Rattle.nms_sweep.specs.declared.row_order.Key.TheVariants.{Price}
 use Rattle.nms_sweep.proofs.CutLemmas.{best_first, made_for, made_of}
 use Rattle.nms_sweep.proofs.OrderLemmas.{in_order_from, ordered_from}
 use Rattle.nms_sweep.proofs.PlanLemmas.{in_other, usable_is}
 use Rattle.nms_sweep.proofs.TotalLemmas.{amount_same, total_same}
+use Rattle.nms_sweep.proofs.WalkLemmas.{begins}
 
 -- the sums at a row's price are the same in any order of the rows
 sums-at : (side : OrderSide) (rows by_price : List Usable) → IsPermutation rows by_price → (row : Usable)
@@ -60,6 +65,25 @@ pub usable_cutoffs : (seen : Seen) (asked : Terms) (fees : Charges) (rows by_pri
 usable_cutoffs seen asked fees rows by_price are same ordered =
     are_cutoffs asked.side (usable seen asked fees) by_price (subst (λ (one : List Usable). IsPermutation one by_price) are same) ordered
     (usable_ranks seen asked fees rows by_price are same)
+
+-- no row passed
+abbrev pub no_row : Passed
+no_row = record { rows = 0; shown = 0; protected = 0; cost = pos 0 }
+
+-- where no row of them is passed the walk begins
+pub begins_with : (seen : Seen) (asked : Terms) (fees : Charges) (by_price : List Usable) (passed : Passed)
+    → IsPermutation (usable seen asked fees) by_price → IsOrdered Price by_price → length by_price ≤ MOST_ROWS → passed ≡ no_row
+    → IsPassed by_price passed
+begins_with seen asked fees by_price passed same ordered few is =
+    let ranks = usable_ranks seen asked fees (usable seen asked fees) by_price refl same in
+    let are : AreByPrice by_price = record {
+      few = few;
+      ordered = ordered;
+      side = asked.side;
+      ranks = All-In (λ (row : Usable). row.rank ≡ rank_of asked.side row.price) by_price ranks;
+    } in
+    begins by_price passed are (ap (λ (one : Passed). one.rows) is) (ap (λ (one : Passed). one.shown) is)
+    (ap (λ (one : Passed). one.protected) is) (ap (λ (one : Passed). one.cost) is)
 
 -- and in the order of their costs they tell the same sums
 pub sums_by_cost : (side : OrderSide) (rows by_price by_cost costs : List Usable) (cutoffs : List Cutoff) → IsPermutation rows by_price

@@ -5,6 +5,7 @@ mod CutoffLemmas
 mod ExactLemmas
 mod FillingLemmas
 mod FitLemmas
+mod HeldLemmas
 mod LegLemmas
 mod MarginalLemmas
 mod OrderLemmas

@@ -7,6 +7,8 @@ use Rattle.std.proofs.lemmas.Bool.{and_parts, and_right, both_ways, cases_Bool, 
 use Rattle.std.proofs.lemmas.Int.{ints}
 use Rattle.std.proofs.lemmas.List.{drop_more, take-append-drop, take_more}
 use Rattle.nms_quote.specs.declared.order.OrderSide.{OrderSide}
+use Rattle.nms_quote.specs.declared.order.OrderSide.TheVariants as side
+use Rattle.nms_rules.specs.declared.TheConstants.{MOST_SIZE}
 use Rattle.nms_rules.specs.Assignment.{amount, total}
 use Rattle.nms_rules.specs.Cutoff.{pool, pool_part, swept, swept_cost, swept_cost_part, swept_part}
 use Rattle.nms_rules.specs.Usable.{Usable, rank_of}
@@ -234,7 +236,7 @@ pub record IsMore (before : Passed) (row : Usable) (passed : Passed) : Type 0 wh
   pub shown : passed.shown ≡ before.shown + row.size
   pub protected : passed.protected ≡ before.protected + protected_part row
   pub cost : passed.cost ≡ before.cost +ℤ protected_cost_part row
-  pub size : row.size ≤ 4294967295
+  pub size : row.size ≤ MOST_SIZE
   pub low : neg_ℤ (pos (2 ^ 100)) ≤ℤ protected_cost_part row
   pub high : protected_cost_part row ≤ℤ pos (2 ^ 100)
 
@@ -381,3 +383,14 @@ begins rows passed are count none few free =
           (subst (λ z. IsSweptNext rows 0 z rows) (sym free)
           (no-sums rows are (ordered_from Price rows (in_order_from Price rows are.ordered)))));
     }
+
+-- over no rows
+pub begins_empty : IsPassed [] (record { rows = 0; shown = 0; protected = 0; cost = pos 0 })
+begins_empty =
+    begins [] (record { rows = 0; shown = 0; protected = 0; cost = pos 0 })
+    (record {
+      few = omega arith;
+      ordered = λ i j d before within. absurd (omega (arith, within));
+      side = side.Buy;
+      ranks = λ i d within. absurd (omega (arith, within));
+    }) refl refl refl refl

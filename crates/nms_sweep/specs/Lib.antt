@@ -8,4 +8,5 @@ pub mod Cutoffs
 pub mod Filling
 pub mod Order
 pub mod Passed
+pub mod Planned
 pub mod Taken

@@ -1,6 +1,8 @@
 -- What a walk over the prices keeps: how many rows, in the order of their prices, it has passed, and the sums over them.
 use Rattle.std.specs.Prelude.{ℕ, ℤ, pos, neg_ℤ, ◌≡◌, ◌≤◌, ◌*◌, ◌^◌, ◌*ℤ◌, ◌≤ℤ◌, List, [], ◌∷◌, All, length, take, drop, if◌then◌else◌}
 use Rattle.nms_quote.specs.declared.order.OrderSide.{OrderSide}
+use Rattle.nms_board.specs.declared.TheConstants.{MOST_ROWS}
+use Rattle.nms_rules.specs.declared.TheConstants.{MOST_SIZE}
 use Rattle.nms_rules.specs.Assignment.{amount, total}
 use Rattle.nms_rules.specs.Cutoff.{swept, swept_cost}
 use Rattle.nms_rules.specs.Usable.{Usable, rank_of}
@@ -19,7 +21,7 @@ pub record IsCounted (before : List Usable) (passed : Passed) : Type 0 where
   pub shown : passed.shown ≡ total (λ row. row.size) before
   pub protected : passed.protected ≡ total protected_part before
   pub cost : passed.cost ≡ amount protected_cost_part before
-  pub within : passed.shown ≤ passed.rows * 4294967295
+  pub within : passed.shown ≤ passed.rows * MOST_SIZE
   pub fewer : passed.protected ≤ passed.shown
   pub low : neg_ℤ (pos (passed.rows * 2 ^ 100)) ≤ℤ passed.cost
   pub high : passed.cost ≤ℤ pos (passed.rows * 2 ^ 100)
@@ -31,7 +33,7 @@ IsSweptNext rows shares cost (row ∷ later) = (shares ≡ swept row.rank rows) 
 
 -- the rows in the order of their prices
 pub record AreByPrice (rows : List Usable) : Type 0 where
-  pub few : length rows ≤ 32
+  pub few : length rows ≤ MOST_ROWS
   pub ordered : IsByPrice rows
   pub side : OrderSide
   pub ranks : All (λ row. row.rank ≡ rank_of side row.price) rows

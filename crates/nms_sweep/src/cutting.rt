@@ -6,7 +6,7 @@ ghost use Rattle.nms_sweep.specs.Cutoffs.{IsCutoffOf};
 ghost use Rattle.nms_sweep.specs.Order.{IsByCost};
 
 use crate::choice::{Choice, cheaper};
-use crate::cutoffs::{Cutoff, Cutoffs, plus};
+use crate::cutoffs::{Cutoff, Cutoffs};
 use crate::priced_row::PricedRow;
 use crate::taking::take_cheapest;
 use nms_board::MOST_ROWS;
@@ -76,7 +76,7 @@ fn tried(
     let offer = Choice {
         cutoff: rank,
         marginal: taken.marginal,
-        cost: plus(cutoff.swept_cost, taken.cost),
+        cost: cutoff.swept_cost.plus(taken.cost),
     };
     (CutKind::Marginal(taken.marginal), Some(offer))
 }

@@ -7,6 +7,7 @@ mod cutoffs;
 mod cutting;
 mod laws;
 mod legs;
+mod planner;
 mod planning;
 mod priced_row;
 mod row_order;
@@ -14,4 +15,5 @@ mod taking;
 
 pub use cutoffs::{Cutoff, Cutoffs};
 pub use laws::an_accepted_plan_is_within_bounds;
+pub use planner::Planner;
 pub use planning::{plan, plan_into};

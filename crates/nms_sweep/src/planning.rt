@@ -1,5 +1,7 @@
 //! The plan of least cost for an order, and the certificate that shows it: `specs/Accepted` of `nms_rules`.
-ghost use Rattle.std.specs.Prelude.{◌≡◌, ◌≤◌, None, length};
+ghost use Rattle.std.specs.Prelude.{◌≡◌, ◌≤◌, [], None, length};
+ghost use Rattle.nms_board.specs.View.{Seen};
+ghost use Rattle.nms_fee_book.specs.Fees.{Charges};
 ghost use Rattle.nms_rules.specs.Accepted.{IsAccepted};
 ghost use Rattle.nms_rules.specs.Assignment.{IsOptimal, fillable, total};
 ghost use Rattle.nms_rules.specs.Breach.{breach_of};
@@ -7,6 +9,7 @@ ghost use Rattle.nms_rules.specs.Faultless.{given_by};
 ghost use Rattle.nms_rules.specs.Usable.{usable};
 ghost use Rattle.nms_sweep.specs.Filling.{AreExact, FillsInOrder};
 ghost use Rattle.nms_sweep.specs.Order.{AreInOrder};
+ghost use Rattle.nms_sweep.specs.Planned.{IsPlanned, IsTable};
 
 use crate::choice::cost_chosen;
 use crate::cutoffs::Cutoffs;
@@ -70,11 +73,29 @@ pub fn plan_into(
 {
     let version = view.version();
     let mut cutoffs = Cutoffs::new(view, order, fees);
-    let most = fillable(cutoffs.rows(), order.shares);
     let mut by_cost = ArrayVec::new_in(());
-    put_in_order(Key::Cost, cutoffs.rows(), &mut by_cost);
+    fill(version, order, &mut cutoffs, &mut by_cost, plan, cuts);
+}
+
+/// Plans an order on the cutoffs of a version, all of which are to come. The list takes the rows in the order of their
+/// costs.
+pub(crate) fn fill(
+    version: u64,
+    order: &Order,
+    cutoffs: &mut Cutoffs,
+    by_cost: &mut ArrayVec<PricedRow, MOST_ROWS>,
+    plan: &mut Plan,
+    cuts: &mut Certificate,
+)
+    requires few { length cutoffs.old.to_come ≤ MOST_ROWS }
+    requires empty { by_cost.old.items ≡ [] }
+    requires table { (seen : Seen) × (fees : Charges) × IsTable seen order.now fees version cutoffs.old }
+    ensures { (seen : Seen) (fees : Charges) → IsTable seen order.now fees version cutoffs.old → IsPlanned seen order.now fees plan.new cuts.new.items }
+{
+    let most = fillable(cutoffs.rows(), order.shares);
+    put_in_order(Key::Cost, cutoffs.rows(), by_cost);
     cuts.clear();
-    let choice = put_cuts(order.side, by_cost.as_slice(), most, &mut cutoffs, cuts);
+    let choice = put_cuts(order.side, by_cost.as_slice(), most, cutoffs, cuts);
     plan.legs.clear();
     put_legs(cutoffs.rows(), most, &choice, &mut plan.legs);
     plan.version = version;

@@ -4,10 +4,10 @@ ghost use Rattle.nms_rules.specs.Cutoff.{pool_part};
 ghost use Rattle.nms_sweep.specs.Choice.{has_last, share_cost};
 ghost use Rattle.nms_sweep.specs.Taken.{taken_cost};
 
-use crate::cutoffs::plus;
 use crate::priced_row::PricedRow;
-use nms_rules::Rank;
-use nms_units::Money;
+use nms_board::MOST_ROWS;
+use nms_rules::{MOST_SIZE, Rank};
+use nms_units::{MOST_SHARES, Money};
 
 /// What so many shares of a pool cost, the cheapest first.
 #[derive(Clone, Copy, Debug)]
@@ -22,8 +22,8 @@ pub(crate) struct Taken {
 /// their costs.
 #[tactic(auto, unfolding(crate::specs::Choice::share_cost, crate::specs::Taken::taken_cost))]
 pub(crate) fn take_cheapest(by_cost: &[PricedRow], cutoff: Rank, number: u64) -> Taken
-    requires rows { length by_cost.now ≤ 32 }
-    requires number { number ≤ 999999999 }
+    requires rows { length by_cost.now ≤ MOST_ROWS }
+    requires number { number ≤ MOST_SHARES }
     ensures marginal { result.marginal ≡ share_cost cutoff number (pos 0) by_cost.now }
     ensures cost { result.cost ≡ taken_cost cutoff number by_cost.now }
     ensures marginal_low { neg_ℤ (pos (10 ^ 18)) ≤ℤ result.marginal }
@@ -58,7 +58,7 @@ fn has_last(row: &PricedRow, cutoff: Rank, number: u64) -> bool
 
 /// What is taken with so many shares of a row.
 fn with_shares(taken: Taken, row: &PricedRow, shares: u64) -> Taken
-    requires shares { shares ≤ 4294967295 }
+    requires shares { shares ≤ MOST_SIZE }
     requires low { neg_ℤ (pos (2 ^ 110)) ≤ℤ taken.cost }
     requires high { taken.cost ≤ℤ pos (2 ^ 110) }
     ensures marginal { result.marginal ≡ row.now.cost }
@@ -70,24 +70,14 @@ fn with_shares(taken: Taken, row: &PricedRow, shares: u64) -> Taken
 {
     Taken {
         marginal: row.unit_cost(),
-        cost: plus(taken.cost, times(row, shares)),
+        cost: taken.cost.plus(row.unit_cost().times(shares)),
     }
-}
-
-/// What so many shares of a row cost with the fee.
-fn times(row: &PricedRow, shares: u64) -> Money
-    requires { shares ≤ 4294967295 }
-    ensures cost { result ≡ row.now.cost *ℤ pos shares }
-    ensures low { neg_ℤ (pos (2 ^ 100)) ≤ℤ result }
-    ensures high { result ≤ℤ pos (2 ^ 100) }
-{
-    Money::new(i128::from(row.cost) * i128::from(shares))
 }
 
 /// How many shares of a row are in the pool.
 fn pool_part(row: &PricedRow, cutoff: Rank) -> u64
     ensures part { result ≡ pool_part cutoff row.now }
-    ensures within { result ≤ 4294967295 }
+    ensures within { result ≤ MOST_SIZE }
 {
     let size = u64::from(row.size);
     if row.is_pooled(cutoff) { size } else { 0 }

@@ -1,5 +1,6 @@
 -- put_cuts: the cuts so far and those of the cutoffs to come are all cuts, and so it is with the choice.
 use Rattle.std.proofs.Common.{◌≡◌, ◌≤◌, ◌+◌, ◌++◌, All, None, length, map}
+use Rattle.nms_board.specs.declared.TheConstants.{MOST_ROWS}
 use Rattle.nms_quote.specs.declared.certificate.Cut.{Cut}
 use Rattle.nms_sweep.specs.Choice.{IsInRange, chosen, cut_by}
 use Rattle.nms_sweep.specs.Cutoffs.{IsCutoffOf}
@@ -13,7 +14,7 @@ invariant-loop-cutoff l = record {
       ≡ chosen l.side l.by_cost l.most l.best (map (cut_by l.side l.by_cost l.most) l.cutoffs.to_come);
   range : All (λ (cut : Cut). IsInRange cut.kind) l.cuts.items;
   sums : All (λ (cutoff : Cutoff). IsCutoffOf l.side l.by_cost cutoff) l.cutoffs.to_come;
-  room : length l.cuts.items + length l.cutoffs.to_come ≤ 32;
+  room : length l.cuts.items + length l.cutoffs.to_come ≤ MOST_ROWS;
   rows : l.cutoffs.rows ≡ l.fn.cutoffs.rows;
 }
 

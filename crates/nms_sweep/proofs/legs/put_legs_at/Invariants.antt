@@ -1,12 +1,13 @@
 -- put_legs_at: the legs so far and those of the rows behind are all legs, by what legs_of unfolds to.
 use Rattle.std.proofs.Common.{◌≡◌, ◌≤◌, ◌+◌, ◌++◌, length}
 use Rattle.nms_sweep.specs.Choice.{legs_of}
+use Rattle.nms_board.specs.declared.TheConstants.{MOST_ROWS}
 use Rattle.nms_sweep.proofs.legs.put_legs_at.Given as goal
 
 abbrev pub invariant-loop-row : goal.invariant-loop-row
 invariant-loop-row l = record {
   legs : legs_of l.cutoff l.marginal l.fn.left l.rows ≡ l.legs.items ++ legs_of l.cutoff l.marginal l.left l.behind;
-  room : length l.legs.items + length l.behind ≤ 32;
+  room : length l.legs.items + length l.behind ≤ MOST_ROWS;
 }
 
 abbrev pub decreases-loop-row : goal.decreases-loop-row

@@ -1,116 +1,40 @@
--- plan_into: all its clauses, by what the walk found (PlanLemmas: Found) and how the legs at the chosen cutoff fill.
-use Rattle.std.proofs.Common.{◌≡◌, All, List, Option, refl, ap, sym, ◌∙◌, subst, arith}
-use Rattle.std.specs.List.Sorted.{IsPermutation}
-use Rattle.nms_quote.specs.Terms.{Terms}
-use Rattle.nms_quote.specs.contracts.order.Order.{the_view}
-use Rattle.nms_quote.specs.declared.certificate.Cut.{Cut}
-use Rattle.nms_quote.specs.declared.plan.Leg.{Leg}
-use Rattle.nms_quote.specs.declared.plan.Plan.{Plan}
-use Rattle.nms_rules.specs.Accepted.{IsAccepted}
-use Rattle.nms_rules.specs.Assignment.{fillable}
-use Rattle.nms_rules.specs.Faultless.{sum_of}
-use Rattle.nms_rules.specs.Usable.{Usable, usable}
-use Rattle.nms_rules.proofs.Offered.{none_of_faultless, accepted_optimal}
-use Rattle.nms_sweep.specs.Choice.{cost_chosen, legs_chosen}
-use Rattle.nms_sweep.specs.Cutoffs.{IsCutoffOf}
-use Rattle.nms_sweep.specs.Filling.{AreExact}
-use Rattle.nms_sweep.specs.Order.{AreInOrder}
-use Rattle.nms_sweep.specs.declared.choice.Choice.{Choice}
-use Rattle.nms_sweep.specs.declared.cutoffs.Cutoff.{Cutoff}
-use Rattle.nms_sweep.proofs.CutoffLemmas.{sums_by_cost}
-use Rattle.nms_sweep.proofs.ExactLemmas.{exact}
-use Rattle.nms_sweep.proofs.FillingLemmas.{filling}
-use Rattle.nms_sweep.proofs.PlanLemmas.{Fills, Found, accepted, faultless, found_from, legs_found, rising}
-use Rattle.nms_sweep.proofs.SameLemmas.{legs_same}
-use Rattle.nms_sweep.proofs.StandLemmas.{chosen_in_order}
+-- plan_into: the rows of the view are its table, by what Cutoffs::new says, and all its clauses are what fill says of it.
 use Rattle.nms_sweep.proofs.planning.plan_into.Goals as goal
 
-pub put_legs-requires-clause-few : goal.put_legs-requires-clause-few
-put_legs-requires-clause-few c =
-    let seen = c.args.view.now in
-    let asked : Terms = c.args.order.now in
-    let fees = c.args.fees.now in
-    let rows : List Usable = usable seen asked fees in
-    let by_price : List Usable = c.new-cutoffs.result.rows in
-    let by_cost : List Usable = c.put_in_order.new.ordered.items in
-    let cuts : List Cut = c.put_cuts-choice.new.cuts.items in
-    let most = c.fillable-most.result in
-    let found : Option Choice = c.put_cuts-choice.result in
-    let last : c.rows-3.result.now ≡ by_price = c.rows-3.ensures.rows ∙ c.put_cuts-choice.ensures.rows in
-    let walk = c.new-cutoffs.ensures in
-    let all : Found seen asked fees by_price by_cost cuts most found =
-    found_from seen asked fees (the_view c.order.inside) c.rows.result.now c.rows-2.result.now c.as_slice.result.now
-    c.new-cutoffs.result.to_come by_price by_cost cuts most found
-    c.order.view_is c.version-version.ensures.bids c.version-version.ensures.offers walk.rows walk.ordered walk.all c.rows.ensures.rows
-    c.rows-2.ensures.rows c.as_slice.ensures.value
-    c.put_in_order.ensures.same c.put_in_order.ensures.ordered c.fillable-most.ensures.most c.put_cuts-choice.ensures.cuts
-    c.put_cuts-choice.ensures.best in
-    let fills = legs_found seen asked fees by_price by_cost cuts most found all in
-    let same : legs_chosen c.rows-3.result.now most found c.rows-3.result.now ≡ legs_chosen rows most found by_price =
-    ap (λ (some : List Usable). legs_chosen some most found some) last ∙ legs_same rows by_price walk.rows most found in
-    omega (arith, ap sum_of same, fills.sum, all.fillable_is, c.fillable-most.ensures.within)
-
-pub put_cuts-choice-requires-clause-sums : goal.put_cuts-choice-requires-clause-sums
-put_cuts-choice-requires-clause-sums c =
-    let walk = c.new-cutoffs.ensures in
-    let by_price : List Usable = c.new-cutoffs.result.rows in
-    let same = subst (λ (some : List Usable). IsPermutation some c.put_in_order.new.ordered.items) c.rows-2.ensures.rows
-    c.put_in_order.ensures.same in
-    let asked = ap (λ (some : Terms). some.side) c.order.view_is in
-    subst (λ side. All (λ (cutoff : Cutoff). IsCutoffOf side c.as_slice.result.now cutoff) c.new-cutoffs.result.to_come) (sym asked)
-    (sums_by_cost c.args.order.now.side (usable c.args.view.now c.args.order.now c.args.fees.now) by_price c.put_in_order.new.ordered.items
-    c.as_slice.result.now c.new-cutoffs.result.to_come walk.rows same c.as_slice.ensures.value walk.cutoffs)
+pub fill-requires-clause-table : goal.fill-requires-clause-table
+fill-requires-clause-table c = (
+  c.args.view.now,
+  c.args.fees.now,
+  record {
+    version = c.version-version.ensures.version;
+    sym = c.requires;
+    bids = c.version-version.ensures.bids;
+    offers = c.version-version.ensures.offers;
+    rows = c.new-cutoffs.ensures.rows;
+    ordered = c.new-cutoffs.ensures.ordered;
+    cutoffs = c.new-cutoffs.ensures.cutoffs;
+    all = c.new-cutoffs.ensures.all;
+  },
+)
 
 pub returns : goal.returns
 returns c =
-    let seen = c.args.view.now in
-    let asked : Terms = c.args.order.now in
-    let fees = c.args.fees.now in
-    let rows : List Usable = usable seen asked fees in
-    let by_price : List Usable = c.new-cutoffs.result.rows in
-    let by_cost : List Usable = c.put_in_order.new.ordered.items in
-    let cuts : List Cut = c.put_cuts-choice.new.cuts.items in
-    let most = c.fillable-most.result in
-    let found : Option Choice = c.put_cuts-choice.result in
-    let last : c.rows-3.result.now ≡ by_price = c.rows-3.ensures.rows ∙ c.put_cuts-choice.ensures.rows in
-    let walk = c.new-cutoffs.ensures in
-    let all : Found seen asked fees by_price by_cost cuts most found =
-    found_from seen asked fees (the_view c.order.inside) c.rows.result.now c.rows-2.result.now c.as_slice.result.now
-    c.new-cutoffs.result.to_come by_price by_cost cuts most found
-    c.order.view_is c.version-version.ensures.bids c.version-version.ensures.offers walk.rows walk.ordered walk.all c.rows.ensures.rows
-    c.rows-2.ensures.rows c.as_slice.ensures.value
-    c.put_in_order.ensures.same c.put_in_order.ensures.ordered c.fillable-most.ensures.most c.put_cuts-choice.ensures.cuts
-    c.put_cuts-choice.ensures.best in
-    let fills = legs_found seen asked fees by_price by_cost cuts most found all in
-    let same : legs_chosen c.rows-3.result.now most found c.rows-3.result.now ≡ legs_chosen rows most found by_price =
-    ap (λ (some : List Usable). legs_chosen some most found some) last ∙ legs_same rows by_price walk.rows most found in
-    let legs : c.put_legs.new.legs.items ≡ legs_chosen rows most found by_price = c.put_legs.ensures ∙ same in
-    let filled = subst (λ (one : List Leg). Fills asked.side fees by_price (fillable rows asked.shares) (cost_chosen found) one) (sym legs)
-    fills in
-    let paid = subst (λ cost. Fills asked.side fees by_price (fillable rows asked.shares) cost c.put_legs.new.legs.items)
-    (sym c.cost_chosen-plan.ensures) filled in
-    let plan : Plan = record {
-      version = c.version-version.result;
-      order = the_view c.order.inside;
-      legs = c.put_legs.new.legs;
-      filled = most;
-      cost = c.cost_chosen-plan.result;
-    } in
-    let is = faultless seen asked fees plan by_price by_cost all.rows c.version-version.ensures.version c.order.view_is c.requires
-    all.fillable_is paid in
-    let accepted' : IsAccepted seen asked fees plan cuts =
-    accepted seen asked fees plan by_price by_cost cuts all.rows is all.fillable_is all.cuts_are c.put_cuts-choice.ensures.range
-    (c.cost_chosen-plan.ensures ∙ ap cost_chosen all.found_is) in
+    let is = c.fill.ensures c.args.view.now c.args.fees.now (record {
+      version = c.version-version.ensures.version;
+      sym = c.requires;
+      bids = c.version-version.ensures.bids;
+      offers = c.version-version.ensures.offers;
+      rows = c.new-cutoffs.ensures.rows;
+      ordered = c.new-cutoffs.ensures.ordered;
+      cutoffs = c.new-cutoffs.ensures.cutoffs;
+      all = c.new-cutoffs.ensures.all;
+    }) in
     record {
-      lawful = none_of_faultless seen asked fees plan c.version-version.ensures.bids c.version-version.ensures.offers is;
-      most = all.fillable_is;
-      accepted = accepted';
-      optimal = accepted_optimal seen asked fees plan cuts c.version-version.ensures.bids c.version-version.ensures.offers accepted';
-      ordered = subst (AreInOrder asked.side) (sym legs)
-          (chosen_in_order seen asked fees rows by_price refl
-          (rising asked.side seen c.version-version.ensures.bids c.version-version.ensures.offers) walk.rows walk.ordered most found);
-      filling = filling asked.side fees rows by_price by_cost all.rows (fillable rows asked.shares) (cost_chosen found)
-          c.put_legs.new.legs.items filled;
-      exact = subst (λ n. AreExact asked.side rows n cuts) (sym all.fillable_is)
-          (exact asked.side fees rows by_price by_cost all.rows (fillable rows asked.shares) cuts all.cuts_are);
+      lawful = is.lawful;
+      most = is.most;
+      accepted = is.accepted;
+      optimal = is.optimal;
+      ordered = is.ordered;
+      filling = is.filling;
+      exact = is.exact;
     }

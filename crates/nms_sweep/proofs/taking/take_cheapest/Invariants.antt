@@ -2,6 +2,7 @@
 -- `behind`, `low`, `high` and `few`.
 use Rattle.std.proofs.Common.{◌≡◌, ◌≤◌, ◌-◌, ◌*◌, ◌^◌, length}
 use Rattle.std.specs.Prelude.{pos, neg_ℤ, ◌+ℤ◌, ◌≤ℤ◌}
+use Rattle.nms_units.specs.declared.TheConstants.{MOST_SHARES}
 use Rattle.nms_sweep.specs.Choice.{share_cost}
 use Rattle.nms_sweep.specs.Taken.{taken_cost}
 use Rattle.nms_sweep.proofs.taking.take_cheapest.Given as goal
@@ -15,7 +16,7 @@ invariant-loop-row l = record {
   behind : length l.behind ≤ length l.by_cost;
   low : neg_ℤ (pos ((length l.by_cost - length l.behind) * 2 ^ 100)) ≤ℤ l.taken.cost;
   high : l.taken.cost ≤ℤ pos ((length l.by_cost - length l.behind) * 2 ^ 100);
-  few : l.left ≤ 999999999;
+  few : l.left ≤ MOST_SHARES;
 }
 
 abbrev pub decreases-loop-row : goal.decreases-loop-row

@@ -1,0 +1,104 @@
+//! What plans one order after another: `specs/Planned`.
+ghost use Rattle.std.specs.Prelude.{◌≡◌, ◌<◌, None, length};
+ghost use Rattle.nms_board.specs.Shown.{seen_on};
+ghost use Rattle.nms_rules.specs.Accepted.{IsAccepted};
+ghost use Rattle.nms_rules.specs.Assignment.{IsOptimal, fillable};
+ghost use Rattle.nms_rules.specs.Breach.{breach_of};
+ghost use Rattle.nms_rules.specs.Faultless.{given_by};
+ghost use Rattle.nms_rules.specs.Usable.{usable};
+ghost use Rattle.nms_sweep.specs.Filling.{AreExact, FillsInOrder};
+ghost use Rattle.nms_sweep.specs.Order.{AreInOrder};
+
+use crate::cutoffs::Cutoffs;
+use crate::planning::fill;
+use crate::priced_row::PricedRow;
+use arrayvec::ArrayVec;
+use nms_board::{Boards, MOST_ROWS};
+use nms_fee_book::FeeBook;
+use nms_quote::{Certificate, Order, OrderSide, PartSet, Plan, Sym};
+use nms_units::{Money, Price, Shares};
+use std::marker::Model;
+
+/// A planner that is kept, for a caller who plans one order after another: its rooms are made once, so that an order
+/// clears and moves none of them.
+#[derive(Drop)]
+pub struct Planner {
+    cutoffs: Cutoffs,
+    by_cost: ArrayVec<PricedRow, MOST_ROWS>,
+    plan: Plan,
+    cuts: Certificate,
+}
+
+impl Model for Planner {
+    ghost use Rattle.nms_sweep.specs.Planned.{Planned};
+
+    ghost Value = { Planned };
+
+    ghost view = { λ p. record { plan = p.plan; cuts = p.cuts.items } };
+}
+
+impl Planner {
+    /// A planner that has planned nothing: its plan fills nothing. Takes no memory.
+    pub fn new() -> Self {
+        let order = Order::new(
+            OrderSide::Buy,
+            Sym::new(0).unwrap(),
+            Shares::new(1).unwrap(),
+            Price::new(1).unwrap(),
+            false,
+            PartSet::none(),
+        );
+        Planner {
+            cutoffs: Cutoffs::none(),
+            by_cost: ArrayVec::new_in(()),
+            plan: Plan {
+                version: 0,
+                order: order.unwrap(),
+                legs: ArrayVec::new_in(()),
+                filled: 0,
+                cost: Money::new(0),
+            },
+            cuts: ArrayVec::new_in(()),
+        }
+    }
+
+    /// Plans an order on what a look at a board shows of its symbol, as `plan` does on a view, and keeps the plan with its
+    /// certificate in place of the ones before. The rows are read off the board, with no view made. Takes no memory.
+    pub fn plan_on(&mut self, board: &Boards, order: &Order, fees: &FeeBook)
+        requires { order.now.sym < length board.now.sizes.lots }
+        ensures lawful { breach_of (seen_on board.now order.now.sym) order.now fees.now self.new.plan ≡ None }
+        ensures most { self.new.plan.filled ≡ fillable (usable (seen_on board.now order.now.sym) order.now fees.now) order.now.shares }
+        ensures accepted { IsAccepted (seen_on board.now order.now.sym) order.now fees.now self.new.plan self.new.cuts }
+        ensures optimal { IsOptimal (usable (seen_on board.now order.now.sym) order.now fees.now) order.now.shares (given_by self.new.plan.legs.items) }
+        ensures ordered { AreInOrder order.now.side self.new.plan.legs.items }
+        ensures filling { FillsInOrder (usable (seen_on board.now order.now.sym) order.now fees.now) (given_by self.new.plan.legs.items) }
+        ensures exact { AreExact order.now.side (usable (seen_on board.now order.now.sym) order.now fees.now) self.new.plan.filled self.new.cuts }
+    {
+        let version = board.applied();
+        board.shows_rows(order.sym);
+        self.cutoffs.set_on(board, order, fees);
+        self.by_cost.clear();
+        fill(
+            version,
+            order,
+            &mut self.cutoffs,
+            &mut self.by_cost,
+            &mut self.plan,
+            &mut self.cuts,
+        );
+    }
+
+    /// The plan of the last order.
+    pub fn plan(&self) -> &Plan
+        ensures { result.now ≡ self.now.plan }
+    {
+        &self.plan
+    }
+
+    /// Its certificate.
+    pub fn certificate(&self) -> &Certificate
+        ensures { result.now.items ≡ self.now.cuts }
+    {
+        &self.cuts
+    }
+}
