@@ -18,7 +18,7 @@ const LEFT_OUT: &str =
 hatched as high as the share of them that is locked or crossed.";
 
 /// What became of a plan.
-#[derive(Clone, Copy, PartialEq, Eq)]
+#[derive(Clone, Copy)]
 pub(crate) enum Drawn {
     /// There was none.
     Nothing,

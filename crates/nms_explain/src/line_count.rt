@@ -2,7 +2,7 @@
 use memchr::{memchr, memchr_iter};
 
 /// How far the lines of a text were counted.
-#[derive(Clone, Copy, Debug, PartialEq, Eq)]
+#[derive(Clone, Copy)]
 pub(crate) struct LineCount {
     /// The line of the next byte, from 1.
     pub(crate) line: u64,

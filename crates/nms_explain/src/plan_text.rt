@@ -27,7 +27,7 @@ struct Asked<'a> {
 }
 
 /// What came of the records of a plan's text so far.
-#[derive(Clone, Copy, Debug, PartialEq, Eq)]
+#[derive(Clone, Copy)]
 struct Came {
     walk: PlanWalk,
     records: u64,

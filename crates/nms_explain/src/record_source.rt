@@ -50,7 +50,7 @@ pub(crate) struct RecordSource<R> {
 }
 
 /// The text of a record, or its first bytes, without the line end, and the line on which it begins.
-#[derive(Clone, Copy, Debug)]
+#[derive(Clone, Copy)]
 pub(crate) struct RecordText<'a> {
     pub(crate) text: &'a [u8],
     pub(crate) line: u64,

@@ -4,7 +4,7 @@ ghost use Rattle.std.specs.Prelude.{◌<◌, ◌≤◌, IfSome, length};
 use memchr::{memchr, memrchr2};
 
 /// Where a byte stands within quotes.
-#[derive(Clone, Copy, Debug, PartialEq, Eq)]
+#[derive(Clone, Copy)]
 pub(crate) enum Quoting {
     /// At the start of a field.
     Start,
@@ -35,7 +35,7 @@ impl Quoting {
 }
 
 /// How far a text was scanned.
-#[derive(Clone, Copy, Debug, PartialEq, Eq)]
+#[derive(Clone, Copy)]
 pub(crate) struct Scan {
     /// Where the next byte stands within quotes.
     pub(crate) quoting: Quoting,

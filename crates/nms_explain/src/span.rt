@@ -4,14 +4,14 @@ use crate::scan::Quoting;
 use memchr::memrchr2;
 
 /// Where something stands in the text of a record: its first byte, and the one behind its last.
-#[derive(Clone, Copy, Debug, PartialEq, Eq)]
+#[derive(Clone, Copy)]
 pub(crate) struct Span {
     pub(crate) start: usize,
     pub(crate) end: usize,
 }
 
 /// A place in a file.
-#[derive(Clone, Copy, Debug, PartialEq, Eq)]
+#[derive(Clone, Copy)]
 pub(crate) struct Point {
     /// The line, from 1.
     pub(crate) line: u64,

@@ -22,7 +22,7 @@ const FAULTS: [LineFault; 11] = [
 ];
 
 /// What came of the records so far.
-#[derive(Clone, Copy, Debug, PartialEq, Eq)]
+#[derive(Clone, Copy)]
 pub(crate) struct Tally {
     /// How many there were.
     pub(crate) records: u64,

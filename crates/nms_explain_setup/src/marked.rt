@@ -2,7 +2,7 @@
 use crate::toml_line::Pair;
 
 /// A part of a line.
-#[derive(Clone, Copy, Debug, PartialEq, Eq)]
+#[derive(Clone, Copy)]
 pub(crate) struct Marked<'a> {
     /// The line, without its end.
     pub(crate) line: &'a [u8],

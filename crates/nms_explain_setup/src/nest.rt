@@ -1,7 +1,7 @@
 //! How deep a place of a TOML text lies: in a text in quotes, in a comment, in the brackets and braces of a value.
 
 /// What a byte is read as.
-#[derive(Clone, Copy, Debug, PartialEq, Eq)]
+#[derive(Clone, Copy)]
 enum Within {
     /// As TOML's own.
     Plain,
@@ -15,7 +15,7 @@ enum Within {
 }
 
 /// Where a place lies.
-#[derive(Clone, Copy, Debug, PartialEq, Eq)]
+#[derive(Clone, Copy)]
 pub(crate) struct Nest {
     within: Within,
     /// How many brackets and braces are open.

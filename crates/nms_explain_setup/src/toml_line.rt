@@ -20,7 +20,7 @@ fn name_before_bracket(text: &[u8]) -> Option<&[u8]> {
 }
 
 /// A key with its value, by the bytes of their line.
-#[derive(Clone, Copy, Debug, PartialEq, Eq)]
+#[derive(Clone, Copy)]
 pub(crate) struct Pair {
     /// How many bytes stand before the key, and before its end.
     pub(crate) key: usize,

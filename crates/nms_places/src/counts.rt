@@ -5,7 +5,7 @@ ghost use Rattle.nms_lines.specs.Layout.{is_count};
 use nms_lines::Kind;
 
 /// How many fields a record may have.
-#[derive(Clone, Copy, Debug, PartialEq, Eq)]
+#[derive(Clone, Copy)]
 pub struct Counts {
     /// The fewest.
     pub fewest: usize,

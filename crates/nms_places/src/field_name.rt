@@ -1,7 +1,7 @@
 //! What the fields of records are called.
 
 /// A field of a record, by the name that the pages on the layouts give it.
-#[derive(Clone, Copy, Debug, PartialEq, Eq)]
+#[derive(Clone, Copy)]
 pub enum FieldName {
     /// The first field of each record: its kind, or the word that a plan's record begins with.
     Kind,

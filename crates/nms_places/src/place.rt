@@ -4,7 +4,7 @@ ghost use Rattle.std.specs.Prelude.{◌≡◌};
 use crate::field_name::FieldName;
 
 /// A field of a record.
-#[derive(Clone, Copy, Debug, PartialEq, Eq)]
+#[derive(Clone, Copy)]
 pub struct FieldPlace {
     /// How many fields stand before it.
     pub place: usize,
@@ -22,7 +22,7 @@ impl FieldPlace {
 }
 
 /// What a fault of a record speaks of.
-#[derive(Clone, Copy, Debug, PartialEq, Eq)]
+#[derive(Clone, Copy)]
 pub enum Place {
     /// The record as a whole: it has another number of fields than its kind.
     Count,

@@ -15,7 +15,7 @@ use nms_quote::Roster;
 const MOST: u8 = 32;
 
 /// What a plan's text has to go on with.
-#[derive(Clone, Copy, Debug, PartialEq, Eq)]
+#[derive(Clone, Copy)]
 pub enum PlanDue {
     /// The record of the plan.
     Plan,
@@ -28,7 +28,7 @@ pub enum PlanDue {
 }
 
 /// What is wrong with a record of a plan's text.
-#[derive(Clone, Copy, Debug, PartialEq, Eq)]
+#[derive(Clone, Copy)]
 pub enum PlanTrouble {
     /// It is none of those that are due, or one of its fields does not say what a plan says.
     Wrong(Place),
@@ -37,7 +37,7 @@ pub enum PlanTrouble {
 }
 
 /// How far the records of a plan's text have come.
-#[derive(Clone, Copy, Debug, PartialEq, Eq)]
+#[derive(Clone, Copy)]
 pub struct PlanWalk {
     /// What is due.
     pub due: PlanDue,

@@ -15,7 +15,7 @@ use nms_rules::{Breach, cost_of, sum_of};
 use nms_units::{Money, Price};
 
 /// Where a breach stands in a plan, what was found there, and what was expected.
-#[derive(Debug, Drop)]
+#[derive(Drop)]
 pub enum BreachPlace {
     /// P1: the plan's version, and the view's.
     OtherVersion {

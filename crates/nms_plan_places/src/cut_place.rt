@@ -8,7 +8,7 @@ use nms_quote::Cut;
 use nms_rules::{Rank, UsableRow, pool, swept};
 
 /// A cut of a certificate.
-#[derive(Clone, Copy, Debug)]
+#[derive(Clone, Copy)]
 pub struct CutPlace {
     /// The cut's number in the certificate, counted from 0: at most 31.
     pub number: u8,
@@ -17,7 +17,7 @@ pub struct CutPlace {
 }
 
 /// What must be swept and may be taken at the price of a cut, beside what can be filled, in shares.
-#[derive(Clone, Copy, Debug)]
+#[derive(Clone, Copy)]
 pub struct CutSums {
     /// All that can be filled: what was asked for, or what may be traded with where that is less.
     pub most: u64,

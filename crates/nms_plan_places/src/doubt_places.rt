@@ -21,7 +21,7 @@ use nms_rules::{Rank, UsableRow, fillable, least_cost, usable_rows};
 use nms_units::{MOST_SHARES, Money};
 
 /// Where a doubt stands in a plan or its certificate, what was found there, and what was expected.
-#[derive(Debug, Drop)]
+#[derive(Drop)]
 pub enum DoubtPlace {
     /// K1: where the plan's breach stands.
     Breach(BreachPlace),

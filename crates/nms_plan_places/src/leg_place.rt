@@ -9,7 +9,7 @@ use nms_quote::{Leg, OrderSide};
 use nms_rules::contra;
 
 /// A leg of a plan beside the quotation that it goes to.
-#[derive(Clone, Copy, Debug)]
+#[derive(Clone, Copy)]
 pub struct LegPlace {
     /// The leg's number in the plan, counted from 0: at most 31.
     pub number: u8,

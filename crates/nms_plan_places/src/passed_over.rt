@@ -12,7 +12,7 @@ use nms_units::Price;
 
 /// A protected quotation that a plan trades through: one of a participant that the order does not name, at a better
 /// price than the plan's worst one, that gets less than its full displayed size (17 CFR 242.600, "trade-through").
-#[derive(Clone, Copy, Debug)]
+#[derive(Clone, Copy)]
 pub struct PassedOver {
     /// The quotation: its participant, its price in 1/10,000 dollar, its displayed size in shares.
     pub row: Row,

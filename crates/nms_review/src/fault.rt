@@ -18,7 +18,7 @@ pub(crate) struct Fault {
 }
 
 /// What a fault is about.
-#[derive(Clone, Copy, PartialEq, Eq)]
+#[derive(Clone, Copy)]
 pub(crate) enum About {
     /// No word of the call.
     Nothing,

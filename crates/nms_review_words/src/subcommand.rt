@@ -1,7 +1,7 @@
 //! The subcommands, with their own words and options.
 
 /// What the program can be asked to do, each a subcommand of the command line.
-#[derive(Clone, Copy, Debug, PartialEq, Eq)]
+#[derive(Clone, Copy)]
 pub enum Sub {
     /// Says of each refused record of a file where it went wrong. Its own words are `KIND` and `FILE`.
     Explain,
@@ -21,7 +21,7 @@ pub enum Sub {
 }
 
 /// What kind of file is explained.
-#[derive(Clone, Copy, Debug, PartialEq, Eq)]
+#[derive(Clone, Copy)]
 pub enum Kind {
     /// A script.
     Script,

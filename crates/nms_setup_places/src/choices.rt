@@ -10,7 +10,7 @@ use nms_quote::MOST_FEEDS;
 use toml::Table;
 
 /// What the keys that may be absent choose for the bounds of others.
-#[derive(Clone, Copy, Debug, PartialEq, Eq)]
+#[derive(Clone, Copy)]
 pub struct Choices {
     /// The caps that fees keep: those of 2005 where the document names none.
     pub caps: Caps,

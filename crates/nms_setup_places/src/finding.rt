@@ -5,7 +5,7 @@ use crate::setup_table::SetupTable;
 use nms_fees::SetupFault;
 
 /// What of a table a fault is found at.
-#[derive(Clone, Copy, Debug, PartialEq, Eq)]
+#[derive(Clone, Copy)]
 pub enum Spot {
     /// The element itself, which is no table.
     Element,
@@ -18,7 +18,7 @@ pub enum Spot {
 }
 
 /// A fault of a setup, and where it is.
-#[derive(Clone, Copy, Debug, PartialEq, Eq)]
+#[derive(Clone, Copy)]
 pub struct Finding {
     /// The table.
     pub table: SetupTable,

@@ -17,7 +17,7 @@ use nms_units::MOST_LOT;
 use toml::Value;
 
 /// What a value has to be, with the bounds that it has to keep.
-#[derive(Clone, Copy, Debug, PartialEq, Eq)]
+#[derive(Clone, Copy)]
 pub enum Form {
     /// A whole number from the first to the second.
     Number(i64, i64),

@@ -3,7 +3,7 @@ ghost use Rattle.std.specs.Prelude.{◌≡◌};
 ghost use Rattle.nms_setup_places.specs.Tables.{is_optional, text_of};
 
 /// A key that may stand in a table of a setup.
-#[derive(Clone, Copy, Debug, PartialEq, Eq)]
+#[derive(Clone, Copy, PartialEq, Eq)]
 pub enum KnownKey {
     /// How many changes the tape takes.
     TapeLimit,

@@ -9,7 +9,7 @@ use std::alloc::{AllocError, Global};
 use toml::Table;
 
 /// Where a text is no TOML document, and why.
-#[derive(Clone, Copy, Debug, PartialEq, Eq)]
+#[derive(Clone, Copy)]
 pub struct NoToml {
     /// How many bytes stand before the place at which the parser stopped.
     pub start: usize,

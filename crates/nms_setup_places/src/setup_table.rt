@@ -6,7 +6,7 @@ ghost use Rattle.nms_setup_places.specs.Tables.{array_key, is_key_of, keys_of, r
 use crate::known_key::KnownKey;
 
 /// The two arrays of tables in a setup.
-#[derive(Clone, Copy, Debug, PartialEq, Eq)]
+#[derive(Clone, Copy)]
 pub enum SetupArray {
     /// The array `participant`.
     Participant,
@@ -15,7 +15,7 @@ pub enum SetupArray {
 }
 
 /// A table of a setup's document.
-#[derive(Clone, Copy, Debug, PartialEq, Eq)]
+#[derive(Clone, Copy, PartialEq, Eq)]
 pub enum SetupTable {
     /// The document itself.
     Top,

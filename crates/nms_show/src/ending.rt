@@ -1,7 +1,7 @@
 //! How a request ends that was served.
 
 /// How a request ends that was served: all that was asked for was told.
-#[derive(Clone, Copy, Debug, PartialEq, Eq)]
+#[derive(Clone, Copy)]
 pub enum Ending {
     /// Nothing was refused or doubted.
     Done,

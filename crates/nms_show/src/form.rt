@@ -1,7 +1,7 @@
 //! The form in which answers are printed.
 
 /// The form in which answers are printed.
-#[derive(Clone, Copy, Debug, PartialEq, Eq)]
+#[derive(Clone, Copy, PartialEq, Eq)]
 pub enum Form {
     /// Sentences and tables.
     Text {

@@ -9,7 +9,7 @@ use nms_quote::{Side, Sym};
 
 /// The best bid and the best offer of a symbol (17 CFR 242.600, "national best bid and national best offer"),
 /// `None` where a side has no quotation.
-#[derive(Clone, Copy, Debug, PartialEq, Eq)]
+#[derive(Clone, Copy)]
 pub struct Quoted {
     /// The best bid: its price in 1/10,000 dollar, its displayed size in shares.
     pub bid: Option<Row>,

@@ -7,7 +7,7 @@ use nms_quote::Roster;
 use std::alloc::{AllocError, Global};
 
 /// What a line of answers is.
-#[derive(Clone, Copy, PartialEq, Eq)]
+#[derive(Clone, Copy)]
 enum Kind {
     /// It begins a plan.
     Plan,
