@@ -1,5 +1,5 @@
 //! What plans one order after another: `specs/Planned`.
-ghost use Rattle.std.specs.Prelude.{◌≡◌, ◌<◌, None, length};
+ghost use Rattle.std.specs.Prelude.{◌≡◌, ◌<◌, [], None, length};
 ghost use Rattle.nms_board.specs.Shown.{seen_on};
 ghost use Rattle.nms_rules.specs.Accepted.{IsAccepted};
 ghost use Rattle.nms_rules.specs.Assignment.{IsOptimal, fillable};
@@ -39,7 +39,11 @@ impl Model for Planner {
 
 impl Planner {
     /// A planner that has planned nothing: its plan fills nothing. Takes no memory.
-    pub fn new() -> Self {
+    pub fn new() -> Self
+        ensures filled { result.plan.filled ≡ 0 }
+        ensures legs { result.plan.legs.items ≡ [] }
+        ensures cuts { result.cuts ≡ [] }
+    {
         let order = Order::new(
             OrderSide::Buy,
             Sym::new(0).unwrap(),
