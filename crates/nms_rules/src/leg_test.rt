@@ -159,11 +159,7 @@ pub fn given_to(legs: &[Leg], part: Part) -> u64
 }
 
 /// The first protected quotation of nobody named that the legs trade through, by participant place.
-pub(crate) fn first_traded_through(
-    view: &View,
-    order: &Order,
-    legs: &[Leg],
-) -> Option<Row>
+pub(crate) fn first_traded_through(view: &View, order: &Order, legs: &[Leg]) -> Option<Row>
     requires { length legs.now ≤ MOST_ROWS }
     ensures { result ≡ first_traded_through view.now order.now legs.now }
 {

@@ -15,7 +15,7 @@ loop-answer-preserved c =
     let more = take_more c.args.answers.now c.loop-answer.answer-index answer c.loop-answer-test.true in
     let whole = more ∙ ap (λ one. before ++ one ∷ []) (sym c.answer-item.is) in
     let split = ap (flat_map records) whole ∙ flat_map-append records before (answer ∷ [])
-        ∙ ap (λ last. flat_map records before ++ last) (append-nil (records answer)) in
+    ∙ ap (λ last. flat_map records before ++ last) (append-nil (records answer)) in
     let texts = ap text_of split ∙ flat_map-append record_text (flat_map records before) (records answer) in
     c.in_ok-tell_answer.ensures
     ∙ ap (λ out. out ++ text_of (records answer)) c.loop-answer.invariant
