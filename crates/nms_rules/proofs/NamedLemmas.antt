@@ -1,17 +1,15 @@
 -- What an order's names change: nothing where there are none, and the quotations of each alone.
-use Rattle.std.proofs.Common.{◌≡◌, ℕ, ◌==◌, Bool, true, false, ◌&&◌, ◌||◌, not, List, ◌⊎◌, inl, inr, refl, ap, sym, ◌∙◌, map}
+use Rattle.std.proofs.Common.{◌≡◌, ℕ, ◌==◌, Bool, true, false, ◌||◌, not, List, refl, ap, sym, ◌∙◌, map}
 use Rattle.std.specs.List.{filter}
-use Rattle.std.proofs.lemmas.Bool.{and_left, and_parts, cases_eq, eq-eqb, ne_eqb, not-true, or_left}
-use Rattle.nms_quote.specs.Members.{has_part, nobody, with_part}
+use Rattle.std.proofs.lemmas.Bool.{and_parts, eq-eqb, ne_eqb, not-true, or_left}
+use Rattle.nms_quote.specs.Members.{has_part, nobody}
 use Rattle.nms_quote.specs.Terms.{Terms}
 use Rattle.nms_quote.specs.declared.plan.Leg.{Leg}
 use Rattle.nms_quote.proofs.Offered.{has-nobody, has-with}
-use Rattle.nms_board.specs.View.{Seen}
 use Rattle.nms_board.specs.declared.row.Row.{Row}
-use Rattle.nms_fee_book.specs.Fees.{Charges}
-use Rattle.nms_rules.specs.Laws.{LawfulPlansPassOverTheNamed, NamesNobody, NamesOneMore, NamingNobodyChangesNothing}
+use Rattle.nms_rules.specs.Laws.{LawfulPlansPassOverTheNamed, NamingNobodyChangesNothing}
 use Rattle.nms_rules.specs.Laws.{NamingOneLeavesTheOthers, is_usable_by_state, naming}
-use Rattle.nms_rules.specs.Usable.{contra_rows, is_allowed, is_better, is_binding, is_named, is_usable, usable, usable_row}
+use Rattle.nms_rules.specs.Usable.{contra_rows, is_allowed, is_named, is_usable, usable, usable_row}
 use Rattle.nms_rules.proofs.LawfulLemmas.{passes-serves, served}
 use Rattle.nms_rules.proofs.MemberLemmas.{All-In}
 use Rattle.nms_rules.proofs.NoneLemmas.{passes-none}
