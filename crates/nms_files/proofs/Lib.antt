@@ -1,4 +1,5 @@
 mod LineFacts
+mod WordFacts
 mod PartFacts
 mod LegFacts
 mod FitFacts

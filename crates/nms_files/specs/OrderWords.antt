@@ -3,6 +3,8 @@ use Rattle.std.specs.Prelude.{ℕ, Bool, true, false, List, [], ◌∷◌, Optio
 use Rattle.nms_quote.specs.Members.{nobody}
 use Rattle.nms_quote.specs.Roster.{Listing}
 use Rattle.nms_quote.specs.Terms.{Terms}
+use Rattle.nms_lines.specs.Faults.{◌>>=◌}
+use Rattle.nms_lines.specs.Fields.{price_in, shares_in, side_in, symbol_in}
 use Rattle.nms_lines.specs.Layout.{Record}
 use Rattle.nms_lines.specs.Lines.{reading}
 use Rattle.nms_lines.specs.Named.{named_in}
@@ -42,6 +44,15 @@ order_said (line.Sweep desk order) = Some order
 abbrev pub order_in : Result Line LineFault → Option Terms
 order_in (Ok line) = order_said line
 order_in (Err fault) = None
+
+-- the order of words that names those participants
+abbrev pub order_with : Listing → List ℕ → List ℕ → List ℕ → List ℕ → Bool → ℕ → Option Terms
+order_with roster side sym shares limit manual self_help = order_in (do
+  sym ← symbol_in roster sym
+  side ← side_in side
+  limit ← price_in limit
+  shares ← shares_in shares
+  Ok (line.Sweep 0 (record { side = side; sym = sym; shares = shares; limit = limit; manual = manual; self_help = self_help })))
 
 -- the order that a script of one desk reads of it, or none
 abbrev pub order_asked : Listing → List ℕ → List ℕ → List ℕ → List ℕ → Bool → Option (List ℕ) → Option Terms

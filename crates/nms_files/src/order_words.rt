@@ -1,7 +1,7 @@
 //! The words of an order (specs/OrderWords).
 ghost use Rattle.std.specs.Prelude.{◌≡◌, ◌<◌, IfSome, length, option_copied};
 ghost use Rattle.nms_lines.specs.Named.{AreBelow};
-ghost use Rattle.nms_files.specs.OrderWords.{named_by, order_asked};
+ghost use Rattle.nms_files.specs.OrderWords.{named_by, order_asked, order_with};
 
 use nms_lines::{price_of, read_names, side_of, some_shares_of};
 use nms_quote::{Order, PartSet, Roster};
@@ -23,6 +23,23 @@ pub fn order_of(
     ensures named { IfSome result (λ order. AreBelow (length roster.now.parts) order.self_help) }
 {
     let self_help = named_by(roster, names)?;
+    order_with(roster, side, sym, shares, limit, manual, self_help)
+}
+
+/// The order of those words that names those participants.
+fn order_with(
+    roster: &Roster,
+    side: &str,
+    sym: &str,
+    shares: &str,
+    limit: &str,
+    manual: bool,
+    self_help: PartSet,
+) -> Option<Order>
+    ensures order { result ≡ order_with roster.now side.now sym.now shares.now limit.now manual self_help }
+    ensures there { IfSome result (λ order. order.sym < length roster.now.syms) }
+    ensures named { IfSome result (λ order. order.self_help ≡ self_help) }
+{
     let sym = roster.find_sym(sym.as_bytes())?;
     let side = side_of(side.as_bytes())?;
     let limit = price_of(limit.as_bytes())?;
