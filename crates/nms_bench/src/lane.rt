@@ -5,9 +5,9 @@ ghost use Rattle.nms_feed.specs.Lane.{AreSendersOf, Sending};
 ghost use Rattle.nms_feed.specs.declared.TheConstants.{LEAST_CAPACITY, MOST_CAPACITY};
 
 use crate::Failed;
+use crate::looks::quotation;
 use nms_feed::{Delivered, LEAST_CAPACITY, MOST_CAPACITY, Sender, Taker, close, open_lane};
-use nms_quote::{Change, MOST_FEEDS, Part, QState, SideQuote, Sym};
-use nms_units::{Price, Shares};
+use nms_quote::{Change, MOST_FEEDS};
 use std::sync::Wait;
 use std::sync::atomic::{AtomicBool, Ordering};
 use std::thread;
@@ -27,23 +27,11 @@ pub(crate) fn measure<R: AllocGlobal + Threads + Wait + Sync>(
     if senders < 1 || MOST_FEEDS < senders {
         return Err(Failed);
     }
-    let change = quotation().ok_or(Failed)?;
+    let change = quotation(0).ok_or(Failed)?;
     match open_lane(rt.alloc(), capacity, senders) {
         Ok((ends, taker)) => run(rt, ends, taker, &change, changes),
         Err(_) => Err(Failed),
     }
-}
-
-/// A quotation of both sides.
-fn quotation() -> Option<Change> {
-    let price = Price::new(100_000)?;
-    Some(Change::Quote {
-        part: Part::new(0)?,
-        sym: Sym::new(0)?,
-        state: QState::Automated,
-        bid: SideQuote::new(price, Shares::new(100)?),
-        offer: SideQuote::new(price, Shares::new(200)?),
-    })
 }
 
 /// Sends so many changes from each sender of a new lane, each in a thread of its own, and takes them meanwhile.

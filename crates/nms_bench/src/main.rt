@@ -31,8 +31,7 @@ fn main(rt: HostRuntime) -> ExitCode {
     }
 }
 
-/// Makes each run and writes its line with what came of it: how many changes each thread sent and how many were
-/// taken, or how many rows the looks showed where they belong, or what a call came to.
+/// Makes each run and writes its line with what came of it.
 fn run_all<R: AllocGlobal + Threads + Wait + Clock + Sync, W: Write>(
     rt: &R,
     input: &[u8],
@@ -40,36 +39,61 @@ fn run_all<R: AllocGlobal + Threads + Wait + Clock + Sync, W: Write>(
 ) -> Result<(), Failed> {
     let text = str::from_utf8(input).map_err(|_| Failed)?;
     for line in text.lines() {
-        let (kind, sizes) = line.split_once(' ').ok_or(Failed)?;
-        let (first, rest) = sizes.split_once(' ').ok_or(Failed)?;
-        if kind == "lane" {
-            let Delivered { sent, taken } = run_lane(rt, first, rest)?;
-            writeln!(answers, "{line} {sent:?} {taken}").map_err(|_| Failed)?;
-            continue;
-        }
-        let second = rest.parse::<u32>().map_err(|_| Failed)?;
-        if kind == "looks" {
-            let desks = first.parse::<u8>().map_err(|_| Failed)?;
-            let rows = looks::measure(rt, desks, second)?;
-            writeln!(answers, "{line} {rows}").map_err(|_| Failed)?;
-        } else {
-            let sym = first.parse::<u16>().map_err(|_| Failed)?;
-            let told = callers::make(rt, kind, sym, second)?;
-            writeln!(answers, "{line} {told}").map_err(|_| Failed)?;
+        match told_of(rt, line) {
+            Ok(told) => writeln!(answers, "{line} {told}").map_err(|_| Failed)?,
+            Err(fault) => return Err(fault),
         }
     }
     Ok(())
 }
 
-/// Runs a lane of a capacity, with senders and changes as the rest of a line says.
+/// Makes the run of a line, and tells what came of it: how many changes each thread sent and how many were taken, or how
+/// many rows the looks showed where they belong, or what a call came to.
+fn told_of<R: AllocGlobal + Threads + Wait + Clock + Sync>(
+    rt: &R,
+    line: &str,
+) -> Result<String, Failed> {
+    let (kind, sizes) = line.split_once(' ').ok_or(Failed)?;
+    let (first, rest) = sizes.split_once(' ').ok_or(Failed)?;
+    if kind == "lane" {
+        return run_lane(rt, first, rest);
+    }
+    let first = first.parse::<u16>().map_err(|_| Failed)?;
+    let second = rest.parse::<u32>().map_err(|_| Failed)?;
+    match kind {
+        "looks" => run_looks(rt, first, second),
+        _ => callers::make(rt, kind, first, second),
+    }
+}
+
+/// Looks from so many desks, and tells how many rows stood where they belong.
+fn run_looks<R: AllocGlobal + Threads + Wait + Clock + Sync>(
+    rt: &R,
+    desks: u16,
+    looks: u32,
+) -> Result<String, Failed> {
+    let desks = u8::try_from(desks).map_err(|_| Failed)?;
+    let rows = looks::measure(rt, desks, looks)?;
+    format!(in rt.alloc(); "{rows}").map_err(|_| Failed)
+}
+
+/// Runs a lane of a capacity, with senders and changes as the rest of a line says, and tells what came over.
 fn run_lane<R: AllocGlobal + Threads + Wait + Sync>(
     rt: &R,
     capacity: &str,
     rest: &str,
-) -> Result<Delivered, Failed> {
+) -> Result<String, Failed> {
     let capacity = capacity.parse::<usize>().map_err(|_| Failed)?;
     let (senders, changes) = rest.split_once(' ').ok_or(Failed)?;
     let senders = senders.parse::<u8>().map_err(|_| Failed)?;
     let changes = changes.parse::<u32>().map_err(|_| Failed)?;
-    lane::measure(rt, capacity, senders, changes)
+    match lane::measure(rt, capacity, senders, changes) {
+        Ok(came) => told_of_lane(rt, &came),
+        Err(fault) => Err(fault),
+    }
+}
+
+/// How many changes each thread sent, and how many were taken.
+fn told_of_lane<R: AllocGlobal>(rt: &R, came: &Delivered) -> Result<String, Failed> {
+    format!(in rt.alloc(); "{:?} {}", came.sent, came.taken).map_err(|_| Failed)
 }
