@@ -18,10 +18,10 @@ use Rattle.nms_fees.specs.declared.TheConstants.{LEAST_QUEUE, MOST_DESKS, MOST_Q
 use Rattle.nms_fees.specs.FaultTable.{are_no_tables, document_has, has_more, has_other_key, has_twice, is_empty, is_no_number}
 use Rattle.nms_fees.specs.FaultTable.{is_no_table, is_no_text, is_no_year, is_outside, is_over, table_has, tables_at}
 use Rattle.nms_fees.specs.Faults.{least, lesser}
-use Rattle.nms_fees.specs.Places.{array_fault, cap_fault, caps_of, chosen_in, count_fault, document_fault, feed_fault, has_repeat}
+use Rattle.nms_fees.specs.Places.{array_fault, cap_fault, caps_of, choices_in, count_fault, document_fault, feed_fault, has_repeat}
 use Rattle.nms_fees.specs.Places.{is_feed, is_name_in, listed, most_of, name_fault}
 use Rattle.nms_fees.specs.Places.{name_in, range_fault, row_fault, rows_in, table_findings, year_fault}
-use Rattle.nms_fees.specs.declared.choices.Chosen.{Chosen}
+use Rattle.nms_fees.specs.declared.choices.Choices.{Choices}
 use Rattle.nms_fees.specs.declared.level.Level.{Level}
 use Rattle.nms_fees.specs.declared.level.Level.TheVariants as level
 use Rattle.nms_fees.specs.declared.section.Section.{Section}
@@ -191,7 +191,7 @@ abbrev level_of : Section → Level
 level_of section.Participant = level.Participant
 level_of section.Symbol = level.Symbol
 
-module _ (chosen : Chosen) (row : Members) where
+module _ (chosen : Choices) (row : Members) where
   abbrev participant_on : SetupFault → Bool
   participant_on f =
       (((gate f fault.UnknownKey (has_other_key level.Participant row)
@@ -246,7 +246,7 @@ module _ (chosen : Chosen) (row : Members) where
 
 -- ---- the elements of one of the two arrays
 
-module _ (chosen : Chosen) (f : SetupFault) (s : Section) where
+module _ (chosen : Choices) (f : SetupFault) (s : Section) where
   abbrev row_has : Data → Bool
   row_has row = option_map_or (table_has chosen f (level_of s)) (as_table row) (gate f fault.WrongType true)
 
@@ -325,8 +325,8 @@ module _ (chosen : Chosen) (f : SetupFault) (s : Section) where
 -- ---- the whole document
 
 module _ (document : Members) where
-  abbrev chosen : Chosen
-  chosen = chosen_in document
+  abbrev chosen : Choices
+  chosen = choices_in document
 
   abbrev numbers_on : SetupFault → Bool
   numbers_on f =

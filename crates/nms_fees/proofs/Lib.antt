@@ -1,6 +1,7 @@
 mod Agreement
 mod FaultsFound
 mod NameLemmas
+pub mod Offered
 mod SoundLemmas
-mod TableLemmas
+pub mod TableLemmas
 mod TextFaults

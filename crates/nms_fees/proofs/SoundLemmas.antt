@@ -21,11 +21,11 @@ use Rattle.nms_quote.specs.declared.feed.Feed.TheVariants as feed
 use Rattle.nms_quote.specs.Roster.{Name, place_in, refusal_in}
 use Rattle.nms_quote.specs.declared.TheConstants.{MOST_CHANGES, MOST_FEEDS}
 use Rattle.nms_fee_book.specs.declared.TheConstants.{MOST_FEE, MOST_RATE}
-use Rattle.nms_fees.specs.declared.choices.Chosen.{Chosen}
+use Rattle.nms_fees.specs.declared.choices.Choices.{Choices}
 use Rattle.nms_fees.specs.declared.TheConstants.{LEAST_QUEUE, MOST_DESKS, MOST_QUEUE, USUAL_FEEDS}
 use Rattle.nms_fee_book.specs.Fees.{fee_cap, rate_cap, IsCapped, AreCapped}
 use Rattle.nms_fees.specs.Faults.{lesser, least}
-use Rattle.nms_fees.specs.Places.{chosen_in, feed_fault, feed_named, feeds_in, feeds_of, is_feed, range_fault, cap_fault, name_fault}
+use Rattle.nms_fees.specs.Places.{choices_in, feed_fault, feed_named, feeds_in, feeds_of, is_feed, range_fault, cap_fault, name_fault}
 use Rattle.nms_fees.specs.Places.{is_name_in, participant_findings, symbol_findings, row_fault, name_in}
 use Rattle.nms_fees.specs.Places.{has_repeat, most_of, count_fault, rows_in, rows_findings}
 use Rattle.nms_fees.specs.Places.{rows_fault, array_fault, document_findings, document_fault}
@@ -101,7 +101,7 @@ abbrev pub name_at : Data → Name
 name_at row = text_at (codes "name") (table_of row)
 
 -- a row without a fault has a name of its form
-pub name_of_row : (chosen : Chosen) (s : Section) (row : Data) → row_fault chosen s row ≡ None
+pub name_of_row : (chosen : Choices) (s : Section) (row : Data) → row_fault chosen s row ≡ None
     → (name_in row ≡ Some (name_at row)) × (is_name_in s (name_at row) ≡ true)
 name_of_row chosen section.Participant (table members) h =
     name_found section.Participant (get_member (codes "name") members) (none_from_least (participant_findings chosen members) h).1.0
@@ -111,13 +111,13 @@ name_of_row chosen section.Participant row h = cc
 name_of_row chosen section.Symbol row h = cc
 
 -- no name is left out where no row has a fault
-pub names_of_rows : (chosen : Chosen) (s : Section) (rows : List Data) → AllByRecursion (λ row. row_fault chosen s row ≡ None) rows
+pub names_of_rows : (chosen : Choices) (s : Section) (rows : List Data) → AllByRecursion (λ row. row_fault chosen s row ≡ None) rows
     → filter_map name_in rows ≡ map name_at rows
 names_of_rows chosen s [] h = refl
 names_of_rows chosen s (row ∷ rows) h = rw ((name_of_row chosen s row h.0).0, names_of_rows chosen s rows h.1)
 
 -- a row without a fault has charges within their caps
-charges_of_row : (chosen : Chosen) (row : Data) → row_fault chosen section.Participant row ≡ None → IsCapped chosen.caps (schedule_of row)
+charges_of_row : (chosen : Choices) (row : Data) → row_fault chosen section.Participant row ≡ None → IsCapped chosen.caps (schedule_of row)
 charges_of_row chosen (table members) h =
     let found = none_from_least (participant_findings chosen members) h in
     let fee = charge_found MOST_FEE (fee_cap chosen.caps) (get_member (codes "fee") members) found.1.1.1.0 in
@@ -140,20 +140,20 @@ feed_found count (Some (string text)) h = of_named (feed_named text) (if_none (i
     of_named (Some of) e = below (place_of of) count e
 feed_found count (Some value) h = cc
 
-feed_of_row : (chosen : Chosen) (row : Data) → row_fault chosen section.Participant row ≡ None
+feed_of_row : (chosen : Choices) (row : Data) → row_fault chosen section.Participant row ≡ None
     → place_of (participant_of row).1 < chosen.feeds
 feed_of_row chosen (table members) h = feed_found chosen.feeds (get_member (codes "feed") members)
     (none_from_least (participant_findings chosen members) h).1.1.0
 feed_of_row chosen row h = cc
 
-each_of_map : (chosen : Chosen) (s : Section) (rows : List Data)
+each_of_map : (chosen : Choices) (s : Section) (rows : List Data)
     → AllByRecursion (λ finding. finding ≡ None) (map (row_fault chosen s) rows)
     → AllByRecursion (λ row. row_fault chosen s row ≡ None) rows
 each_of_map chosen s [] h = tt
 each_of_map chosen s (row ∷ rows) h = (h.0, each_of_map chosen s rows h.1)
 
 -- no row has a fault where an array has none
-each_sound : (chosen : Chosen) (s : Section) (rows : List Data) → rows_fault chosen s rows ≡ None
+each_sound : (chosen : Choices) (s : Section) (rows : List Data) → rows_fault chosen s rows ≡ None
     → AllByRecursion (λ row. row_fault chosen s row ≡ None) rows
 each_sound chosen s rows h = each_of_map chosen s rows
     (none_from_least (map (row_fault chosen s) rows) (none_from_least (rows_findings chosen s rows) h).1.1.0)
@@ -164,7 +164,7 @@ element_of P [] i row h within here = absurd (omega arith)
 element_of P (first ∷ rows) zero row h within here = subst (λ value. P (view value)) (sym here) h.0
 element_of P (first ∷ rows) (suc i) row h within here = element_of P rows i row h.1 (omega arith) here
 
-pub row_sound : (chosen : Chosen) (s : Section) (rows : List Value) (i : ℕ) (row : Value) → rows_fault chosen s (map view rows) ≡ None
+pub row_sound : (chosen : Choices) (s : Section) (rows : List Value) (i : ℕ) (row : Value) → rows_fault chosen s (map view rows) ≡ None
     → i < length rows → row ≡ get_or rows i row → row_fault chosen s (view row) ≡ None
 row_sound chosen s rows i row h within here = element_of (λ value. row_fault chosen s value ≡ None) rows i row
     (each_sound chosen s (map view rows) h) within here
@@ -225,7 +225,7 @@ not_repeated true h = cc
 not_repeated false h = refl
 
 -- a row of an array without a fault is refused by no roster that has the rows before it
-pub unrefused : {Z : Type 0} (chosen : Chosen) (s : Section) (z : Data → Z) (rows : List Value) (i : ℕ) (row : Value)
+pub unrefused : {Z : Type 0} (chosen : Choices) (s : Section) (z : Data → Z) (rows : List Value) (i : ℕ) (row : Value)
     (entries : List (Name × Z)) → rows_fault chosen s (map view rows) ≡ None → i < length rows → row ≡ get_or rows i row
     → entries ≡ map (λ value. (name_at value, z value)) (map view (take i rows))
     → refusal_in (is_name_in s) (most_of s) entries (name_at (view row)) ≡ None
@@ -250,26 +250,26 @@ unrefused {Z} chosen s z rows i row entries sound within here before =
     rw (formed, absent, enough)
 
 -- and so have all rows of an array without a fault
-each_capped : (chosen : Chosen) (rows : List Data) → AllByRecursion (λ row. row_fault chosen section.Participant row ≡ None) rows
+each_capped : (chosen : Choices) (rows : List Data) → AllByRecursion (λ row. row_fault chosen section.Participant row ≡ None) rows
     → AreCapped chosen.caps (map schedule_of rows)
 each_capped chosen [] h = All-nil (IsCapped chosen.caps)
 each_capped chosen (row ∷ rows) h = All-cons (IsCapped chosen.caps) (schedule_of row) (map schedule_of rows)
     (charges_of_row chosen row h.0) (each_capped chosen rows h.1)
 
-pub charges_of_rows : (chosen : Chosen) (rows : List Data) → rows_fault chosen section.Participant rows ≡ None
+pub charges_of_rows : (chosen : Choices) (rows : List Data) → rows_fault chosen section.Participant rows ≡ None
     → AreCapped chosen.caps (map schedule_of rows)
 charges_of_rows chosen rows h = each_capped chosen rows (each_sound chosen section.Participant rows h)
 
-each_feed : (chosen : Chosen) (rows : List Data) → AllByRecursion (λ row. row_fault chosen section.Participant row ≡ None) rows
+each_feed : (chosen : Choices) (rows : List Data) → AllByRecursion (λ row. row_fault chosen section.Participant row ≡ None) rows
     → AllByRecursion (λ entry. place_of entry.1 < chosen.feeds) (map participant_of rows)
 each_feed chosen [] h = tt
 each_feed chosen (row ∷ rows) h = (feed_of_row chosen row h.0, each_feed chosen rows h.1)
 
-pub feeds_of_rows : (chosen : Chosen) (rows : List Data) → rows_fault chosen section.Participant rows ≡ None
+pub feeds_of_rows : (chosen : Choices) (rows : List Data) → rows_fault chosen section.Participant rows ≡ None
     → AllByRecursion (λ entry. place_of entry.1 < chosen.feeds) (map participant_of rows)
 feeds_of_rows chosen rows h = each_feed chosen rows (each_sound chosen section.Participant rows h)
 
-array_found : (chosen : Chosen) (s : Section) (found : Option Data)
+array_found : (chosen : Choices) (s : Section) (found : Option Data)
     → option_map_or (array_fault chosen s) found (Some fault.Missing) ≡ None
     → rows_fault chosen s (unwrap_or (option_and_then rows_in found) []) ≡ None
 array_found chosen s None h = cc
@@ -322,11 +322,11 @@ module _ (document : Members) (sound : document_fault document ≡ None) where
   feeds_within = feeds_found (option_and_then as_integer (get_member (codes "feeds") document))
 
   pub participants_of : (rows : List Data) → rows ≡ rows_at (codes "participant") document
-      → rows_fault (chosen_in document) section.Participant rows ≡ None
-  participants_of rows e = ap (rows_fault (chosen_in document) section.Participant) e
-      ∙ array_found (chosen_in document) section.Participant (get_member (codes "participant") document) found.1.1.1.1.1.1.0
+      → rows_fault (choices_in document) section.Participant rows ≡ None
+  participants_of rows e = ap (rows_fault (choices_in document) section.Participant) e
+      ∙ array_found (choices_in document) section.Participant (get_member (codes "participant") document) found.1.1.1.1.1.1.0
 
   pub symbols_of : (rows : List Data) → rows ≡ rows_at (codes "symbol") document
-      → rows_fault (chosen_in document) section.Symbol rows ≡ None
-  symbols_of rows e = ap (rows_fault (chosen_in document) section.Symbol) e
-      ∙ array_found (chosen_in document) section.Symbol (get_member (codes "symbol") document) found.1.1.1.1.1.1.1.0
+      → rows_fault (choices_in document) section.Symbol rows ≡ None
+  symbols_of rows e = ap (rows_fault (choices_in document) section.Symbol) e
+      ∙ array_found (choices_in document) section.Symbol (get_member (codes "symbol") document) found.1.1.1.1.1.1.1.0

@@ -12,9 +12,9 @@ use Rattle.nms_fee_book.specs.Fees.{fee_cap, rate_cap}
 use Rattle.nms_fee_book.specs.declared.TheConstants.{MOST_FEE, MOST_RATE}
 use Rattle.nms_fee_book.specs.declared.caps.Caps.{Caps}
 use Rattle.nms_fees.specs.declared.TheConstants.{LEAST_QUEUE, MOST_DESKS, MOST_QUEUE}
-use Rattle.nms_fees.specs.Places.{caps_of, chosen_in, has_repeat, is_feed, is_known, keys_in, name_in, rows_in}
+use Rattle.nms_fees.specs.Places.{caps_of, choices_in, has_repeat, is_feed, is_known, keys_in, name_in, rows_in}
 use Rattle.nms_fees.specs.Setup.{rows_at}
-use Rattle.nms_fees.specs.declared.choices.Chosen.{Chosen}
+use Rattle.nms_fees.specs.declared.choices.Choices.{Choices}
 use Rattle.nms_fees.specs.declared.level.Level.{Level}
 use Rattle.nms_fees.specs.declared.level.Level.TheVariants as level
 use Rattle.nms_fees.specs.declared.setup_fault.SetupFault.{SetupFault}
@@ -117,7 +117,7 @@ has_too_many level.Top table = has_at (has_more MOST_PARTICIPANTS) table (codes 
 has_too_many _ table = false
 
 -- whether a fault holds of one table: the document, or one of its two arrays
-abbrev pub table_has : Chosen → SetupFault → Level → Members → Bool
+abbrev pub table_has : Choices → SetupFault → Level → Members → Bool
 table_has chosen fault.Missing table_of table = misses_key table_of table
 table_has chosen fault.UnknownKey table_of table = has_other_key table_of table
 table_has chosen fault.BadName table_of table = has_bad_name table_of table
@@ -134,9 +134,9 @@ tables_at key document = filter_map as_table (rows_at key document)
 -- whether a fault holds of a document: at its top, or in a table of one of its two arrays
 abbrev pub document_has : SetupFault → Members → Bool
 document_has other document =
-    table_has (chosen_in document) other level.Top document
-    || list_any (table_has (chosen_in document) other level.Participant) (tables_at (codes "participant") document)
-    || list_any (table_has (chosen_in document) other level.Symbol) (tables_at (codes "symbol") document)
+    table_has (choices_in document) other level.Top document
+    || list_any (table_has (choices_in document) other level.Participant) (tables_at (codes "participant") document)
+    || list_any (table_has (choices_in document) other level.Symbol) (tables_at (codes "symbol") document)
 
 -- whether a fault holds of a text: C1 where it is no document
 abbrev pub text_has : Name → SetupFault → Bool

@@ -18,7 +18,7 @@ use Rattle.nms_fee_book.specs.declared.TheConstants.{MOST_FEE, MOST_RATE}
 use Rattle.nms_fee_book.specs.declared.caps.Caps.{Caps}
 use Rattle.nms_fee_book.specs.declared.caps.Caps.TheVariants as caps
 use Rattle.nms_fees.specs.declared.TheConstants.{LEAST_QUEUE, MOST_DESKS, MOST_QUEUE, USUAL_FEEDS}
-use Rattle.nms_fees.specs.declared.choices.Chosen.{Chosen}
+use Rattle.nms_fees.specs.declared.choices.Choices.{Choices}
 use Rattle.nms_fees.specs.Faults.{least}
 use Rattle.nms_fees.specs.declared.setup_fault.SetupFault.{SetupFault}
 use Rattle.nms_fees.specs.declared.setup_fault.SetupFault.TheVariants as fault
@@ -66,8 +66,8 @@ abbrev pub feeds_in : Members → ℕ
 feeds_in document = unwrap_or (option_and_then feeds_of (option_and_then as_integer (get_member (codes "feeds") document))) USUAL_FEEDS
 
 -- what the keys that may be absent choose
-abbrev pub chosen_in : Members → Chosen
-chosen_in document = record { caps = caps_in document; feeds = feeds_in document }
+abbrev pub choices_in : Members → Choices
+choices_in document = record { caps = caps_in document; feeds = feeds_in document }
 
 -- a number up to `most` either way, and not over its cap
 abbrev pub cap_fault : ℕ → ℕ → Data → Option SetupFault
@@ -135,7 +135,7 @@ abbrev pub other_key_fault : Level → Members → Option SetupFault
 other_key_fault table_of table = if list_any (λ key. not (is_known table_of key)) (keys_in table) then Some fault.UnknownKey else None
 
 -- what each place finds in a table of the array `participant`, by what the document chooses
-abbrev pub participant_findings : Chosen → Members → List (Option SetupFault)
+abbrev pub participant_findings : Choices → Members → List (Option SetupFault)
 participant_findings chosen table =
     other_key_fault level.Participant table
     ∷ key_fault (name_fault (is_name_in section.Participant)) (codes "name") table
@@ -152,12 +152,12 @@ symbol_findings table =
     ∷ key_fault (range_fault (pos 1) (pos MOST_LOT)) (codes "lot") table
     ∷ []
 
-abbrev pub table_findings : Chosen → Section → Members → List (Option SetupFault)
+abbrev pub table_findings : Choices → Section → Members → List (Option SetupFault)
 table_findings chosen section.Participant table = participant_findings chosen table
 table_findings chosen section.Symbol table = symbol_findings table
 
 -- an element of one of the two arrays, which has to be a table
-abbrev pub row_fault : Chosen → Section → Data → Option SetupFault
+abbrev pub row_fault : Choices → Section → Data → Option SetupFault
 row_fault chosen rows_of row = option_map_or (λ table. least (table_findings chosen rows_of table)) (as_table row) (Some fault.WrongType)
 
 -- the items of an array
@@ -191,22 +191,22 @@ abbrev pub count_fault : ℕ → ℕ → Option SetupFault
 count_fault most count = if count == 0 then Some fault.OutOfRange else (if nat_le count most then None else Some fault.TooMany)
 
 -- what is found in the elements of one of the two arrays
-abbrev pub rows_findings : Chosen → Section → List Data → List (Option SetupFault)
+abbrev pub rows_findings : Choices → Section → List Data → List (Option SetupFault)
 rows_findings chosen rows_of rows =
     count_fault (most_of rows_of) (length rows) ∷ repeat_fault rows ∷ least (map (row_fault chosen rows_of) rows) ∷ []
 
-abbrev pub rows_fault : Chosen → Section → List Data → Option SetupFault
+abbrev pub rows_fault : Choices → Section → List Data → Option SetupFault
 rows_fault chosen rows_of rows = least (rows_findings chosen rows_of rows)
 
 -- no fault is found in an element, or in all of them: by some choices, where these are not asked for
 abbrev pub IsSound : Section → Data → Type 0
-IsSound rows_of row = (chosen : Chosen) × (row_fault chosen rows_of row ≡ None)
+IsSound rows_of row = (chosen : Choices) × (row_fault chosen rows_of row ≡ None)
 
 abbrev pub AreSound : Section → List Data → Type 0
-AreSound rows_of rows = (chosen : Chosen) × (rows_fault chosen rows_of rows ≡ None)
+AreSound rows_of rows = (chosen : Choices) × (rows_fault chosen rows_of rows ≡ None)
 
 -- one of the two arrays
-abbrev pub array_fault : Chosen → Section → Data → Option SetupFault
+abbrev pub array_fault : Choices → Section → Data → Option SetupFault
 array_fault chosen rows_of value = option_map_or (rows_fault chosen rows_of) (rows_in value) (Some fault.WrongType)
 
 -- what is found in a whole document
@@ -218,8 +218,8 @@ document_findings document =
     ∷ key_fault (range_fault (pos 1) (pos MOST_DESKS)) (codes "desks") document
     ∷ caps_fault document
     ∷ feeds_fault document
-    ∷ key_fault (array_fault (chosen_in document) section.Participant) (codes "participant") document
-    ∷ key_fault (array_fault (chosen_in document) section.Symbol) (codes "symbol") document
+    ∷ key_fault (array_fault (choices_in document) section.Participant) (codes "participant") document
+    ∷ key_fault (array_fault (choices_in document) section.Symbol) (codes "symbol") document
     ∷ []
 
 -- the fault of least number anywhere in a document

@@ -2,10 +2,10 @@
 ghost use Rattle.std.specs.Prelude.{codes, ◌≡◌, map, IfOk, IfErr};
 ghost use Rattle.toml.specs.View.{view, table_view};
 ghost use Rattle.nms_fees.specs.Faults.{least, lesser};
-ghost use Rattle.nms_fees.specs.Places.{key_fault, range_fault, cap_fault, is_name_in, name_fault, feed_fault, is_feed, other_key_fault, table_findings, row_fault, most_of, count_fault, rows_fault, array_fault, document_fault};
+ghost use Rattle.nms_fees.specs.Places.{key_fault, range_fault, cap_fault, is_name_in, name_fault, feed_fault, other_key_fault, table_findings, row_fault, most_of, count_fault, rows_fault, array_fault, document_fault};
 
-use crate::choices::{Chosen, caps_fault, chosen_in, feeds_fault};
-use crate::feed_name::feed_named;
+use crate::choices::{Choices, caps_fault, choices_in, feeds_fault};
+use crate::feed_name::feed_fault;
 use crate::level::Level;
 use crate::repeat::has_repeat;
 use crate::section::Section;
@@ -66,7 +66,7 @@ fn number_fault(table: &Table, key: &str, low: i64, high: i64) -> Option<SetupFa
 }
 
 /// The fault of a number from `low` to `high`.
-pub(crate) fn range_fault(value: &Value, low: i64, high: i64) -> Option<SetupFault>
+pub fn range_fault(value: &Value, low: i64, high: i64) -> Option<SetupFault>
     ensures { result ≡ range_fault low high (view value.now) }
 {
     let Some(number) = value.as_integer() else {
@@ -89,7 +89,8 @@ fn charge_fault(table: &Table, key: &str, most: u32, cap: u32) -> Option<SetupFa
     }
 }
 
-fn cap_fault(value: &Value, most: u32, cap: u32) -> Option<SetupFault>
+/// The fault of a fee or rate: up to `most` either way, and not over its cap (17 CFR 242.610(c)).
+pub fn cap_fault(value: &Value, most: u32, cap: u32) -> Option<SetupFault>
     ensures { result ≡ cap_fault most cap (view value.now) }
 {
     let Some(number) = value.as_integer() else {
@@ -106,29 +107,12 @@ fn cap_fault(value: &Value, most: u32, cap: u32) -> Option<SetupFault>
 }
 
 /// The fault of a required feed, one of the first so many.
-fn feed_fault(table: &Table, key: &str, count: u8) -> Option<SetupFault>
+fn letter_fault(table: &Table, key: &str, count: u8) -> Option<SetupFault>
     ensures { result ≡ key_fault (feed_fault count) key.now (table_view table.now) }
 {
-    let Some(value) = value_at(table, key) else {
-        return Some(SetupFault::Missing);
-    };
-    let Some(text) = value.as_str() else {
-        return Some(SetupFault::WrongType);
-    };
-    if is_feed(count, text) {
-        None
-    } else {
-        Some(SetupFault::OutOfRange)
-    }
-}
-
-/// Whether a text names one of the first so many feeds.
-fn is_feed(count: u8, text: &str) -> bool
-    ensures { result ≡ is_feed count text.now }
-{
-    match feed_named(text) {
-        Some(feed) => feed.place() < count,
-        None => false,
+    match value_at(table, key) {
+        Some(value) => feed_fault(value, count),
+        None => Some(SetupFault::Missing),
     }
 }
 
@@ -159,7 +143,7 @@ fn is_name_in(section: Section, name: &[u8]) -> bool
 }
 
 /// The fault of an element of one of the two arrays.
-fn row_fault(row: &Value, chosen: Chosen, section: Section) -> Option<SetupFault>
+fn row_fault(row: &Value, chosen: Choices, section: Section) -> Option<SetupFault>
     ensures { result ≡ row_fault chosen section (view row.now) }
 {
     match row.as_table() {
@@ -169,14 +153,14 @@ fn row_fault(row: &Value, chosen: Chosen, section: Section) -> Option<SetupFault
 }
 
 /// The fault of a table of one of the two arrays, by what the document chooses.
-fn table_fault(table: &Table, chosen: Chosen, section: Section) -> Option<SetupFault>
+fn table_fault(table: &Table, chosen: Choices, section: Section) -> Option<SetupFault>
     ensures { result ≡ least (table_findings chosen section (table_view table.now)) }
 {
     match section {
         Section::Participant => least(&[
             other_key_fault(table, Level::Participant),
             name_fault(table, section),
-            feed_fault(table, "feed", chosen.feeds),
+            letter_fault(table, "feed", chosen.feeds),
             charge_fault(table, "fee", MOST_FEE, chosen.caps.fee()),
             charge_fault(table, "rate", MOST_RATE, chosen.caps.rate()),
         ]),
@@ -189,7 +173,7 @@ fn table_fault(table: &Table, chosen: Chosen, section: Section) -> Option<SetupF
 }
 
 /// The least fault of the elements of one of the two arrays.
-fn each_row_fault(rows: &[Value], chosen: Chosen, section: Section) -> Option<SetupFault>
+fn each_row_fault(rows: &[Value], chosen: Choices, section: Section) -> Option<SetupFault>
     ensures { result ≡ least (map (row_fault chosen section) (map view rows.now)) }
 {
     let mut least = None;
@@ -220,7 +204,7 @@ fn count_fault(section: Section, count: usize) -> Option<SetupFault>
 fn rows_fault(
     alloc: Global,
     rows: &[Value],
-    chosen: Chosen,
+    chosen: Choices,
     section: Section,
 ) -> Result<Option<SetupFault>, SetupFault>
     ensures found { IfOk result (λ found. found ≡ rows_fault chosen section (map view rows.now)) }
@@ -243,7 +227,7 @@ fn array_fault(
     alloc: Global,
     document: &Table,
     key: &str,
-    chosen: Chosen,
+    chosen: Choices,
     section: Section,
 ) -> Result<Option<SetupFault>, SetupFault>
     ensures found { IfOk result (λ found. found ≡ key_fault (array_fault chosen section) key.now (table_view document.now)) }
@@ -266,7 +250,7 @@ pub(crate) fn document_fault(
     ensures found { IfOk result (λ found. found ≡ document_fault (table_view document.now)) }
     ensures memory { IfErr result (λ fault. fault ≡ SetupFault.NoMemory) }
 {
-    let chosen = chosen_in(document);
+    let chosen = choices_in(document);
     Ok(least(&[
         other_key_fault(document, Level::Top),
         number_fault(document, "tape_limit", 1, MOST_CHANGES as i64),

@@ -1,7 +1,7 @@
 //! The keys of a setup that may be absent: `specs/Places`.
 ghost use Rattle.std.specs.Prelude.{◌≡◌};
 ghost use Rattle.toml.specs.View.{view, table_view};
-ghost use Rattle.nms_fees.specs.Places.{caps_of, year_fault, caps_fault, caps_in, feeds_of, feeds_fault, feeds_in, chosen_in};
+ghost use Rattle.nms_fees.specs.Places.{caps_of, year_fault, caps_fault, caps_in, feeds_of, feeds_fault, feeds_in, choices_in};
 
 use crate::USUAL_FEEDS;
 use crate::check::range_fault;
@@ -11,13 +11,13 @@ use nms_fee_book::Caps;
 use nms_quote::MOST_FEEDS;
 use toml::{Table, Value};
 
-/// What the keys that may be absent choose.
+/// What the keys that may be absent choose for the bounds of others.
 #[derive(Clone, Copy)]
-pub(crate) struct Chosen {
-    /// The caps that fees keep.
-    pub(crate) caps: Caps,
-    /// How many feeds there are, 1 to `MOST_FEEDS`.
-    pub(crate) feeds: u8,
+pub struct Choices {
+    /// The caps that fees keep: those of 2005 where the document names none.
+    pub caps: Caps,
+    /// How many feeds there are, 1 to `MOST_FEEDS` (8): two where the document does not say.
+    pub feeds: u8,
 }
 
 /// The fault of the key `caps`: none where it is absent.
@@ -30,7 +30,8 @@ pub(crate) fn caps_fault(document: &Table) -> Option<SetupFault>
     }
 }
 
-fn year_fault(value: &Value) -> Option<SetupFault>
+/// The fault of a year of caps: 2005 or 2024.
+pub fn year_fault(value: &Value) -> Option<SetupFault>
     ensures { result ≡ year_fault (view value.now) }
 {
     let Some(year) = value.as_integer() else {
@@ -53,10 +54,10 @@ pub(crate) fn feeds_fault(document: &Table) -> Option<SetupFault>
 }
 
 /// What a document chooses.
-pub(crate) fn chosen_in(document: &Table) -> Chosen
-    ensures { result ≡ chosen_in (table_view document.now) }
+pub fn choices_in(document: &Table) -> Choices
+    ensures { result ≡ choices_in (table_view document.now) }
 {
-    Chosen {
+    Choices {
         caps: caps_in(document),
         feeds: feeds_in(document),
     }

@@ -13,11 +13,15 @@ mod setup_fault;
 mod setup_reading;
 mod toml_table;
 
+pub use check::{cap_fault, range_fault};
+pub use choices::{Choices, choices_in, year_fault};
+pub use feed_name::{feed_fault, feed_named};
 pub use laws::the_least_fault_is_read;
 pub use nms_fee_book::{Caps, FeeBook, FeeSchedule, MOST_FEE, MOST_RATE};
 pub use setup::Setup;
 pub use setup_fault::SetupFault;
 pub use setup_reading::read_setup;
+pub use toml_table::{rows_at, rows_in, value_at};
 
 /// The fewest changes that a setup's queue may hold.
 pub const LEAST_QUEUE: usize = 2;

@@ -8,7 +8,7 @@ ghost use Rattle.nms_fees.specs.Places.{rows_fault, document_fault, IsSound, Are
 ghost use Rattle.nms_fees.specs.Setup.{text_at, number_at, table_of, participant_of, schedule_of, symbol_of, settings_of, reading};
 
 use crate::check::document_fault;
-use crate::choices::{Chosen, chosen_in};
+use crate::choices::{Choices, choices_in};
 use crate::feed_name::feed_named;
 use crate::setup::Setup;
 use crate::setup_fault::SetupFault;
@@ -52,7 +52,7 @@ fn settings_of(alloc: Global, document: &Table) -> Result<Setup, SetupFault>
 {
     let participants = rows_at(document, "participant");
     let symbols = rows_at(document, "symbol");
-    let chosen = chosen_in(document);
+    let chosen = choices_in(document);
     Ok(Setup {
         roster: roster_of(alloc, participants, symbols)?,
         fees: fees_of(alloc, chosen, participants)?,
@@ -158,7 +158,7 @@ fn lot_of(row: &Value) -> Lot
 }
 
 /// The fees of each participant's row, which keep the caps that are chosen.
-fn fees_of(alloc: Global, chosen: Chosen, rows: &[Value]) -> Result<FeeBook, SetupFault>
+fn fees_of(alloc: Global, chosen: Choices, rows: &[Value]) -> Result<FeeBook, SetupFault>
     requires { rows_fault chosen section.Participant (map view rows.now) ≡ None }
     ensures value { IfOk result (λ fees. fees ≡ record { caps = chosen.caps; schedules = map schedule_of (map view rows.now) }) }
     ensures memory { IfErr result (λ fault. fault ≡ SetupFault.NoMemory) }

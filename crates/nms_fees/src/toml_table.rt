@@ -10,7 +10,7 @@ use crate::level::Level;
 use toml::{Table, Value};
 
 /// The value at a key.
-pub(crate) fn value_at<'a>(table: &'a Table, key: &str) -> Option<&'a Value>
+pub fn value_at<'a>(table: &'a Table, key: &str) -> Option<&'a Value>
     ensures { option_map (λ value. view value.now) result ≡ get_member key.now (table_view table.now) }
 {
     table.get(key)
@@ -50,7 +50,7 @@ pub(crate) fn count_at(table: &Table, key: &str) -> u64
 }
 
 /// The elements of a value that is an array.
-pub(crate) fn rows_in(value: &Value) -> Option<&[Value]>
+pub fn rows_in(value: &Value) -> Option<&[Value]>
     ensures { option_map (λ rows. map view rows.now) result ≡ rows_in (view value.now) }
 {
     match value.as_array() {
@@ -60,7 +60,7 @@ pub(crate) fn rows_in(value: &Value) -> Option<&[Value]>
 }
 
 /// The elements of the array at a key, or none where there is no array.
-pub(crate) fn rows_at<'a>(table: &'a Table, key: &str) -> &'a [Value]
+pub fn rows_at<'a>(table: &'a Table, key: &str) -> &'a [Value]
     ensures { map view result.now ≡ rows_at key.now (table_view table.now) }
 {
     let Some(value) = value_at(table, key) else {

@@ -5,7 +5,7 @@ use crate::fault::{About, Fault};
 use crate::files::word_at;
 use crate::screen::Screen;
 use crate::source::Source;
-use nms_fees::Setup;
+use nms_fees::{Setup, feed_named};
 use nms_quote::{Feed, Sym};
 use nms_review_words::Request;
 use nms_show::{Ending, Form};
@@ -51,15 +51,11 @@ pub(crate) fn version_of(request: &Request) -> Result<u64, Fault> {
 /// The feed that `--feed` names, A where it is not given.
 pub(crate) fn feed_of(setup: &Setup, request: &Request) -> Result<Feed, Fault> {
     let letter = match &request.feed {
-        Some(word) => word.as_bytes(),
-        None => b"A",
+        Some(word) => word.as_str(),
+        None => "A",
     };
-    let place = match letter {
-        [letter @ b'A'..=b'H'] => letter - b'A',
-        _ => setup.feeds(),
-    };
-    match Feed::at(place) {
-        Some(feed) if place < setup.feeds() => Ok(feed),
+    match feed_named(letter) {
+        Some(feed) if feed.place() < setup.feeds() => Ok(feed),
         _ => Err(Fault::usage(About::Feed, "it is the letter of no feed of the setup")),
     }
 }

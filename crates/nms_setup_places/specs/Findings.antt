@@ -6,14 +6,14 @@ use Rattle.std.specs.Option.{option_map_or}
 use Rattle.std.specs.Str.{bytes_eq}
 use Rattle.toml.specs.Data.{Data, Members, as_table, get_member}
 use Rattle.nms_quote.specs.Roster.{Name}
-use Rattle.nms_fees.specs.Places.{keys_in, name_in}
+use Rattle.nms_fees.specs.Places.{choices_in, keys_in, name_in}
 use Rattle.std.specs.List.{list_any}
 use Rattle.nms_fees.specs.Setup.{rows_at}
 use Rattle.nms_fees.specs.declared.setup_fault.SetupFault.{SetupFault}
 use Rattle.nms_fees.specs.declared.setup_fault.SetupFault.TheVariants as fault
-use Rattle.nms_setup_places.specs.Forms.{choices_in, form_fault, form_of}
+use Rattle.nms_setup_places.specs.Forms.{form_fault, form_of}
 use Rattle.nms_setup_places.specs.Tables.{is_key_of, is_optional, keys_of, row_table, text_of}
-use Rattle.nms_setup_places.specs.declared.choices.Choices.{Choices}
+use Rattle.nms_fees.specs.declared.choices.Choices.{Choices}
 use Rattle.nms_setup_places.specs.declared.finding.Finding.{Finding}
 use Rattle.nms_setup_places.specs.declared.finding.Spot.{Spot}
 use Rattle.nms_setup_places.specs.declared.finding.Spot.TheVariants as spot

@@ -2,18 +2,18 @@
 -- 242.610(c), as adopted in 2005 or as amended in 2024.
 use Rattle.std.specs.Prelude.{ℕ, pos, length, Option, Some}
 use Rattle.std.specs.Option.{option_map_or}
-use Rattle.toml.specs.Data.{Data, Members}
+use Rattle.toml.specs.Data.{Data}
 use Rattle.nms_units.specs.declared.TheConstants.{MOST_LOT}
 use Rattle.nms_quote.specs.declared.TheConstants.{MOST_CHANGES, MOST_FEEDS}
 use Rattle.nms_fee_book.specs.Fees.{fee_cap, rate_cap}
 use Rattle.nms_fee_book.specs.declared.TheConstants.{MOST_FEE, MOST_RATE}
-use Rattle.nms_fees.specs.Places.{cap_fault, caps_in, count_fault, feed_fault, feeds_in, name_fault, range_fault}
+use Rattle.nms_fees.specs.Places.{cap_fault, count_fault, feed_fault, name_fault, range_fault}
 use Rattle.nms_fees.specs.Places.{rows_in, year_fault}
 use Rattle.nms_fees.specs.declared.TheConstants.{LEAST_QUEUE, MOST_DESKS, MOST_QUEUE}
 use Rattle.nms_fees.specs.declared.setup_fault.SetupFault.{SetupFault}
 use Rattle.nms_fees.specs.declared.setup_fault.SetupFault.TheVariants as fault
 use Rattle.nms_setup_places.specs.Tables.{array_of, is_name_of, most_in}
-use Rattle.nms_setup_places.specs.declared.choices.Choices.{Choices}
+use Rattle.nms_fees.specs.declared.choices.Choices.{Choices}
 use Rattle.nms_setup_places.specs.declared.form.Form.{Form}
 use Rattle.nms_setup_places.specs.declared.form.Form.TheVariants as form
 use Rattle.nms_setup_places.specs.declared.known_key.KnownKey.{KnownKey}
@@ -21,10 +21,6 @@ use Rattle.nms_setup_places.specs.declared.known_key.KnownKey.TheVariants as key
 use Rattle.nms_setup_places.specs.declared.setup_table.SetupArray.{SetupArray}
 use Rattle.nms_setup_places.specs.declared.setup_table.SetupArray.TheVariants as array
 use Rattle.nms_setup_places.specs.declared.setup_table.SetupTable.{SetupTable}
-
--- what the keys that may be absent choose for the bounds of others
-abbrev pub choices_in : Members → Choices
-choices_in document = record { caps = caps_in document; feeds = feeds_in document }
 
 -- the form of the value at a key
 abbrev pub form_of : Choices → SetupTable → KnownKey → Form

@@ -1,17 +1,18 @@
 //! What a value has to be at each key, with its bounds: `specs/Forms`.
 ghost use Rattle.std.specs.Prelude.{◌≡◌};
 ghost use Rattle.toml.specs.View.{view};
-ghost use Rattle.nms_fees.specs.Places.{range_fault, year_fault, cap_fault, feed_fault, is_feed, feed_named, name_fault};
+ghost use Rattle.nms_fees.specs.Places.{name_fault};
 ghost use Rattle.nms_setup_places.specs.Tables.{array_of, is_name_of, most_in};
 ghost use Rattle.nms_setup_places.specs.Forms.{form_fault, form_of, rows_form_fault};
 
-use crate::choices::{Choices, caps_of};
 use crate::known_key::KnownKey;
 use crate::setup_table::{SetupArray, SetupTable};
-use crate::toml_table::rows_in;
-use nms_fees::{LEAST_QUEUE, MOST_DESKS, MOST_FEE, MOST_QUEUE, MOST_RATE, SetupFault};
+use nms_fees::{
+    Choices, LEAST_QUEUE, MOST_DESKS, MOST_FEE, MOST_QUEUE, MOST_RATE, SetupFault, cap_fault,
+    feed_fault, range_fault, rows_in, year_fault,
+};
 use nms_quote::{
-    Feed, MOST_CHANGES, MOST_FEEDS, MOST_PARTICIPANTS, MOST_SYMBOLS, is_part_name, is_symbol_name,
+    MOST_CHANGES, MOST_FEEDS, MOST_PARTICIPANTS, MOST_SYMBOLS, is_part_name, is_symbol_name,
 };
 use nms_units::MOST_LOT;
 use toml::Value;
@@ -76,85 +77,6 @@ impl Form {
             Form::Name(array) => name_fault(value, array),
             Form::Rows(array) => rows_form_fault(value, array),
         }
-    }
-}
-
-fn range_fault(value: &Value, low: i64, high: i64) -> Option<SetupFault>
-    ensures { result ≡ range_fault low high (view value.now) }
-{
-    let Some(number) = value.as_integer() else {
-        return Some(SetupFault::WrongType);
-    };
-    if low <= number && number <= high {
-        None
-    } else {
-        Some(SetupFault::OutOfRange)
-    }
-}
-
-fn year_fault(value: &Value) -> Option<SetupFault>
-    ensures { result ≡ year_fault (view value.now) }
-{
-    let Some(year) = value.as_integer() else {
-        return Some(SetupFault::WrongType);
-    };
-    match caps_of(year) {
-        Some(_) => None,
-        None => Some(SetupFault::OutOfRange),
-    }
-}
-
-fn cap_fault(value: &Value, most: u32, cap: u32) -> Option<SetupFault>
-    ensures { result ≡ cap_fault most cap (view value.now) }
-{
-    let Some(number) = value.as_integer() else {
-        return Some(SetupFault::WrongType);
-    };
-    let is_within = -i64::from(most) <= number && number <= i64::from(most);
-    if !is_within {
-        Some(SetupFault::OutOfRange)
-    } else if number <= i64::from(cap) {
-        None
-    } else {
-        Some(SetupFault::OverCap)
-    }
-}
-
-fn feed_fault(value: &Value, count: u8) -> Option<SetupFault>
-    ensures { result ≡ feed_fault count (view value.now) }
-{
-    let Some(text) = value.as_str() else {
-        return Some(SetupFault::WrongType);
-    };
-    if is_feed(count, text) {
-        None
-    } else {
-        Some(SetupFault::OutOfRange)
-    }
-}
-
-fn is_feed(count: u8, text: &str) -> bool
-    ensures { result ≡ is_feed count text.now }
-{
-    match feed_named(text) {
-        Some(feed) => feed.place() < count,
-        None => false,
-    }
-}
-
-fn feed_named(text: &str) -> Option<Feed>
-    ensures { result ≡ feed_named text.now }
-{
-    match text {
-        "A" => Some(Feed::A),
-        "B" => Some(Feed::B),
-        "C" => Some(Feed::C),
-        "D" => Some(Feed::D),
-        "E" => Some(Feed::E),
-        "F" => Some(Feed::F),
-        "G" => Some(Feed::G),
-        "H" => Some(Feed::H),
-        _ => None,
     }
 }
 

@@ -1,7 +1,6 @@
 //! The faults of a setup, each with its place: the table, its place in its array, the key, and what stands there.
 #![tactic(auto)]
 
-mod choices;
 mod finding;
 mod form;
 mod known_key;
@@ -9,13 +8,12 @@ mod naming;
 mod noting;
 mod reading;
 mod setup_table;
-mod toml_table;
 
-pub use choices::{Choices, choices_in};
 pub use finding::{Finding, Spot};
 pub use form::{Form, form_of};
 pub use known_key::KnownKey;
+pub use naming::name_in;
+pub use nms_fees::{Choices, choices_in, rows_at};
 pub use noting::find_faults;
 pub use reading::{Examined, NoToml, examine};
 pub use setup_table::{SetupArray, SetupTable};
-pub use toml_table::{name_in, rows_at};

@@ -1,11 +1,18 @@
 //! Names that stand twice: `specs/Findings`.
-ghost use Rattle.std.specs.Prelude.{◌≡◌, map, option_and_then};
+ghost use Rattle.std.specs.Prelude.{◌≡◌, map, option_and_then, option_copied};
 ghost use Rattle.toml.specs.View.{view};
 ghost use Rattle.nms_fees.specs.Places.{name_in};
 ghost use Rattle.nms_setup_places.specs.Findings.{first_named, is_named, named_before};
 
-use crate::toml_table::name_in;
+use nms_fees::value_at;
 use toml::Value;
+
+/// The name in an element of an array, where it is a text.
+pub fn name_in(row: &Value) -> Option<&str>
+    ensures { option_copied result ≡ name_in (view row.now) }
+{
+    value_at(row.as_table()?, "name")?.as_str()
+}
 
 /// The first of these elements that has the name of another, by how many stand before it. Elements without a
 /// name count for nothing.

@@ -5,14 +5,12 @@ ghost use Rattle.toml.specs.View.{view, table_view};
 ghost use Rattle.nms_setup_places.specs.Tables.{array_key, keys_of, text_of};
 ghost use Rattle.nms_setup_places.specs.Findings.{finding_at, others_fault, own_fault, key_findings, findings_in, element_findings, again_findings, row_findings, array_findings, findings_of};
 
-use crate::choices::{Choices, choices_in};
 use crate::finding::{Finding, Spot};
 use crate::form::form_of;
 use crate::known_key::KnownKey;
 use crate::naming::earlier_named;
 use crate::setup_table::{SetupArray, SetupTable};
-use crate::toml_table::{rows_at, value_at};
-use nms_fees::SetupFault;
+use nms_fees::{Choices, SetupFault, choices_in, rows_at, value_at};
 use std::alloc::{AllocError, Global};
 use toml::{Table, Value};
 

@@ -10,8 +10,8 @@ use Rattle.nms_quote.specs.declared.feed.Feed.{Feed}
 use Rattle.nms_quote.specs.declared.TheConstants.{MOST_CHANGES, MOST_FEEDS}
 use Rattle.nms_fees.specs.declared.TheConstants.{LEAST_QUEUE, MOST_DESKS, MOST_QUEUE}
 use Rattle.nms_fee_book.specs.Fees.{AreCapped, Charges}
-use Rattle.nms_fees.specs.declared.choices.Chosen.{Chosen}
-use Rattle.nms_fees.specs.Places.{chosen_in, rows_fault}
+use Rattle.nms_fees.specs.declared.choices.Choices.{Choices}
+use Rattle.nms_fees.specs.Places.{choices_in, rows_fault}
 use Rattle.nms_fees.specs.Setup.{participant_of, schedule_of}
 use Rattle.nms_fees.specs.declared.section.Section.TheVariants as section
 use Rattle.nms_fees.proofs.SoundLemmas.{tape_limit_of, queue_of, desks_of, feeds_within, participants_of, symbols_of, charges_of_rows}
@@ -20,25 +20,25 @@ use Rattle.nms_fees.proofs.setup_reading.settings_of.Goals as goal
 
 pub roster_of-requires-clause-participants : goal.roster_of-requires-clause-participants
 roster_of-requires-clause-participants c = (
-  chosen_in (table_view c.args.document.now),
+  choices_in (table_view c.args.document.now),
   participants_of (table_view c.args.document.now) c.requires (map view c.rows_at-participants.result.now) c.rows_at-participants.ensures,
 )
 
 pub roster_of-requires-clause-symbols : goal.roster_of-requires-clause-symbols
 roster_of-requires-clause-symbols c = (
-  chosen_in (table_view c.args.document.now),
+  choices_in (table_view c.args.document.now),
   symbols_of (table_view c.args.document.now) c.requires (map view c.rows_at-symbols.result.now) c.rows_at-symbols.ensures,
 )
 
 -- by the choices that were read
-kept : (rows : List Data) (read given : Chosen) → read ≡ given → rows_fault given section.Participant rows ≡ None
+kept : (rows : List Data) (read given : Choices) → read ≡ given → rows_fault given section.Participant rows ≡ None
     → rows_fault read section.Participant rows ≡ None
-kept rows read given e h = ap (λ (by : Chosen). rows_fault by section.Participant rows) e ∙ h
+kept rows read given e h = ap (λ (by : Choices). rows_fault by section.Participant rows) e ∙ h
 
 pub fees_of-requires : goal.fees_of-requires
 fees_of-requires c =
     let rows = map view c.rows_at-participants.result.now in
-    kept rows c.chosen_in-chosen.result _ c.chosen_in-chosen.ensures
+    kept rows c.choices_in-chosen.result _ c.choices_in-chosen.ensures
     (participants_of (table_view c.args.document.now) c.requires rows c.rows_at-participants.ensures)
 
 fits_a_byte : (n m : ℕ) → n ≡ m → m ≤ MOST_DESKS → Fits w8 n
@@ -57,7 +57,7 @@ invariant_of-result c =
     let queue = within c.count_at-2.result _ LEAST_QUEUE MOST_QUEUE c.count_at-2.ensures
     (queue_of (table_view c.args.document.now) c.requires) in
     let desks = within c.count_at-3.result _ 1 MOST_DESKS c.count_at-3.ensures (desks_of (table_view c.args.document.now) c.requires) in
-    let feeds = within c.chosen_in-chosen.result.feeds _ 1 MOST_FEEDS (ap (λ (chosen : Chosen). chosen.feeds) c.chosen_in-chosen.ensures)
+    let feeds = within c.choices_in-chosen.result.feeds _ 1 MOST_FEEDS (ap (λ (chosen : Choices). chosen.feeds) c.choices_in-chosen.ensures)
     (feeds_within (table_view c.args.document.now) c.requires) in
     let rows = map view c.rows_at-participants.result.now in
     record {
@@ -70,14 +70,14 @@ invariant_of-result c =
       feeds_low = feeds.0;
       feeds_high = feeds.1;
       feed_of_each = subst (λ (parts : List (Name × Feed)). AllByRecursion
-          (λ entry. place_of entry.1 < c.chosen_in-chosen.result.feeds) parts) (sym c.in_ok-roster_of.ensures.parts)
-          (feeds_of_rows c.chosen_in-chosen.result rows
-          (kept rows c.chosen_in-chosen.result _ c.chosen_in-chosen.ensures
+          (λ entry. place_of entry.1 < c.choices_in-chosen.result.feeds) parts) (sym c.in_ok-roster_of.ensures.parts)
+          (feeds_of_rows c.choices_in-chosen.result rows
+          (kept rows c.choices_in-chosen.result _ c.choices_in-chosen.ensures
           (participants_of (table_view c.args.document.now) c.requires rows c.rows_at-participants.ensures)));
       fees_of_each = ap (λ (fees : Charges). length fees.schedules) c.in_ok-fees_of.ensures.value ∙ length-map rows schedule_of
           ∙ sym (length-map rows participant_of) ∙ sym (ap length c.in_ok-roster_of.ensures.parts);
       fees_capped = subst (λ (fees : Charges). AreCapped fees.caps fees.schedules) (sym c.in_ok-fees_of.ensures.value)
-          (charges_of_rows c.chosen_in-chosen.result rows
-          (kept rows c.chosen_in-chosen.result _ c.chosen_in-chosen.ensures
+          (charges_of_rows c.choices_in-chosen.result rows
+          (kept rows c.choices_in-chosen.result _ c.choices_in-chosen.ensures
           (participants_of (table_view c.args.document.now) c.requires rows c.rows_at-participants.ensures)));
     }
