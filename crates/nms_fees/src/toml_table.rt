@@ -94,7 +94,8 @@ fn is_known(level: Level, key: &str) -> bool
     }
 }
 
-fn is_top_key(key: &str) -> bool
+/// Whether a key may stand at the top of a document.
+pub fn is_top_key(key: &str) -> bool
     ensures { result ≡ is_top_key key.now }
 {
     key == "tape_limit"
@@ -106,13 +107,15 @@ fn is_top_key(key: &str) -> bool
         || key == "symbol"
 }
 
-fn is_participant_key(key: &str) -> bool
+/// Whether a key may stand in an element of the participants.
+pub fn is_participant_key(key: &str) -> bool
     ensures { result ≡ is_participant_key key.now }
 {
     key == "name" || key == "feed" || key == "fee" || key == "rate"
 }
 
-fn is_symbol_key(key: &str) -> bool
+/// Whether a key may stand in an element of the symbols.
+pub fn is_symbol_key(key: &str) -> bool
     ensures { result ≡ is_symbol_key key.now }
 {
     key == "name" || key == "lot"

@@ -1,9 +1,9 @@
 //! The tables of a setup's document: `specs/Tables`.
 ghost use Rattle.std.specs.Prelude.{◌≡◌};
-ghost use Rattle.nms_fees.specs.Places.{is_top_key, is_participant_key, is_symbol_key};
 ghost use Rattle.nms_setup_places.specs.Tables.{array_key, is_key_of, keys_of, row_table};
 
 use crate::known_key::KnownKey;
+use nms_fees::{is_participant_key, is_symbol_key, is_top_key};
 
 /// The two arrays of tables in a setup.
 #[derive(Clone, Copy)]
@@ -84,28 +84,4 @@ impl SetupTable {
             SetupTable::Symbol(_) => is_symbol_key(key),
         }
     }
-}
-
-fn is_top_key(key: &str) -> bool
-    ensures { result ≡ is_top_key key.now }
-{
-    key == "tape_limit"
-        || key == "queue"
-        || key == "desks"
-        || key == "caps"
-        || key == "feeds"
-        || key == "participant"
-        || key == "symbol"
-}
-
-fn is_participant_key(key: &str) -> bool
-    ensures { result ≡ is_participant_key key.now }
-{
-    key == "name" || key == "feed" || key == "fee" || key == "rate"
-}
-
-fn is_symbol_key(key: &str) -> bool
-    ensures { result ≡ is_symbol_key key.now }
-{
-    key == "name" || key == "lot"
 }
