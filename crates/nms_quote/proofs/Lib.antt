@@ -1,4 +1,5 @@
 pub mod MemberLemmas
 pub mod MergeLemmas
 mod TableLemmas
+mod WordLemmas
 pub mod Offered

@@ -20,16 +20,16 @@ impl Hints {
     }
 
     /// The place to try first.
-    pub(crate) fn place_for(&self, name: &[u8]) -> Option<usize> {
+    pub(crate) fn place_for(&self, word: u64) -> Option<usize> {
         self.places
-            .get(slot_of(name))
+            .get(slot_of(word))
             .map(|place| usize::from(*place))
     }
 
     /// Names a place as the first to try.
-    pub(crate) fn set(&mut self, name: &[u8], place: usize) {
+    pub(crate) fn set(&mut self, word: u64, place: usize) {
         if let (Some(slot), Ok(place)) = (
-            self.places.get_mut(slot_of(name)),
+            self.places.get_mut(slot_of(word)),
             u16::try_from(place),
         ) {
             *slot = place;
@@ -37,11 +37,7 @@ impl Hints {
     }
 }
 
-/// Which hint is a name's: its last eight bytes as one number, spread over the hints by the golden ratio.
-fn slot_of(name: &[u8]) -> usize {
-    let mut word = 0u64;
-    for c in name {
-        word = word << 8 | u64::from(*c);
-    }
+/// Which hint is a name's: the number that it is, spread over the hints by the golden ratio.
+fn slot_of(word: u64) -> usize {
     (word.wrapping_mul(0x9e37_79b9_7f4a_7c15) >> 52) as usize
 }

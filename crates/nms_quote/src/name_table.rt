@@ -1,6 +1,7 @@
 //! Entries under names, in order of adding: `specs/Names` and `specs/Roster`.
 ghost use Rattle.std.specs.Prelude.{◌≡◌, ℕ, List, Some, ◌<◌, [], ◌∷◌, ◌++◌, length, option_map, slice_get, true, IfSome, IfNone, IfErr, IfOk, OnOk, OnErr};
 ghost use Rattle.std.specs.Str.{IsUtf8};
+ghost use Rattle.nms_quote.specs.Names.{word_of};
 ghost use Rattle.nms_quote.specs.Roster.{place_in, refusal_in};
 
 use crate::hints::Hints;
@@ -13,20 +14,21 @@ use std::marker::Model;
 #[derive(Drop)]
 pub(crate) struct NameTable<V: Copy> {
     entries: IndexMap<String, V>,
+    words: Vec<u64>,
     hints: Hints,
 }
 
 impl<V: Copy> Model for NameTable<V> {
-    ghost use Rattle.std.specs.Prelude.{List, ℕ};
+    ghost use Rattle.std.specs.Prelude.{List, ℕ, ◌≡◌};
     ghost use Rattle.std.specs.String.{string_eq};
     ghost use Rattle.indexmap.specs.IndexMap.{IsUnique};
-    ghost use Rattle.nms_quote.specs.Names.{named};
+    ghost use Rattle.nms_quote.specs.Names.{named, words_of};
 
     ghost Value = { List (List ℕ × V) };
 
     ghost view = { λ t. named t.entries.entries };
 
-    ghost invariant = { λ t. IsUnique string_eq t.entries };
+    ghost invariant = { λ t. IsUnique string_eq t.entries × (t.words.items ≡ words_of (named t.entries.entries)) };
 }
 
 impl<V: Copy> NameTable<V> {
@@ -40,6 +42,7 @@ impl<V: Copy> NameTable<V> {
         };
         Ok(NameTable {
             entries: IndexMap::new(alloc),
+            words: Vec::new(alloc),
             hints,
         })
     }
@@ -56,10 +59,9 @@ impl<V: Copy> NameTable<V> {
         ensures place { result ≡ place_in self.now name.now }
         ensures within { IfSome result (λ place. place < length self.now) }
     {
-        match self.hints.place_for(name) {
-            Some(place) if place < self.len() && self.name_at(place).as_bytes() == name => Some(
-                place,
-            ),
+        let word = word_of(name);
+        match self.hints.place_for(word) {
+            Some(place) if word != 0 && has_at(&self.words, place, word) => Some(place),
             _ => self.find_by_hash(name),
         }
     }
@@ -135,11 +137,43 @@ impl<V: Copy> NameTable<V> {
         let Ok(owned) = String::from_str(*self.entries.allocator(), text) else {
             return Err(RosterFault::NoMemory);
         };
+        let word = word_of(name);
         let place = self.entries.len();
-        let Ok(_) = self.entries.insert(owned, value) else {
+        let Ok(_) = self.words.push(word) else {
             return Err(RosterFault::NoMemory);
         };
-        self.hints.set(name, place);
+        let Ok(_) = self.entries.insert(owned, value) else {
+            let _ = self.words.pop();
+            return Err(RosterFault::NoMemory);
+        };
+        self.hints.set(word, place);
         Ok(())
     }
+}
+
+/// Whether the word at a place is this one.
+fn has_at(words: &[u64], place: usize, word: u64) -> bool
+    ensures { result ≡ true → slice_get words.now place ≡ Some word }
+{
+    match words.get(place) {
+        Some(kept) => *kept == word,
+        None => false,
+    }
+}
+
+/// A text of at most eight bytes, none of them 0, as one number; 0 where it is another text.
+fn word_of(text: &[u8]) -> u64
+    ensures { result ≡ word_of text.now }
+{
+    if text.len() > 8 {
+        return 0;
+    }
+    let mut word = 0u64;
+    for c in text {
+        if *c == 0 {
+            return 0;
+        }
+        word = word * 256 + u64::from(*c);
+    }
+    word
 }

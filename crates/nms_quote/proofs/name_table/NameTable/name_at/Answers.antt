@@ -14,10 +14,10 @@ returns-clause-name g c =
 
 pub returns-clause-found : goal.returns-clause-found
 returns-clause-found g c =
-    place_in-own c.self.inside.entries.entries c.self.invariant c.args.self.now c.self.view_is c.args.place c.as_str.result.now
+    place_in-own c.self.inside.entries.entries c.self.invariant.0 c.args.self.now c.self.view_is c.args.place c.as_str.result.now
     (returns-clause-name g c)
 
 pub returns-clause-once : goal.returns-clause-once
 returns-clause-once g c = λ other at.
-    same_Some other c.args.place (sym (place_in-own c.self.inside.entries.entries c.self.invariant c.args.self.now c.self.view_is other
+    same_Some other c.args.place (sym (place_in-own c.self.inside.entries.entries c.self.invariant.0 c.args.self.now c.self.view_is other
     c.as_str.result.now at) ∙ returns-clause-found g c)

@@ -1,6 +1,6 @@
 -- `PartSet::with`: the set by `with-shifted`, who is in it by `has-with`.
-use Rattle.std.proofs.Common.{◌≡◌, ◌∙◌, ap, sym, bit_or, ◌*◌, ◌%◌, ◌^◌, ◌<◌}
-use Rattle.nms_quote.specs.Members.{has_part, with_part}
+use Rattle.std.proofs.Common.{◌∙◌, ap, ◌<◌}
+use Rattle.nms_quote.specs.Members.{has_part}
 use Rattle.nms_quote.proofs.MemberLemmas.{has-with, with-shifted}
 use Rattle.nms_quote.proofs.part_set.PartSet.with.Goals as goal
 
