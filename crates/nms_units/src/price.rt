@@ -1,5 +1,5 @@
 //! Prices in 1/10,000 dollar: `specs/Price`.
-ghost use Rattle.std.specs.Prelude.{◌≡◌, ℕ, ◌-◌, ◌^◌, ◌<◌, ◌≤◌, Some, IfSome, length};
+ghost use Rattle.std.specs.Prelude.{◌≡◌, ℕ, ◌-◌, ◌^◌, ◌<◌, ◌≤◌, Some, IfSome, OnSome, length};
 ghost use Rattle.std.specs.Option.{SomeIff};
 ghost use Rattle.nms_units.specs.Price.{dollars, decimals, dollars_and_decimals, price_number, price_reading, price_text};
 
@@ -69,8 +69,36 @@ impl Price {
     {}
 }
 
-/// What a text of a price's form writes, zero among it, in 1/10,000 dollar.
+/// What a text of a price's form writes, zero among it, in 1/10,000 dollar. Most prices are in cents.
 fn ten_thousandths_in(text: &[u8]) -> Option<u64>
+    ensures number { result ≡ price_number text.now }
+    ensures high { IfSome result (λ n. n ≤ MOST_PRICE) }
+{
+    match cents_in(text) {
+        Some(number) => Some(number),
+        None => any_decimals_in(text),
+    }
+}
+
+/// What digits, a point and two digits write, in 1/10,000 dollar.
+fn cents_in(text: &[u8]) -> Option<u64>
+    ensures number { OnSome result (result ≡ price_number text.now) }
+    ensures high { IfSome result (λ n. n ≤ MOST_PRICE) }
+{
+    match text {
+        [whole @ .., b'.', tens, ones] if tens.is_ascii_digit() && ones.is_ascii_digit() => {
+            let whole = dollars_in(whole)?;
+            let cents = u64::from(*tens - b'0') * 10 + u64::from(*ones - b'0');
+            Some(whole + cents * 100)
+        }
+        _ => None,
+    }
+}
+
+/// The same of any text of the form.
+#[cold]
+#[inline(never)]
+fn any_decimals_in(text: &[u8]) -> Option<u64>
     ensures number { result ≡ price_number text.now }
     ensures high { IfSome result (λ n. n ≤ MOST_PRICE) }
 {
