@@ -12,45 +12,65 @@ use csv::ByteRecord;
 use nms_quote::SideQuote;
 use nms_units::{Price, Shares, UnitFault};
 
-/// A side of a quotation: what is wrong with its two fields, and what they say if nothing is.
-#[derive(Clone, Copy)]
-struct SideFields {
-    bad_price: bool,
-    bad_shares: bool,
-    half: bool,
-    quote: Option<SideQuote>,
-}
-
-/// The bid and the offer of a record, or the fault of the least number on either.
+/// The bid and the offer of a record, or the fault of the least number on either. Two quotes have none.
 pub(crate) fn sides_in(
     row: &ByteRecord,
 ) -> Result<(Option<SideQuote>, Option<SideQuote>), LineFault>
     ensures { result ≡ sides_in (fields_of row.now) }
 {
-    let bid = side_of(field(row, 4), field(row, 5));
-    let offer = side_of(field(row, 6), field(row, 7));
-    refuse_if(bid.bad_price || offer.bad_price, LineFault::BadPrice)?;
-    refuse_if(bid.bad_shares || offer.bad_shares, LineFault::BadShares)?;
-    refuse_if(bid.half || offer.half, LineFault::HalfSide)?;
-    Ok((bid.quote, offer.quote))
+    let bid = quote_in(field(row, 4), field(row, 5));
+    let offer = quote_in(field(row, 6), field(row, 7));
+    if bid.is_some() && offer.is_some() {
+        Ok((bid, offer))
+    } else {
+        other_sides_in(row)
+    }
 }
 
-/// Reads each of the two fields once.
-fn side_of(price_text: &[u8], shares_text: &[u8]) -> SideFields
-    ensures bad_price { result.bad_price ≡ is_bad_price price_text.now shares_text.now }
-    ensures bad_shares { result.bad_shares ≡ is_bad_shares shares_text.now }
-    ensures half { result.half ≡ is_half price_text.now shares_text.now }
-    ensures quote { result.quote ≡ side_content price_text.now shares_text.now }
+/// The same where a side may have no quote.
+#[cold]
+#[inline(never)]
+fn other_sides_in(row: &ByteRecord) -> Result<(Option<SideQuote>, Option<SideQuote>), LineFault>
+    ensures { result ≡ sides_in (fields_of row.now) }
 {
-    let price = Price::parse(price_text);
-    let shares = Shares::parse(shares_text);
-    let (no_price, no_shares) = (price_text.is_empty(), shares_text.is_empty());
-    SideFields {
-        bad_price: !no_price && is_unfit(price, shares),
-        bad_shares: !no_shares && shares.is_err(),
-        half: (no_price && !no_shares) || (!no_price && no_shares),
-        quote: quote_of(price, shares),
+    let (bid, bid_shares) = (field(row, 4), field(row, 5));
+    let (offer, offer_shares) = (field(row, 6), field(row, 7));
+    let bad_price = is_bad_price(bid, bid_shares) || is_bad_price(offer, offer_shares);
+    refuse_if(bad_price, LineFault::BadPrice)?;
+    let bad_shares = is_bad_shares(bid_shares) || is_bad_shares(offer_shares);
+    refuse_if(bad_shares, LineFault::BadShares)?;
+    let half = is_half(bid, bid_shares) || is_half(offer, offer_shares);
+    refuse_if(half, LineFault::HalfSide)?;
+    Ok((quote_in(bid, bid_shares), quote_in(offer, offer_shares)))
+}
+
+/// The quote of a price and at least one share.
+fn quote_in(price_text: &[u8], shares_text: &[u8]) -> Option<SideQuote>
+    ensures { result ≡ side_content price_text.now shares_text.now }
+{
+    match (Price::parse(price_text), Shares::parse(shares_text)) {
+        (Ok(price), Ok(shares)) => SideQuote::new(price, shares),
+        _ => None,
     }
+}
+
+fn is_bad_price(price_text: &[u8], shares_text: &[u8]) -> bool
+    ensures { result ≡ is_bad_price price_text.now shares_text.now }
+{
+    !price_text.is_empty() && is_unfit(Price::parse(price_text), Shares::parse(shares_text))
+}
+
+fn is_bad_shares(text: &[u8]) -> bool
+    ensures { result ≡ is_bad_shares text.now }
+{
+    !text.is_empty() && Shares::parse(text).is_err()
+}
+
+fn is_half(price_text: &[u8], shares_text: &[u8]) -> bool
+    ensures { result ≡ is_half price_text.now shares_text.now }
+{
+    let (no_price, no_shares) = (price_text.is_empty(), shares_text.is_empty());
+    (no_price && !no_shares) || (!no_price && no_shares)
 }
 
 /// Whether there is no price, or zero beside shares that do not read as 0.
@@ -62,16 +82,5 @@ fn is_unfit(price: Result<Price, UnitFault>, shares: Result<Shares, UnitFault>) 
         (Ok(_), _) => false,
         (Err(UnitFault::ZeroPrice), Ok(shares)) => shares.get() != 0,
         _ => true,
-    }
-}
-
-/// The quote of a price and at least one share.
-fn quote_of(price: Result<Price, UnitFault>, shares: Result<Shares, UnitFault>) -> Option<SideQuote>
-    ensures { (p s : List ℕ) → price ≡ price_reading p → shares ≡ shares_reading s
-        → result ≡ side_content p s }
-{
-    match (price, shares) {
-        (Ok(price), Ok(shares)) => SideQuote::new(price, shares),
-        _ => None,
     }
 }
