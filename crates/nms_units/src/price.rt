@@ -1,7 +1,7 @@
 //! Prices in 1/10,000 dollar: `specs/Price`.
 ghost use Rattle.std.specs.Prelude.{◌≡◌, ℕ, ◌-◌, ◌^◌, ◌<◌, ◌≤◌, Some, IfSome, OnSome, length};
 ghost use Rattle.std.specs.Option.{SomeIff};
-ghost use Rattle.nms_units.specs.Price.{dollars, decimals, dollars_and_decimals, price_number, price_reading, price_text};
+ghost use Rattle.nms_units.specs.Price.{dollars, decimals, price_number, price_reading, price_text};
 
 use crate::MOST_PRICE;
 use crate::digits::{parse_digits, point_in};
@@ -104,7 +104,11 @@ fn any_decimals_in(text: &[u8]) -> Option<u64>
 {
     match point_in(text) {
         None => dollars_in(text),
-        Some(point) => dollars_and_decimals_in(&text[..point], &text[point + 1..]),
+        Some(point) => {
+            let whole = dollars_in(&text[..point])?;
+            let behind = decimals_in(&text[point + 1..])?;
+            Some(whole + behind)
+        }
     }
 }
 
@@ -123,31 +127,7 @@ fn decimals_in(text: &[u8]) -> Option<u64>
     ensures high { IfSome result (λ n. n ≤ 9999) }
 {
     let number = parse_digits(text, 4)?;
-    Some(number * scale_of(text.len()))
-}
-
-/// What the digits on both sides of the point write, in 1/10,000 dollar.
-fn dollars_and_decimals_in(whole: &[u8], behind: &[u8]) -> Option<u64>
-    ensures number { result ≡ dollars_and_decimals whole.now behind.now }
-    ensures high { IfSome result (λ n. n ≤ MOST_PRICE) }
-{
-    let whole = dollars_in(whole)?;
-    let behind = decimals_in(behind)?;
-    Some(whole + behind)
-}
-
-/// What the last of so many decimals counts, in 1/10,000 dollar.
-fn scale_of(decimals: usize) -> u64
-    requires { decimals ≤ 4 }
-    ensures { result ≡ 10 ^ (4 - decimals) }
-{
-    match decimals {
-        0 => 10_000,
-        1 => 1000,
-        2 => 100,
-        3 => 10,
-        _ => 1,
-    }
+    Some(number * 10u64.pow(4 - text.len() as u32))
 }
 
 impl fmt::Display for Price {

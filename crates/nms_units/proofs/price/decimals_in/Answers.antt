@@ -8,5 +8,5 @@ below_one_dollar h = omega arith
 
 pub returns-clause-high : goal.returns-clause-high
 returns-clause-high c =
-    rw c.scale_of.ensures (below_one_dollar (scaled_below c.in_ok-number.number (length c.args.text.now) 4 c.in_ok-number.ensures.by_length
+    rw c.pow.ensures (below_one_dollar (scaled_below c.in_ok-number.number (length c.args.text.now) 4 c.in_ok-number.ensures.by_length
     c.in_ok-number.ensures.within))
