@@ -1,10 +1,10 @@
 -- Names as numbers: a number other than 0 is one name's.
-use Rattle.std.proofs.Common.{◌≡◌, ℕ, ◌+◌, ◌*◌, ◌<◌, Bool, true, false, ◌&&◌, nat_le, List, [], ◌∷◌, length, slice_get, if◌then◌else◌}
+use Rattle.std.proofs.Common.{◌≡◌, ℕ, ◌+◌, ◌*◌, ◌<◌, Bool, true, false, ◌&&◌, nat_le, List, [], ◌∷◌, length, get_or, slice_get, if◌then◌else◌}
 use Rattle.std.proofs.Common.{Option, Some, None, option_map, refl, sym, ap, ◌∙◌, arith, ◌++◌}
 use Rattle.std.proofs.lemmas.Bool.{and_parts, and_from}
 use Rattle.std.proofs.lemmas.Bool.Decides.{nat_tests}
-use Rattle.std.proofs.lemmas.List.{length-map, map-append}
-use Rattle.std.proofs.lemmas.Option.{same_Some, none-some, slice_get-map, slice_get_within}
+use Rattle.std.proofs.lemmas.List.{map-append}
+use Rattle.std.proofs.lemmas.Option.{same_Some, none-some, slice_get-get_or, slice_get-map}
 use Rattle.std.specs.List.{list_all}
 use Rattle.nms_quote.specs.Names.{number_after, is_digit, word_of, words_of}
 use Rattle.nms_quote.specs.Roster.{Name}
@@ -71,13 +71,14 @@ word_of-injective xs ys word mine other some =
     sym (reversed-reversed xs []) ∙ ap (λ last. reversed last []) same ∙ reversed-reversed ys []
 
 -- where a name's word stands, the name does
-pub name_at-word : {Z : Type 0} (table : List (Name × Z)) (words : List ℕ) → words ≡ words_of table → (place : ℕ) (name : Name) (word : ℕ)
-    → slice_get words place ≡ Some word → word_of name ≡ word → 0 < word
+pub name_at-word : {Z : Type 0} (table : List (Name × Z)) (words : List ℕ) → words ≡ words_of table → (place d : ℕ) (name : Name) (word : ℕ)
+    → place < length words → get_or words place d ≡ word → word_of name ≡ word → 0 < word
     → option_map (λ entry. entry.0) (slice_get table place) ≡ Some name
-name_at-word {Z = Z} table words are place name word at is some = by (slice_get table place) refl
+name_at-word {Z = Z} table words are place d name word there at is some = by (slice_get table place) refl
   where
     here : option_map (λ entry. word_of entry.0) (slice_get table place) ≡ Some word
-    here = sym (slice_get-map (λ entry. word_of entry.0) table place) ∙ ap (λ ws. slice_get ws place) (sym are) ∙ at
+    here = sym (slice_get-map (λ entry. word_of entry.0) table place) ∙ ap (λ ws. slice_get ws place) (sym are)
+        ∙ slice_get-get_or words place d there ∙ ap Some at
 
     by : (entry : Option (Name × Z)) → slice_get table place ≡ entry → option_map (λ entry. entry.0) (slice_get table place) ≡ Some name
     by None e = absurd (none-some word (ap (option_map (λ entry. word_of entry.0)) (sym e) ∙ here))
@@ -90,9 +91,3 @@ pub words_of-added : {Z : Type 0} (table after : List (Name × Z)) (words : List
     (word : ℕ) → word ≡ word_of name → after ≡ table ++ (name, value) ∷ [] → words ++ word ∷ [] ≡ words_of after
 words_of-added table after words are name value word is added =
     (λ j. are j ++ is j ∷ []) ∙ sym (ap words_of added ∙ map-append (λ entry. word_of entry.0) table ((name, value) ∷ []))
-
--- where a word stands, an entry does
-pub within-word : {Z : Type 0} (table : List (Name × Z)) (words : List ℕ) → words ≡ words_of table → (place word : ℕ)
-    → slice_get words place ≡ Some word → place < length table
-within-word table words are place word at =
-    omega (arith, slice_get_within words place word at, ap length are, length-map table (λ entry. word_of entry.0))

@@ -20,10 +20,11 @@ impl Hints {
     }
 
     /// The place to try first.
-    pub(crate) fn place_for(&self, word: u64) -> Option<usize> {
-        self.places
-            .get(slot_of(word))
-            .map(|place| usize::from(*place))
+    pub(crate) fn place_for(&self, word: u64) -> usize {
+        match self.places.get(slot_of(word)) {
+            Some(place) => usize::from(*place),
+            None => 0,
+        }
     }
 
     /// Names a place as the first to try.

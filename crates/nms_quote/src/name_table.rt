@@ -60,9 +60,11 @@ impl<V: Copy> NameTable<V> {
         ensures within { IfSome result (λ place. place < length self.now) }
     {
         let word = word_of(name);
-        match self.hints.place_for(word) {
-            Some(place) if word != 0 && has_at(&self.words, place, word) => Some(place),
-            _ => self.find_by_hash(name),
+        let place = self.hints.place_for(word);
+        if word != 0 && place < self.words.len() && self.words[place] == word {
+            Some(place)
+        } else {
+            self.find_by_hash(name)
         }
     }
 
@@ -148,16 +150,6 @@ impl<V: Copy> NameTable<V> {
         };
         self.hints.set(word, place);
         Ok(())
-    }
-}
-
-/// Whether the word at a place is this one.
-fn has_at(words: &[u64], place: usize, word: u64) -> bool
-    ensures { result ≡ true → slice_get words.now place ≡ Some word }
-{
-    match words.get(place) {
-        Some(kept) => *kept == word,
-        None => false,
     }
 }
 
