@@ -1,5 +1,5 @@
 //! One participant in one symbol: the cells of `specs/Cells`.
-ghost use Rattle.std.specs.Prelude.{◌≡◌, ℕ, ◌*◌, ◌≤◌, IfOk, false, true, replicate};
+ghost use Rattle.std.specs.Prelude.{◌≡◌, ℕ, ◌*◌, ◌≤◌, IfOk, Some, false, true, replicate};
 ghost use Rattle.std.specs.Option.{is_some};
 ghost use Rattle.nms_board.specs.Cells.{empty_cell};
 ghost use Rattle.nms_board.specs.History.{on_side, same_content};
@@ -80,6 +80,17 @@ impl Held {
         ensures { result ≡ self.now.quote }
     {
         SideQuote::new(self.price, self.shares)
+    }
+
+    /// What is quoted where something is.
+    pub(crate) fn quoted(&self) -> SideQuote
+        requires { is_some self.now.quote ≡ true }
+        ensures { Some result ≡ self.now.quote }
+    {
+        SideQuote {
+            price: self.price,
+            shares: self.shares,
+        }
     }
 
     /// The number of the change that last altered the side.
