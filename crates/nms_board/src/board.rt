@@ -196,19 +196,9 @@ impl Boards {
         self.applied += 1;
         let number = self.applied as u32;
         match change {
-            Change::Quote { part, sym, .. } => alter(
+            Change::Quote { part, sym, .. } | Change::State { part, sym, .. } => alter(
                 number,
-                change,
-                part,
-                usize::from(sym.get()),
-                self.parts,
-                &self.lots,
-                &mut self.cells,
-                &mut self.ranks,
-            ),
-            Change::State { part, sym, .. } => alter(
-                number,
-                change,
+                &change,
                 part,
                 usize::from(sym.get()),
                 self.parts,
@@ -371,7 +361,7 @@ fn withdraw_from(
         if cells[MOST_ROWS * sym + usize::from(part.get())].has_quote() {
             alter(
                 number,
-                Change::Withdraw { part },
+                &Change::Withdraw { part },
                 part,
                 sym,
                 parts,
@@ -385,9 +375,10 @@ fn withdraw_from(
 
 /// Alters the participant's cell in a symbol, as the change of that number says, and with it the symbol's
 /// rank orders.
+#[inline(always)]
 fn alter(
     number: u32,
-    change: Change,
+    change: &Change,
     part: Part,
     sym: usize,
     parts: u8,
@@ -401,8 +392,8 @@ fn alter(
     requires room { MOST_ROWS * length lots.now ≤ length cells.old }
     requires ranks { AreRanks (record { parts = parts; lots = lots.now }) cells.old ranks.old }
     requires own { (side : Side) → AreOwn (row_shown (record { parts = parts; lots = lots.now })
-        (change_cell cells.old (place_of part sym) (altered number change)) sym side) }
-    ensures cells { cells.new ≡ change_cell cells.old (place_of part sym) (altered number change) }
+        (change_cell cells.old (place_of part sym) (altered number change.now)) sym side) }
+    ensures cells { cells.new ≡ change_cell cells.old (place_of part sym) (altered number change.now) }
     ensures ranks { AreRanks (record { parts = parts; lots = lots.now }) cells.new ranks.new }
 {
     let lot = lots[sym];

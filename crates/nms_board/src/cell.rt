@@ -2,7 +2,7 @@
 ghost use Rattle.std.specs.Prelude.{◌≡◌, ℕ, ◌*◌, ◌≤◌, IfOk, Some, false, true, replicate};
 ghost use Rattle.std.specs.Option.{is_some};
 ghost use Rattle.nms_board.specs.Cells.{empty_cell};
-ghost use Rattle.nms_board.specs.History.{on_side, same_content};
+ghost use Rattle.nms_board.specs.History.{on_side};
 
 use crate::MOST_ROWS;
 use crate::row::Row;
@@ -111,20 +111,10 @@ impl Held {
     pub(crate) fn take(&mut self, number: u32, quote: Option<SideQuote>)
         ensures { self.new ≡ held_after number quote self.old }
     {
-        if !is_same(&self.quote(), &quote) {
-            *self = Held::of(number, quote);
+        let taken = Held::of(number, quote);
+        if self.price != taken.price || self.shares != taken.shares {
+            *self = taken;
         }
-    }
-}
-
-/// Whether two sides have the same price and shares, or both nothing.
-fn is_same(old: &Option<SideQuote>, new: &Option<SideQuote>) -> bool
-    ensures { result ≡ same_content old.now new.now }
-{
-    match (old, new) {
-        (None, None) => true,
-        (Some(old), Some(new)) => old.price == new.price && old.shares == new.shares,
-        _ => false,
     }
 }
 
@@ -178,10 +168,10 @@ impl Cell {
 
     /// Takes a change that speaks of the participant in the symbol, as the change of that number. A new
     /// round lot leaves the cell.
-    pub(crate) fn alter(&mut self, number: u32, change: Change)
-        ensures { self.new ≡ altered number change self.old }
+    pub(crate) fn alter(&mut self, number: u32, change: &Change)
+        ensures { self.new ≡ altered number change.now self.old }
     {
-        match change {
+        match *change {
             Change::Quote {
                 state,
                 bid,
@@ -225,9 +215,7 @@ impl Cell {
     {
         let held = self.held(side);
         let held_before = was.held(side);
-        self.state == was.state
-            && held.receipt == held_before.receipt
-            && is_same(&held.quote(), &held_before.quote())
+        held.receipt == held_before.receipt && held == held_before && self.state == was.state
     }
 
     /// The quotation of a side in lots of that size, if it is one.

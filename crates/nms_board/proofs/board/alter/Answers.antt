@@ -21,7 +21,7 @@ settle-requires-clause-was c = λ side.
       in_syms = c.requires.sym;
     } in
     let known = altered_is sizes c.args.cells.now c.args.part c.args.sym (32 * c.args.sym + c.from.result)
-    (altered c.args.number c.args.change) c.index-lots-sym.result c.index-cells-sym.result _ c.alter.new.self
+    (altered c.args.number c.args.change.now) c.index-lots-sym.result c.index-cells-sym.result _ c.alter.new.self
     c.symbol_cells.result.now of
     (omega arith) c.index-cells-sym.is c.index-lots-sym.is refl c.alter.ensures c.symbol_cells.ensures in
     subst AreOwn (sym (known.before side)) (c.requires.ranks.own c.args.sym side c.requires.sym)
@@ -37,7 +37,7 @@ settle-requires-clause-is c = λ side.
       in_syms = c.requires.sym;
     } in
     let known = altered_is sizes c.args.cells.now c.args.part c.args.sym (32 * c.args.sym + c.from.result)
-    (altered c.args.number c.args.change) c.index-lots-sym.result c.index-cells-sym.result _ c.alter.new.self
+    (altered c.args.number c.args.change.now) c.index-lots-sym.result c.index-cells-sym.result _ c.alter.new.self
     c.symbol_cells.result.now of
     (omega arith) c.index-cells-sym.is c.index-lots-sym.is refl c.alter.ensures c.symbol_cells.ensures in
     subst AreOwn (sym (known.is side)) (c.requires.own side)
@@ -53,7 +53,7 @@ settle-requires-clause-kept c = λ side.
       in_syms = c.requires.sym;
     } in
     let known = altered_is sizes c.args.cells.now c.args.part c.args.sym (32 * c.args.sym + c.from.result)
-    (altered c.args.number c.args.change) c.index-lots-sym.result c.index-cells-sym.result _ c.alter.new.self
+    (altered c.args.number c.args.change.now) c.index-lots-sym.result c.index-cells-sym.result _ c.alter.new.self
     c.symbol_cells.result.now of
     (omega arith) c.index-cells-sym.is c.index-lots-sym.is refl c.alter.ensures c.symbol_cells.ensures in
     rw known.long
@@ -65,9 +65,9 @@ settle-requires-clause-kept c = λ side.
 pub returns-clause-cells : goal.returns-clause-cells
 returns-clause-cells c =
     change_cell_written c.args.cells.now (32 * c.args.sym + c.from.result) (place_of c.args.part c.args.sym)
-    (altered c.args.number c.args.change) c.index-cells-sym.result c.alter.new.self
+    (altered c.args.number c.args.change.now) c.index-cells-sym.result c.alter.new.self
     (omega arith) (omega (arith, c.requires.room, c.requires.sym, c.requires.part, c.requires.parts)) c.index-cells-sym.is
-    (c.alter.ensures ∙ ap (altered c.args.number c.args.change) (sym c.index-cells-sym.is))
+    (c.alter.ensures ∙ ap (altered c.args.number c.args.change.now) (sym c.index-cells-sym.is))
 
 pub returns-clause-ranks : goal.returns-clause-ranks
 returns-clause-ranks c =
@@ -80,13 +80,13 @@ returns-clause-ranks c =
       in_syms = c.requires.sym;
     } in
     let known = altered_is sizes c.args.cells.now c.args.part c.args.sym (32 * c.args.sym + c.from.result)
-    (altered c.args.number c.args.change) c.index-lots-sym.result c.index-cells-sym.result _ c.alter.new.self
+    (altered c.args.number c.args.change.now) c.index-lots-sym.result c.index-cells-sym.result _ c.alter.new.self
     c.symbol_cells.result.now of
     (omega arith) c.index-cells-sym.is c.index-lots-sym.is refl c.alter.ensures c.symbol_cells.ensures in
     rw (returns-clause-cells c)
-    (ranks_altered sizes c.args.cells.now c.args.ranks.now c.args.part c.args.sym (altered c.args.number c.args.change) c.settle.new.self of
+    (ranks_altered sizes c.args.cells.now c.args.ranks.now c.args.part c.args.sym (altered c.args.number c.args.change.now) c.settle.new.self of
     (length-change_cell c.args.cells.now (place_of c.args.part c.args.sym)
-    (altered c.args.number c.args.change)) c.requires.ranks c.requires.own
+    (altered c.args.number c.args.change.now)) c.requires.ranks c.requires.own
     (λ side. subst (λ (g : ℕ → Option Row). IsKept side g c.args.parts (order_on side c.settle.new.self)) (known.is side)
     (subst (λ (n : ℕ). IsKept side (row_among c.index-lots-sym.result c.symbol_cells.result.now side) n
     (order_on side c.settle.new.self)) known.long (c.settle.ensures side))))
