@@ -24,7 +24,7 @@ use Rattle.nms_board.proofs.LawLemmas.{rows_differ}
 use Rattle.nms_board.proofs.ListLemmas.{filter_map_more}
 
 -- a row of that participant, of a size
-abbrev IsRowOf : ℕ → Row → Type 0
+abbrev pub IsRowOf : ℕ → Row → Type 0
 IsRowOf part row = (row.part ≡ part) × (0 < row.size)
 
 -- rows in order of place, from a place on
@@ -48,7 +48,7 @@ each_of_size place [] from k d below = absurd (omega arith)
 each_of_size place (row ∷ rows) from zero d below = from.1
 each_of_size place (row ∷ rows) from (suc k) d below = each_of_size (row.part + 1) rows from.2 k d (omega arith)
 
-quotation_is_row : (lot part : ℕ) (state : Option QState) (receipt : ℕ) (content : Option Content)
+pub quotation_is_row : (lot part : ℕ) (state : Option QState) (receipt : ℕ) (content : Option Content)
     → IfSome (quotation lot part state receipt content) (IsRowOf part)
 quotation_is_row lot part state receipt None = tt
 quotation_is_row lot part state receipt (Some content) = by_tests (is_halted state) (displayed_size lot content.shares == 0) refl

@@ -187,6 +187,7 @@ impl Boards {
 
     /// Applies one more change. Constant work for a quote or a state; a withdrawal goes over the
     /// symbols, and a new round lot over the participants of its symbol.
+    #[inline(always)]
     pub fn apply(&mut self, change: Change)
         requires { takes self.old change ≡ true }
         ensures after { self.new ≡ after self.old change }

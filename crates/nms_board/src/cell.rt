@@ -131,6 +131,7 @@ pub struct Cell {
 
 impl Cell {
     ghost use Rattle.nms_board.specs.Cells.{altered, empty_cell, quoted, restated, withdrawn};
+    ghost use Rattle.nms_board.specs.Ranks.{size_of};
     ghost use Rattle.nms_board.specs.Shown.{row_of_cell};
 
     /// A participant that never quoted there.
@@ -218,21 +219,27 @@ impl Cell {
         held.receipt == held_before.receipt && held == held_before && self.state == was.state
     }
 
+    /// The size of a side's quotation in lots of that size: 0 where it has none.
+    pub(crate) fn size(&self, side: Side, lot: Lot) -> u32
+        ensures { (part : ℕ) → result ≡ size_of (row_of_cell lot part side self.now) }
+    {
+        if self.state == Some(QState::Halted) {
+            return 0;
+        }
+        lot.displayed(self.held(side).shares)
+    }
+
     /// The quotation of a side in lots of that size, if it is one.
     pub(crate) fn row(&self, side: Side, part: Part, lot: Lot) -> Option<Row>
         ensures { result ≡ row_of_cell lot part side self.now }
     {
-        let held = self.held(side);
-        if self.state == Some(QState::Halted) {
-            return None;
-        }
-        let quote = held.quote()?;
-        let size = lot.displayed(quote.shares);
+        let size = self.size(side, lot);
         if size == 0 {
             return None;
         }
+        let held = self.held(side);
         Some(Row {
-            price: quote.price,
+            price: held.price,
             receipt: held.receipt(),
             size,
             part,
