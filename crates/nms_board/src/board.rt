@@ -376,7 +376,6 @@ fn withdraw_from(
 
 /// Alters the participant's cell in a symbol, as the change of that number says, and with it the symbol's
 /// rank orders.
-#[inline(always)]
 fn alter(
     number: u32,
     change: &Change,
