@@ -30,13 +30,6 @@ zip_some : {A B : Type 0} (R : A → B → Type 0) (x : A) (xs : List A) (ys : L
 zip_some R x xs [] all = absurd all
 zip_some R x xs (y ∷ ys) all = omega arith
 
--- an order's desk has an answer left
-pub some_left : (IsWanted : Answer → Type 0) (desk : ℕ) (order : ℕ × DeskOrder) (rest : List (ℕ × DeskOrder)) (put first now : List Answer)
-    → order.1.desk ≡ desk → IsLeft IsWanted desk (order ∷ rest) put first now → 0 < length now
-some_left IsWanted desk order rest put first now mine left =
-    let test : (order.1.desk == desk) ≡ true = grind (arith, nat_tests, mine) in
-    zip_some IsFor order (own desk rest) now (rw (sym (own_front desk order rest test)) left.matched)
-
 -- an order with those behind it, the answers that were put before it, and the one that is put now
 pub record Turn : Type 0 where
   pub order : ℕ × DeskOrder
@@ -97,6 +90,17 @@ numbered_rest orders place order below is =
     let up : suc place ≡ place + 1 = omega arith in
     ap (enumerate_from place) (drop-cons orders place order below ∙ ap (λ (o : DeskOrder). o ∷ drop (suc place) orders) is)
     ∙ ap (λ (k : ℕ). (place, order) ∷ enumerate_from (place + 1) (drop k orders)) up
+
+-- an order's desk has an answer left
+pub some_left : (part : DeskRow → List Answer) (IsWanted : Answer → Type 0) (orders : List DeskOrder) (place : ℕ) (order : DeskOrder)
+    (put : List Answer) (first now : List DeskRow) → place < length orders → get_or orders place order ≡ order → order.desk < length now
+    → AreLeft part IsWanted (enumerate_from place (drop place orders)) put first now
+    → (d : DeskRow) → 0 < length (part (slice_index_or now order.desk d))
+some_left part IsWanted orders place order put first now below is here left d =
+    let rest = own order.desk (enumerate_from (place + 1) (drop (place + 1) orders)) in
+    let front : own order.desk (enumerate_from place (drop place orders)) ≡ (place, order) ∷ rest =
+    ap (own order.desk) (numbered_rest orders place order below is) ∙ own_front order.desk (place, order) _ (grind (arith, nat_tests)) in
+    zip_some IsFor (place, order) rest _ (rw (sym front) (left order.desk d here).matched)
 
 zip_none : {A B : Type 0} (R : A → B → Type 0) (ys : List B) → AllZip R [] ys → ys ≡ []
 zip_none R [] all = refl

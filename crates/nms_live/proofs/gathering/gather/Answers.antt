@@ -12,7 +12,7 @@ use Rattle.nms_live.specs.declared.closing.DeskRow.{DeskRow}
 use Rattle.nms_quote.specs.declared.desk_order.DeskOrder.{DeskOrder}
 use Rattle.nms_live.proofs.AnswerFacts.{numbered_more}
 use Rattle.nms_live.proofs.DeskFacts.{zip_push}
-use Rattle.nms_live.proofs.LeftFacts.{Turn, all_put, left_step, numbered_rest, rising_all, some_of}
+use Rattle.nms_live.proofs.LeftFacts.{Turn, all_put, left_step, numbered_rest, rising_all, some_left, some_of}
 use Rattle.nms_live.proofs.NumberFacts.{all_both, all_push, all_weaker}
 use Rattle.nms_live.proofs.gathering.gather.Goals as goal
 
@@ -129,3 +129,18 @@ loop-wanted-init c = rw (c.new-answers.ensures.items, c.new-closing.ensures.item
   sound = tt;
   last = tt;
 }
+
+pub next_of-answer-requires : goal.next_of-answer-requires
+next_of-answer-requires c =
+    let at = c.loop-wanted in
+    let order = c.wanted-item.result in
+    let there = c.requires.desks at.wanted-index order c.loop-wanted-test.true in
+    let here : order.desk < length at.rows.items =
+    omega (arith, there, ap (λ (o : DeskOrder). o.desk) c.wanted-item.is, at.invariant.count) in
+    record {
+      place = here;
+      some = some_left (λ row. row.answers.items) _ c.args.orders.now at.wanted-index order at.answers.items c.args.rows.items at.rows.items
+          c.loop-wanted-test.true (sym c.wanted-item.is) here at.invariant.left;
+      closing = some_left (λ row. row.closing.items) _ c.args.orders.now at.wanted-index order at.closing.items c.args.rows.items
+          at.rows.items c.loop-wanted-test.true (sym c.wanted-item.is) here at.invariant.closing_left;
+    }
