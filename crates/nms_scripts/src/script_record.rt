@@ -36,7 +36,7 @@ pub(crate) fn serve(
 {
     let desks = setup.desks();
     match read_line(row, setup.roster(), Reading::Script { desks }) {
-        Ok(line) => serve_line(flow, setup, line, number, planner, out),
+        Ok(line) => serve_line(flow, setup, &line, number, planner, out),
         Err(fault) => refuse(flow, number, fault, out),
     }
 }
@@ -54,27 +54,27 @@ fn refuse(flow: &Flow, number: u64, fault: LineFault, out: &mut Vec<u8>) -> Resu
 fn serve_line(
     flow: &mut Flow,
     setup: &Setup,
-    line: Line,
+    line: &Line,
     number: u64,
     planner: &mut Planner,
     out: &mut Vec<u8>,
 ) -> Result<bool, AllocError>
     requires room { room_of flow.old ≡ room_under setup.now }
-    requires there { IsThere (sizes_of setup.now.roster) setup.now.desks line }
-    ensures served { IfOk result (Serves (AnswersLine setup.now number line) flow.old flow.new (Some out.old.items) (Some out.new.items)) }
+    requires there { IsThere (sizes_of setup.now.roster) setup.now.desks line.now }
+    ensures served { IfOk result (Serves (AnswersLine setup.now number line.now) flow.old flow.new (Some out.old.items) (Some out.new.items)) }
     ensures room { room_of flow.new ≡ room_of flow.old }
 {
     match line {
-        Line::Change(change) => serve_change(flow, setup.roster(), &change, number, out),
+        Line::Change(change) => serve_change(flow, setup.roster(), change, number, out),
         Line::TakeOne => serve_take(flow, number, out),
         Line::TakeAll => serve_take_all(flow, number, out),
         Line::Publish => serve_publish(flow, number, out),
-        Line::Tell { desk } => serve_tell(flow, desk, number, out),
-        Line::Best { desk, sym } => serve_best(flow, setup.roster(), desk, sym, out),
+        Line::Tell { desk } => serve_tell(flow, *desk, number, out),
+        Line::Best { desk, sym } => serve_best(flow, setup.roster(), *desk, *sym, out),
         Line::Through { desk, sym, price } => {
-            serve_through(flow, setup.roster(), desk, sym, price, out)
+            serve_through(flow, setup.roster(), *desk, *sym, *price, out)
         }
-        Line::Sweep { desk, order } => serve_sweep(flow, setup, desk, &order, planner, out),
+        Line::Sweep { desk, order } => serve_sweep(flow, setup, *desk, order, planner, out),
     }
 }
 

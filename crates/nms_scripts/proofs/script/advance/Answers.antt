@@ -1,5 +1,5 @@
 -- `advance`: clause `came`, by `breaks_off`, `comes_on`, `ends_before` and `stops_after`.
-use Rattle.std.proofs.Common.{rules, ◌≡◌, Bool, Ok, Err, ap, ◌∙◌, ◌≢◌}
+use Rattle.std.proofs.Common.{rules, ◌≡◌, Bool, Ok, Err, ap, ◌∙◌}
 use Rattle.csv.specs.Records.{fields_of}
 use Rattle.nms_text.specs.declared.script_fault.ScriptFault.TheVariants as fault
 use Rattle.nms_scripts.proofs.ProgressFacts.{breaks_off, comes_on, ends_before, stops_after}
@@ -18,9 +18,6 @@ returns-clause-came g c bytes old refused come =
     c.args.done refused (fields_of c.read.new.row) c.clear.new.self.items c.serve.new.out.items c.deref.result.now c.in-Ok.refused
     come found c.clear.ensures.items c.in-Ok.ensures.served c.in-Ok.ensures.room c.deref.ensures.value c.in_ok-tell.ensures.written
 
-too_long : fault.TooLong ≢ fault.WriteFault
-too_long e = cc
-
 -- the answers to what was read before stand
 pub returns-in_err-read-clause-came : goal.returns-in_err-read-clause-came
 returns-in_err-read-clause-came g c bytes old refused come =
@@ -34,7 +31,7 @@ returns-in_err-read-clause-came g c bytes old refused come =
 pub returns-then-done-eq-MOST_RECORDS-clause-came : goal.returns-then-done-eq-MOST_RECORDS-clause-came
 returns-then-done-eq-MOST_RECORDS-clause-came g c bytes old refused come =
     let is_found = c.in_ok-read.was ∙ ap (λ (b : Bool). Ok b) c.if-not-branch.false in
-    ends_before c.args.setup.now bytes old (g.W.Write.contents c.args.writer.now) c.args.done refused fault.TooLong too_long (
+    ends_before c.args.setup.now bytes old (g.W.Write.contents c.args.writer.now) c.args.done refused fault.TooLong (λ e. cc) (
       c.args.script.now.flow,
       come.so_far,
       come.reads.begins,
@@ -45,18 +42,12 @@ returns-then-done-eq-MOST_RECORDS-clause-came g c bytes old refused come =
       ),
     )
 
-no_memory : fault.NoMemory ≢ fault.TooLong
-no_memory e = cc
-
-memory_is_no_write : fault.NoMemory ≢ fault.WriteFault
-memory_is_no_write e = cc
-
 pub returns-in_default-clause-came : goal.returns-in_default-clause-came
 returns-in_default-clause-came g c bytes old refused come =
-    ends_before c.args.setup.now bytes old (g.W.Write.contents c.args.writer.now) c.args.done refused fault.NoMemory memory_is_no_write
+    ends_before c.args.setup.now bytes old (g.W.Write.contents c.args.writer.now) c.args.done refused fault.NoMemory (λ e. cc)
     (stops_after g.R.Read.remaining c.args.setup.now bytes c.args.reader.now c.args.script.now.flow old
     (g.W.Write.contents c.args.writer.now) c.args.done refused fault.NoMemory
-    come come.reads.begins no_memory)
+    come come.reads.begins (λ e. cc))
 
 -- the writer failed within the answer to the last record that was read
 pub returns-in_err-tell-clause-came : goal.returns-in_err-tell-clause-came

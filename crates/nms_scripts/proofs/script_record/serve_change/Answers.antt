@@ -1,5 +1,5 @@
 -- `serve_change`: clause `served`, by `asks_one`, `no_want`, `refuses_one`, `sends` and `sends_all`.
-use Rattle.std.proofs.Common.{◌≡◌, false, Some, Ok, refl, sym, ◌∙◌}
+use Rattle.std.proofs.Common.{◌≡◌, false, Some, Ok, refl, sym}
 use Rattle.std.proofs.lemmas.List.{append-nil}
 use Rattle.nms_flow.specs.declared.reply.Reply.TheVariants as reply
 use Rattle.nms_flow.specs.declared.step.Step.TheVariants as step
@@ -9,10 +9,7 @@ use Rattle.nms_scripts.proofs.ScriptFacts.{asks_one, no_want, refuses_one, sends
 use Rattle.nms_scripts.proofs.script_record.serve_change.Goals as goal
 
 full_no_want : {why : StepFault} → why ≡ fault.QueueFull → why ≡ fault.NoMemory → ⊥
-full_no_want e f = other (sym e ∙ f)
-  where
-    other : fault.QueueFull ≡ fault.NoMemory → ⊥
-    other g = cc
+full_no_want e f = cc
 
 pub returns-in-Ok-clause-served : goal.returns-in-Ok-clause-served
 returns-in-Ok-clause-served c =

@@ -1,14 +1,26 @@
--- `serve_line`: clause `served`.
-use Rattle.std.proofs.Common.{Some, subst, sym}
-use Rattle.std.specs.Prelude.{IfOk}
-use Rattle.nms_lines.specs.declared.line.Line.{Line}
-use Rattle.nms_scripts.specs.Script.{AnswersLine, Serves}
+-- `serve_line`: what is answered to each kind of line.
 use Rattle.nms_scripts.proofs.script_record.serve_line.Goals as goal
 
--- src/script_record.rt: the line is an order
+pub returns-in-Change : goal.returns-in-Change
+returns-in-Change c = record { served = rw c.in-Change.is (rw c.roster.ensures at c.serve_change.ensures.served); room = c.serve_change.ensures.room }
+
+pub returns-in-TakeOne : goal.returns-in-TakeOne
+returns-in-TakeOne c = record { served = rw c.in-TakeOne.is c.serve_take.ensures.served; room = c.serve_take.ensures.room }
+
+pub returns-in-TakeAll : goal.returns-in-TakeAll
+returns-in-TakeAll c = record { served = rw c.in-TakeAll.is c.serve_take_all.ensures.served; room = c.serve_take_all.ensures.room }
+
+pub returns-in-Publish : goal.returns-in-Publish
+returns-in-Publish c = record { served = rw c.in-Publish.is c.serve_publish.ensures.served; room = c.serve_publish.ensures.room }
+
+pub returns-in-Tell-clause-served : goal.returns-in-Tell-clause-served
+returns-in-Tell-clause-served c = rw c.in-Tell.is c.serve_tell.ensures
+
+pub returns-in-Best-clause-served : goal.returns-in-Best-clause-served
+returns-in-Best-clause-served c = rw c.in-Best.is (rw c.roster-in-Best.ensures at c.serve_best.ensures)
+
+pub returns-in-Through-clause-served : goal.returns-in-Through-clause-served
+returns-in-Through-clause-served c = rw c.in-Through.is (rw c.roster-in-Through.ensures at c.serve_through.ensures)
+
 pub returns-in-Sweep-clause-served : goal.returns-in-Sweep-clause-served
-returns-in-Sweep-clause-served c =
-    subst (λ (line : Line). IfOk c.serve_sweep.result
-    (Serves (AnswersLine c.args.setup.now c.args.number line) c.args.flow.now c.args.flow.now (Some c.args.out.now.items)
-    (Some c.serve_sweep.new.out.items)))
-    (sym c.in-Sweep.is) c.serve_sweep.ensures
+returns-in-Sweep-clause-served c = rw c.in-Sweep.is c.serve_sweep.ensures
