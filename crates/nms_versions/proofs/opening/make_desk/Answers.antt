@@ -1,5 +1,4 @@
--- `make_desk`: the call of `reader`, the call of `tell` and the call of `learn`, by `admits`, `tells` and
--- `learns`.
+-- `make_desk`: the call of `reader`, the call of `tell` and the call of `learn`, by `admits`, `tells` and `learns`.
 use Rattle.nms_versions.proofs.RuleLemmas.{admits, tells, learns}
 use Rattle.nms_versions.proofs.opening.make_desk.Goals as goal
 

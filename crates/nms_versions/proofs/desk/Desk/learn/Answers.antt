@@ -1,5 +1,4 @@
--- `Desk::learn`: the invariant of what it leaves, by `prefix_shorter`, `remembers_longer` and
--- `remembers_shorter`.
+-- `Desk::learn`: the invariant of what it leaves, by `prefix_shorter`, `remembers_longer` and `remembers_shorter`.
 use Rattle.std.proofs.Common.{◌≤◌, IfSome, length, ap, sym, subst, ◌∙◌, arith}
 use mathlib.Core.List.{IsPrefix}
 use Rattle.logbook.specs.Pages.{Book}

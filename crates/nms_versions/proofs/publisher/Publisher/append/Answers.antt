@@ -1,5 +1,4 @@
--- `Publisher::append`: the call of `be_open` and the invariant of what it leaves, by `batch_room` and
--- `taped_push`.
+-- `Publisher::append`: the call of `be_open` and the invariant of what it leaves, by `batch_room` and `taped_push`.
 use Rattle.std.proofs.Common.{◌≡◌, ◌<◌, ◌++◌, ◌∷◌, [], true, length, List, ap, sym, ◌∙◌, arith, rules}
 use Rattle.nms_quote.specs.Roster.{holds}
 use Rattle.nms_quote.specs.declared.change.Change.{Change}

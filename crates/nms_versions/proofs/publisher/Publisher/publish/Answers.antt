@@ -44,17 +44,14 @@ invariant_of-self g c =
       published = c.self.inside.history.published ++ lent ∷ [];
       is_open = false;
     }) c.lend-changes.ensures in
-    let fresh : c.begin.new.self ≡ [] = c.begin.ensures in
     let count : c.len.result ≡ length c.self.inside.tape.items = search rules in
-    let seen : c.replace_with.new.dest.desk.shown.value.seen ≡ c.token.result = c.replace_with.ensures.1.0 in
-    let sizes : c.replace_with.new.dest.desk.shown.value.boards.sizes ≡ c.self.inside.writer.desk.shown.value.boards.sizes =
-    c.replace_with.ensures.1.1 in (
+    let shown = c.replace_with.ensures.1 in (
       record {
-        book = ap (λ s. s.book) seen ∙ c.token.ensures.book;
-        log = ap (λ s. s.log) seen ∙ c.token.ensures.log;
+        book = ap (λ s. s.book) shown.0 ∙ c.token.ensures.book;
+        log = ap (λ s. s.log) shown.0 ∙ c.token.ensures.log;
         idle = c.replace_with.ensures.0;
       },
-      rw (sizes, fresh, count) (taped_close _ _ _ _ _ _ _ c.self.invariant.1 some closed),
+      rw (shown.1, c.begin.ensures, count) (taped_close _ _ _ _ _ _ _ c.self.invariant.1 some closed),
     )
 
 pub returns-clause-whole : goal.returns-clause-whole
