@@ -1,8 +1,6 @@
 -- What stands at each place of a list that grows.
-use Rattle.std.proofs.Common.{ℕ, zero, suc, ◌≡◌, ◌<◌, ◌++◌, List, [], ◌∷◌, length, ap, sym, ◌∙◌, arith, append_assoc, length-append}
+use Rattle.std.proofs.Common.{ℕ, zero, suc, ◌≡◌, ◌<◌, ◌++◌, List, [], ◌∷◌, length, ap, sym, ◌∙◌, arith, append_assoc}
 use Rattle.std.specs.Prelude.{slice_index_or}
-use Rattle.std.specs.Vec.Iter.{into_iter_items, into_iter_len}
-use Rattle.std.specs.declared.vec.IntoIter.{IntoIter}
 use Rattle.std.proofs.Math.Seq.{get_or-append_seam}
 
 -- one more
@@ -14,11 +12,6 @@ row_more P [] x all here (suc k) d below = absurd (omega (arith, below))
 row_more P (y ∷ xs) x all here zero d below = all 0 d (omega arith)
 row_more P (y ∷ xs) x all here (suc k) d below =
     row_more (λ (j : ℕ). P (suc j)) xs x (λ j e lt. all (suc j) e (omega (arith, lt))) here k d (omega (arith, below))
-
--- a vector was gone through to its end
-pub gone_through : {X A : Type 0} (all front : List X) (it : IntoIter X A) → front ++ into_iter_items it ≡ all → into_iter_len it ≡ 0
-    → length front ≡ length all
-gone_through all front it parted none = omega (arith, ap length parted, length-append front (into_iter_items it), none, it.rest.ok.0)
 
 -- what stands behind so many others
 pub stands_at : {X : Type 0} (all front : List X) (x : X) (back : List X) (place : ℕ) (d : X) → (front ++ x ∷ []) ++ back ≡ all

@@ -5,7 +5,7 @@ use Rattle.nms_versions.specs.Taped.{tape_of}
 use Rattle.nms_live.specs.Answering.{IsClosed}
 use Rattle.nms_live.specs.Keeping.{Keeping}
 use Rattle.nms_live.specs.declared.closing.DeskRow.{DeskRow}
-use Rattle.nms_live.proofs.PlaceFacts.{gone_through, row_more}
+use Rattle.nms_live.proofs.PlaceFacts.{row_more}
 use Rattle.nms_live.proofs.closing.close_desks.Goals as goal
 
 pub loop-desked-preserved : goal.loop-desked-preserved
@@ -30,9 +30,3 @@ loop-desked-preserved g c =
       keeper = c.close_desk.ensures.unchanged ∙ at.invariant.keeper;
       rows = λ k d below. rw pushed (row_more P at.rows.items row at.invariant.rows last k d (rw (sym pushed) below));
     }
-
-pub returns : goal.returns
-returns g c =
-    let at = c.loop-desked in
-    let all = gone_through c.args.desks.items at.yielded at.desked-iterator at.invariant.parted c.in-None.ensures.steps.0 in
-    record { unchanged = at.invariant.keeper; all = at.invariant.all ∙ at.invariant.count ∙ all; rows = at.invariant.rows; fault = tt }

@@ -1,8 +1,7 @@
 -- `start_desk`: clause `started`, by `desked_by_job`: the row at the desk's number has the desk's own orders.
-use Rattle.std.proofs.Common.{◌≡◌, ap, sym, ◌∙◌, rules}
+use Rattle.std.proofs.Common.{ap, ◌∙◌, rules}
 use Rattle.nms_live.specs.Answering.{numbered, own}
 use Rattle.nms_live.specs.declared.desk_work.DeskJob.{DeskJob}
-use Rattle.nms_live.specs.declared.own_orders.OwnOrders.{OwnOrders}
 use Rattle.nms_live.proofs.CrewFacts.{desked_by_job}
 use Rattle.nms_live.proofs.desk_workers.start_desk.Goals as goal
 

@@ -8,7 +8,7 @@ use Rattle.nms_live.specs.Answering.{numbered, own}
 use Rattle.nms_live.specs.Crew.{WillBeDesked}
 use Rattle.nms_live.specs.declared.desk_work.DeskJob.{DeskJob}
 use Rattle.nms_live.specs.declared.desk_work.Desked.{Desked}
-use Rattle.nms_live.proofs.PlaceFacts.{gone_through, row_more, stands_at}
+use Rattle.nms_live.proofs.PlaceFacts.{row_more, stands_at}
 use Rattle.nms_live.proofs.desk_workers.start_desks.Goals as goal
 
 pub loop-desk-preserved : goal.loop-desk-preserved
@@ -40,9 +40,3 @@ loop-desk-preserved g c =
           let last : P (length at.handles.items) handle = rw place here in
           rw pushed (row_more P at.handles.items handle (λ j e lt. at.invariant.started j d e lt) last k h (rw (sym pushed) below));
     }
-
-pub returns : goal.returns
-returns g c =
-    let at = c.loop-desk in
-    let all = gone_through c.args.desks.items at.yielded at.desk-iterator at.invariant.parted c.in-None.ensures.steps.0 in
-    record { all = at.invariant.all ∙ at.invariant.count ∙ all; started = at.invariant.started; fault = tt }

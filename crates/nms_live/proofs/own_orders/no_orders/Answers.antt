@@ -1,5 +1,5 @@
 -- `no_orders`: its loop, with one row more that has nothing in it, by `row_more`.
-use Rattle.std.proofs.Common.{ℕ, ◌≡◌, ◌∙◌, [], ◌++◌, ◌∷◌, length, ap, sym, length-append, arith}
+use Rattle.std.proofs.Common.{ℕ, ◌≡◌, [], ◌++◌, ◌∷◌, length, ap, sym, length-append, arith}
 use Rattle.nms_live.specs.declared.own_orders.OwnOrders.{OwnOrders}
 use Rattle.nms_live.proofs.PlaceFacts.{row_more}
 use Rattle.nms_live.proofs.own_orders.no_orders.Goals as goal

@@ -1,6 +1,5 @@
 -- `part_by_desk`: the turns of its loop, by `numbered_more` and `own_more`.
-use Rattle.std.proofs.Common.{◌≡◌, ◌<◌, ◌+◌, true, take, ap, sym, ◌∙◌, arith, rules}
-use Rattle.nms_quote.specs.declared.desk_order.DeskOrder.{DeskOrder}
+use Rattle.std.proofs.Common.{◌+◌, take, sym, ◌∙◌, rules}
 use Rattle.nms_live.proofs.AnswerFacts.{numbered_more}
 use Rattle.nms_live.proofs.OwnFacts.{own_more}
 use Rattle.nms_live.proofs.own_orders.part_by_desk.Goals as goal
