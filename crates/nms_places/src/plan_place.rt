@@ -1,5 +1,5 @@
 //! Which field of a plan's record does not say what a plan says: `specs/PlanFields`.
-ghost use Rattle.std.specs.Prelude.{◌≡◌, [], is_none, is_some};
+ghost use Rattle.std.specs.Prelude.{◌≡◌, [], drop, is_none, is_some};
 ghost use Rattle.csv.specs.Records.{fields_of};
 ghost use Rattle.nms_lines.specs.Fields.{flag_named};
 ghost use Rattle.nms_lines.specs.Layout.{field, is_text};
@@ -88,6 +88,13 @@ fn head_field(row: &ByteRecord, roster: &Roster) -> Option<FieldPlace>
     if price_of(text_at(row, 5)).is_none() {
         return Some(FieldPlace::at(5, FieldName::Limit));
     }
+    later_field(row, roster)
+}
+
+/// The same, of the fields behind the first five.
+fn later_field(row: &ByteRecord, roster: &Roster) -> Option<FieldPlace>
+    ensures { result ≡ first_wrong (drop 5 (head_looks roster.now (fields_of row.now))) }
+{
     if !is_flag(text_at(row, 6)) {
         return Some(FieldPlace::at(6, FieldName::Flag));
     }
