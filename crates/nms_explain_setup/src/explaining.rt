@@ -33,14 +33,22 @@ pub fn explain_setup<W: Write>(
         file,
         text,
     };
-    let utf8 = match str::from_utf8(text) {
-        Ok(utf8) => utf8,
+    match str::from_utf8(text) {
+        Ok(utf8) => explain_text(told, utf8, answers),
         Err(error) => {
             let place = error.valid_up_to();
-            return tell_no_toml(told, place, place, "the bytes are no UTF-8", answers);
+            tell_no_toml(told, place, place, "the bytes are no UTF-8", answers)
         }
-    };
-    match examine(alloc, utf8) {
+    }
+}
+
+/// Tells it of a text that is UTF-8.
+fn explain_text<W: Write>(
+    told: Told<'_>,
+    text: &str,
+    answers: &mut W,
+) -> Result<Ending, ShowFault> {
+    match examine(told.alloc, text) {
         Ok(Examined::NoToml(NoToml { start, end, error })) => {
             tell_no_toml(told, start, end, error.message(), answers)
         }

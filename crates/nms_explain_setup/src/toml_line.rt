@@ -70,17 +70,24 @@ pub(crate) fn names_key(name: &[u8], key: &[u8]) -> bool {
 
 /// The key that a text begins with, bare or in quotes, and what stands behind it.
 pub(crate) fn key_at(text: &[u8]) -> Option<(&[u8], &[u8])> {
-    let (first, rest) = text.split_first()?;
-    if *first == b'"' || *first == b'\'' {
-        let end = rest.iter().position(|byte| *byte == *first)?;
-        return Some((rest.get(..end)?, rest.get(end.saturating_add(1)..)?));
+    match text {
+        [quote @ (b'"' | b'\''), rest @ ..] => quoted_key(*quote, rest),
+        _ => bare_key(text),
     }
+}
+
+fn quoted_key(quote: u8, text: &[u8]) -> Option<(&[u8], &[u8])> {
+    let end = text.iter().position(|byte| *byte == quote)?;
+    let (key, rest) = text.split_at(end);
+    Some((key, rest.get(1..).unwrap_or(&[])))
+}
+
+fn bare_key(text: &[u8]) -> Option<(&[u8], &[u8])> {
     let end = text.iter().position(|byte| !is_bare(*byte));
-    let end = end.unwrap_or(text.len());
-    if end == 0 {
-        return None;
+    match text.split_at(end.unwrap_or(text.len())) {
+        ([], _) => None,
+        found => Some(found),
     }
-    Some((text.get(..end)?, text.get(end..)?))
 }
 
 /// Whether a byte may stand in a key without quotes.
