@@ -75,19 +75,18 @@ fn write_within<W: Write>(
     end: u64,
     answers: &mut W,
 ) -> Result<(), ShowFault> {
-    if span.low != span.high {
+    let is_wide = span.low != span.high;
+    if is_wide {
         let high = Item::Number(scale.down(span.high));
         let low = Item::Number(scale.down(span.low));
         put(answers, &[Item::Text("V"), high, Item::Text("V"), low])?;
     }
-    if span.last == 0 && span.low > 0 {
-        put(answers, &[Item::Text("H"), Item::Number(scale.column(end))])
-    } else if span.low != span.high {
-        put(
-            answers,
-            &[Item::Text("V"), Item::Number(scale.down(span.last))],
-        )
+    let (command, to) = if span.last == 0 && span.low > 0 {
+        ("H", scale.column(end))
+    } else if is_wide {
+        ("V", scale.down(span.last))
     } else {
-        Ok(())
-    }
+        return Ok(());
+    };
+    put(answers, &[Item::Text(command), Item::Number(to)])
 }

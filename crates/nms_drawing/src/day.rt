@@ -107,8 +107,21 @@ pub(crate) fn day_of(
         more: 0,
         last: None,
     };
+    match add_all(&mut day, board, changes, sym) {
+        Ok(()) => Ok(day),
+        Err(fault) => Err(fault),
+    }
+}
+
+/// Adds what each version shows.
+fn add_all(
+    day: &mut Day,
+    board: &mut Boards,
+    changes: &[Change],
+    sym: Sym,
+) -> Result<(), AllocError> {
     let mut moment = moment_of(board, sym);
-    add(&mut day, 0, &moment)?;
+    add(day, 0, &moment)?;
     for (change, version) in changes.iter().zip(1..u64::MAX) {
         if board.takes(change) {
             board.apply(*change);
@@ -116,9 +129,9 @@ pub(crate) fn day_of(
         if concerns(change, sym) {
             moment = moment_of(board, sym);
         }
-        add(&mut day, version, &moment)?;
+        add(day, version, &moment)?;
     }
-    Ok(day)
+    Ok(())
 }
 
 /// Whether a change may move a symbol's quotations.

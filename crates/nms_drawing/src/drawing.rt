@@ -6,7 +6,7 @@ use nms_board::Boards;
 use nms_fees::Setup;
 use nms_files::read_changes;
 use nms_lines::read_plan;
-use nms_quote::{Plan, Sym};
+use nms_quote::{Change, Plan, Roster, Sym};
 use nms_show::Ending;
 use std::alloc::Global;
 use std::io::{Read, Write};
@@ -24,29 +24,46 @@ pub fn draw_changes<R: Read + Drop, W: Write>(
     plan: Option<&[u8]>,
     answers: &mut W,
 ) -> Result<Ending, DrawingFault> {
-    let changes = match read_changes(alloc, setup, source) {
-        Ok(changes) => changes,
-        Err(fault) => return Err(DrawingFault::Changes(fault)),
+    match read_changes(alloc, setup, source) {
+        Ok(changes) => draw_with(alloc, setup, &changes, sym, plan, answers),
+        Err(fault) => Err(DrawingFault::Changes(fault)),
+    }
+}
+
+/// Draws it with the plan of a text.
+fn draw_with<W: Write>(
+    alloc: Global,
+    setup: &Setup,
+    changes: &[Change],
+    sym: Sym,
+    plan: Option<&[u8]>,
+    answers: &mut W,
+) -> Result<Ending, DrawingFault> {
+    let Some(text) = plan else {
+        return draw_day(alloc, setup.roster(), changes, sym, None, answers);
     };
-    let plan = match plan {
-        None => None,
-        Some(text) => Some(plan_in(alloc, setup, text)?),
-    };
-    let mut board = match Boards::new(alloc, setup.roster()) {
+    match read_plan(alloc, text, setup.roster()) {
+        Ok((plan, _)) => draw_day(alloc, setup.roster(), changes, sym, Some(&plan), answers),
+        Err(fault) => Err(DrawingFault::Plan(fault)),
+    }
+}
+
+/// Draws it with a plan.
+fn draw_day<W: Write>(
+    alloc: Global,
+    roster: &Roster,
+    changes: &[Change],
+    sym: Sym,
+    plan: Option<&Plan>,
+    answers: &mut W,
+) -> Result<Ending, DrawingFault> {
+    let mut board = match Boards::new(alloc, roster) {
         Ok(board) => board,
         Err(fault) => return Err(DrawingFault::Board(fault)),
     };
-    let Ok(day) = day_of(alloc, &mut board, &changes, sym) else {
-        return Err(DrawingFault::NoMemory);
-    };
-    write_picture(setup.roster(), sym, &day, plan.as_ref(), answers)?;
-    Ok(Ending::Done)
-}
-
-/// The plan of a text.
-fn plan_in(alloc: Global, setup: &Setup, text: &[u8]) -> Result<Plan, DrawingFault> {
-    match read_plan(alloc, text, setup.roster()) {
-        Ok((plan, _)) => Ok(plan),
-        Err(fault) => Err(DrawingFault::Plan(fault)),
+    match day_of(alloc, &mut board, changes, sym) {
+        Ok(day) => write_picture(roster, sym, &day, plan, answers)?,
+        Err(_) => return Err(DrawingFault::NoMemory),
     }
+    Ok(Ending::Done)
 }

@@ -83,36 +83,48 @@ impl<W: Write> Write for JsonLines<'_, W> {
     }
 }
 
+/// The columns of a line, and whether each is a number.
+const COLUMNS: [(&str, bool); 9] = [
+    ("version", true),
+    ("symbol", false),
+    ("market", false),
+    ("bid_participant", false),
+    ("bid_price", false),
+    ("bid_shares", true),
+    ("offer_participant", false),
+    ("offer_price", false),
+    ("offer_shares", true),
+];
+
 /// Writes the object of a line.
 fn write_fields<W: Write>(
     alloc: Global,
     answers: &mut W,
     line: &[u8],
 ) -> std::result::Result<(), ShowFault> {
-    let (version, rest) = field_of(line);
-    let (symbol, rest) = field_of(rest);
-    let (market, rest) = field_of(rest);
-    let (bid_participant, rest) = field_of(rest);
-    let (bid_price, rest) = field_of(rest);
-    let (bid_shares, rest) = field_of(rest);
-    let (offer_participant, rest) = field_of(rest);
-    let (offer_price, offer_shares) = field_of(rest);
-    write_object(
-        alloc,
-        answers,
-        &[
-            ("what", Item::Text("line")),
-            ("version", number_in(version)),
-            ("symbol", text_in(symbol)),
-            ("market", text_in(market)),
-            ("bid_participant", text_in(bid_participant)),
-            ("bid_price", text_in(bid_price)),
-            ("bid_shares", number_in(bid_shares)),
-            ("offer_participant", text_in(offer_participant)),
-            ("offer_price", text_in(offer_price)),
-            ("offer_shares", number_in(offer_shares)),
-        ],
-    )
+    write_object(alloc, answers, &members_of(line))
+}
+
+/// The fields of a line, each with its column.
+fn members_of<'a>(line: &'a [u8]) -> [(&'static str, Item<'a>); 10] {
+    let mut members = [("", Item::Absent); 10];
+    members[0] = ("what", Item::Text("line"));
+    let mut place: usize = 1;
+    let mut rest = line;
+    for (key, is_number) in COLUMNS {
+        let (field, behind) = field_of(rest);
+        if let Some(member) = members.get_mut(place) {
+            let item = if is_number {
+                number_in(field)
+            } else {
+                text_in(field)
+            };
+            *member = (key, item);
+        }
+        place = place.saturating_add(1);
+        rest = behind;
+    }
+    members
 }
 
 /// The first field of a line, and what stands behind its comma.

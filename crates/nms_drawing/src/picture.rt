@@ -49,19 +49,44 @@ pub(crate) fn write_picture<W: Write>(
     let drawn = Drawn::of(plan, sym, day);
     let legs = plan.filter(|_| drawn == Drawn::Whole);
     let scale = Scale::of(day, legs);
-    put(answers, &[Item::Text(HEAD)])?;
-    write_title(roster, sym, day, answers)?;
+    write_head(roster, sym, day, answers)?;
     write_words(roster, day, legs, drawn, answers)?;
-    put(answers, &[Item::Text(GROUND), Item::Text(LEGEND)])?;
-    write_heading(roster, sym, day, answers)?;
-    write_hatchings(day, &scale, answers)?;
-    write_axes(day, &scale, answers)?;
-    write_curves(day, &scale, answers)?;
+    write_ground(roster, sym, day, answers)?;
+    write_plot(day, &scale, answers)?;
     write_notes(day, drawn, answers)?;
     if let Some(plan) = legs {
         write_legs(roster, plan, &scale, answers)?;
     }
     put(answers, &[Item::Text("</svg>")])
+}
+
+/// Writes the head and the title.
+fn write_head<W: Write>(
+    roster: &Roster,
+    sym: Sym,
+    day: &Day,
+    answers: &mut W,
+) -> Result<(), ShowFault> {
+    put(answers, &[Item::Text(HEAD)])?;
+    write_title(roster, sym, day, answers)
+}
+
+/// Writes the ground, the legend and the heading.
+fn write_ground<W: Write>(
+    roster: &Roster,
+    sym: Sym,
+    day: &Day,
+    answers: &mut W,
+) -> Result<(), ShowFault> {
+    put(answers, &[Item::Text(GROUND), Item::Text(LEGEND)])?;
+    write_heading(roster, sym, day, answers)
+}
+
+/// Writes the plot: its hatchings, its axes, its curves.
+fn write_plot<W: Write>(day: &Day, scale: &Scale, answers: &mut W) -> Result<(), ShowFault> {
+    write_hatchings(day, scale, answers)?;
+    write_axes(day, scale, answers)?;
+    write_curves(day, scale, answers)
 }
 
 /// How a column is hatched: as crossed or as locked, and how high.

@@ -3,7 +3,7 @@ use crate::change_text::tell_change;
 use crate::drawing_fault::DrawingFault;
 use nms_fees::Setup;
 use nms_flow::{Flow, StepFault};
-use nms_lines::{ByteRecord, Line, Reading, open_records, read_line, read_next};
+use nms_lines::{ByteRecord, Line, Reader, Reading, open_records, read_line, read_next};
 use nms_quote::{Change, Roster, SideQuote};
 use nms_scripts::MOST_RECORDS;
 use nms_show::Ending;
@@ -47,10 +47,20 @@ fn read_script<R: Read + Drop>(
 ) -> Result<(), DrawingFault> {
     let mut reader = open_records(alloc, source);
     let mut row = ByteRecord::new(alloc);
+    run_records(&mut reader, &mut row, setup, taking)
+}
+
+/// Runs the records that a reader gives.
+fn run_records<R: Read>(
+    reader: &mut Reader<R>,
+    row: &mut ByteRecord,
+    setup: &Setup,
+    taking: &mut Taking,
+) -> Result<(), DrawingFault> {
     for done in 0..MOST_RECORDS + 1 {
-        match read_next(&mut reader, &mut row) {
+        match read_next(reader, row) {
             Ok(true) if done == MOST_RECORDS => return Err(DrawingFault::TooLong),
-            Ok(true) => run_record(taking, setup, &row)?,
+            Ok(true) => run_record(taking, setup, row)?,
             Ok(false) => return Ok(()),
             Err(fault) => return Err(DrawingFault::Record(fault)),
         }

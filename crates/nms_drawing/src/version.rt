@@ -10,7 +10,7 @@ use nms_fees::Setup;
 use nms_files::read_changes;
 use nms_nbbo::{Clause, Pair, PairPlace, best, market, market_between, next_pair};
 use nms_quote::{Change, Roster, Side, Sym};
-use nms_show::{Column, Ending, Form, Item, write_object, write_row};
+use nms_show::{Column, Ending, Form, Item, ShowFault, write_object, write_row};
 use nms_stream::{Quoted, quoted_on, word_of_market};
 use nms_text::report;
 use std::alloc::Global;
@@ -75,7 +75,7 @@ fn show_symbol<W: Write>(
 {
     let view = board.view(sym);
     if form.is_json() {
-        return show_view(alloc, roster, &view, answers);
+        return show_view(alloc, roster, &view, answers).map_err(DrawingFault::from);
     }
     let mut text = Vec::new(alloc);
     if report(&view, roster, &mut text).is_err() {
@@ -93,7 +93,7 @@ fn show_view<W: Write>(
     roster: &Roster,
     view: &View,
     answers: &mut W,
-) -> Result<(), DrawingFault> {
+) -> Result<(), ShowFault> {
     let symbol = sym_name(roster, view.sym());
     write_object(
         alloc,
@@ -122,7 +122,7 @@ fn show_one<W: Write>(
     row: &Row,
     is_best: bool,
     answers: &mut W,
-) -> Result<(), DrawingFault> {
+) -> Result<(), ShowFault> {
     let side = match side {
         Side::Bid => "BID",
         Side::Offer => "OFFER",
@@ -140,8 +140,7 @@ fn show_one<W: Write>(
             ("protected", Item::Flag(row.protected)),
             ("best", Item::Flag(is_best)),
         ],
-    )?;
-    Ok(())
+    )
 }
 
 /// Writes the pairs that lock or cross as objects.
@@ -150,7 +149,7 @@ fn show_pairs<W: Write>(
     roster: &Roster,
     view: &View,
     answers: &mut W,
-) -> Result<(), DrawingFault> {
+) -> Result<(), ShowFault> {
     let mut from = PairPlace::new(0);
     // Two participants of 32 make at most 1,024 pairs.
     for _ in 0..1024 {
@@ -172,7 +171,7 @@ fn show_pair<W: Write>(
     roster: &Roster,
     pair: &Pair,
     answers: &mut W,
-) -> Result<(), DrawingFault> {
+) -> Result<(), ShowFault> {
     let kind = if pair.crossed { "CROSS" } else { "LOCK" };
     let clause = match pair.clause {
         Clause::Protected => "PROTECTED",
@@ -199,8 +198,7 @@ fn show_pair<W: Write>(
             ),
             ("clause", Item::Text(clause)),
         ],
-    )?;
-    Ok(())
+    )
 }
 
 /// Writes the best bid and offer of each symbol.
@@ -210,7 +208,7 @@ fn show_all<W: Write>(
     board: &Boards,
     form: Form,
     answers: &mut W,
-) -> Result<(), DrawingFault> {
+) -> Result<(), ShowFault> {
     if !form.is_json() {
         write_row(answers, form, &columns(HEADS.map(Item::Strong)))?;
     }
@@ -239,7 +237,7 @@ fn show_best<W: Write>(
     quoted: &Quoted,
     form: Form,
     answers: &mut W,
-) -> Result<(), DrawingFault> {
+) -> Result<(), ShowFault> {
     let items = items_of(roster, sym, quoted);
     if form.is_json() {
         return show_object(alloc, version, items, answers);
@@ -250,8 +248,7 @@ fn show_best<W: Write>(
         (Some(_), None) => 5,
         (None, None) => 2,
     };
-    write_row(answers, form, &columns(items)[..shown])?;
-    Ok(())
+    write_row(answers, form, &columns(items)[..shown])
 }
 
 /// A symbol, its market, and each best row's participant, price and shares.
@@ -271,40 +268,41 @@ fn items_of<'a>(roster: &'a Roster, sym: Sym, quoted: &Quoted) -> [Item<'a>; 8] 
     ]
 }
 
+/// What stands in the table, as keys of an object.
+const KEYS: [&str; 8] = [
+    "symbol",
+    "market",
+    "bid_participant",
+    "bid_price",
+    "bid_shares",
+    "offer_participant",
+    "offer_price",
+    "offer_shares",
+];
+
 /// Writes these as an object.
 fn show_object<W: Write>(
     alloc: Global,
     version: u64,
     items: [Item<'_>; 8],
     answers: &mut W,
-) -> Result<(), DrawingFault> {
-    let [
-        symbol,
-        market,
-        bid,
-        bid_price,
-        bid_shares,
-        offer,
-        offer_price,
-        offer_shares,
-    ] = items;
-    write_object(
-        alloc,
-        answers,
-        &[
-            ("what", Item::Text("symbol")),
-            ("version", Item::Number(version)),
-            ("symbol", symbol),
-            ("market", market),
-            ("bid_participant", bid),
-            ("bid_price", bid_price),
-            ("bid_shares", bid_shares),
-            ("offer_participant", offer),
-            ("offer_price", offer_price),
-            ("offer_shares", offer_shares),
-        ],
-    )?;
-    Ok(())
+) -> Result<(), ShowFault> {
+    write_object(alloc, answers, &members_of(version, items))
+}
+
+/// A version's symbol, with the key of each item.
+fn members_of<'a>(version: u64, items: [Item<'a>; 8]) -> [(&'static str, Item<'a>); 10] {
+    let mut members = [("", Item::Absent); 10];
+    members[0] = ("what", Item::Text("symbol"));
+    members[1] = ("version", Item::Number(version));
+    let mut place: usize = 2;
+    for (key, item) in KEYS.iter().zip(items) {
+        if let Some(member) = members.get_mut(place) {
+            *member = (*key, item);
+        }
+        place = place.saturating_add(1);
+    }
+    members
 }
 
 /// A best row's participant, price and shares.

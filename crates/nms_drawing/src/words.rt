@@ -3,7 +3,7 @@
 use crate::day::{Day, NOTHING, Span};
 use crate::names::{part_name, sym_name};
 use crate::picture::put;
-use nms_quote::{Plan, Roster, Side, Sym};
+use nms_quote::{Leg, Plan, Roster, Side, Sym};
 use nms_show::{Item, ShowFault};
 use std::io::Write;
 
@@ -99,24 +99,32 @@ pub(crate) fn write_words<W: Write>(
     answers: &mut W,
 ) -> Result<(), ShowFault> {
     put(answers, &[Item::Text(LINES)])?;
-    write_range(
-        Item::Text("Best bids from "),
-        &range_of(day, Side::Bid),
-        answers,
-    )?;
-    write_range(
-        Item::Text("Best offers from "),
-        &range_of(day, Side::Offer),
-        answers,
-    )?;
-    write_counts(day, answers)?;
-    write_stretches(day, answers)?;
-    write_left_out(day, answers)?;
+    for side in [Side::Bid, Side::Offer] {
+        write_range(side, &range_of(day, side), answers)?;
+    }
+    write_marked(day, answers)?;
+    write_drawn(roster, plan, drawn, answers)
+}
+
+/// Writes what became of a plan, and its legs where it is drawn.
+fn write_drawn<W: Write>(
+    roster: &Roster,
+    plan: Option<&Plan>,
+    drawn: Drawn,
+    answers: &mut W,
+) -> Result<(), ShowFault> {
     put(answers, &[Item::Text(drawn.sentence())])?;
     if let Some(plan) = plan {
         write_plan(roster, plan, answers)?;
     }
     put(answers, &[Item::Text("</desc>")])
+}
+
+/// Writes how often a day is locked and crossed, and what was left out.
+fn write_marked<W: Write>(day: &Day, answers: &mut W) -> Result<(), ShowFault> {
+    write_counts(day, answers)?;
+    write_stretches(day, answers)?;
+    write_left_out(day, answers)
 }
 
 /// Writes below the picture how often it is locked and crossed, what was left out, and what became of a plan.
@@ -158,10 +166,14 @@ fn range_of(day: &Day, side: Side) -> Span {
 }
 
 /// Writes which prices a side has, if any.
-fn write_range<W: Write>(words: Item<'_>, range: &Span, answers: &mut W) -> Result<(), ShowFault> {
+fn write_range<W: Write>(side: Side, range: &Span, answers: &mut W) -> Result<(), ShowFault> {
     if range.low == 0 {
         return Ok(());
     }
+    let words = match side {
+        Side::Bid => "Best bids from ",
+        Side::Offer => "Best offers from ",
+    };
     let end = if range.last == 0 {
         Item::Text("with none")
     } else {
@@ -170,7 +182,7 @@ fn write_range<W: Write>(words: Item<'_>, range: &Span, answers: &mut W) -> Resu
     put(
         answers,
         &[
-            words,
+            Item::Text(words),
             Item::Price(range.low),
             Item::Text(" to "),
             Item::Price(range.high),
@@ -257,17 +269,22 @@ fn write_plan<W: Write>(roster: &Roster, plan: &Plan, answers: &mut W) -> Result
         ],
     )?;
     for leg in plan.legs.as_slice() {
-        put(
-            answers,
-            &[
-                Item::Number(u64::from(leg.shares.get())),
-                Item::Text(" at "),
-                Item::Text(part_name(roster, leg.part)),
-                Item::Text(" for "),
-                Item::of_price(leg.price),
-                Item::Text("."),
-            ],
-        )?;
+        write_leg(roster, leg, answers)?;
     }
     Ok(())
+}
+
+/// Writes a leg.
+fn write_leg<W: Write>(roster: &Roster, leg: &Leg, answers: &mut W) -> Result<(), ShowFault> {
+    put(
+        answers,
+        &[
+            Item::Number(u64::from(leg.shares.get())),
+            Item::Text(" at "),
+            Item::Text(part_name(roster, leg.part)),
+            Item::Text(" for "),
+            Item::of_price(leg.price),
+            Item::Text("."),
+        ],
+    )
 }
