@@ -127,24 +127,32 @@ fn explain_file<R: Read + Drop, W: Write>(
         from,
         form,
     };
-    let mut tally = Tally::new();
-    let mut reader = open_records(alloc, RecordSource::new(source));
-    let mut row = ByteRecord::new(alloc);
-    explain_records(&mut tally, &asked, &mut reader, &mut row, answers)?;
-    tally
-        .tell(alloc, file, form, answers)
-        .map_err(ExplainFault::Show)?;
-    Ok(tally)
+    let tally = explain_source(&asked, source, answers)?;
+    match tally.tell(alloc, file, form, answers) {
+        Ok(()) => Ok(tally),
+        Err(fault) => Err(ExplainFault::Show(fault)),
+    }
 }
 
-/// Tells each refused record that a reader gives, and counts all.
+/// Tells each refused record of a source, and counts all.
+fn explain_source<R: Read + Drop, W: Write>(
+    asked: &Asked<'_>,
+    source: R,
+    answers: &mut W,
+) -> Result<Tally, ExplainFault> {
+    let mut reader = open_records(asked.alloc, RecordSource::new(source));
+    let mut row = ByteRecord::new(asked.alloc);
+    explain_records(asked, &mut reader, &mut row, answers)
+}
+
+/// The same of the records that a reader gives.
 fn explain_records<R: Read, W: Write>(
-    tally: &mut Tally,
     asked: &Asked<'_>,
     reader: &mut Reader<RecordSource<R>>,
     row: &mut ByteRecord,
     answers: &mut W,
-) -> Result<(), ExplainFault> {
+) -> Result<Tally, ExplainFault> {
+    let mut tally = Tally::new();
     for _ in 0..u64::MAX {
         if !read_next(reader, row).map_err(ExplainFault::Record)? {
             break;
@@ -157,7 +165,7 @@ fn explain_records<R: Read, W: Write>(
             }
         }
     }
-    Ok(())
+    Ok(tally)
 }
 
 /// Tells a refused record, the one of that number.

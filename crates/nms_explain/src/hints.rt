@@ -4,6 +4,13 @@ use nms_lines::{ByteRecord, LineFault};
 use nms_places::{Counts, kind_of, text_at};
 use nms_quote::{Feed, Roster};
 
+/// The words that the records of a plan begin with.
+const PLAN_WORDS: [&str; 4] = ["PLAN", "LEG", "CUT", "END"];
+/// The words that answers begin with.
+const ANSWER_WORDS: [&str; 8] = [
+    "PUB", "TOLD", "BEST", "THRU", "ROW", "ERR", "TAPE", "ANSWER",
+];
+
 /// What a refused record looks like instead, where it looks like something.
 pub(crate) fn hint_of(
     fault: LineFault,
@@ -38,18 +45,31 @@ pub(crate) fn hint_of_kind(number: u64, text: &[u8]) -> &'static str {
 /// What a record looks like that begins with a word.
 fn hint_of_word(first: &[u8]) -> &'static str {
     match first {
-        b"PLAN" | b"LEG" | b"CUT" | b"END" =>
+        [letter] => hint_of_letter(*letter),
+        _ if is_one_of(&PLAN_WORDS, first) =>
             "this looks like the text of a plan: were files swapped?",
-        b"Q" | b"S" | b"X" | b"R" => "this looks like a file of changes: were files swapped?",
-        b"O" => "this looks like a file of orders: were files swapped?",
-        b"L" | b"N" | b"E" | b"T" | b"F" | b"P" =>
-            "this looks like a script: only a script has this kind",
-        b"PUB" | b"TOLD" | b"BEST" | b"THRU" | b"ROW" | b"ERR" | b"TAPE" | b"ANSWER" => {
+        _ if is_one_of(&ANSWER_WORDS, first) => {
             "this looks like the answers of a run: were files swapped?"
         }
-        [b'a'..=b'z'] => "kinds are capital letters",
         _ => "",
     }
+}
+
+/// What a record looks like that begins with a letter.
+fn hint_of_letter(first: u8) -> &'static str {
+    match first {
+        b'Q' | b'S' | b'X' | b'R' => "this looks like a file of changes: were files swapped?",
+        b'O' => "this looks like a file of orders: were files swapped?",
+        b'L' | b'N' | b'E' | b'T' | b'F' | b'P' =>
+            "this looks like a script: only a script has this kind",
+        b'a'..=b'z' => "kinds are capital letters",
+        _ => "",
+    }
+}
+
+/// Whether a word is one of these.
+fn is_one_of(words: &[&str], first: &[u8]) -> bool {
+    words.iter().any(|word| word.as_bytes() == first)
 }
 
 /// What a record looks like by the marks that stand before its first comma.

@@ -52,25 +52,28 @@ pub fn explain_plan<W: Write>(
         file,
         form,
     };
+    let mut reader = open_records(alloc, RecordSource::new(text));
+    let mut row = ByteRecord::new(alloc);
+    match explain_records(&asked, &mut reader, &mut row, answers) {
+        Ok(came) => tell_end(&came, &asked, reader.get_ref().end(), answers).map_err(
+            ExplainFault::Show,
+        ),
+        Err(fault) => Err(fault),
+    }
+}
+
+/// Tells each wrong record that a reader gives.
+fn explain_records<R: Read, W: Write>(
+    asked: &Asked<'_>,
+    reader: &mut Reader<RecordSource<R>>,
+    row: &mut ByteRecord,
+    answers: &mut W,
+) -> Result<Came, ExplainFault> {
     let mut came = Came {
         walk: PlanWalk::new(),
         records: 0,
         refused: 0,
     };
-    let mut reader = open_records(alloc, RecordSource::new(text));
-    let mut row = ByteRecord::new(alloc);
-    explain_records(&mut came, &asked, &mut reader, &mut row, answers)?;
-    tell_end(&came, &asked, reader.get_ref().end(), answers).map_err(ExplainFault::Show)
-}
-
-/// Tells each wrong record that a reader gives.
-fn explain_records<R: Read, W: Write>(
-    came: &mut Came,
-    asked: &Asked<'_>,
-    reader: &mut Reader<RecordSource<R>>,
-    row: &mut ByteRecord,
-    answers: &mut W,
-) -> Result<(), ExplainFault> {
     for _ in 0..u64::MAX {
         if !read_next(reader, row).map_err(ExplainFault::Record)? {
             break;
@@ -82,7 +85,7 @@ fn explain_records<R: Read, W: Write>(
             tell_trouble(asked, reader, came.records, row, due, trouble, answers)?;
         }
     }
-    Ok(())
+    Ok(came)
 }
 
 /// Tells a wrong record, the one of that number.

@@ -161,35 +161,50 @@ fn tell_object<W: Write>(
     point: Point,
     answers: &mut W,
 ) -> Result<(), ShowFault> {
-    let (quote_line, quote_column) = match refusal.quote {
-        Some(quote) => (Item::Number(quote.line), Item::Number(quote.column)),
-        None => (Item::Absent, Item::Absent),
-    };
+    write_object(alloc, answers, &members_of(refusal, point))
+}
+
+/// What is said of a refusal.
+fn members_of<'a>(refusal: &Refusal<'a>, point: Point) -> [(&'static str, Item<'a>); 15] {
+    let mut members = [("", Item::Absent); 15];
+    members[..8].copy_from_slice(&place_members(refusal, point));
+    members[8..].copy_from_slice(&finding_members(refusal));
+    members
+}
+
+/// Where a refusal stands, and its code.
+fn place_members<'a>(refusal: &Refusal<'a>, point: Point) -> [(&'static str, Item<'a>); 8] {
     let (number, name) = match refusal.field {
         Some(at) => (number_of(at), Item::Text(at.name.text())),
         None => (Item::Absent, Item::Absent),
     };
-    write_object(
-        alloc,
-        answers,
-        &[
-            ("what", Item::Text("refusal")),
-            ("file", Item::Bytes(refusal.file.as_bytes())),
-            ("line", Item::Number(point.line)),
-            ("column", Item::Number(point.column)),
-            ("record", Item::Number(refusal.number)),
-            ("code", Item::Text(refusal.code)),
-            ("field", number),
-            ("field_name", name),
-            ("text", Item::Bytes(refusal.text)),
-            ("found", refusal.found),
-            ("expected", Item::Text(refusal.expected)),
-            ("remedy", Item::Text(remedy_of(refusal.code))),
-            ("hint", text_or_absent(refusal.hint)),
-            ("quote_line", quote_line),
-            ("quote_column", quote_column),
-        ],
-    )
+    [
+        ("what", Item::Text("refusal")),
+        ("file", Item::Bytes(refusal.file.as_bytes())),
+        ("line", Item::Number(point.line)),
+        ("column", Item::Number(point.column)),
+        ("record", Item::Number(refusal.number)),
+        ("code", Item::Text(refusal.code)),
+        ("field", number),
+        ("field_name", name),
+    ]
+}
+
+/// What was found, and what is said of it.
+fn finding_members<'a>(refusal: &Refusal<'a>) -> [(&'static str, Item<'a>); 7] {
+    let (line, column) = match refusal.quote {
+        Some(quote) => (Item::Number(quote.line), Item::Number(quote.column)),
+        None => (Item::Absent, Item::Absent),
+    };
+    [
+        ("text", Item::Bytes(refusal.text)),
+        ("found", refusal.found),
+        ("expected", Item::Text(refusal.expected)),
+        ("remedy", Item::Text(remedy_of(refusal.code))),
+        ("hint", text_or_absent(refusal.hint)),
+        ("quote_line", line),
+        ("quote_column", column),
+    ]
 }
 
 /// Writes that a text ends where a record is expected.
