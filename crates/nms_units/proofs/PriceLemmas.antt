@@ -1,5 +1,6 @@
 -- A price's text is read as that price.
-use Rattle.std.proofs.Common.{◌≡◌, ℕ, ◌+◌, ◌-◌, ◌*◌, ◌/◌, ◌%◌, ◌^◌, ◌<◌, ◌≤◌, Bool, true, false, ◌==◌, List, [], ◌∷◌, ◌++◌, length, take, drop, get_or}
+use Rattle.std.proofs.Common.{◌≡◌, ℕ, ◌+◌, ◌-◌, ◌*◌, ◌/◌, ◌%◌, ◌^◌, ◌<◌, ◌≤◌, Bool, true, false, ◌==◌}
+use Rattle.std.proofs.Common.{List, [], ◌∷◌, ◌++◌, length, take, drop, get_or}
 use Rattle.std.proofs.Common.{Some, None, Ok, Err, refl, sym, ap, ◌∙◌, arith, lit<, lit≤, if◌then◌else◌}
 use Rattle.std.specs.Prelude.{option_map}
 use Rattle.std.proofs.lemmas.Bool.{and_parts}
@@ -69,4 +70,5 @@ price_number-cents text i j k whole a b long second third point number tens ones
     ∙ ap (λ rest. take i text ++ rest) (last_three text i j k long second third ∙ ap (λ c. c ∷ behind) point) in
     ap price_number split
     ∙ by_point-split dollars_and_decimals (take i text) behind _ (dollars_digits (take i text) whole number)
-    ∙ (λ n. both (number n) (two_decimals (get_or text j 0) (get_or text k 0) a b tens ones (value_of _ a tens ten) (value_of _ b ones one) n))
+    ∙ (λ n. both (number n)
+        (two_decimals (get_or text j 0) (get_or text k 0) a b tens ones (value_of _ a tens ten) (value_of _ b ones one) n))
