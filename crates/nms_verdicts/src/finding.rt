@@ -5,24 +5,23 @@ use nms_plan_places::{BreachPlace, CutPlace, CutSums, DoubtPlace, LegPlace, Pass
 use nms_quote::{CutKind, Order, Plan, Roster};
 use nms_show::Item;
 
-/// What a doubt is of.
-#[derive(Clone, Copy)]
-pub(crate) enum Subject<'a> {
-    /// The plan as a whole.
-    Plan,
-    /// One of its legs.
-    Leg(&'a LegPlace),
-    /// A cut of its certificate.
-    Cut(&'a CutPlace),
-}
-
-/// Where a doubt stands, what was found there, what was expected, and the line that says it.
+/// Where a doubt stands, what was found there, what was expected, and the lines that say it.
 #[derive(Clone, Copy)]
 pub(crate) struct Finding<'a> {
-    /// What is doubtful.
-    pub(crate) subject: Subject<'a>,
+    /// The line that names the leg or the cut.
+    pub(crate) place: &'static str,
     /// The line that says what is doubtful of it.
     pub(crate) words: &'static str,
+    /// The leg, counted from 1.
+    pub(crate) leg: Item<'static>,
+    /// The cut, counted from 1.
+    pub(crate) cut: Item<'static>,
+    /// The shares of the leg.
+    pub(crate) sent: Item<'static>,
+    /// Where the leg goes.
+    pub(crate) participant: Item<'a>,
+    /// The price of the leg or of the cut.
+    pub(crate) price: Item<'static>,
     /// What was found.
     pub(crate) found: Item<'static>,
     /// What was expected.
@@ -32,7 +31,7 @@ pub(crate) struct Finding<'a> {
 }
 
 /// What a verdict on a plan finds.
-pub(crate) fn finding_of<'a>(verdict: &'a Verdict, roster: &'a Roster, plan: &Plan) -> Finding<'a> {
+pub(crate) fn finding_of<'a>(verdict: &Verdict, roster: &'a Roster, plan: &Plan) -> Finding<'a> {
     match verdict {
         Verdict::Confirmed => of_plan("", Item::Absent, Item::Absent),
         Verdict::Beyond { changes } => of_plan(
@@ -45,9 +44,9 @@ pub(crate) fn finding_of<'a>(verdict: &'a Verdict, roster: &'a Roster, plan: &Pl
 }
 
 /// What is found where a doubt stands.
-fn of_doubt<'a>(place: &'a DoubtPlace, roster: &'a Roster, order: &Order) -> Finding<'a> {
+fn of_doubt<'a>(place: &DoubtPlace, roster: &'a Roster, order: &Order) -> Finding<'a> {
     match place {
-        DoubtPlace::Breach(place) => of_breach(place, order),
+        DoubtPlace::Breach(place) => of_breach(place, roster, order),
         DoubtPlace::NotMost { found, expected } => of_plan(
             "      it fills |found| shares; |expected| can be filled",
             Item::Number(u64::from(*found)),
@@ -61,185 +60,143 @@ fn of_doubt<'a>(place: &'a DoubtPlace, roster: &'a Roster, order: &Order) -> Fin
                 Item::of_price(row.price),
             )
         },
-        _ => of_cut(place),
-    }
-}
-
-/// What is found of a cut.
-fn of_cut(place: &DoubtPlace) -> Finding<'_> {
-    let (cut, words, found, expected) = match place {
-        DoubtPlace::CutExtra(cut) => (
+        DoubtPlace::CutExtra(cut) => of_cut(
             cut,
             "      no usable |contra| is at that price",
-            cut_price(cut),
+            Item::of_price(cut.cut.price),
             Item::Absent,
         ),
-        DoubtPlace::OutOfOrder { cut, later } => (
-            cut,
-            "      it does not stand at a better price than cut |other| behind it, at |expected|",
-            cut_price(cut),
-            cut_price(later),
-        ),
-        DoubtPlace::WrongKind { cut, sums } => (
-            cut,
-            denied_words(cut.cut.kind),
-            Item::Number(denied_shares(cut.cut.kind, sums)),
-            Item::Number(sums.most),
-        ),
-        DoubtPlace::MarginalRange(cut) => (
+        DoubtPlace::OutOfOrder { cut, later } => Finding {
+            other: number_of(later.number),
+            ..of_cut(
+                cut,
+                "      it does not stand at a better price than cut |other| behind it, at |expected|",
+                Item::of_price(cut.cut.price),
+                Item::of_price(later.cut.price),
+            )
+        },
+        DoubtPlace::WrongKind { cut, sums } => of_kind(cut, sums),
+        DoubtPlace::MarginalRange(cut) => of_cut(
             cut,
             "      its marginal, |found|, is not within -1000000000.000000000 and 1000000000.000000000",
             marginal_of(cut.cut.kind),
             Item::Absent,
         ),
-        DoubtPlace::BoundFails { cut, bound, cost } => (
+        DoubtPlace::BoundFails { cut, bound, cost } => of_cut(
             cut,
             "      the plan costs |found|; by this cut it should not exceed |expected|",
             Item::of_money(*cost),
             Item::of_money(*bound),
         ),
-        _ => return of_plan("", Item::Absent, Item::Absent),
+    }
+}
+
+/// What is found of a cut that says what the sums at its price deny.
+fn of_kind(cut: &CutPlace, sums: &CutSums) -> Finding<'static> {
+    let (words, shares) = match cut.cut.kind {
+        CutKind::TooMuch => (
+            "      it says TOOMUCH; |found| shares have to be swept first, no more than the |expected| that can be filled",
+            sums.swept,
+        ),
+        CutKind::TooLittle => (
+            "      it says TOOLITTLE; |found| shares have to be swept or may be taken, no less than the |expected| that can be filled",
+            sums.swept.saturating_add(sums.pool),
+        ),
+        CutKind::Marginal(_) => (
+            "      it says MARGINAL; |found| shares have to be swept first, more than the |expected| that can be filled",
+            sums.swept,
+        ),
     };
-    Finding {
-        subject: Subject::Cut(cut),
-        words,
-        found,
-        expected,
-        other: later_cut(place),
-    }
-}
-
-/// The number of the cut behind one that does not stand at a better price.
-fn later_cut(place: &DoubtPlace) -> Item<'static> {
-    match place {
-        DoubtPlace::OutOfOrder { later, .. } => number_of(later.number),
-        _ => Item::Absent,
-    }
-}
-
-/// The words for a cut that says what the sums at its price deny.
-fn denied_words(kind: CutKind) -> &'static str {
-    match kind {
-        CutKind::TooMuch => {
-            "      it says TOOMUCH; |found| shares have to be swept first, no more than the |expected| that can be filled"
-        }
-        CutKind::TooLittle => {
-            "      it says TOOLITTLE; |found| shares have to be swept or may be taken, no less than the |expected| that can be filled"
-        }
-        CutKind::Marginal(_) => {
-            "      it says MARGINAL; |found| shares have to be swept first, more than the |expected| that can be filled"
-        }
-    }
-}
-
-/// The shares by which they deny it.
-fn denied_shares(kind: CutKind, sums: &CutSums) -> u64 {
-    match kind {
-        CutKind::TooLittle => sums.swept.saturating_add(sums.pool),
-        CutKind::TooMuch | CutKind::Marginal(_) => sums.swept,
-    }
+    of_cut(cut, words, Item::Number(shares), Item::Number(sums.most))
 }
 
 /// What is found where a breach stands.
-fn of_breach<'a>(place: &'a BreachPlace, order: &Order) -> Finding<'a> {
-    let (words, found, expected) = match place {
-        BreachPlace::OtherVersion { found, expected } => (
+fn of_breach<'a>(place: &BreachPlace, roster: &'a Roster, order: &Order) -> Finding<'a> {
+    match place {
+        BreachPlace::OtherVersion { found, expected } => of_plan(
             "      it is of version |found|, and judged on version |expected|",
             Item::Number(*found),
             Item::Number(*expected),
         ),
-        BreachPlace::OtherOrder { .. } => (
+        BreachPlace::OtherOrder { .. } => of_plan(
             "      it is for another order than the one given",
             Item::Absent,
             Item::Absent,
         ),
-        BreachPlace::OverAsked { found, expected } => (
+        BreachPlace::OverAsked { found, expected } => of_plan(
             "      its legs have |found| shares; |expected| are asked for",
             Item::Number(*found),
             Item::Number(u64::from(*expected)),
         ),
-        BreachPlace::FilledWrong { found, expected } => (
+        BreachPlace::FilledWrong { found, expected } => of_plan(
             "      it says that |found| shares are filled; its legs have |expected|",
             Item::Number(u64::from(*found)),
             Item::Number(*expected),
         ),
-        BreachPlace::CostWrong { found, expected } => (
+        BreachPlace::CostWrong { found, expected } => of_plan(
             "      it says that it costs |found|; its legs cost, with fees, |expected|",
             Item::of_money(*found),
             Item::of_money(*expected),
         ),
-        _ => return of_leg(place, order),
-    };
-    of_plan(words, found, expected)
+        other => of_leg_breach(other, roster, order),
+    }
 }
 
 /// What is found at a leg.
-fn of_leg<'a>(place: &'a BreachPlace, order: &Order) -> Finding<'a> {
-    match leg_in(place) {
-        Some(leg) => Finding {
-            subject: Subject::Leg(leg),
-            words: words_at_leg(place, leg, order),
-            found: found_at_leg(place, leg),
-            expected: expected_at_leg(place, leg),
-            other: first_leg(place),
-        },
-        None => of_plan("", Item::Absent, Item::Absent),
-    }
-}
-
-/// The leg that has a breach.
-fn leg_in(place: &BreachPlace) -> Option<&LegPlace> {
+fn of_leg_breach<'a>(place: &BreachPlace, roster: &'a Roster, order: &Order) -> Finding<'a> {
     match place {
-        BreachPlace::NoSuchQuotation(leg)
-        | BreachPlace::PriceDiffers(leg)
-        | BreachPlace::ZeroLeg(leg)
-        | BreachPlace::OverSize(leg)
-        | BreachPlace::BeyondLimit { leg, .. }
-        | BreachPlace::Repeated { again: leg, .. }
-        | BreachPlace::TradedThrough { worst: leg, .. } => Some(leg),
-        _ => None,
-    }
-}
-
-/// What is doubtful of a leg.
-fn words_at_leg(place: &BreachPlace, leg: &LegPlace, order: &Order) -> &'static str {
-    match place {
-        BreachPlace::NoSuchQuotation(_) => why_none(order, leg),
-        BreachPlace::PriceDiffers(_) => "      its |contra| stands at |expected|",
-        BreachPlace::ZeroLeg(_) => "      it sends no share; its |contra| displays |expected|",
-        BreachPlace::OverSize(_) => "      its |contra| displays |expected| shares",
-        BreachPlace::BeyondLimit { .. } => "      the limit is |expected|",
-        BreachPlace::Repeated { .. } => "      leg |other| goes there too",
-        _ => "",
-    }
-}
-
-/// The shares of a leg where these are doubtful, else its price.
-fn found_at_leg(place: &BreachPlace, leg: &LegPlace) -> Item<'static> {
-    match place {
-        BreachPlace::ZeroLeg(_) | BreachPlace::OverSize(_) | BreachPlace::Repeated { .. } => {
-            shares_in(leg)
+        BreachPlace::NoSuchQuotation(leg) => {
+            of_leg(
+                roster,
+                leg,
+                why_none(order, leg),
+                leg_price(leg),
+                Item::Absent,
+            )
         }
-        _ => Item::of_price(leg.leg.price),
-    }
-}
-
-/// What a leg should be like.
-fn expected_at_leg(place: &BreachPlace, leg: &LegPlace) -> Item<'static> {
-    match place {
-        BreachPlace::PriceDiffers(_) => quoted_price(leg),
-        BreachPlace::ZeroLeg(_) | BreachPlace::OverSize(_) => displayed(leg),
-        BreachPlace::BeyondLimit { limit, .. } => Item::of_price(*limit),
-        BreachPlace::TradedThrough { passed, .. } => first_price(passed.as_slice()),
-        _ => Item::Absent,
-    }
-}
-
-/// The number of an earlier leg that goes to the same participant.
-fn first_leg(place: &BreachPlace) -> Item<'static> {
-    match place {
-        BreachPlace::Repeated { first, .. } => number_of(first.number),
-        _ => Item::Absent,
+        BreachPlace::PriceDiffers(leg) => of_leg(
+            roster,
+            leg,
+            "      its |contra| stands at |expected|",
+            leg_price(leg),
+            quoted_price(leg),
+        ),
+        BreachPlace::ZeroLeg(leg) => of_leg(
+            roster,
+            leg,
+            "      it sends no share; its |contra| displays |expected|",
+            shares_in(leg),
+            displayed(leg),
+        ),
+        BreachPlace::OverSize(leg) => of_leg(
+            roster,
+            leg,
+            "      its |contra| displays |expected| shares",
+            shares_in(leg),
+            displayed(leg),
+        ),
+        BreachPlace::BeyondLimit { leg, limit } => of_leg(
+            roster,
+            leg,
+            "      the limit is |expected|",
+            leg_price(leg),
+            Item::of_price(*limit),
+        ),
+        BreachPlace::Repeated { first, again } => Finding {
+            other: number_of(first.number),
+            ..of_leg(
+                roster,
+                again,
+                "      leg |other| goes there too",
+                shares_in(again),
+                Item::Absent,
+            )
+        },
+        BreachPlace::TradedThrough { worst, passed } => {
+            let expected = first_price(passed.as_slice());
+            of_leg(roster, worst, "", leg_price(worst), expected)
+        }
+        _ => of_plan("", Item::Absent, Item::Absent),
     }
 }
 
@@ -262,8 +219,13 @@ fn first_price(passed: &[PassedOver]) -> Item<'static> {
     }
 }
 
+/// A leg's price.
+fn leg_price(place: &LegPlace) -> Item<'static> {
+    Item::of_price(place.leg.price)
+}
+
 /// A leg's shares.
-pub(crate) fn shares_in(place: &LegPlace) -> Item<'static> {
+fn shares_in(place: &LegPlace) -> Item<'static> {
     Item::Number(u64::from(place.leg.shares.get()))
 }
 
@@ -283,11 +245,6 @@ fn displayed(place: &LegPlace) -> Item<'static> {
     }
 }
 
-/// A cut's price.
-fn cut_price(place: &CutPlace) -> Item<'static> {
-    Item::of_price(place.cut.price)
-}
-
 /// The marginal of a cut that has one.
 pub(crate) fn marginal_of(kind: CutKind) -> Item<'static> {
     match kind {
@@ -297,17 +254,59 @@ pub(crate) fn marginal_of(kind: CutKind) -> Item<'static> {
 }
 
 /// A number of a leg or of a cut, counted from 1.
-pub(crate) fn number_of(place: u8) -> Item<'static> {
+fn number_of(place: u8) -> Item<'static> {
     Item::Number(u64::from(place) + 1)
 }
 
 /// Of the plan as a whole.
 fn of_plan(words: &'static str, found: Item<'static>, expected: Item<'static>) -> Finding<'static> {
     Finding {
-        subject: Subject::Plan,
+        place: "",
         words,
+        leg: Item::Absent,
+        cut: Item::Absent,
+        sent: Item::Absent,
+        participant: Item::Absent,
+        price: Item::Absent,
         found,
         expected,
         other: Item::Absent,
+    }
+}
+
+/// Of a leg.
+fn of_leg<'a>(
+    roster: &'a Roster,
+    place: &LegPlace,
+    words: &'static str,
+    found: Item<'static>,
+    expected: Item<'static>,
+) -> Finding<'a> {
+    Finding {
+        place: "      leg |leg|, |sent| to |participant| at |price|",
+        words,
+        leg: number_of(place.number),
+        cut: Item::Absent,
+        sent: shares_in(place),
+        participant: name_of(roster, place.leg.part),
+        price: leg_price(place),
+        found,
+        expected,
+        other: Item::Absent,
+    }
+}
+
+/// Of a cut.
+fn of_cut(
+    place: &CutPlace,
+    words: &'static str,
+    found: Item<'static>,
+    expected: Item<'static>,
+) -> Finding<'static> {
+    Finding {
+        place: "      cut |cut| at |price|:",
+        cut: number_of(place.number),
+        price: Item::of_price(place.cut.price),
+        ..of_plan(words, found, expected)
     }
 }

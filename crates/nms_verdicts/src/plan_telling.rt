@@ -1,10 +1,10 @@
 //! A plan with its verdict.
-use crate::finding::{Finding, Subject, finding_of, number_of, shares_in};
+use crate::finding::{Finding, finding_of};
 use crate::names::{code_item, name_of, push_named, quotation_of, symbol_of, verb_of};
 use crate::telling::{Heading, tell};
 use crate::verdict::Verdict;
 use nms_plan_places::{BreachPlace, DoubtPlace, PassedOver};
-use nms_quote::{Order, Plan, Roster};
+use nms_quote::{Plan, Roster};
 use nms_show::{Form, Item, ShowFault};
 use std::alloc::Global;
 use std::io::Write;
@@ -60,7 +60,7 @@ fn tell_named<W: Write>(
         sentences[1],
         sentences[2],
         sentences[3],
-        place_line(finding.subject),
+        finding.place,
         finding.words,
     ];
     let lines = if headings.is_empty() {
@@ -87,19 +87,6 @@ fn facts_of<'a>(
     finding: &Finding<'a>,
     names: &'a [u8],
 ) -> [(&'static str, Item<'a>); 25] {
-    let mut facts = [("", Item::Absent); 25];
-    facts[..12].copy_from_slice(&order_facts(roster, number, plan, names));
-    facts[12..].copy_from_slice(&judged_facts(roster, plan, verdict, finding));
-    facts
-}
-
-/// Which plan it is, and what was asked for.
-fn order_facts<'a>(
-    roster: &'a Roster,
-    number: PlanNumber<'a>,
-    plan: &Plan,
-    names: &'a [u8],
-) -> [(&'static str, Item<'a>); 12] {
     let order = &plan.order;
     [
         ("what", Item::Text("plan")),
@@ -114,77 +101,20 @@ fn order_facts<'a>(
         ("limit", Item::of_price(order.limit)),
         ("manual", Item::Flag(order.manual)),
         ("self_help", Item::Bytes(names)),
-    ]
-}
-
-/// What the plan does, and what comes of judging it.
-fn judged_facts<'a>(
-    roster: &'a Roster,
-    plan: &Plan,
-    verdict: &Verdict,
-    finding: &Finding<'a>,
-) -> [(&'static str, Item<'a>); 13] {
-    let mut facts = [("", Item::Absent); 13];
-    facts[..5].copy_from_slice(&verdict_facts(plan, verdict));
-    facts[5..].copy_from_slice(&finding_facts(roster, finding));
-    facts
-}
-
-/// The same, without what is doubtful.
-fn verdict_facts<'a>(plan: &Plan, verdict: &Verdict) -> [(&'static str, Item<'a>); 5] {
-    [
         ("filled", Item::Number(u64::from(plan.filled))),
         ("cost", Item::of_money(plan.cost)),
         ("verdict", word_of(verdict)),
         ("code", code_item(verdict.code())),
         ("breach", code_item(verdict.breach())),
-    ]
-}
-
-/// What is doubtful.
-fn finding_facts<'a>(roster: &'a Roster, finding: &Finding<'a>) -> [(&'static str, Item<'a>); 8] {
-    let (leg, cut, participant, price, sent) = subject_items(roster, finding.subject);
-    [
-        ("leg", leg),
-        ("cut", cut),
-        ("participant", participant),
-        ("price", price),
-        ("sent", sent),
+        ("leg", finding.leg),
+        ("cut", finding.cut),
+        ("participant", finding.participant),
+        ("price", finding.price),
+        ("sent", finding.sent),
         ("found", finding.found),
         ("expected", finding.expected),
         ("other", finding.other),
     ]
-}
-
-/// Which leg or which cut is doubtful: the numbers of both, where it goes, its price, its shares.
-fn subject_items<'a>(
-    roster: &'a Roster,
-    subject: Subject<'a>,
-) -> (Item<'a>, Item<'a>, Item<'a>, Item<'a>, Item<'a>) {
-    let none = Item::Absent;
-    match subject {
-        Subject::Plan => (none, none, none, none, none),
-        Subject::Leg(place) => (
-            number_of(place.number),
-            none,
-            name_of(roster, place.leg.part),
-            Item::of_price(place.leg.price),
-            shares_in(place),
-        ),
-        Subject::Cut(place) => {
-            let price = Item::of_price(place.cut.price);
-            (none, number_of(place.number), none, price, none)
-        }
-    }
-}
-
-/// The line that names what is doubtful.
-fn place_line(subject: Subject<'_>) -> &'static str {
-    match subject {
-        Subject::Plan => "",
-        Subject::Leg(_) => "      leg |leg|, |sent| to |participant| at |price|",
-        Subject::Cut(_) => "      cut |cut| at |price|:",
-    }
 }
 
 /// The word of a verdict.
