@@ -135,55 +135,36 @@ fn tell_object<W: Write>(
     refusal: &Refusal<'_>,
     answers: &mut W,
 ) -> Result<(), ShowFault> {
-    write_object(alloc, answers, &members_of(refusal))
-}
-
-/// What is said of a refusal.
-fn members_of<'a>(refusal: &Refusal<'a>) -> [(&'static str, Item<'a>); 14] {
-    let mut members = [("", Item::Absent); 14];
-    members[..9].copy_from_slice(&place_members(refusal));
-    members[9..].copy_from_slice(&finding_members(refusal));
-    members
-}
-
-/// Where a refusal stands, and its code.
-fn place_members<'a>(refusal: &Refusal<'a>) -> [(&'static str, Item<'a>); 9] {
-    [
-        ("what", Item::Text("refusal")),
-        ("file", Item::Bytes(refusal.file.as_bytes())),
-        ("line", Item::Number(refusal.marked.number)),
-        ("column", Item::Number(refusal.marked.column())),
-        ("code", Item::Text(refusal.fault.code())),
-        ("table", array_item(refusal.table)),
-        ("place", place_item(refusal.table)),
-        ("name", text_item(refusal.name)),
-        ("key", text_item(refusal.key)),
-    ]
-}
-
-/// What was found, and what is said of it.
-fn finding_members<'a>(refusal: &Refusal<'a>) -> [(&'static str, Item<'a>); 5] {
-    let hint = match refusal.hint {
-        "" => Item::Absent,
-        hint => Item::Bytes(hint.as_bytes()),
-    };
-    [
-        ("text", Item::Bytes(refusal.marked.line)),
-        ("found", refusal.found),
-        ("expected", Item::Bytes(refusal.expected.as_bytes())),
-        ("remedy", Item::Text(remedy_of(refusal.fault))),
-        ("hint", hint),
-    ]
-}
-
-/// The array of which a table is an element.
-fn array_item<'a>(table: Option<SetupTable>) -> Item<'a> {
-    match table {
+    let table = match refusal.table {
         None => Item::Absent,
         Some(SetupTable::Top) => Item::Text("top"),
         Some(SetupTable::Participant(_)) => Item::Text("participant"),
         Some(SetupTable::Symbol(_)) => Item::Text("symbol"),
-    }
+    };
+    let hint = match refusal.hint {
+        "" => Item::Absent,
+        hint => Item::Bytes(hint.as_bytes()),
+    };
+    write_object(
+        alloc,
+        answers,
+        &[
+            ("what", Item::Text("refusal")),
+            ("file", Item::Bytes(refusal.file.as_bytes())),
+            ("line", Item::Number(refusal.marked.number)),
+            ("column", Item::Number(refusal.marked.column())),
+            ("code", Item::Text(refusal.fault.code())),
+            ("table", table),
+            ("place", place_item(refusal.table)),
+            ("name", text_item(refusal.name)),
+            ("key", text_item(refusal.key)),
+            ("text", Item::Bytes(refusal.marked.line)),
+            ("found", refusal.found),
+            ("expected", Item::Bytes(refusal.expected.as_bytes())),
+            ("remedy", Item::Text(remedy_of(refusal.fault))),
+            ("hint", hint),
+        ],
+    )
 }
 
 /// A text of the file, where there is one.
