@@ -71,4 +71,4 @@ price_number-cents text i j k whole a b long second third point number tens ones
     ap price_number split
     ∙ by_point-split dollars_and_decimals (take i text) behind _ (dollars_digits (take i text) whole number)
     ∙ (λ n. both (number n)
-        (two_decimals (get_or text j 0) (get_or text k 0) a b tens ones (value_of _ a tens ten) (value_of _ b ones one) n))
+    (two_decimals (get_or text j 0) (get_or text k 0) a b tens ones (value_of _ a tens ten) (value_of _ b ones one) n))

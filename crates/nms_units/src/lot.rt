@@ -68,14 +68,7 @@ impl Lot {
         ensures size { result ≡ displayed_size self shares }
         ensures within { result ≤ shares }
     {
-        let shares = shares.get();
-        match self.shares {
-            // The lots that stocks trade in. Dividing by a constant takes no division.
-            100 => shares / 100 * 100,
-            40 => shares / 40 * 40,
-            10 => shares / 10 * 10,
-            1 => shares,
-            lot => shares / u32::from(lot) * u32::from(lot),
-        }
+        let (shares, lot) = (shares.get(), u32::from(self.shares));
+        shares / lot * lot
     }
 }

@@ -85,7 +85,7 @@ returns-clause-ranks c =
     (omega arith) c.index-cells-sym.is c.index-lots-sym.is refl c.alter.ensures c.symbol_cells.ensures in
     rw (returns-clause-cells c)
     (ranks_altered sizes c.args.cells.now c.args.ranks.now c.args.part c.args.sym
-        (altered c.args.number c.args.change.now) c.settle.new.self of
+    (altered c.args.number c.args.change.now) c.settle.new.self of
     (length-change_cell c.args.cells.now (place_of c.args.part c.args.sym)
     (altered c.args.number c.args.change.now)) c.requires.ranks c.requires.own
     (λ side. subst (λ (g : ℕ → Option Row). IsKept side g c.args.parts (order_on side c.settle.new.self)) (known.is side)

@@ -2,8 +2,10 @@
 use Rattle.nms_scripts.proofs.script_record.serve_line.Goals as goal
 
 pub returns-in-Change : goal.returns-in-Change
-returns-in-Change c = record { served = rw c.in-Change.is (rw c.roster.ensures at c.serve_change.ensures.served);
-    room = c.serve_change.ensures.room }
+returns-in-Change c = record {
+  served = rw c.in-Change.is (rw c.roster.ensures at c.serve_change.ensures.served);
+  room = c.serve_change.ensures.room;
+}
 
 pub returns-in-TakeOne : goal.returns-in-TakeOne
 returns-in-TakeOne c = record { served = rw c.in-TakeOne.is c.serve_take.ensures.served; room = c.serve_take.ensures.room }

@@ -10,4 +10,4 @@ returns-then-index-word-clause-place g c =
     sym (place_in-own c.self.inside.entries.entries c.self.invariant.0 c.args.self.now c.self.view_is c.place_for-place.result
     c.args.name.now (name_at-word c.args.self.now c.self.inside.words.items (c.self.invariant.1 ∙ ap words_of c.self.view_is)
     c.place_for-place.result c.index.result.now c.args.name.now c.word_of-word.result (omega arith) (sym c.index.ensures
-        ∙ c.if-index-word.true) (sym c.word_of-word.ensures) (omega arith)))
+    ∙ c.if-index-word.true) (sym c.word_of-word.ensures) (omega arith)))
