@@ -1,5 +1,6 @@
 mod DecimalLemmas
 mod DigitLemmas
+mod LotLemmas
 mod MoneyLemmas
 mod Powers
 mod PriceLemmas

@@ -5,6 +5,10 @@ use Rattle.std.specs.Prelude.{ℕ, ◌*◌, ◌/◌, nat_le, if◌then◌else◌
 abbrev pub displayed_size : ℕ → ℕ → ℕ
 displayed_size lot shares = shares / lot * lot
 
+-- what a size is multiplied by in the place of a division by a lot
+abbrev pub reciprocal_of : ℕ → ℕ
+reciprocal_of lot = 18446744073709551615 / lot
+
 -- the round lot by the average closing price, in 1/10,000 dollar: 100 shares at 250 dollars or less, 40 up to
 -- 1,000 dollars, 10 up to 10,000 dollars, 1 above. A price between two tiers belongs to the higher-priced one
 abbrev pub average_lot : ℕ → ℕ

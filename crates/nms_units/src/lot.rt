@@ -12,19 +12,22 @@ use std::marker::Model;
 #[derive(Clone, Copy, Debug, PartialEq, Eq, PartialOrd, Ord, Hash)]
 pub struct Lot {
     shares: u16,
+    /// 2^64 - 1 divided by the shares, by which a size is rounded down to whole lots with no division.
+    reciprocal: u64,
 }
 
 impl Model for Lot {
-    ghost use Rattle.std.specs.Prelude.{ℕ, ◌≤◌};
+    ghost use Rattle.std.specs.Prelude.{ℕ, ◌≡◌, ◌≤◌};
+    ghost use Rattle.nms_units.specs.Lot.{reciprocal_of};
     ghost use Rattle.nms_units.specs.declared.TheConstants.{MOST_LOT};
 
     ghost Value = { ℕ };
 
     ghost view = { λ l. l.shares };
 
-    ghost invariant = { λ l. (1 ≤ l.shares) × (l.shares ≤ MOST_LOT) };
+    ghost invariant = { λ l. (1 ≤ l.shares) × (l.shares ≤ MOST_LOT) × (l.reciprocal ≡ reciprocal_of l.shares) };
 
-    ghost inverse = { λ n. record { shares = n } };
+    ghost inverse = { λ n. record { shares = n; reciprocal = reciprocal_of n } };
 }
 
 impl Lot {
@@ -33,7 +36,7 @@ impl Lot {
         ensures { SomeIff result ((1 ≤ shares) × (shares ≤ MOST_LOT)) shares }
     {
         if 1 <= shares && shares <= MOST_LOT {
-            Some(Lot { shares })
+            Some(Lot::of(shares))
         } else {
             None
         }
@@ -51,7 +54,17 @@ impl Lot {
             10_000_001..=100_000_000 => 10,
             _ => 1,
         };
-        Lot { shares }
+        Lot::of(shares)
+    }
+
+    /// The lot of a number of shares that is one.
+    fn of(shares: u16) -> Self
+        requires low { 1 ≤ shares }
+        requires high { shares ≤ MOST_LOT }
+        ensures { result ≡ shares }
+    {
+        let reciprocal = u64::MAX / u64::from(shares);
+        Lot { shares, reciprocal }
     }
 
     /// The number of shares in a lot, 1 to `MOST_LOT`.
@@ -63,12 +76,14 @@ impl Lot {
         self.shares
     }
 
-    /// The displayed size of a side in shares: what its message gives, rounded down to whole lots.
+    /// The displayed size of a side in shares: what its message gives, rounded down to whole lots. It is asked for at each
+    /// change and for each row of a look.
     pub fn displayed(self, shares: Shares) -> u32
         ensures size { result ≡ displayed_size self shares }
         ensures within { result ≤ shares }
     {
-        let (shares, lot) = (shares.get(), u32::from(self.shares));
-        shares / lot * lot
+        let more = u128::from(shares.get()) + 1;
+        let lots = (u128::from(self.reciprocal) * more >> 64) as u32;
+        lots * u32::from(self.shares)
     }
 }
