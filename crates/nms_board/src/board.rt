@@ -137,6 +137,7 @@ impl Boards {
 
     /// The quotation of a participant of the roster on a side of a symbol of it, if it is one: one of
     /// the rows of that symbol's view.
+    #[inline(always)]
     pub fn row(&self, side: Side, part: Part, sym: Sym) -> Option<Row>
         requires part { part < self.now.sizes.parts }
         requires sym { sym < length self.now.sizes.lots }
@@ -148,6 +149,7 @@ impl Boards {
 
     /// The row at a place of a side's rank order in a symbol, from 0 on: the one above which exactly so many
     /// of the symbol's rows on the side rank. `None` stands for the places from their number on, and for no other.
+    #[inline(always)]
     pub fn ranked(&self, side: Side, sym: Sym, at: u8) -> Option<Row>
         requires { sym < length self.now.sizes.lots }
         ensures ranked { result ≡ ranked_at side (rows_held self.now sym side) at }

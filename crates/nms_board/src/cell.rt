@@ -230,6 +230,7 @@ impl Cell {
     }
 
     /// The quotation of a side in lots of that size, if it is one.
+    #[inline(always)]
     pub(crate) fn row(&self, side: Side, part: Part, lot: Lot) -> Option<Row>
         ensures { result ≡ row_of_cell lot part side self.now }
     {

@@ -183,6 +183,7 @@ impl Flow {
     }
 
     /// The best bid and the best offer that a look at a symbol of the roster shows, with no view made.
+    #[inline(always)]
     pub fn best(&self, sym: Sym) -> BestRows
         requires { sym < length self.now.board.sizes.lots }
         ensures went { (desk : ℕ) → WentOn self.now self.now (step.Look desk sym, Ok (reply.Seen (seen_on self.now.board sym))) }

@@ -32,6 +32,7 @@ pub fn text_before(buf: &mut [u8], end: usize, text: &str) -> usize
 }
 
 /// Writes a comma and a number, which take 2 to 21 bytes, so that they end at a place, and tells where they start.
+#[inline(always)]
 pub fn number_before(buf: &mut [u8], end: usize, number: u64) -> usize
     requires room { 21 ≤ end }
     requires within { end ≤ length buf.old }
@@ -44,6 +45,7 @@ pub fn number_before(buf: &mut [u8], end: usize, number: u64) -> usize
 }
 
 /// Writes a comma and a price, which take 7 to 13 bytes, so that they end at a place, and tells where they start.
+#[inline(always)]
 pub fn price_before(buf: &mut [u8], end: usize, price: Price) -> usize
     requires room { 26 ≤ end }
     requires within { end ≤ length buf.old }
@@ -63,10 +65,12 @@ fn decimals_before(buf: &mut [u8], end: usize, number: u64) -> usize
     ensures start { result + 5 ≡ end }
     ensures written { drop result buf.new ≡ 46 ∷ digit_at 1000 number ∷ digit_at 100 number ∷ digit_at 10 number ∷ digit_at 1 number ∷ drop end buf.old }
 {
-    buf[end - 1] = digit(number % 10);
-    buf[end - 2] = digit(number / 10 % 10);
-    buf[end - 3] = digit(number / 100 % 10);
-    buf[end - 4] = digit(number / 1000 % 10);
+    let decimals = (number % 10_000) as u32;
+    let (front, back) = (decimals / 100, decimals % 100);
+    buf[end - 1] = digit(back % 10);
+    buf[end - 2] = digit(back / 10);
+    buf[end - 3] = digit(front % 10);
+    buf[end - 4] = digit(front / 10);
     buf[end - 5] = b'.';
     end - 5
 }
@@ -115,9 +119,10 @@ fn three_before(buf: &mut [u8], end: usize, number: u64) -> usize
     ensures start { result + 3 ≡ end }
     ensures written { drop result buf.new ≡ three_digits number ++ drop end buf.old }
 {
-    buf[end - 1] = digit(number % 10);
-    buf[end - 2] = digit(number / 10 % 10);
-    buf[end - 3] = digit(number / 100 % 10);
+    let decimals = (number % 1000) as u32;
+    buf[end - 1] = digit(decimals % 10);
+    buf[end - 2] = digit(decimals / 10 % 10);
+    buf[end - 3] = digit(decimals / 100);
     end - 3
 }
 
@@ -155,7 +160,7 @@ fn comma_before(buf: &mut [u8], end: usize) -> usize
 }
 
 /// The digit of a number below ten.
-pub(crate) fn digit(number: u64) -> u8
+pub(crate) fn digit(number: u32) -> u8
     requires { number < 10 }
     ensures { result ≡ 48 + number }
 {

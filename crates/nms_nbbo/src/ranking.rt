@@ -18,6 +18,7 @@ pub fn best(view: &View, side: Side) -> Option<Row>
 }
 
 /// The best bid or the best offer of a symbol of a board: that of its view, which is not made.
+#[inline(always)]
 pub fn best_on(board: &Boards, side: Side, sym: Sym) -> Option<Row>
     requires { sym < length board.now.sizes.lots }
     ensures best { IsBestOf side (rows_held board.now sym side) result }

@@ -1,5 +1,5 @@
 -- `Lot::displayed`: its clauses, by `lots_by_reciprocal`.
-use Rattle.std.proofs.Common.{◌≡◌, ◌+◌, ◌*◌, ◌/◌, arith, ap}
+use Rattle.std.proofs.Common.{◌≡◌, ◌+◌, ◌*◌, ◌/◌, ◌≤◌, arith, ap}
 use Rattle.std.proofs.Math.Nat.{div-mul-le_self}
 use Rattle.nms_units.specs.Lot.{displayed_size, reciprocal_of}
 use Rattle.nms_units.proofs.LotLemmas.{lots_by_reciprocal}
@@ -7,8 +7,9 @@ use Rattle.nms_units.proofs.lot.Lot.displayed.Goals as goal
 
 size : goal.returns-clause-size
 size c =
+    let few : c.args.shares ≤ 999999999 = omega (arith, c.get.ensures.number, c.get.ensures.high) in
     let lots : reciprocal_of c.self.inside.shares * (c.args.shares + 1) / 18446744073709551616 ≡ c.args.shares / c.self.inside.shares =
-    lots_by_reciprocal c.self.inside.shares c.args.shares c.self.invariant.0 c.self.invariant.1 (omega (arith, c.get.ensures.number, c.get.ensures.high)) in
+    lots_by_reciprocal c.self.inside.shares c.args.shares c.self.invariant.0 c.self.invariant.1 few in
     rw (c.from.ensures, c.self.invariant.2, c.from-more.ensures, c.get.ensures.number, c.from-2.ensures, lots)
     (ap (λ lot. displayed_size lot c.args.shares) c.self.view_is)
 
