@@ -1,6 +1,6 @@
 -- The rows that a board shows are of its own participants.
-use Rattle.std.proofs.Common.{ℕ, zero, suc, ◌≡◌, ◌+◌, ◌<◌, Bool, true, false, cond, List, [], ◌∷◌, Option, Some, None, arith, refl, subst}
-use Rattle.std.proofs.Common.{ap}
+use Rattle.std.proofs.Common.{ℕ, zero, suc, ◌≡◌, ◌+◌, ◌<◌, ◌≤◌, Bool, true, false, cond, List, [], ◌∷◌, Option, Some, None, arith, refl}
+use Rattle.std.proofs.Common.{ap, length, subst}
 use Rattle.std.specs.Prelude.{All, slice_get, slice_index, ◌==◌}
 use Rattle.std.specs.List.{AllByRecursion, cons_option, filter_map, range_with_len}
 use Rattle.std.specs.Option.{option_and_then}
@@ -19,6 +19,7 @@ use Rattle.nms_board.specs.History.{content_at, lot_at, on_side, receipt_of, sta
 use Rattle.nms_board.specs.View.{Seen, rows_on, view_of}
 use Rattle.nms_board.specs.declared.cell.Cell.{Cell}
 use Rattle.nms_board.specs.declared.row.Row.{Row}
+use Rattle.nms_board.proofs.RowLemmas.{length-filter_map-range}
 
 -- a quotation is of the participant that it is asked of
 quotation_part : (lot part : ℕ) (state : Option QState) (receipt : ℕ) (content : Option Content) (row : Row)
@@ -102,3 +103,7 @@ pub view_parts : (sizes : Sizes) (tape : Tape) (sym : ℕ) (side : Side)
     → All (λ (row : Row). row.part < sizes.parts) (rows_on side (view_of sizes tape sym))
 view_parts sizes tape symbol Bid = quoted_parts sizes tape symbol Bid
 view_parts sizes tape symbol Offer = quoted_parts sizes tape symbol Offer
+
+-- a side of a symbol has no more rows than there are participants
+pub held_few : (board : Board) (sym : ℕ) (side : Side) → length (rows_held board sym side) ≤ board.sizes.parts
+held_few board sym side = length-filter_map-range (row_held board sym side) 0 board.sizes.parts
