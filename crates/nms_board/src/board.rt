@@ -267,17 +267,11 @@ impl Boards {
             → result ≡ view_of self.now.sizes tape sym }
         ensures parts { (side : Side) → All (λ row. row.part < self.now.sizes.parts) (rows_on side result) }
     {
-        let Some(lot) = self.lot_of(sym) else {
-            return View::of_nothing(self.applied, sym);
-        };
-        let mut view = View {
-            version: self.applied,
-            sym,
-            bids: ArrayVec::new_in(()),
-            offers: ArrayVec::new_in(()),
-            orders: self.orders_of(sym),
-        };
-        self.show(sym, lot, &mut view.bids, &mut view.offers);
+        let mut view = View::of_nothing(self.applied, sym);
+        if let Some(lot) = self.lot_of(sym) {
+            view.orders = self.orders_of(sym);
+            self.show(sym, lot, &mut view.bids, &mut view.offers);
+        }
         view
     }
 
