@@ -8,3 +8,4 @@ pub mod Flow
 pub mod Laws
 pub mod Run
 pub mod Shape
+pub mod Takes

@@ -1,5 +1,5 @@
 //! The machine (specs/Flow): a published board, the changes sent since, and how many of these were taken.
-ghost use Rattle.std.specs.Prelude.{◌≡◌, ◌≢◌, ℕ, ◌+◌, ◌<◌, ◌≤◌, ◌++◌, ◌∷◌, List, [], All, length, take, drop, nat_lt, true, IfOk, IfErr, OnOk, OnErr, Ok, Err};
+ghost use Rattle.std.specs.Prelude.{◌≡◌, ◌≢◌, ℕ, ◌+◌, ◌-◌, ◌<◌, ◌≤◌, ◌++◌, ◌∷◌, List, [], All, length, take, drop, nat_lt, true, IfOk, IfErr, OnOk, OnErr, Ok, Err};
 ghost use Rattle.std.specs.VecDeque.{deque_len, deque_capacity};
 ghost use Rattle.nms_quote.specs.Roster.{holds};
 ghost use Rattle.nms_quote.specs.Tape.{Tape};
@@ -58,6 +58,7 @@ impl Model for Flow {
 impl Flow {
     ghost use Rattle.nms_flow.specs.Flow.{IsAfter, StandsAt, WentOn, room_of, room_under, start};
     ghost use Rattle.nms_flow.specs.Run.{Standing, after};
+    ghost use Rattle.nms_flow.specs.Takes.{TakesUntil};
 
     /// A machine with nothing sent, with the room that the setup gives. `NoMemory` leaves nothing.
     pub fn new(alloc: Global, setup: &Setup) -> Result<Self, FlowFault>
@@ -133,6 +134,30 @@ impl Flow {
         }
         self.pending += 1;
         Ok(version + 1)
+    }
+
+    /// Takes changes from the queue's front to the tape until a taking is refused, and gives the refusal, as that of
+    /// `take`: at once, for a taking by itself costs several times what it moves. `NoMemory` leaves the machine as
+    /// it was: the first taking would have succeeded, and none was made.
+    pub fn take_all(&mut self) -> StepFault
+        ensures run { TakesUntil result self.old self.new }
+        ensures sends_nothing { result ≢ StepFault.QueueFull }
+        ensures room { room_of self.new ≡ room_of self.old }
+        ensures empty { result ≡ StepFault.QueueEmpty → self.new ≡ record self.old { pending = length self.old.changes } }
+        ensures full { result ≡ StepFault.TapeFull → self.new ≡ record self.old { pending = self.old.most_taken - self.old.board.applied } }
+        ensures unchanged { result ≡ StepFault.NoMemory → self.new ≡ self.old }
+    {
+        let queued = self.changes.len() - self.pending;
+        let more = (queued as u64).min(self.most_taken - self.taken()) as usize;
+        let most = self.pending + more + self.most_queued;
+        let Ok(()) = make_room(&mut self.changes, most) else {
+            return StepFault::NoMemory;
+        };
+        self.pending += more;
+        if more == queued {
+            return StepFault::QueueEmpty;
+        }
+        StepFault::TapeFull
     }
 
     /// Makes the whole tape the published version, and gives its number. Takes no memory: each change taken
@@ -264,12 +289,13 @@ fn apply_all(board: &mut Boards, changes: &[Marked])
     }
 }
 
-/// Makes room for that many changes.
+/// Makes room for that many changes. It fails only where there was less.
 fn make_room(queue: &mut VecDeque<Marked>, most: usize) -> Result<(), AllocError>
     requires { deque_len queue.old ≤ most }
     ensures items { queue.new.items ≡ queue.old.items }
     ensures capacity { deque_capacity queue.old ≤ deque_capacity queue.new }
     ensures room { OnOk result (most ≤ deque_capacity queue.new) }
+    ensures full { OnErr result (deque_capacity queue.old < most) }
 {
     queue.reserve(most - queue.len())
 }

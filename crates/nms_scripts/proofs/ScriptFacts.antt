@@ -1,7 +1,6 @@
 -- How the answer to a script grows by one record.
 use Rattle.std.proofs.Common.{ℕ, ◌≡◌, ◌≢◌, ◌++◌, Bool, cond, true, false, List, [], ◌∷◌, Option, Some, Ok, Err, refl, ap, sym, subst, ◌∙◌}
 use Rattle.std.proofs.Common.{append_assoc}
-use Rattle.std.proofs.lemmas.List.Elements.{All-push}
 use Rattle.std.specs.Prelude.{IfOk, Result, count_by}
 use Rattle.std.specs.declared.alloc.AllocError.{AllocError}
 use Rattle.nms_quote.specs.Roster.{Listing, feed_of_change}
@@ -21,7 +20,8 @@ use Rattle.nms_lines.specs.Text.{text_of}
 use Rattle.nms_rules.specs.Accepted.{IsAccepted}
 use Rattle.nms_rules.specs.Through.{traded_through_at}
 use Rattle.nms_flow.specs.Flow.{State, IsAfter, WentOn}
-use Rattle.nms_flow.specs.Run.{Answer, Event, took}
+use Rattle.nms_flow.specs.Run.{Answer, Event}
+use Rattle.nms_flow.specs.Takes.{TakesUntil}
 use Rattle.nms_flow.specs.declared.step.Step.{Step}
 use Rattle.nms_flow.specs.declared.step.Step.TheVariants as step
 use Rattle.nms_flow.specs.declared.step_fault.StepFault.{StepFault}
@@ -31,7 +31,6 @@ use Rattle.nms_flow.specs.declared.reply.Reply.TheVariants as reply
 use Rattle.nms_flow.proofs.Offered.{goes_on}
 use Rattle.nms_text.specs.Answers.{best_record, through_head, through_records}
 use Rattle.nms_scripts.specs.Told.{told_by}
-use Rattle.nms_scripts.specs.Progress.{TakesSome, TakesUntil}
 use Rattle.nms_scripts.specs.Script.{AsksAll, AsksOne, Sends, Serves, ShowsBest, ShowsPlan, ShowsThrough, is_refusal}
 use Rattle.nms_scripts.proofs.PlanFacts.{plan_refuses_none}
 use Rattle.nms_scripts.proofs.ThroughFacts.{through_refuses_none}
@@ -131,22 +130,6 @@ shows_plan settings old new desk order seen plan cuts before after went accepted
   text,
   plan_refuses_none settings.roster plan cuts,
 )
-
--- one more was taken
-pub takes_more : (old now new : State) (r : Reply) → TakesSome old now → WentOn now new (step.Take, Ok r) → TakesSome old new
-takes_more old now new r some went before h =
-    let so_far = some before h in
-    let event : Event = (step.Take, Ok r) in (
-      so_far.0 ++ event ∷ [],
-      All-push (λ (e : Event). took e ≡ true) so_far.0 event so_far.1 refl,
-      subst (IsAfter new) (append_assoc before so_far.0 (event ∷ [])) (goes_on now new (before ++ so_far.0) event went so_far.2),
-    )
-
--- a taking was refused
-pub takes_until : (old now new : State) (why : StepFault) → TakesSome old now → WentOn now new (step.Take, Err why) → TakesUntil why old new
-takes_until old now new why some went before h =
-    let so_far = some before h in
-    (so_far.0, so_far.1, goes_on now new (before ++ so_far.0) (step.Take, Err why) went so_far.2)
 
 -- the tape was full
 pub takes_full : (number : ℕ) (old new : State) (before after : List ℕ) → TakesUntil fault.TapeFull old new

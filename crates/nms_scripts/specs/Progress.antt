@@ -1,5 +1,5 @@
--- How far a script has come between two records, and how far one that takes all has come between two takes.
-use Rattle.std.specs.Prelude.{ℕ, ◌≡◌, ◌≢◌, ◌+◌, ◌++◌, ◌∷◌, All, true, List, [], length, count_by, Option, Result, Ok, Err, if◌then◌else◌}
+-- How far a script has come between two records.
+use Rattle.std.specs.Prelude.{ℕ, ◌≡◌, ◌≢◌, ◌+◌, List, length, count_by, Option, Result, Ok, Err, if◌then◌else◌}
 use Rattle.std.specs.Io.KnownBytes.{Appends}
 use Rattle.csv.specs.declared.reader.Reader.{Reader}
 use Rattle.nms_lines.specs.Layout.{Record}
@@ -11,9 +11,7 @@ use Rattle.nms_scripts.specs.declared.script.Progress.TheVariants as progress
 use Rattle.nms_lines.specs.Text.{text_of}
 use Rattle.nms_flow.specs.Flow.{State, IsAfter, room_of, room_under}
 use Rattle.nms_fees.specs.Settings.{Settings}
-use Rattle.nms_flow.specs.Run.{Event, took}
-use Rattle.nms_flow.specs.declared.step.Step.TheVariants as step
-use Rattle.nms_flow.specs.declared.step_fault.StepFault.{StepFault}
+use Rattle.nms_flow.specs.Run.{Event}
 use Rattle.nms_scripts.specs.Script.{AnswersFrom, AnswersInPart, IsTooLong, is_refusal}
 
 -- so many records were answered, so many of them refused, and the answers were written
@@ -53,13 +51,3 @@ AdvancesTo remaining settings bytes reader machine old new done refused (Ok (pro
 AdvancesTo remaining settings bytes reader machine old new done refused (Ok progress.Ended) =
     (so_far : HasAnswered settings machine old new done refused) × AreAllRecords bytes so_far.records
 AdvancesTo remaining settings bytes reader machine old new done refused (Err fault) = IsEnd settings bytes old new done refused fault
-
--- the machine went on by some takes
-abbrev pub TakesSome : State → State → Type 0
-TakesSome old new = (before : List Event) → IsAfter old before
-    → (takes : List Event) × All (λ event. took event ≡ true) takes × IsAfter new (before ++ takes)
-
--- the machine went on by some takes and by one that was refused
-abbrev pub TakesUntil : StepFault → State → State → Type 0
-TakesUntil fault old new = (before : List Event) → IsAfter old before
-    → (takes : List Event) × All (λ event. took event ≡ true) takes × IsAfter new ((before ++ takes) ++ (step.Take, Err fault) ∷ [])

@@ -8,7 +8,6 @@ ghost use Rattle.nms_lines.specs.Text.{text_of};
 ghost use Rattle.nms_scripts.specs.Told.{told_by};
 ghost use Rattle.nms_flow.specs.Flow.{room_of, room_under};
 ghost use Rattle.nms_flow.specs.declared.step.Step.TheVariants as step;
-ghost use Rattle.nms_scripts.specs.Progress.{TakesUntil};
 ghost use Rattle.nms_scripts.specs.Script.{AnswersLine, AnswersRecord, AsksAll, AsksOne, IsRefused, Sends, Serves, ShowsBest, ShowsPlan, ShowsThrough};
 
 use crate::through::{is_beyond, tell_through};
@@ -35,9 +34,10 @@ pub(crate) fn serve(
     ensures room { room_of flow.new ≡ room_of flow.old }
 {
     let desks = setup.desks();
-    match read_line(row, setup.roster(), Reading::Script { desks }) {
-        Ok(line) => serve_line(flow, setup, &line, number, planner, out),
-        Err(fault) => refuse(flow, number, fault, out),
+    let read = read_line(row, setup.roster(), Reading::Script { desks });
+    match &read {
+        Ok(line) => serve_line(flow, setup, line, number, planner, out),
+        Err(fault) => refuse(flow, number, *fault, out),
     }
 }
 
@@ -129,27 +129,13 @@ fn serve_take_all(flow: &mut Flow, number: u64, out: &mut Vec<u8>) -> Result<boo
     ensures served { IfOk result (Serves (AsksAll number) flow.old flow.new (Some out.old.items) (Some out.new.items)) }
     ensures room { room_of flow.new ≡ room_of flow.old }
 {
-    match take_all(flow) {
+    match flow.take_all() {
         StepFault::QueueEmpty => {
             tell_published(out, flow.publish())?;
             Ok(false)
         }
         StepFault::NoMemory => Err(AllocError),
         fault => refuse_step(out, number, fault),
-    }
-}
-
-/// Takes until a taking is refused, and gives the refusal.
-fn take_all(flow: &mut Flow) -> StepFault
-    ensures run { TakesUntil result flow.old flow.new }
-    ensures sends_nothing { result ≢ StepFault.QueueFull }
-    ensures room { room_of flow.new ≡ room_of flow.old }
-{
-    'takes: loop {
-        match flow.take() {
-            Ok(_) => {}
-            Err(fault) => return fault,
-        }
     }
 }
 

@@ -1,0 +1,27 @@
+-- `Flow::take_all`: clause `run`, by what the takings one after another come to.
+use Rattle.std.proofs.Common.{◌≡◌, ◌+◌, arith, subst, sym}
+use Rattle.nms_flow.specs.Flow.{State}
+use Rattle.nms_flow.proofs.TakeLemmas.{takes_until_empty, takes_until_full, takes_until_wanting}
+use Rattle.nms_flow.proofs.flow.Flow.take_all.Goals as goal
+
+pub returns-in_default-clause-run : goal.returns-in_default-clause-run
+returns-in_default-clause-run c =
+    let taken = subst (λ (s : State). c.taken.result ≡ s.board.applied + s.pending) (sym c.self.view_is) c.taken.ensures.count in
+    rw (← c.self.view_is) (takes_until_wanting _ _ c.make_room.ensures.items
+    (λ e. absurd (omega (arith, e, c.len.ensures, c.min-more.ensures, c.in_default.ensures.full, c.self.invariant.room)))
+    (λ e. absurd (omega (arith, e, taken, c.min-more.ensures, c.in_default.ensures.full, c.self.invariant.room))))
+
+pub returns-then-more-queued-clause-run : goal.returns-then-more-queued-clause-run
+returns-then-more-queued-clause-run c =
+    let taken = subst (λ (s : State). c.taken.result ≡ s.board.applied + s.pending) (sym c.self.view_is) c.taken.ensures.count in
+    rw (← c.self.view_is) (takes_until_empty _ c.min-more.result _ c.make_room.ensures.items
+    (omega (arith, c.if-more-queued.true, c.len.ensures, c.self.invariant.pending))
+    (omega (arith, c.min-more.ensures, taken, c.self.invariant.taken)))
+
+pub returns-clause-run : goal.returns-clause-run
+returns-clause-run c =
+    let taken = subst (λ (s : State). c.taken.result ≡ s.board.applied + s.pending) (sym c.self.view_is) c.taken.ensures.count in
+    rw (← c.self.view_is) (takes_until_full _ c.min-more.result _ c.make_room.ensures.items
+    (omega (arith, c.min-more.ensures, c.len.ensures, c.self.invariant.pending))
+    (λ e. c.if-more-queued.false (omega (arith, e, c.len.ensures, c.self.invariant.pending)))
+    (omega (arith, c.min-more.ensures, c.if-more-queued.false, taken, c.self.invariant.taken)))
