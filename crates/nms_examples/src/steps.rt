@@ -52,8 +52,11 @@ fn offer_of(place: u8) -> Option<Change> {
     })
 }
 
-/// Makes the step that a word names, and adds what it is answered. One that speaks of strangers fails.
+/// Makes the step that a word names, or takes all, and adds what it is answered. One that speaks of strangers fails.
 fn give_step(flow: &mut Flow, word: &str, given: &mut Vec<u8>) -> Result<(), Failed> {
+    if word == "all" {
+        return writeln!(given, "{}", flow.take_all().code()).map_err(|_| Failed);
+    }
     // Moving a step takes a mention of the types in it: the prover has to have seen them.
     let _seen: Option<SideQuote> = None;
     let step = step_named(word).ok_or(Failed)?;
