@@ -137,8 +137,8 @@ impl Flow {
     }
 
     /// Takes changes from the queue's front to the tape until a taking is refused, and gives the refusal, as that of
-    /// `take`: at once, for a taking by itself costs several times what it moves. `NoMemory` leaves the machine as
-    /// it was: the first taking would have succeeded, and none was made.
+    /// `take`. It raises one count, however many are taken. `NoMemory` leaves the machine as it was: it comes before
+    /// the first taking, where that would have succeeded.
     pub fn take_all(&mut self) -> StepFault
         ensures run { TakesUntil result self.old self.new }
         ensures sends_nothing { result ≢ StepFault.QueueFull }
