@@ -26,10 +26,18 @@ abbrev pub flag_text : Bool → List ℕ
 flag_text true = codes "M"
 flag_text false = []
 
--- side,sym,shares,limit,flag: what an order asks for, within the record of its plan
+-- side,sym,shares,limit,flag: what an order for the symbol of that name asks for
+abbrev pub terms_fields : List ℕ → Terms → Record
+terms_fields name order =
+    side_letter order.side ∷ name ∷ decimal order.shares ∷ price_text order.limit ∷ flag_text order.manual ∷ []
+
+-- the same, within the record of its plan
 abbrev pub order_fields : Listing → Terms → Record
-order_fields roster order =
-    side_letter order.side ∷ symbol_text roster order.sym ∷ decimal order.shares ∷ price_text order.limit ∷ flag_text order.manual ∷ []
+order_fields roster order = terms_fields (symbol_text roster order.sym) order
+
+-- version,side,sym,shares,limit,flag,filled,cost: what a plan for the symbol of that name says of itself
+abbrev pub plan_fields : List ℕ → Plan → Record
+plan_fields name plan = decimal plan.version ∷ (terms_fields name plan.order ++ (decimal plan.filled ∷ money_text plan.cost ∷ []))
 
 -- PLAN,version,side,sym,shares,limit,flag,filled,cost, and the participants named where there are any
 abbrev pub plan_record : Listing → Plan → Record

@@ -17,7 +17,7 @@ use nms_quote::Roster;
 /// `the_least_fault_is_read`). A record of a kind that its source does not bring is `UnknownKind`, whatever
 /// the rest of it is.
 ///
-/// It takes no memory. Each field of a quotation of two quotes is read once.
+/// It takes no memory. Where both sides of a quotation quote, and in cents, each of its fields is read once.
 pub fn read_line(row: &ByteRecord, roster: &Roster, from: Reading) -> Result<Line, LineFault>
     ensures line { result ≡ reading roster.now from (fields_of row.now) }
     ensures of { IfOk result (IsLineOf roster.now from) }

@@ -2,12 +2,11 @@
 ghost use Rattle.std.specs.Prelude.{◌≡◌, ◌≢◌, ◌+◌, ◌<◌, ◌≤◌, ◌++◌, ◌∷◌, [], All, codes, drop, length, map, IfOk, IfSome, OnOk, Err};
 ghost use Rattle.std.specs.Fmt.{decimal};
 ghost use Rattle.std.specs.Io.KnownBytes.{Appends};
-ghost use Rattle.std.specs.List.{join_with_byte};
 ghost use Rattle.nms_units.specs.Money.{money_text};
 ghost use Rattle.nms_units.specs.Price.{price_text};
 ghost use Rattle.nms_quote.specs.Roster.{part_text, symbol_text};
 ghost use Rattle.nms_lines.specs.Named.{AreBelow, named_fields, names_text};
-ghost use Rattle.nms_lines.specs.PlanText.{cut_record, end_record, flag_text, kind_fields, leg_record, order_fields, plan_record, plan_text, side_letter};
+ghost use Rattle.nms_lines.specs.PlanText.{cut_record, end_record, flag_text, kind_fields, leg_record, order_fields, plan_fields, plan_record, plan_text, side_letter, terms_fields};
 ghost use Rattle.nms_lines.specs.Text.{later_fields, text_of};
 ghost use Rattle.nms_lines.specs.Written.{AppendsPart};
 
@@ -84,19 +83,65 @@ pub fn append_plan(
 fn append_head(out: &mut Vec<u8>, roster: &Roster, plan: &Plan) -> Result<(), AllocError>
     ensures { OnOk result (out.new.items ≡ out.old.items ++ text_of (plan_record roster.now plan.now ∷ [])) }
 {
-    begin_plan(out, plan.version)?;
-    push_order(out, roster, &plan.order)?;
-    push_sums(out, plan)?;
+    push_plan(out, roster, plan)?;
     push_named(out, roster, &plan.order)?;
     end_record(out)
 }
 
-/// Appends the first fields of a plan.
-fn begin_plan(out: &mut Vec<u8>, version: u64) -> Result<(), AllocError>
-    ensures { OnOk result (out.new.items ≡ out.old.items ++ join_with_byte 44 (codes "PLAN" ∷ decimal version ∷ [])) }
+/// Appends the fields of a plan up to its cost.
+fn push_plan(out: &mut Vec<u8>, roster: &Roster, plan: &Plan) -> Result<(), AllocError>
+    ensures { OnOk result (out.new.items ≡ out.old.items
+        ++ (codes "PLAN" ++ later_fields (plan_fields (symbol_text roster.now plan.now.order.sym) plan.now))) }
+{
+    let mut buf = [0; 144];
+    match plan_before(&mut buf, 144, name_of_sym(roster, plan.order.sym), plan) {
+        Some(start) => out.extend_from_slice(&buf[start..]),
+        None => push_wide_plan(out, roster, plan),
+    }
+}
+
+/// Writes the fields of a plan for the symbol of that name, which take at most 138 bytes, so that they end at a place, and
+/// tells where they start. `None` stands for a cost that 64 bits do not hold.
+fn plan_before(buf: &mut [u8], end: usize, name: &str, plan: &Plan) -> Option<usize>
+    requires room { 138 ≤ end }
+    requires within { end ≤ length buf.old }
+    requires name { length name.now ≤ 8 }
+    ensures within { IfSome result (λ start. start ≤ end) }
+    ensures written { IfSome result (λ start. drop start buf.new ≡ codes "PLAN" ++ later_fields (plan_fields name.now plan.now) ++ drop end buf.old) }
+{
+    let end = money_before(buf, end, plan.cost)?;
+    let end = number_before(buf, end, u64::from(plan.filled));
+    let end = order_before(buf, end, name, &plan.order);
+    let end = number_before(buf, end, plan.version);
+    Some(word_before(buf, end, "PLAN"))
+}
+
+/// Writes the fields of an order in the symbol of that name, which take at most 60 bytes, so that they end at a place, and
+/// tells where they start.
+fn order_before(buf: &mut [u8], end: usize, name: &str, order: &Order) -> usize
+    requires room { 60 ≤ end }
+    requires within { end ≤ length buf.old }
+    requires name { length name.now ≤ 8 }
+    ensures room { end ≤ result + 60 }
+    ensures within { result ≤ end }
+    ensures written { drop result buf.new ≡ later_fields (terms_fields name.now order.now) ++ drop end buf.old }
+{
+    let end = text_before(buf, end, flag_of(order.manual));
+    let end = price_before(buf, end, order.limit);
+    let end = number_before(buf, end, u64::from(order.shares.get()));
+    let end = text_before(buf, end, name);
+    text_before(buf, end, letter_of(order.side))
+}
+
+/// Appends the fields of a plan whose cost is of any size.
+fn push_wide_plan(out: &mut Vec<u8>, roster: &Roster, plan: &Plan) -> Result<(), AllocError>
+    ensures { OnOk result (out.new.items ≡ out.old.items
+        ++ (codes "PLAN" ++ later_fields (plan_fields (symbol_text roster.now plan.now.order.sym) plan.now))) }
 {
     out.extend_from_slice(b"PLAN")?;
-    push_number(out, version)
+    push_number(out, plan.version)?;
+    push_order(out, roster, &plan.order)?;
+    push_sums(out, plan)
 }
 
 /// Appends what a plan fills and what that costs.
@@ -267,7 +312,8 @@ fn append_end(out: &mut Vec<u8>) -> Result<(), AllocError>
 
 /// The name of a symbol, which is nothing where it is not of the roster.
 fn name_of_sym(roster: &Roster, sym: Sym) -> &str
-    ensures { result.now ≡ symbol_text roster.now sym }
+    ensures name { result.now ≡ symbol_text roster.now sym }
+    ensures short { length result.now ≤ 8 }
 {
     if roster.has_sym(sym) {
         roster.sym_name(sym)
@@ -290,7 +336,8 @@ fn name_of_part(roster: &Roster, part: Part) -> &str
 
 /// The letter of an order's side.
 fn letter_of(side: OrderSide) -> &'static str
-    ensures { result.now ≡ side_letter side }
+    ensures letter { result.now ≡ side_letter side }
+    ensures short { length result.now ≡ 1 }
 {
     match side {
         OrderSide::Buy => "B",
@@ -300,7 +347,8 @@ fn letter_of(side: OrderSide) -> &'static str
 
 /// The flag of an order that may trade with manual quotations.
 fn flag_of(manual: bool) -> &'static str
-    ensures { result.now ≡ flag_text manual }
+    ensures flag { result.now ≡ flag_text manual }
+    ensures short { length result.now ≤ 1 }
 {
     if manual { "M" } else { "" }
 }

@@ -5,8 +5,6 @@ use Rattle.nms_lines.proofs.plan_writing.append_head.Goals as goal
 
 pub returns : goal.returns
 returns c = on_ok_weaker c.end_record.result
-    (λ written. plan_head_written c.args.roster.now c.args.plan.now c.args.out.now.items c.begin_plan.new.out.items
-    c.push_order.new.out.items c.push_sums.new.out.items
-    c.push_named.new.out.items c.end_record.new.out.items c.in_ok-begin_plan.ensures c.in_ok-push_order.ensures c.in_ok-push_sums.ensures
-    c.in_ok-push_named.ensures written)
+    (λ written. plan_head_written c.args.roster.now c.args.plan.now c.args.out.now.items c.push_plan.new.out.items
+    c.push_named.new.out.items c.end_record.new.out.items c.in_ok-push_plan.ensures c.in_ok-push_named.ensures written)
     c.end_record.ensures
