@@ -33,6 +33,7 @@ plan_head_written roster plan old begun named new begins names ended =
     ∙ ap (λ (t : List ℕ). codes "PLAN" ++ t) parts ∙ sym (append_assoc (codes "PLAN") (later_fields fields) (later_fields last))) in
     let text : text_of (plan_record roster plan ∷ []) ≡ (head ++ later_fields last) ++ 10 ∷ [] =
     append-nil (record_text (plan_record roster plan)) ∙ joined in
-    ended
-    ∙ ap (λ (t : List ℕ). t ++ 10 ∷ []) (names ∙ ap (λ (t : List ℕ). t ++ later_fields last) begins ∙ append_assoc old head (later_fields last))
+    let so_far : named ≡ old ++ (head ++ later_fields last) =
+    names ∙ ap (λ (t : List ℕ). t ++ later_fields last) begins ∙ append_assoc old head (later_fields last) in
+    ended ∙ ap (λ (t : List ℕ). t ++ 10 ∷ []) so_far
     ∙ append_assoc old (head ++ later_fields last) (10 ∷ []) ∙ ap (λ (t : List ℕ). old ++ t) (sym text)
