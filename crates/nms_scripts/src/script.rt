@@ -4,6 +4,7 @@ ghost use Rattle.std.specs.Io.KnownBytes.{Appends};
 ghost use Rattle.csv.specs.Records.{fields_of};
 ghost use Rattle.nms_lines.specs.Layout.{Record};
 ghost use Rattle.nms_lines.specs.Records.{AreAllRecords, HasStopped, ReadsFrom};
+ghost use Rattle.nms_lines.specs.Written.{AppendsPart};
 ghost use Rattle.nms_flow.specs.Flow.{IsAfter, room_of, room_under};
 ghost use Rattle.nms_flow.specs.Run.{Event, published_by, taken_by};
 ghost use Rattle.nms_scripts.specs.Script.{Answers, AnswersBeginning, AnswersInPart};
@@ -139,8 +140,20 @@ fn advance<R: Read, W: Write>(
     ) else {
         return Err(ScriptFault::NoMemory);
     };
-    tell(writer, &script.answer)?;
+    tell_answer(writer, &script.answer)?;
     Ok(Progress::Answered { refused })
+}
+
+/// Tells an answer, if there is one: most records have none, and ask nothing of what writes.
+fn tell_answer<W: Write>(writer: &mut W, answer: &[u8]) -> Result<(), ScriptFault>
+    ensures written { OnOk result (Appends (W.contents writer.old) (W.contents writer.new) answer.now) }
+    ensures part { OnErr result (AppendsPart (W.contents writer.old) (W.contents writer.new) answer.now) }
+    ensures refused { IfErr result (λ fault. fault ≡ ScriptFault.WriteFault) }
+{
+    if answer.is_empty() {
+        return Ok(());
+    }
+    tell(writer, answer)
 }
 
 /// Reads the next record.

@@ -14,9 +14,9 @@ returns-clause-came g c bytes old refused come =
     let found = c.read.ensures.found bytes come.so_far.records come.reads (c.in_ok-read.was ∙ ap (λ (b : Bool). Ok b) c.if-not-branch.false)
     in
     comes_on g.R.Read.remaining c.args.setup.now bytes c.args.reader.now c.read.new.reader c.args.script.now.flow c.serve.new.flow old
-    (g.W.Write.contents c.args.writer.now) (g.W.Write.contents c.tell.new.writer)
+    (g.W.Write.contents c.args.writer.now) (g.W.Write.contents c.tell_answer.new.writer)
     c.args.done refused (fields_of c.read.new.row) c.clear.new.self.items c.serve.new.out.items c.deref.result.now c.in-Ok.refused
-    come found c.clear.ensures.items c.in-Ok.ensures.served c.in-Ok.ensures.room c.deref.ensures.value c.in_ok-tell.ensures.written
+    come found c.clear.ensures.items c.in-Ok.ensures.served c.in-Ok.ensures.room c.deref.ensures.value c.in_ok-tell_answer.ensures.written
 
 -- the answers to what was read before stand
 pub returns-in_err-read-clause-came : goal.returns-in_err-read-clause-came
@@ -50,13 +50,13 @@ returns-in_default-clause-came g c bytes old refused come =
     come come.reads.begins (λ e. cc))
 
 -- the writer failed within the answer to the last record that was read
-pub returns-in_err-tell-clause-came : goal.returns-in_err-tell-clause-came
-returns-in_err-tell-clause-came g c bytes old refused come =
+pub returns-in_err-tell_answer-clause-came : goal.returns-in_err-tell_answer-clause-came
+returns-in_err-tell_answer-clause-came g c bytes old refused come =
     let found = c.read.ensures.found bytes come.so_far.records come.reads (c.in_ok-read.was ∙ ap (λ (b : Bool). Ok b) c.if-not-branch.false)
     in
     let off = breaks_off g.R.Read.remaining c.args.setup.now bytes c.args.reader.now c.read.new.reader c.args.script.now.flow
-    c.serve.new.flow old (g.W.Write.contents c.args.writer.now) (g.W.Write.contents c.tell.new.writer)
+    c.serve.new.flow old (g.W.Write.contents c.args.writer.now) (g.W.Write.contents c.tell_answer.new.writer)
     c.args.done refused (fields_of c.read.new.row) c.clear.new.self.items c.serve.new.out.items c.deref.result.now c.in-Ok.refused
-    come found c.clear.ensures.items c.in-Ok.ensures.served c.in-Ok.ensures.room c.deref.ensures.value c.in_err-tell.ensures.part in
-    let is_fault : c.from_residual-in_err-tell.result ≡ Err c.in_err-tell.field-0.0 = search rules in
-    rw is_fault (record { stopped = λ other. absurd (other c.in_err-tell.ensures.refused); cut = λ _. off })
+    come found c.clear.ensures.items c.in-Ok.ensures.served c.in-Ok.ensures.room c.deref.ensures.value c.in_err-tell_answer.ensures.part in
+    let is_fault : c.from_residual-in_err-tell_answer.result ≡ Err c.in_err-tell_answer.field-0.0 = search rules in
+    rw is_fault (record { stopped = λ other. absurd (other c.in_err-tell_answer.ensures.refused); cut = λ _. off })
