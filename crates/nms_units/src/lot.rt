@@ -6,10 +6,11 @@ ghost use Rattle.nms_units.specs.Lot.{average_lot, displayed_size};
 use crate::MOST_LOT;
 use crate::price::Price;
 use crate::shares::Shares;
+use std::fmt;
 use std::marker::Model;
 
 /// A round lot: 1 to `MOST_LOT` (1,000) shares (17 CFR 242.600, "round lot").
-#[derive(Clone, Copy, Debug, PartialEq, Eq, PartialOrd, Ord, Hash)]
+#[derive(Clone, Copy, PartialEq, Eq, PartialOrd, Ord, Hash)]
 pub struct Lot {
     shares: u16,
     /// 2^64 - 1 divided by the shares, by which a size is rounded down to whole lots with no division.
@@ -85,5 +86,12 @@ impl Lot {
         let more = u128::from(shares.get()) + 1;
         let lots = (u128::from(self.reciprocal) * more >> 64) as u32;
         lots * u32::from(self.shares)
+    }
+}
+
+impl fmt::Debug for Lot {
+    /// The shares alone, as `Lot { shares: 100 }`: the reciprocal follows from them.
+    fn fmt<W: fmt::Write>(&self, f: &mut fmt::Formatter<W>) -> fmt::Result {
+        f.debug_struct("Lot").field("shares", &self.shares).finish()
     }
 }
