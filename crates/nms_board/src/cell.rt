@@ -107,14 +107,16 @@ impl Held {
         self.shares.get() > 0
     }
 
-    /// Takes what the change of that number says: the receipt stays where nothing is altered.
+    /// Takes what the change of that number says: the receipt stays where nothing is altered. The rest is written in
+    /// either case, since whether something is altered is by chance.
     pub(crate) fn take(&mut self, number: u32, quote: Option<SideQuote>)
         ensures { self.new ≡ held_after number quote self.old }
     {
-        let taken = Held::of(number, quote);
-        if self.price != taken.price || self.shares != taken.shares {
-            *self = taken;
+        let mut taken = Held::of(number, quote);
+        if (self.price == taken.price) & (self.shares == taken.shares) {
+            taken.receipt = self.receipt;
         }
+        *self = taken;
     }
 }
 
