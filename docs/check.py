@@ -9,6 +9,8 @@ failed.
 """
 import os
 import re
+import shutil
+import subprocess
 import sys
 
 TOP = os.path.dirname(os.path.dirname(os.path.realpath(__file__)))
@@ -419,6 +421,23 @@ def check_twice():
                 check(there, page, f"a block of Rust that no crate has: {text.strip()[:60]!r}")
 
 
+def kit_there():
+    """The toolchain that `rt version` names; none if `rt` is not on the path."""
+    command = shutil.which("rt")
+    said = subprocess.run([command, "version"], capture_output=True, text=True, check=False).stdout if command else ""
+    return re.findall(r"^rattle-kit-\w+", said)
+
+
+def check_kit():
+    """The pages name one toolchain, which README.md names, and it is the one that is there."""
+    page, kits = "README.md", {kit: page for page in PAGES for kit in re.findall(r"\brattle-kit-\w+", read(page))}
+    check(len(kits) < 2, ", ".join(sorted(kits.values())), f"two toolchains are named: {', '.join(sorted(kits))}")
+    named = re.findall(r"\brattle-kit-\w+", read(page))
+    check(len(named) == 1, page, f"it names the toolchain {len(named)} times, and one is wanted")
+    for kit in kit_there():
+        check(kit in named, page, f"it names {named}, and `rt version` prints {kit}")
+
+
 def check_cases():
     """examples/README.md lists each file of cases."""
     page = "examples/README.md"
@@ -429,7 +448,7 @@ def check_cases():
 
 def main():
     for part in (check_names, check_codes, check_statuses, check_links, check_claims, check_table, check_words, check_imports,
-                 check_proofs, check_front, check_twice, check_cases):
+                 check_proofs, check_front, check_twice, check_kit, check_cases):
         part()
     print(f"{COUNT['passed']} passed, {COUNT['failed']} failed")
     return 1 if COUNT["failed"] else 0
