@@ -401,7 +401,7 @@ def check_front():
 
 
 def check_twice():
-    """The headline, speeds, limits and the number of edits are said alike; a block of Rust is a crate's text."""
+    """The headline, speeds, limits and numbers of edits and of lines are said alike; a block of Rust is a crate's text."""
     headline = [re.findall(r"^> \**(.*?)\**$", read(it), re.M)[0] for it in ("README.md", "docs/HEADLINE.md")]
     check(headline[0] == headline[1], "README.md", "the headline is not that of docs/HEADLINE.md")
     number = r"\b\d{1,3}(?:,\d{3})+\b|\b\d\.\d+\b"
@@ -411,6 +411,10 @@ def check_twice():
     for most in re.findall(r"\d[\d,]*", limits):
         there = re.search(rf"(?<![\d,]){most}(?![\d,]| CFR)", read("docs/FORMATS.md") + read("docs/ERRORS.md"))
         check(bool(there), "README.md", f"the limit {most} stands in no other page")
+    page = "docs/CERTIFICATE.md"
+    for names, crate, count in re.findall(r"\(([^()]*) in `specs/` of `(nms_\w+)`, (\d+) lines with their heads", prose(page)):
+        lines = sum(read(f"crates/{crate}/specs/{it}.antt").count("\n") for it in SPAN.findall(names))
+        check(lines == int(count), page, f"{count} lines of {names}, and there are {lines}")
     edits = sum(len(it.edits) for it in TREE.values())
     for page in PAGES:
         for count in re.findall(r"\b(\d+) edits\b", prose(page)):
