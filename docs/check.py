@@ -71,10 +71,16 @@ class Crate:
         if any(it.startswith("src/trials/") for it in self.files):
             self.tests |= set(self.clauses)
         self.fields = set(re.findall(r"\b(\w+) :", self.specs))
+        root = self.root()
+        passed_on = " ".join(re.findall(r"pub use ([^;]*);", root))
+        self.public = set(re.findall(r"^ +pub fn (\w+)", self.src, re.M)) | set(re.findall(r"\w+", passed_on))
+
+    def root(self):
+        return source(f"crates/{self.name}/src/lib.rt") if "src/lib.rt" in self.files else ""
 
     def public_types(self):
         """The types that its root passes on from its own files."""
-        root = source(f"crates/{self.name}/src/lib.rt") if "src/lib.rt" in self.files else ""
+        root = self.root()
         mods = set(re.findall(r"^mod (\w+);", root, re.M))
         found = re.findall(r"pub use (\w+)::(?:\{([^}]*)\}|(\w+));", root)
         names = [it.strip() for mod, many, one in found if mod in mods for it in (many or one).split(",")]
@@ -273,13 +279,15 @@ def check_links():
 
 # Contracts.
 
-def has_clauses(page, crate, functions, clauses):
-    """Whether functions are of a crate, or of one that it stands on, and clauses or fields theirs."""
+def has_clauses(page, crate, functions, clauses, private=False):
+    """Whether functions are of a crate, or of one that it stands on, public or called private, and clauses or fields theirs."""
     having = set()
     for function in functions:
         name, kin = function.split("::")[-1], [TREE[it] for it in below(crate.name)]
         check(any(function.split("::")[0] in it.words for it in kin), page, f"{crate.name} has no `{function}`")
         check(any(name in it.clauses for it in kin) or not name.islower(), page, f"{crate.name} has no function `{function}`")
+        is_public = private or not name.islower() or any(name in it.public for it in kin)
+        check(is_public, page, f"{crate.name}: `{function}` is private, and the page does not say so")
         having = having.union(*(it.clauses.get(name, ()) for it in kin), {"output"} if "Display" in functions else ())
     for clause in clauses:
         check(clause in having or clause in crate.fields or is_path(clause) or re.search(rf"\b{clause}\b", crate.specs), page,
@@ -297,13 +305,28 @@ def check_claims():
                 functions = [it for it in functions if not is_path(it)]
                 same = functions or same
                 if not re.search(r"\(`\w+`|of `|inherits", before):
-                    has_clauses(page, TREE[name], functions or same, clauses)
+                    has_clauses(page, TREE[name], functions or same, clauses, "private" in before or not functions)
             for edit in SPAN.findall(row.get("Edits", "")):
                 check(any(edit in TREE[it].edits for it in below(name)), page, f"{name} has no edit `{edit}`")
             for column in ("Tests", "Cases and tests"):
                 for test in SPAN.findall(row.get(column, "")):
                     is_there = test in TESTS or is_path(test) and has_path(page, test) or test in CRATES or test in TITLES.split()
                     check(is_there, page, f"no test and no file of cases `{test}`")
+
+
+def check_calls():
+    """In "Every call" of CLAIMS.md each function is public, and each clause that a row names is a clause of its functions."""
+    page = "docs/CLAIMS.md"
+    public = set().union(*(it.public for it in TREE.values()))
+    for row in rows(sections(page, 2)["Every call"]):
+        names = [it.split("::")[-1] for it in SPAN.findall(row[CELLS][0]) if it not in TREE]
+        names = [it for it in names if it[0].islower()]
+        having = {"output"}.union(*(it.clauses.get(name, ()) for it in TREE.values() for name in names))
+        for name in names:
+            check(name in public, page, f"`{name}` is no public call, and has a row among them")
+        for clause in SPAN.findall(row["Where"]):
+            if re.fullmatch(r"[a-z_]+", clause):
+                check(clause in having | public | TESTS, page, f"{', '.join(names)}: no clause and no test `{clause}`")
 
 
 def check_table():
@@ -316,7 +339,7 @@ def check_table():
             for function, clauses in re.findall(r"`([\w:]+)`(?: \(([^)]*)\))?", re.sub(r"\(`[^)]*\)", lambda it: it[0], row["Contract"])):
                 if f"(`{function}`" not in row["Contract"] and f", `{function}`)" not in row["Contract"] \
                         and not re.search(rf"\([^)]*`{function}`[^)]*\)", row["Contract"]):
-                    has_clauses(page, TREE[name], [function], SPAN.findall(clauses))
+                    has_clauses(page, TREE[name], [function], SPAN.findall(clauses), f"private `{function}`" in row["Contract"])
     for name in CRATES:
         check(name in told or name in ("nms_bench", "nms_examples", "nms_tests"), page, f"`{name}` is not in the table")
 
@@ -451,7 +474,7 @@ def check_cases():
 
 
 def main():
-    for part in (check_names, check_codes, check_statuses, check_links, check_claims, check_table, check_words, check_imports,
+    for part in (check_names, check_codes, check_statuses, check_links, check_claims, check_calls, check_table, check_words, check_imports,
                  check_proofs, check_front, check_twice, check_kit, check_cases):
         part()
     print(f"{COUNT['passed']} passed, {COUNT['failed']} failed")
