@@ -1,14 +1,18 @@
 #!/usr/bin/env python3
-"""Proves and builds a program and the crates below it, side by side, and tells on standard error how far it is.
+"""Proves and builds a program and the crates below it, side by side, and reports on standard error how far it is.
 
-    build/crates.py [PROGRAM]
+    build/crates.py PROGRAM             builds nms_tool or nms_review
+    build/crates.py --expect PROGRAM    prints what a build takes, and builds nothing
 
-The program is `nms_tool`, or the one that is named. Each crate is built in a lane: a folder of its own with its sources
-and the built crates below it as hard links, since `rt lib` locks every folder that it reads. A built crate goes back to
-its place at once, so an interrupt loses only what was under way. `build/times` has each crate's processor seconds, as
-measured elsewhere, and the jobs that are cheapest for it; what this build took is written to `crates/PROGRAM/out/times`,
-and of which crates the program is built to `crates/PROGRAM/out/built_of`.
+Each crate is checked and built from nothing, as `rt ci` does it, and not over work that is kept, as `rt lib` does it: a
+check of a crate takes up to half as long again over libraries of the second kind. What is built from the same sources is
+not built again. A library comes to its place once it is whole, so an interrupt loses only what was under way.
+
+`build/times` has each crate's processor seconds, as measured on one machine, the jobs that are cheapest for it, and the
+megabytes of its library. What this build took is written to `crates/PROGRAM/out/times`.
 """
+import functools
+import heapq
 import os
 import re
 import shutil
@@ -17,116 +21,183 @@ import subprocess
 import sys
 import time
 
+sys.dont_write_bytecode = True
+
 TOP = os.path.dirname(os.path.dirname(os.path.realpath(__file__)))
-PROGRAM = sys.argv[1] if len(sys.argv) > 1 else "nms_tool"
-OUT = f"{TOP}/crates/{PROGRAM}/out"
-LANES = f"{OUT}/lanes"
 # Memory that a check of the largest crate takes, with some room.
 LANE_BYTES = 4_000_000_000
-# No line is further behind the one before.
+# The longest silence, in seconds.
 SILENCE = 30
 
 
-def say(text):
-    print(f"{PROGRAM}: {text}", file=sys.stderr, flush=True)
-
-
 def listed():
-    """Each crate of crates.txt with its line and the crates of this repository that it names."""
+    """The crates of this repository that each crate of crates.txt names."""
     with open(f"{TOP}/crates.txt", encoding="utf-8") as file:
         lines = [line for line in file if re.match(r"\w", line)]
     names = {re.match(r"\w+", line)[0]: line for line in lines}
-    return {name: (line, [it for it in line.partition(":")[2].split() if it in names]) for name, line in names.items()}
+    return {name: [it for it in line.partition(":")[2].split() if it in names] for name, line in names.items()}
 
 
 def below(crates, name):
-    """The crates below one, each behind those that it names."""
+    """The crates below one, each after those that it names."""
     found = []
-    for low in crates[name][1]:
+    for low in crates[name]:
         found += [it for it in [*below(crates, low), low] if it not in found]
     return found
 
 
-def times():
-    """Processor seconds and jobs of each crate."""
-    with open(f"{TOP}/build/times", encoding="utf-8") as file:
-        rows = [line.split() for line in file if re.match(r"\w", line)]
-    return {row[0]: (float(row[1]), int(row[2])) for row in rows}
-
-
 def lanes():
+    """How many crates are proved at once: one for each processor, as far as memory goes."""
     with open("/proc/meminfo", encoding="ascii") as file:
         free = 1024 * int(re.search(r"MemAvailable:\s+(\d+)", file.read())[1])
     return max(1, min(len(os.sched_getaffinity(0)), int(free // LANE_BYTES)))
 
 
-def link(folder, to):
-    """A folder's files as hard links."""
-    if os.path.isdir(folder):
-        shutil.copytree(folder, to, copy_function=os.link)
+class Plan:
+    """What is built, in which order, and what it takes by build/times."""
+
+    def __init__(self, program):
+        self.program, self.crates = program, listed()
+        self.all = [*below(self.crates, program), program]
+        with open(f"{TOP}/build/times", encoding="utf-8") as file:
+            rows = [line.split() for line in file if re.match(r"\w", line)]
+        self.times = {name: (float(seconds), int(jobs), int(size)) for name, seconds, jobs, size in rows}
+
+    def seconds(self, name):
+        return self.times.get(name, (60.0, 1, 100))[0]
+
+    def jobs(self, name):
+        return self.times.get(name, (60.0, 1, 100))[1]
+
+    def megabytes(self):
+        return sum(self.times.get(name, (60.0, 1, 100))[2] for name in self.all)
+
+    def processor(self):
+        """Seconds of processor of the whole."""
+        return sum(map(self.seconds, self.all))
+
+    @functools.cache
+    def chain(self, name):
+        """The seconds of the longest chain of crates from this one up."""
+        return self.seconds(name) + max((self.chain(it) for it in self.all if name in self.crates[it]), default=0)
+
+    def ready(self, left, done):
+        """Those of the crates that are left whose lower crates are done, the longest chain first."""
+        found = [it for it in left if all(low in done for low in self.crates[it])]
+        return sorted(found, key=self.chain, reverse=True)
+
+    def minutes(self, at_once, scale=1.0):
+        """How long the build takes with so many crates at once, if each takes `scale` times the seconds of build/times."""
+        left, done, running, now = [*self.all], set(), [], 0.0
+        while left or running:
+            for name in self.ready(left, done):
+                idle = at_once - sum(jobs for _, _, jobs in running)
+                if idle < 1:
+                    break
+                jobs = min(idle, self.jobs(name))
+                left.remove(name)
+                # Two jobs take two thirds of the time, and four take four ninths.
+                heapq.heappush(running, (now + scale * self.seconds(name) / jobs**0.6, name, jobs))
+            now, name, _ = heapq.heappop(running)
+            done.add(name)
+        return now / 60
+
+    def expects(self, at_once, scale=1.0):
+        """What a build takes, in words."""
+        many = "one processor" if at_once == 1 else f"{at_once} processors"
+        return f"about {self.minutes(at_once, scale):.0f} minutes on {many} ({scale * self.processor() / 60:.0f} minutes of processor)"
 
 
-def lay(crates, name):
-    """Makes the lane of a crate, and gives its folder in it."""
-    lane = f"{LANES}/{name}"
-    shutil.rmtree(lane, ignore_errors=True)
-    low = below(crates, name)
-    for it in [*low, name]:
-        for part in ("src", "specs", "proofs", "out/rlib", *["out/incremental"] * (it == name)):
-            link(f"{TOP}/crates/{it}/{part}", f"{lane}/crates/{it}/{part}")
-    with open(f"{lane}/crates.txt", "w", encoding="utf-8") as file:
-        file.writelines(crates[it][0] for it in [*low, name])
-    return f"{lane}/crates/{name}"
+class Toolchain:
+    """The toolchain that `rt` belongs to: its compiler, and the words by which its command `rt` calls it."""
 
+    def __init__(self):
+        page = subprocess.run(["rt", "doc"], stdout=subprocess.PIPE, check=True, text=True).stdout.split()[0]
+        self.folder = os.path.dirname(page)
+        sys.path.insert(0, f"{self.folder}/bin")
+        import rtlib
 
-def take_back(name):
-    """Puts what a lane built in its place."""
-    for part in ("rlib", "incremental"):
-        made, place = f"{LANES}/{name}/crates/{name}/out/{part}", f"{TOP}/crates/{name}/out/{part}"
-        if os.path.isdir(made):
-            shutil.rmtree(place, ignore_errors=True)
-            os.makedirs(os.path.dirname(place), exist_ok=True)
-            os.rename(made, place)
-    shutil.rmtree(f"{LANES}/{name}", ignore_errors=True)
+        self.rtlib = rtlib
+        # A crate's stamp is asked for by each crate above it.
+        rtlib.Crate.stamp = functools.cache(rtlib.Crate.stamp)
+        self.known = {}
+
+    def crate(self, name):
+        folder = f"{TOP}/crates/{name}"
+        if folder not in self.known:
+            self.known[folder] = self.rtlib.Crate(folder, TOP, self.known)
+        return self.known[folder]
+
+    def build(self, name, jobs, to):
+        """The command that proves a crate from nothing and builds it."""
+        crate = self.crate(name)
+        words = crate.words(["--jobs", str(jobs)], keeps=False)
+        if crate.is_program:
+            words += ["--toolchain", f"{self.folder}/toolchain", "--backend", "llvm"]
+        return [self.rtlib.RATTLE, "build", *words, "-o", to]
+
+    def link(self, made, to):
+        """Links a program that was built."""
+        words = ["--target", "x86_64-unknown-linux-gnu", "--toolchain", f"{self.folder}/toolchain", "-o", to, made]
+        libraries = [f"{self.folder}/c/{it}" for it in ("libos_c.a", "liblibc_c.a")]
+        subprocess.run([f"{self.folder}/bin/rattle-link", *words, *libraries], check=True)
 
 
 class Build:
-    def __init__(self):
-        self.crates, self.times, self.lanes = listed(), times(), lanes()
-        self.left = [*below(self.crates, PROGRAM), PROGRAM]
-        self.all, self.done, self.running, self.failed, self.took = len(self.left), [], {}, False, []
-        self.whole = sum(self.seconds(it) for it in self.left)
+    def __init__(self, plan):
+        self.plan, self.lanes, self.tools = plan, lanes(), Toolchain()
+        self.out = f"{TOP}/crates/{plan.program}/out"
+        self.left, self.done, self.running, self.failed, self.took = [], [], {}, False, []
+        for name in plan.all:
+            is_built = name != plan.program and self.tools.crate(name).is_built()
+            (self.done if is_built else self.left).append(name)
         self.spoke = self.began = time.monotonic()
 
-    def seconds(self, name):
-        return self.times.get(name, (60.0, 1))[0]
-
-    def behind(self, name):
-        """The seconds of the longest chain of crates from this one up."""
-        above = [self.behind(it) for it in [*self.left, *self.done] if name in self.crates[it][1]]
-        return self.seconds(name) + max(above, default=0)
-
     def tell(self, text):
-        say(text)
+        print(f"{self.plan.program}: {text}", file=sys.stderr, flush=True)
         self.spoke = time.monotonic()
 
     def jobs(self):
         return sum(jobs for _, _, jobs, _ in self.running.values())
 
     def share(self):
-        return f"{100 * sum(self.seconds(it) for it in self.done) / self.whole:.0f} of 100"
+        return f"{100 * sum(map(self.plan.seconds, self.done)) / self.plan.processor():.0f} of 100"
+
+    def made(self, name):
+        """Where a crate is built, before it comes to its place."""
+        return f"{TOP}/crates/{name}/out/made/{name}" + (".o" if name == self.plan.program else ".rlib")
 
     def start(self, name):
-        """Starts the proof of a crate. The program itself is also run once, to tell its version."""
-        is_program = name == PROGRAM
-        folder = f"{TOP}/crates/{name}" if is_program else lay(self.crates, name)
-        idle = self.lanes - self.jobs()
-        jobs = max(1, min(idle, self.times.get(name, (0, 1))[1]))
-        report = open(f"{OUT}/{name}.report", "w+", encoding="utf-8", errors="replace")
-        words = ["rt", "run" if is_program else "lib", "--jobs", str(jobs), *["--", "--version"] * is_program]
+        """Starts the proof of a crate."""
+        to = self.made(name)
+        shutil.rmtree(os.path.dirname(to), ignore_errors=True)
+        os.makedirs(os.path.dirname(to))
+        report = open(f"{self.out}/{name}.report", "w+", encoding="utf-8", errors="replace")
+        jobs = max(1, min(self.lanes - self.jobs(), self.plan.jobs(name)))
         how = {"stdin": subprocess.DEVNULL, "stdout": report, "stderr": subprocess.STDOUT}
-        process = subprocess.Popen(words, cwd=folder, **how)
+        process = subprocess.Popen(self.tools.build(name, jobs, to), cwd=f"{TOP}/crates/{name}", **how)
         self.running[process.pid] = name, report, jobs, process
+
+    def place(self, name):
+        """Brings what was built to its place, while no command `rt` works there."""
+        crate, to = self.tools.crate(name), self.made(name)
+        if crate.is_program:
+            self.tools.link(to, f"{self.out}/{name}")
+        else:
+            held = self.tools.rtlib.lock([crate])
+            folder = os.path.dirname(crate.rlib)
+            shutil.rmtree(folder, ignore_errors=True)
+            os.rename(os.path.dirname(to), folder)
+            with open(f"{folder}/stamp", "w", encoding="utf-8") as file:
+                file.write(crate.stamp())
+            for it in held:
+                os.close(it)
+        shutil.rmtree(os.path.dirname(to), ignore_errors=True)
+
+    def size(self, name):
+        """The megabytes of a library."""
+        paths = [f"{folder}/{it}" for folder, _, files in os.walk(f"{TOP}/crates/{name}/out/rlib") for it in files]
+        return round(sum(map(os.path.getsize, paths)) / 1_000_000)
 
     def end(self, pid, status, used):
         """Takes what a crate's proof came to."""
@@ -138,19 +209,20 @@ class Build:
             self.tell(f"{name} FAILED (status {status}); its report:")
             sys.stderr.write(report.read())
         else:
-            if name != PROGRAM:
-                take_back(name)
+            self.place(name)
             self.done.append(name)
-            self.took.append(f"{name} {used:.0f} {jobs}\n")
+            self.took.append(f"{name} {used:.0f} {jobs} {self.size(name)}\n")
             self.tell(f"{name} proved: {self.share()} done")
+            if len(self.took) == 1 and self.left:
+                self.tell(f"as fast as here, all {len(self.plan.all)} crates take {self.plan.expects(self.lanes, used / self.plan.seconds(name))}")
         report.close()
         os.remove(report.name)
 
     def wait(self):
-        """Waits for a proof to end, and tells that it goes on where that takes long."""
+        """Waits for a proof to end, and reports that it goes on if that takes long."""
         while True:
             pid, status, used = os.wait4(-1, os.WNOHANG)
-            if pid:
+            if pid in self.running:
                 return self.end(pid, os.waitstatus_to_exitcode(status), used.ru_utime + used.ru_stime)
             if time.monotonic() - self.spoke > SILENCE:
                 names = ", ".join(it[0] for it in self.running.values())
@@ -158,41 +230,50 @@ class Build:
             time.sleep(0.1)
 
     def run(self):
-        self.tell(f"proving and building {self.all} crates, {self.lanes} at a time; elsewhere that took {self.whole / 60:.0f} minutes of processor")
+        """Builds all that is left, and returns whether it was proved."""
+        room = self.plan.megabytes() / 1000
+        self.tell(
+            f"proving and building {len(self.left)} crates of {len(self.plan.all)}; all of them take {room:.1f} GB of disk, and on the"
+            f" machine of docs/GATE.md {self.plan.expects(self.lanes)}"
+        )
         while self.running or (self.left and not self.failed):
-            ready = [it for it in self.left if all(low in self.done for low in self.crates[it][1])]
-            ready.sort(key=self.behind, reverse=True)
-            for name in ready * (not self.failed):
+            for name in self.plan.ready(self.left, self.done) * (not self.failed):
                 if self.jobs() < self.lanes:
                     self.left.remove(name)
                     self.start(name)
             self.wait()
-        with open(f"{OUT}/times", "w", encoding="utf-8") as file:
+        with open(f"{self.out}/times", "w", encoding="utf-8") as file:
             file.writelines(self.took)
-        with open(f"{OUT}/built_of", "w", encoding="utf-8") as file:
-            file.write("\n".join([*below(self.crates, PROGRAM), PROGRAM, ""]))
         return not self.failed
 
     def stop(self):
         """Ends what is under way."""
-        for _, report, _, process in self.running.values():
-            process.terminate()
+        for name, report, _, process in self.running.values():
+            process.kill()
+            process.wait()
             os.remove(report.name)
-        shutil.rmtree(LANES, ignore_errors=True)
+            shutil.rmtree(os.path.dirname(self.made(name)), ignore_errors=True)
 
 
-def main():
-    os.makedirs(OUT, exist_ok=True)
+def main(words):
+    if len(words) == 2 and words[0] == "--expect":
+        plan = Plan(words[1])
+        print(f"{len(plan.all)} crates, {plan.expects(lanes())}, {plan.megabytes() / 1000:.1f} GB of disk")
+        return 0
+    if len(words) != 1:
+        sys.exit(__doc__)
+    plan = Plan(words[0])
+    os.makedirs(f"{TOP}/crates/{plan.program}/out", exist_ok=True)
     signal.signal(signal.SIGTERM, lambda *_: sys.exit(1))
-    build = Build()
+    build = Build(plan)
     try:
         return 0 if build.run() else 1
     except KeyboardInterrupt:
-        say("interrupted; what is built stays built")
+        build.tell("interrupted; what is built stays built")
         return 1
     finally:
         build.stop()
 
 
 if __name__ == "__main__":
-    sys.exit(main())
+    sys.exit(main(sys.argv[1:]))
