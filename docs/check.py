@@ -76,7 +76,8 @@ class Crate:
         self.public = set(re.findall(r"^ +pub fn (\w+)", self.src, re.M)) | set(re.findall(r"\w+", passed_on))
 
     def root(self):
-        return source(f"crates/{self.name}/src/lib.rt") if "src/lib.rt" in self.files else ""
+        root = "src/lib.rt" if "src/lib.rt" in self.files else "src/main.rt"
+        return source(f"crates/{self.name}/{root}") if root in self.files else ""
 
     def public_types(self):
         """The types that its root passes on from its own files."""

@@ -16,7 +16,7 @@ use Rattle.nms_files.specs.declared.audit_fault.AuditFault.TheVariants as fault
 use Rattle.nms_command.specs.Check.{Finding, Judges, JudgesFiles, JudgesOnFile, JudgesText, Says, Tells, doubt_record}
 use Rattle.nms_command.specs.declared.ending.Ending.{Ending}
 use Rattle.nms_command.specs.declared.ending.Ending.TheVariants as ending
-use Rattle.nms_command.specs.declared.tool_fault.ToolFault.{ToolFault}
+use Rattle.nms_command.specs.declared.command_fault.CommandFault.{CommandFault}
 
 -- only a finding of nothing is told as done
 best_of : (finding : Finding) (Best : Type 0) (old new : Option (List ℕ)) (ends : Ending) → OnOk finding Best → Tells finding old new ends
@@ -27,7 +27,7 @@ best_of (Err (fault.Doubt why)) Best old new ends best told is = absurd (cc (tol
 best_of (Err fault.NoMemory) Best old new ends best told is = absurd told
 
 -- a finding that was told
-pub judged : (r : Result Ending ToolFault) (settings : Settings) (tape : Tape) (plan : Plan) (cuts : List Cut) (finding : Finding)
+pub judged : (r : Result Ending CommandFault) (settings : Settings) (tape : Tape) (plan : Plan) (cuts : List Cut) (finding : Finding)
     (old new : Option (List ℕ))
     → IsFinding settings tape plan cuts finding → OnOk finding (IsBest settings tape plan) → IfOk r (Tells finding old new)
     → IfOk r (Judges settings tape plan cuts old new)
@@ -47,19 +47,19 @@ other_line doubt.MarginalRange other = refl
 other_line (doubt.BoundFails cut) other = refl
 
 -- a plan that was judged, as a text says it, and on the tape of a file
-pub on_text : (r : Result Ending ToolFault) (settings : Settings) (tape : Tape) (text : List ℕ) (plan : Plan) (cuts : List Cut)
+pub on_text : (r : Result Ending CommandFault) (settings : Settings) (tape : Tape) (text : List ℕ) (plan : Plan) (cuts : List Cut)
     (old new : Option (List ℕ))
     → Says settings.roster text plan cuts → IfOk r (Judges settings tape plan cuts old new) → IfOk r (JudgesText settings tape text old new)
 on_text (Ok ends) settings tape text plan cuts old new says judges = (plan, cuts, says, judges)
 on_text (Err why) settings tape text plan cuts old new says judges = tt
 
-pub on_file : (r : Result Ending ToolFault) (settings : Settings) (bytes : Option (List ℕ)) (tape : Tape) (text : List ℕ)
+pub on_file : (r : Result Ending CommandFault) (settings : Settings) (bytes : Option (List ℕ)) (tape : Tape) (text : List ℕ)
     (old new : Option (List ℕ))
     → IsFileTape settings bytes tape → IfOk r (JudgesText settings tape text old new) → IfOk r (JudgesOnFile settings bytes text old new)
 on_file (Ok ends) settings bytes tape text old new file judges = (tape, file, judges)
 on_file (Err why) settings bytes tape text old new file judges = tt
 
-pub on_files : (r : Result Ending ToolFault) (settings : Settings) (bytes : Option (List ℕ)) (text : List ℕ) (old new : Option (List ℕ))
+pub on_files : (r : Result Ending CommandFault) (settings : Settings) (bytes : Option (List ℕ)) (text : List ℕ) (old new : Option (List ℕ))
     → IfOk r (JudgesOnFile settings bytes text old new) → IfOk r (JudgesFiles settings old new)
 on_files (Ok ends) settings bytes text old new judges = (bytes, text, judges)
 on_files (Err why) settings bytes text old new judges = tt

@@ -1,4 +1,4 @@
 mod CheckFacts
+pub mod Offered
 mod PartFacts
-mod ServedFacts
-mod StatusFacts
+pub mod StatusFacts

@@ -8,10 +8,6 @@ use Rattle.nms_files.specs.declared.changes_fault.ChangesFault.{ChangesFault}
 use Rattle.nms_files.specs.declared.changes_fault.ChangesFault.TheVariants as changes
 use Rattle.nms_files.specs.declared.changes_fault.ReportFault.{ReportFault}
 use Rattle.nms_files.specs.declared.changes_fault.ReportFault.TheVariants as report
-use Rattle.nms_files.specs.declared.feed_fault.FeedFault.{FeedFault}
-use Rattle.nms_files.specs.declared.feed_fault.FeedFault.TheVariants as feed
-use Rattle.nms_files.specs.declared.orders_fault.OrdersFault.{OrdersFault}
-use Rattle.nms_files.specs.declared.orders_fault.OrdersFault.TheVariants as orders
 use Rattle.nms_files.specs.declared.plan_fault.PlanFault.{PlanFault}
 use Rattle.nms_files.specs.declared.plan_fault.PlanFault.TheVariants as plan
 use Rattle.nms_lines.specs.PlanFaults as plan_faults
@@ -20,9 +16,6 @@ use Rattle.nms_lines.specs.declared.plan_text_fault.PlanTextFault.{PlanTextFault
 use Rattle.nms_lines.specs.declared.plan_text_fault.PlanTextFault.TheVariants as plan_text
 use Rattle.nms_lines.specs.declared.record_fault.RecordFault.{RecordFault}
 use Rattle.nms_lines.specs.declared.record_fault.RecordFault.TheVariants as read
-use Rattle.nms_live.specs.Faults as live_faults
-use Rattle.nms_live.specs.declared.live_fault.LiveFault.{LiveFault}
-use Rattle.nms_live.specs.declared.live_fault.LiveFault.TheVariants as live
 use Rattle.nms_text.specs.Faults as text_faults
 use Rattle.nms_text.specs.declared.script_fault.ScriptFault.{ScriptFault}
 use Rattle.nms_text.specs.declared.script_fault.ScriptFault.TheVariants as script
@@ -32,13 +25,13 @@ use Rattle.nms_words.specs.Faults as words_faults
 use Rattle.nms_words.specs.declared.words_fault.WordsFault.{WordsFault}
 use Rattle.nms_words.specs.declared.words_fault.WordsFault.TheVariants as words
 use Rattle.nms_command.specs.Statuses.{status_of, status_of_ending}
+use Rattle.nms_command.specs.declared.command_fault.CommandFault.{CommandFault}
+use Rattle.nms_command.specs.declared.command_fault.CommandFault.TheVariants as command
 use Rattle.nms_command.specs.declared.ending.Ending.{Ending}
 use Rattle.nms_command.specs.declared.ending.Ending.TheVariants as ending
-use Rattle.nms_command.specs.declared.tool_fault.ToolFault.{ToolFault}
-use Rattle.nms_command.specs.declared.tool_fault.ToolFault.TheVariants as tool
 
 -- 1 to 7, and not 4
-abbrev IsFaultStatus : ℕ → Type 0
+abbrev pub IsFaultStatus : ℕ → Type 0
 IsFaultStatus status = (status < 8) × (status ≡ 0 → ⊥) × (status ≡ 4 → ⊥)
 
 one : IsFaultStatus 1
@@ -50,20 +43,20 @@ two = (omega arith, λ e. omega arith, λ e. omega arith)
 three : IsFaultStatus 3
 three = (omega arith, λ e. omega arith, λ e. omega arith)
 
-five : IsFaultStatus 5
+pub five : IsFaultStatus 5
 five = (omega arith, λ e. omega arith, λ e. omega arith)
 
-six : IsFaultStatus 6
+pub six : IsFaultStatus 6
 six = (omega arith, λ e. omega arith, λ e. omega arith)
 
 seven : IsFaultStatus 7
 seven = (omega arith, λ e. omega arith, λ e. omega arith)
 
-record_status : (fault : RecordFault) → IsFaultStatus (record_faults.status_of fault)
+pub record_status : (fault : RecordFault) → IsFaultStatus (record_faults.status_of fault)
 record_status read.Failed = one
 record_status read.NoMemory = five
 
-text_status : (fault : TextFault) → IsFaultStatus (text_faults.status_of_text fault)
+pub text_status : (fault : TextFault) → IsFaultStatus (text_faults.status_of_text fault)
 text_status told_text.NoMemory = five
 text_status told_text.WriteFault = one
 
@@ -82,14 +75,6 @@ plan_status : (fault : PlanFault) → IsFaultStatus (file_faults.status_of_plan 
 plan_status (plan.Changes inner) = changes_status inner
 plan_status (plan.Board board) = five
 plan_status (plan.Text fault) = text_status fault
-
-orders_status : (fault : OrdersFault) → IsFaultStatus (file_faults.status_of_orders fault)
-orders_status (orders.Record fault) = record_status fault
-orders_status (orders.Line line) = six
-
-feed_status : (fault : FeedFault) → IsFaultStatus (file_faults.status_of_feed fault)
-feed_status (feed.Record fault) = record_status fault
-feed_status feed.TooLong = six
 
 setup_status : (fault : SetupFault) → IsFaultStatus (setup_faults.status_of fault)
 setup_status setup.NotToml = three
@@ -113,42 +98,21 @@ plan_text_status plan_text.BadPlanText = six
 plan_text_status plan_text.NoMemory = five
 plan_text_status plan_text.WriteFault = one
 
-live_status : (fault : LiveFault) → IsFaultStatus (live_faults.status_of fault)
-live_status (live.Line of number why) = six
-live_status live.Open = seven
-live_status live.Append = seven
-live_status live.Desk = seven
-live_status live.GateLimit = seven
-live_status live.NoMemory = five
-
 words_status : (fault : WordsFault) → IsFaultStatus (words_faults.status_of fault)
 words_status (words.Parser told help) = two
 words_status words.NoMemory = five
 
-fault_status : (fault : ToolFault) → IsFaultStatus (status_of fault)
-fault_status (tool.Words fault) = words_status fault
-fault_status tool.Usage = two
-fault_status tool.Unreadable = one
-fault_status (tool.Setup fault) = setup_status fault
-fault_status (tool.Script fault) = script_status fault
-fault_status (tool.Report fault) = report_status fault
-fault_status (tool.Changes fault) = changes_status fault
-fault_status (tool.Plan fault) = plan_status fault
-fault_status (tool.PlanText fault) = plan_text_status fault
-fault_status tool.NoAudit = five
-fault_status (tool.Feed fault) = feed_status fault
-fault_status (tool.Orders fault) = orders_status fault
-fault_status (tool.Live fault) = live_status fault
-fault_status (tool.LiveText fault) = text_status fault
-
-pub fault_below : (fault : ToolFault) → status_of fault < 8
-fault_below fault = (fault_status fault).0
-
-pub fault_not_done : (fault : ToolFault) → status_of fault ≡ 0 → ⊥
-fault_not_done fault = (fault_status fault).1
-
-pub fault_not_judged : (fault : ToolFault) → status_of fault ≡ 4 → ⊥
-fault_not_judged fault = (fault_status fault).2
+pub fault_status : (fault : CommandFault) → IsFaultStatus (status_of fault)
+fault_status (command.Words fault) = words_status fault
+fault_status command.Usage = two
+fault_status command.Unreadable = one
+fault_status (command.Setup fault) = setup_status fault
+fault_status (command.Script fault) = script_status fault
+fault_status (command.Report fault) = report_status fault
+fault_status (command.Changes fault) = changes_status fault
+fault_status (command.Plan fault) = plan_status fault
+fault_status (command.PlanText fault) = plan_text_status fault
+fault_status command.NoAudit = five
 
 -- a request's ending is known by its status
 pub done_by : (ends : Ending) → status_of_ending ends ≡ 0 → ends ≡ ending.Done
@@ -158,7 +122,3 @@ done_by ending.NotConfirmed is = absurd (omega arith)
 pub judged_by : (ends : Ending) → status_of_ending ends ≡ 4 → ends ≡ ending.NotConfirmed
 judged_by ending.Done is = absurd (omega arith)
 judged_by ending.NotConfirmed is = refl
-
-pub ending_below : (ends : Ending) → status_of_ending ends < 8
-ending_below ending.Done = omega arith
-ending_below ending.NotConfirmed = omega arith

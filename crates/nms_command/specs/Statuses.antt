@@ -1,66 +1,43 @@
--- The exit status of each fault of the program, and the code that its line on standard error names: those that the crate of
+-- The exit status of each fault of a request, and the code that its line on standard error names: those that the crate of
 -- the fault gives it. This product's own rule: 1 for streams and files, 2 for words, 3 for the setup, 5 for memory, 6 for
--- lines, plans and lengths, 7 for a live run.
-use Rattle.std.specs.Prelude.{ℕ, ◌≡◌, ◌++◌, ◌∷◌, List, [], Option, codes}
-use Rattle.std.specs.String.{string_bytes}
+-- lines, plans and lengths.
+use Rattle.std.specs.Prelude.{ℕ, List, codes}
+use Rattle.nms_command.specs.declared.command_fault.CommandFault.{CommandFault}
+use Rattle.nms_command.specs.declared.command_fault.CommandFault.TheVariants as fault
 use Rattle.nms_command.specs.declared.ending.Ending.{Ending}
 use Rattle.nms_command.specs.declared.ending.Ending.TheVariants as ending
-use Rattle.nms_command.specs.declared.tool_fault.ToolFault.{ToolFault}
-use Rattle.nms_command.specs.declared.tool_fault.ToolFault.TheVariants as tool
 use Rattle.nms_fees.specs.Faults as setup_faults
 use Rattle.nms_files.specs.Faults as file_faults
 use Rattle.nms_lines.specs.PlanFaults as plan_faults
-use Rattle.nms_lines.specs.Written.{AppendsPart}
-use Rattle.nms_live.specs.Faults as live_faults
 use Rattle.nms_text.specs.Faults as text_faults
 use Rattle.nms_words.specs.Faults as words_faults
-use Rattle.nms_words.specs.declared.words_fault.WordsFault.TheVariants as words
 
--- how a request ends that was served: with 0, or with 4 where a plan was judged and is not confirmed
+-- how a request ends that was served: with 0, or with 4 if a plan was judged and is not confirmed
 abbrev pub status_of_ending : Ending → ℕ
 status_of_ending ending.Done = 0
 status_of_ending ending.NotConfirmed = 4
 
-abbrev pub status_of : ToolFault → ℕ
-status_of (tool.Words fault) = words_faults.status_of fault
-status_of tool.Usage = 2
-status_of tool.Unreadable = 1
-status_of (tool.Setup fault) = setup_faults.status_of fault
-status_of (tool.Script fault) = text_faults.status_of_script fault
-status_of (tool.Report fault) = file_faults.status_of_report fault
-status_of (tool.Changes fault) = file_faults.status_of_changes fault
-status_of (tool.Plan fault) = file_faults.status_of_plan fault
-status_of (tool.PlanText fault) = plan_faults.status_of fault
-status_of tool.NoAudit = 5
-status_of (tool.Feed fault) = file_faults.status_of_feed fault
-status_of (tool.Orders fault) = file_faults.status_of_orders fault
-status_of (tool.Live fault) = live_faults.status_of fault
-status_of (tool.LiveText fault) = text_faults.status_of_text fault
+abbrev pub status_of : CommandFault → ℕ
+status_of (fault.Words own) = words_faults.status_of own
+status_of fault.Usage = 2
+status_of fault.Unreadable = 1
+status_of (fault.Setup own) = setup_faults.status_of own
+status_of (fault.Script own) = text_faults.status_of_script own
+status_of (fault.Report own) = file_faults.status_of_report own
+status_of (fault.Changes own) = file_faults.status_of_changes own
+status_of (fault.Plan own) = file_faults.status_of_plan own
+status_of (fault.PlanText own) = plan_faults.status_of own
+status_of fault.NoAudit = 5
 
 -- what the line on standard error names
-abbrev pub code_of : ToolFault → List ℕ
-code_of (tool.Words fault) = codes "G2"
-code_of tool.Usage = codes "usage"
-code_of tool.Unreadable = codes "E1"
-code_of (tool.Setup fault) = setup_faults.code_of fault
-code_of (tool.Script fault) = text_faults.code_of_script fault
-code_of (tool.Report fault) = file_faults.code_of_report fault
-code_of (tool.Changes fault) = file_faults.code_of_changes fault
-code_of (tool.Plan fault) = file_faults.code_of_plan fault
-code_of (tool.PlanText fault) = plan_faults.code_of fault
-code_of tool.NoAudit = codes "A3"
-code_of (tool.Feed fault) = file_faults.code_of_feed fault
-code_of (tool.Orders fault) = file_faults.code_of_orders fault
-code_of (tool.Live fault) = live_faults.code_of fault
-code_of (tool.LiveText fault) = text_faults.code_of_text fault
-
--- what is written of it on standard error: the parser's own text, or one line with the code
-abbrev pub fault_text : ToolFault → List ℕ
-fault_text (tool.Words (words.Parser text help)) = string_bytes text
-fault_text fault = codes "nms_tool: " ++ (code_of fault ++ 10 ∷ [])
-
--- a fault of this status was told: a first part of its text was written, and nothing else
-pub record TellsFault (status : ℕ) (old new : Option (List ℕ)) : Type 0 where
-  pub fault : ToolFault
-  pub status_is : status_of fault ≡ status
-  pub told : AppendsPart old new (fault_text fault)
+abbrev pub code_of : CommandFault → List ℕ
+code_of (fault.Words own) = codes "G2"
+code_of fault.Usage = codes "usage"
+code_of fault.Unreadable = codes "E1"
+code_of (fault.Setup own) = setup_faults.code_of own
+code_of (fault.Script own) = text_faults.code_of_script own
+code_of (fault.Report own) = file_faults.code_of_report own
+code_of (fault.Changes own) = file_faults.code_of_changes own
+code_of (fault.Plan own) = file_faults.code_of_plan own
+code_of (fault.PlanText own) = plan_faults.code_of own
+code_of fault.NoAudit = codes "A3"

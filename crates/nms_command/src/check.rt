@@ -6,10 +6,10 @@ ghost use Rattle.nms_quote.specs.declared.TheConstants.{MOST_CHANGES};
 ghost use Rattle.nms_lines.specs.Text.{record_text};
 ghost use Rattle.nms_command.specs.Check.{Judges, JudgesFiles, JudgesOnFile, JudgesText, Tells, doubt_record};
 
+use crate::command_fault::CommandFault;
 use crate::ending::Ending;
 use crate::files::{open_file, read_file};
 use crate::line::write_line;
-use crate::tool_fault::ToolFault;
 use nms_cert::Doubt;
 use nms_fees::Setup;
 use nms_files::{AuditFault, audit, read_changes};
@@ -26,11 +26,11 @@ pub(crate) fn serve_check<T: Files + AllocGlobal, W: Write>(
     setup: &Setup,
     words: &[String],
     answers: &mut W,
-) -> Result<Ending, ToolFault>
+) -> Result<Ending, CommandFault>
     ensures { IfOk result (JudgesFiles setup.now (W.contents answers.old) (W.contents answers.new)) }
 {
     let [changes, plan] = words else {
-        return Err(ToolFault::Usage);
+        return Err(CommandFault::Usage);
     };
     // Both files are read before a line of either is judged.
     let text = read_file(rt, plan.as_str())?;
@@ -45,12 +45,12 @@ fn check_text<R: Read + Drop, W: Write>(
     source: R,
     text: &[u8],
     answers: &mut W,
-) -> Result<Ending, ToolFault>
+) -> Result<Ending, CommandFault>
     ensures { IfOk result (JudgesOnFile setup.now (R.remaining source) text.now (W.contents answers.old) (W.contents answers.new)) }
 {
     match read_changes(alloc, setup, source) {
         Ok(changes) => judge(alloc, setup, &changes, text, answers),
-        Err(fault) => Err(ToolFault::Changes(fault)),
+        Err(fault) => Err(CommandFault::Changes(fault)),
     }
 }
 
@@ -61,7 +61,7 @@ fn judge<W: Write>(
     changes: &[Change],
     text: &[u8],
     answers: &mut W,
-) -> Result<Ending, ToolFault>
+) -> Result<Ending, CommandFault>
     requires held { All (λ change. holds (sizes_of setup.now.roster) change ≡ true) changes.now }
     requires few { length changes.now ≤ MOST_CHANGES }
     ensures { IfOk result (JudgesText setup.now changes.now text.now (W.contents answers.old) (W.contents answers.new)) }
@@ -70,7 +70,7 @@ fn judge<W: Write>(
         Ok((plan, certificate)) => {
             judge_plan(alloc, setup, changes, &plan, &certificate, answers)
         }
-        Err(fault) => Err(ToolFault::PlanText(fault)),
+        Err(fault) => Err(CommandFault::PlanText(fault)),
     }
 }
 
@@ -82,7 +82,7 @@ fn judge_plan<W: Write>(
     plan: &Plan,
     certificate: &Certificate,
     answers: &mut W,
-) -> Result<Ending, ToolFault>
+) -> Result<Ending, CommandFault>
     requires sym { plan.now.order.sym < length setup.now.roster.syms }
     requires held { All (λ change. holds (sizes_of setup.now.roster) change ≡ true) changes.now }
     requires few { length changes.now ≤ MOST_CHANGES }
@@ -96,7 +96,7 @@ fn judge_plan<W: Write>(
 fn tell_finding<W: Write>(
     answers: &mut W,
     finding: Result<(), AuditFault>,
-) -> Result<Ending, ToolFault>
+) -> Result<Ending, CommandFault>
     ensures { IfOk result (Tells finding (W.contents answers.old) (W.contents answers.new)) }
 {
     match finding {
@@ -105,12 +105,12 @@ fn tell_finding<W: Write>(
             tell_line(answers, "DOUBT,", "A1", Ending::NotConfirmed)
         }
         Err(AuditFault::Doubt(doubt)) => tell_doubt(answers, doubt),
-        Err(AuditFault::NoMemory) => Err(ToolFault::NoAudit),
+        Err(AuditFault::NoMemory) => Err(CommandFault::NoAudit),
     }
 }
 
 /// Tells the code of a doubt: of a breach its own code behind it.
-fn tell_doubt<W: Write>(answers: &mut W, doubt: Doubt) -> Result<Ending, ToolFault>
+fn tell_doubt<W: Write>(answers: &mut W, doubt: Doubt) -> Result<Ending, CommandFault>
     ensures { IfOk result (λ ends. (ends ≡ Ending.NotConfirmed) × Appends (W.contents answers.old) (W.contents answers.new) (record_text (doubt_record doubt))) }
 {
     match doubt {
@@ -127,11 +127,11 @@ fn tell_line<W: Write>(
     head: &str,
     code: &str,
     ending: Ending,
-) -> Result<Ending, ToolFault>
+) -> Result<Ending, CommandFault>
     ensures { IfOk result (λ ends. (ends ≡ ending) × Appends (W.contents answers.old) (W.contents answers.new) (head.now ++ (code.now ++ 10 ∷ []))) }
 {
     match write_line(answers, head, code) {
         Ok(()) => Ok(ending),
-        Err(_) => Err(ToolFault::Script(ScriptFault::WriteFault)),
+        Err(_) => Err(CommandFault::Script(ScriptFault::WriteFault)),
     }
 }

@@ -3,8 +3,8 @@ ghost use Rattle.std.specs.Prelude.{◌≡◌};
 ghost use Rattle.nms_command.specs.Statuses.{status_of_ending};
 
 /// How a request ends that was served.
-#[derive(Clone, Copy)]
-pub(crate) enum Ending {
+#[derive(Clone, Copy, Debug, PartialEq, Eq)]
+pub enum Ending {
     /// All that was asked for was done; of a plan, that it is confirmed.
     Done,
     /// A plan was judged and is not confirmed.
@@ -13,7 +13,7 @@ pub(crate) enum Ending {
 
 impl Ending {
     /// The exit status.
-    pub(crate) fn status(self) -> u8
+    pub fn status(self) -> u8
         ensures { result ≡ status_of_ending self }
     {
         match self {

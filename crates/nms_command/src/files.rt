@@ -1,12 +1,12 @@
 //! Files, and why one could not be read.
-use crate::tool_fault::ToolFault;
+use crate::command_fault::CommandFault;
 use nms_text::ScriptFault;
 use std::io::ErrorKind;
 use std::rt::Files;
 use std::{fs, io};
 
 /// Opens a file to read it.
-pub(crate) fn open_file<T: Files>(rt: &T, path: &str) -> Result<T::File, ToolFault> {
+pub fn open_file<T: Files>(rt: &T, path: &str) -> Result<T::File, CommandFault> {
     match fs::open(rt, path) {
         Ok(file) => Ok(file),
         Err(error) => Err(unread(&error)),
@@ -14,7 +14,10 @@ pub(crate) fn open_file<T: Files>(rt: &T, path: &str) -> Result<T::File, ToolFau
 }
 
 /// The bytes of a file.
-pub(crate) fn read_file<T: Files + AllocGlobal>(rt: &T, path: &str) -> Result<Vec<u8>, ToolFault> {
+pub(crate) fn read_file<T: Files + AllocGlobal>(
+    rt: &T,
+    path: &str,
+) -> Result<Vec<u8>, CommandFault> {
     match fs::read(rt, path) {
         Ok(bytes) => Ok(bytes),
         Err(error) => Err(unread(&error)),
@@ -22,10 +25,10 @@ pub(crate) fn read_file<T: Files + AllocGlobal>(rt: &T, path: &str) -> Result<Ve
 }
 
 /// Why a file could not be read.
-fn unread(error: &io::Error) -> ToolFault {
+fn unread(error: &io::Error) -> CommandFault {
     if error.kind() == ErrorKind::OutOfMemory {
-        ToolFault::Script(ScriptFault::NoMemory)
+        CommandFault::Script(ScriptFault::NoMemory)
     } else {
-        ToolFault::Unreadable
+        CommandFault::Unreadable
     }
 }

@@ -1,15 +1,17 @@
-//! The quote board's command line: words, files and streams in, answers and an exit status out.
+//! The quote board's command line but for live runs: words, files and streams in, answers and an ending out.
 #![tactic(auto)]
 
 mod check;
+mod command_fault;
 mod ending;
 mod files;
 mod line;
-mod living;
 mod planning;
-mod program;
-mod tool_fault;
+mod serving;
 
+pub use command_fault::CommandFault;
+pub use ending::Ending;
+pub use files::open_file;
+pub use line::{write_line, write_whole};
 pub use nms_words::{Request, Sub, WordsFault, read_words};
-pub use program::{run_tool, tell_fault};
-pub use tool_fault::ToolFault;
+pub use serving::{serve, setup_of, show_help};

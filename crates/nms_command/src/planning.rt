@@ -3,9 +3,9 @@ ghost use Rattle.std.specs.Prelude.{◌≡◌, IfOk};
 ghost use Rattle.nms_words.specs.CommandLine.{shown};
 ghost use Rattle.nms_command.specs.Served.{Plans};
 
+use crate::command_fault::CommandFault;
 use crate::ending::Ending;
 use crate::files::open_file;
-use crate::tool_fault::ToolFault;
 use nms_fees::Setup;
 use nms_files::{order_of, plan_changes};
 use nms_words::Request;
@@ -18,11 +18,11 @@ pub(crate) fn serve_plan<T: Files + AllocGlobal, W: Write>(
     setup: &Setup,
     request: &Request,
     answers: &mut W,
-) -> Result<Ending, ToolFault>
+) -> Result<Ending, CommandFault>
     ensures { IfOk result (λ ends. (ends ≡ Ending.Done) × Plans setup.now (shown request.now) (W.contents answers.old) (W.contents answers.new)) }
 {
     let [changes, side, sym, shares, limit] = request.words.as_slice() else {
-        return Err(ToolFault::Usage);
+        return Err(CommandFault::Usage);
     };
     let (side, sym, shares, limit) = (side.as_str(), sym.as_str(), shares.as_str(), limit.as_str());
     let names = request.self_help.as_ref().map(String::as_str);
@@ -35,11 +35,11 @@ pub(crate) fn serve_plan<T: Files + AllocGlobal, W: Write>(
         request.manual,
         names,
     ) else {
-        return Err(ToolFault::Usage);
+        return Err(CommandFault::Usage);
     };
     let file = open_file(rt, changes.as_str())?;
     match plan_changes(rt.alloc(), setup, file, &order, answers) {
         Ok(()) => Ok(Ending::Done),
-        Err(fault) => Err(ToolFault::Plan(fault)),
+        Err(fault) => Err(CommandFault::Plan(fault)),
     }
 }

@@ -1,7 +1,12 @@
 //! The program: the quote board's command line on the process's own words, files and streams.
 #![tactic(auto)]
 
-use nms_command::{ToolFault, WordsFault, run_tool, tell_fault};
+mod living;
+mod program;
+mod tool_fault;
+
+use nms_command::{CommandFault, WordsFault};
+pub use program::{run_tool, tell_fault};
 use std::alloc::Global;
 use std::io::{ErrorKind, Write};
 use std::process::ExitCode;
@@ -9,6 +14,7 @@ use std::rt::{Env, Files};
 use std::sync::Wait;
 use std::thread::Threads;
 use std::{env, io};
+pub use tool_fault::ToolFault;
 
 fn main(rt: HostRuntime) -> ExitCode {
     let errors = &mut rt.stderr();
@@ -46,11 +52,11 @@ fn words_of<'a>(alloc: Global, own: &'a [String]) -> Result<Vec<&'a str>, ToolFa
     Ok(words)
 }
 
-/// The words behind the program's name. Those that are no UTF-8 name nothing.
+/// The words after the program's name. Those that are no UTF-8 name nothing.
 fn own_words<T: AllocGlobal + Env>(rt: &T) -> Result<Vec<String>, ToolFault> {
     let all = env::args(rt).map_err(|error| match error.kind() {
         ErrorKind::OutOfMemory => no_memory(),
-        _ => ToolFault::Usage,
+        _ => ToolFault::Command(CommandFault::Usage),
     })?;
     let mut words = Vec::new(rt.alloc());
     for word in all.skip(1) {
@@ -60,5 +66,5 @@ fn own_words<T: AllocGlobal + Env>(rt: &T) -> Result<Vec<String>, ToolFault> {
 }
 
 fn no_memory() -> ToolFault {
-    ToolFault::Words(WordsFault::NoMemory)
+    ToolFault::Command(CommandFault::Words(WordsFault::NoMemory))
 }

@@ -1,7 +1,7 @@
 -- `run_tool`: clauses `done` and `not_confirmed`, by `ended_done` and `ended_judged`.
 use Rattle.std.proofs.Common.{Bor, List, ℕ, map}
-use Rattle.nms_command.proofs.ServedFacts.{ended_done, ended_judged}
-use Rattle.nms_command.proofs.program.run_tool.Goals as goal
+use Rattle.nms_tool.proofs.ServedFacts.{ended_done, ended_judged}
+use Rattle.nms_tool.proofs.program.run_tool.Goals as goal
 
 pub returns-in-Ok-clause-done : goal.returns-in-Ok-clause-done
 returns-in-Ok-clause-done g c =

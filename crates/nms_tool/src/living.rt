@@ -1,9 +1,9 @@
 //! The subcommand `live`: the feeds, the tape and the desks at once, each in a thread of its own.
 ghost use Rattle.std.specs.Prelude.{◌≡◌, IfOk, length};
+ghost use Rattle.nms_tool.specs.Served.{Runs, WritesRun};
 
-use crate::ending::Ending;
-use crate::files::open_file;
 use crate::tool_fault::ToolFault;
+use nms_command::{CommandFault, Ending, open_file};
 use nms_fees::Setup;
 use nms_files::{read_orders, read_within};
 use nms_live::{Live, OpenGate, run_live};
@@ -25,13 +25,13 @@ pub(crate) fn serve_live<T: Files + AllocGlobal + Threads + Wait + Sync, W: Writ
     words: &[String],
     answers: &mut W,
 ) -> Result<Ending, ToolFault>
-    ensures { IfOk result (λ ends. ends ≡ Ending.Done) }
+    ensures { IfOk result (λ ends. (ends ≡ Ending.Done) × Runs setup.now (W.contents answers.old) (W.contents answers.new)) }
 {
     let Some((orders, feeds)) = words.split_first() else {
-        return Err(ToolFault::Usage);
+        return Err(ToolFault::Command(CommandFault::Usage));
     };
     if feeds.len() != usize::from(setup.feeds()) {
-        return Err(ToolFault::Usage);
+        return Err(ToolFault::Command(CommandFault::Usage));
     }
     // All files are read before a line of one is judged.
     let orders = open_file(rt, orders.as_str())?;
@@ -48,13 +48,13 @@ fn read_feeds<T: Files + AllocGlobal>(rt: &T, paths: &[String]) -> Result<Vec<Ve
         let bytes = read_feed(rt, path.as_str())?;
         match feeds.push(bytes) {
             Ok(()) => {}
-            Err(_) => return Err(ToolFault::Script(ScriptFault::NoMemory)),
+            Err(_) => return Err(ToolFault::Command(CommandFault::Script(ScriptFault::NoMemory))),
         }
     }
     Ok(feeds)
 }
 
-/// The bytes of a feed's file, where there are not too many.
+/// The bytes of a feed's file, if there are not too many.
 fn read_feed<T: Files + AllocGlobal>(rt: &T, path: &str) -> Result<Vec<u8>, ToolFault> {
     let file = open_file(rt, path)?;
     match read_within(rt.alloc(), file, MOST_FEED_BYTES) {
@@ -72,7 +72,7 @@ fn serve_feeds<T: AllocGlobal + Threads + Wait + Sync, R: Read + Drop, W: Write>
     answers: &mut W,
 ) -> Result<Ending, ToolFault>
     requires { length feeds.items ≡ setup.now.feeds }
-    ensures { IfOk result (λ ends. ends ≡ Ending.Done) }
+    ensures { IfOk result (λ ends. (ends ≡ Ending.Done) × Runs setup.now (W.contents answers.old) (W.contents answers.new)) }
 {
     let orders = match read_orders(rt.alloc(), setup, orders) {
         Ok(orders) => orders,
@@ -91,7 +91,7 @@ fn tell_run<W: Write>(
     live: &Live,
     answers: &mut W,
 ) -> Result<Ending, ToolFault>
-    ensures { IfOk result (λ ends. ends ≡ Ending.Done) }
+    ensures { IfOk result (λ ends. (ends ≡ Ending.Done) × WritesRun setup.now live.now (W.contents answers.old) (W.contents answers.new)) }
 {
     let taken = live.tape.len() as u64;
     match write_live(alloc, setup.roster(), taken, &live.closing, answers) {

@@ -1,0 +1,114 @@
+//! What is done for a request of any subcommand but `live` (specs/Served).
+ghost use Rattle.std.specs.Prelude.{◌≡◌, ◌≢◌, IfOk, OnOk, map};
+ghost use Rattle.std.specs.Io.KnownBytes.{Appends};
+ghost use Rattle.std.specs.String.{string_bytes};
+ghost use Rattle.nms_words.specs.CommandLine.{shown};
+ghost use Rattle.nms_command.specs.Served.{IsSetup, Reports, Scripts, Serves};
+
+use crate::check::serve_check;
+use crate::command_fault::CommandFault;
+use crate::ending::Ending;
+use crate::files::{open_file, read_file};
+use crate::line::write_whole;
+use crate::planning::serve_plan;
+use nms_fees::{Setup, SetupFault, read_setup};
+use nms_files::report_changes;
+use nms_scripts::{SETUP_K, run_script};
+use nms_text::ScriptFault;
+use nms_words::{Request, Sub};
+use std::alloc::Global;
+use std::io::{Read, Write};
+use std::rt::Files;
+use std::str;
+
+/// Serves a request of any subcommand but `live` under a setup, with the script on `input`.
+pub fn serve<T: Files + AllocGlobal, R: Read, W: Write>(
+    rt: &T,
+    setup: &Setup,
+    request: &Request,
+    input: &mut R,
+    answers: &mut W,
+) -> Result<Ending, CommandFault>
+    requires apart { request.now.command ≢ Sub.Live }
+    ensures served { IfOk result (Serves request.now.command setup.now (shown request.now) (R.remaining input.old) (W.contents answers.old) (W.contents answers.new)) }
+{
+    match request.command {
+        Sub::Script => serve_script(rt, setup, input, answers),
+        Sub::Report => serve_report(rt, setup, &request.words, answers),
+        Sub::Plan => serve_plan(rt, setup, request, answers),
+        Sub::Check => serve_check(rt, setup, &request.words, answers),
+        Sub::Live => unreachable!(),
+    }
+}
+
+/// Answers with the help, or with the version.
+pub fn show_help<W: Write>(answers: &mut W, help: &str) -> Result<Ending, CommandFault>
+    ensures done { IfOk result (λ ends. ends ≡ Ending.Done) }
+    ensures written { OnOk result (Appends (W.contents answers.old) (W.contents answers.new) help.now) }
+{
+    match write_whole(answers, help) {
+        Ok(()) => Ok(Ending::Done),
+        Err(_) => Err(CommandFault::Script(ScriptFault::WriteFault)),
+    }
+}
+
+/// The setup of the file that the request names, or the built-in one if it names none.
+pub fn setup_of<T: Files + AllocGlobal>(rt: &T, request: &Request) -> Result<Setup, CommandFault>
+    ensures said { IfOk result (λ setup. IsSetup setup) }
+{
+    let Some(file) = &request.setup else {
+        return read_text(rt.alloc(), SETUP_K);
+    };
+    let bytes = read_file(rt, file.as_str())?;
+    match str::from_utf8(&bytes) {
+        Ok(text) => read_text(rt.alloc(), text),
+        Err(_) => Err(CommandFault::Setup(SetupFault::NotToml)),
+    }
+}
+
+/// The setup that a text says.
+fn read_text(alloc: Global, text: &str) -> Result<Setup, CommandFault>
+    ensures { IfOk result (λ setup. IsSetup setup) }
+{
+    match read_setup(alloc, text) {
+        Ok(setup) => Ok(setup),
+        Err(fault) => Err(CommandFault::Setup(fault)),
+    }
+}
+
+/// Answers the script of an input.
+fn serve_script<T: AllocGlobal, R: Read, W: Write>(
+    rt: &T,
+    setup: &Setup,
+    input: &mut R,
+    answers: &mut W,
+) -> Result<Ending, CommandFault>
+    ensures { IfOk result (λ ends. (ends ≡ Ending.Done) × Scripts setup.now (R.remaining input.old) (W.contents answers.old) (W.contents answers.new)) }
+{
+    match run_script(rt.alloc(), setup, input, answers) {
+        Ok(_) => Ok(Ending::Done),
+        Err(fault) => Err(CommandFault::Script(fault)),
+    }
+}
+
+/// Reports the symbol after all the changes of a file.
+fn serve_report<T: Files + AllocGlobal, W: Write>(
+    rt: &T,
+    setup: &Setup,
+    words: &[String],
+    answers: &mut W,
+) -> Result<Ending, CommandFault>
+    ensures { IfOk result (λ ends. (ends ≡ Ending.Done) × Reports setup.now (map string_bytes words.now) (W.contents answers.old) (W.contents answers.new)) }
+{
+    let [changes, symbol] = words else {
+        return Err(CommandFault::Usage);
+    };
+    let Some(sym) = setup.roster().find_sym(symbol.as_bytes()) else {
+        return Err(CommandFault::Usage);
+    };
+    let file = open_file(rt, changes.as_str())?;
+    match report_changes(rt.alloc(), setup, file, sym, answers) {
+        Ok(()) => Ok(Ending::Done),
+        Err(fault) => Err(CommandFault::Report(fault)),
+    }
+}

@@ -1,0 +1,3 @@
+mod LiveFacts
+mod ServedFacts
+mod StatusFacts

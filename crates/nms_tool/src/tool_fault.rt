@@ -1,0 +1,63 @@
+//! Why the program ends with another status than 0: the code that it reports, and the status.
+ghost use Rattle.std.specs.Prelude.{◌≡◌};
+ghost use Rattle.nms_tool.specs.Statuses.{code_of, status_of};
+
+use nms_command::CommandFault;
+use nms_files::{FeedFault, OrdersFault};
+use nms_live::LiveFault;
+use nms_text::TextFault;
+
+/// Why the program ends with another status than 0.
+#[derive(Drop)]
+pub enum ToolFault {
+    /// The words, the setup, or a subcommand other than `live` failed.
+    Command(CommandFault),
+    /// A file of a feed was not read: it has more than 1,000,000,000 bytes, say.
+    Feed(FeedFault),
+    /// A file of orders was refused.
+    Orders(OrdersFault),
+    /// A live run gave nothing.
+    Live(LiveFault),
+    /// What a live run came to was not written.
+    LiveText(TextFault),
+}
+
+impl From<CommandFault> for ToolFault {
+    ghost use Rattle.std.specs.Prelude.{◌≡◌};
+    ghost use Rattle.nms_tool.specs.declared.tool_fault.ToolFault.TheVariants.{Command};
+
+    ghost from_gives = { λ fault made. made ≡ Command fault };
+
+    fn from(fault: CommandFault) -> ToolFault {
+        ToolFault::Command(fault)
+    }
+}
+
+impl ToolFault {
+    /// The exit status: 1 for streams and files, 2 for words, 3 for the setup, 5 for memory, 6 for lines,
+    /// plans and lengths, 7 for a live run.
+    pub fn status(&self) -> u8
+        ensures { result ≡ status_of self.now }
+    {
+        match self {
+            ToolFault::Command(fault) => fault.status(),
+            ToolFault::Feed(fault) => fault.status(),
+            ToolFault::Orders(fault) => fault.status(),
+            ToolFault::Live(fault) => fault.status(),
+            ToolFault::LiveText(fault) => fault.status(),
+        }
+    }
+
+    /// What the line on standard error names.
+    pub fn code(&self) -> &'static str
+        ensures { result.now ≡ code_of self.now }
+    {
+        match self {
+            ToolFault::Command(fault) => fault.code(),
+            ToolFault::Feed(fault) => fault.code(),
+            ToolFault::Orders(fault) => fault.code(),
+            ToolFault::Live(fault) => fault.code(),
+            ToolFault::LiveText(fault) => fault.code(),
+        }
+    }
+}
