@@ -69,7 +69,7 @@ impl FeeBook {
         if price.get() >= ONE_DOLLAR {
             Money::new(i128::from(schedule.fee))
         } else {
-            Money::new(i128::from(price.get()) * i128::from(schedule.rate))
+            Money::new(i128::from(schedule.rate)).times(price.get())
         }
     }
 
