@@ -71,7 +71,7 @@ names_of-append front back = ap (filter_map name_in) (map-append view front back
     ∙ filter_map-append name_in (map view front) (map view back)
 
 module _ (rows : List Value) (i : ℕ) (row : Value) (within : i < length rows) (here : row ≡ get_or rows i row) where
-  one_more : take (i + 1) rows ≡ take i rows ++ row ∷ []
+  pub one_more : take (i + 1) rows ≡ take i rows ++ row ∷ []
   one_more = take_more rows i row within ∙ ap (λ last. take i rows ++ last ∷ []) (sym here)
 
   -- one more element without a name

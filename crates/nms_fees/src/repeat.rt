@@ -1,5 +1,5 @@
 //! Names that stand twice in one of the two arrays: `specs/Places`.
-ghost use Rattle.std.specs.Prelude.{◌≡◌, map, option_copied, IfOk, IfErr};
+ghost use Rattle.std.specs.Prelude.{◌≡◌, [], map, option_copied, IfOk, IfErr};
 ghost use Rattle.std.specs.List.{filter_map};
 ghost use Rattle.toml.specs.View.{view};
 ghost use Rattle.nms_fees.specs.Places.{name_in, has_repeat};
@@ -16,6 +16,15 @@ pub(crate) fn has_repeat(alloc: Global, rows: &[Value]) -> Result<bool, SetupFau
     ensures memory { IfErr result (λ fault. fault ≡ SetupFault.NoMemory) }
 {
     let mut seen = IndexSet::new(alloc);
+    repeats(&mut seen, rows)
+}
+
+/// The same, with an empty set for the names that were seen.
+fn repeats<'a>(seen: &mut IndexSet<&'a str>, rows: &'a [Value]) -> Result<bool, SetupFault>
+    requires empty { seen.old.keys ≡ [] }
+    ensures found { IfOk result (λ found. found ≡ has_repeat (filter_map name_in (map view rows.now))) }
+    ensures memory { IfErr result (λ fault. fault ≡ SetupFault.NoMemory) }
+{
     for row in rows {
         if let Some(name) = name_in(row) {
             let Ok((_, is_new)) = seen.insert_full(name) else {

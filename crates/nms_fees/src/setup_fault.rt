@@ -2,37 +2,29 @@
 ghost use Rattle.std.specs.Prelude.{◌≡◌};
 ghost use Rattle.nms_fees.specs.Faults.{code_of, number_of, status_of};
 
+use std::fmt;
 use thiserror::Error;
 
 /// Why a text is no setup: the fault of least number that holds anywhere in it.
 #[derive(Clone, Copy, Debug, PartialEq, Eq, Error)]
 pub enum SetupFault {
     /// C1: the text is no TOML document.
-    #[error("C1: not a TOML document")]
     NotToml,
     /// C2: a required key is absent, at the top or in a table of the two arrays.
-    #[error("C2: a key is missing")]
     Missing,
     /// C3: another key stands there.
-    #[error("C3: an unknown key")]
     UnknownKey,
     /// C4: a name is a text that is not of its form, or stands twice in its array.
-    #[error("C4: a bad name, or the same name twice")]
     BadName,
     /// C5: a value is not of its kind.
-    #[error("C5: a value of another kind")]
     WrongType,
     /// C6: a value of its kind is out of range, or one of the two arrays is empty.
-    #[error("C6: a value out of range")]
     OutOfRange,
     /// C7: a fee or a rate is over its cap.
-    #[error("C7: a fee over its cap")]
     OverCap,
     /// C8: there are more than `MOST_PARTICIPANTS` (32) participants, or `MOST_SYMBOLS` (1,000) symbols.
-    #[error("C8: too many participants or symbols")]
     TooMany,
     /// C9: out of memory.
-    #[error("C9: out of memory")]
     NoMemory,
 }
 
@@ -79,5 +71,26 @@ impl SetupFault {
             SetupFault::TooMany => 8,
             SetupFault::NoMemory => 9,
         }
+    }
+
+    /// The message: the code, and what is wrong.
+    fn message(self) -> &'static str {
+        match self {
+            SetupFault::NotToml => "C1: not a TOML document",
+            SetupFault::Missing => "C2: a key is missing",
+            SetupFault::UnknownKey => "C3: an unknown key",
+            SetupFault::BadName => "C4: a bad name, or the same name twice",
+            SetupFault::WrongType => "C5: a value of another kind",
+            SetupFault::OutOfRange => "C6: a value out of range",
+            SetupFault::OverCap => "C7: a fee over its cap",
+            SetupFault::TooMany => "C8: too many participants or symbols",
+            SetupFault::NoMemory => "C9: out of memory",
+        }
+    }
+}
+
+impl fmt::Display for SetupFault {
+    fn fmt<W: fmt::Write>(&self, f: &mut fmt::Formatter<W>) -> fmt::Result {
+        f.write_str(self.message())
     }
 }

@@ -53,9 +53,10 @@ fn settings_of(alloc: Global, document: &Table) -> Result<Setup, SetupFault>
     let participants = rows_at(document, "participant");
     let symbols = rows_at(document, "symbol");
     let chosen = choices_in(document);
+    // The roster is made last: no way out of here has to drop one.
     Ok(Setup {
-        roster: roster_of(alloc, participants, symbols)?,
         fees: fees_of(alloc, chosen, participants)?,
+        roster: roster_of(alloc, participants, symbols)?,
         tape_limit: count_at(document, "tape_limit"),
         queue: count_at(document, "queue") as usize,
         desks: count_at(document, "desks") as u8,

@@ -1,8 +1,8 @@
--- `has_repeat`: no name stood twice so far, and the table has these names.
+-- `repeats`: no name stood twice so far, and the table has these names.
 use Rattle.std.proofs.Common.{◌≡◌, false, take}
 use Rattle.nms_fees.specs.Places.{has_repeat}
 use Rattle.nms_fees.proofs.NameLemmas.{names_of, texts}
-use Rattle.nms_fees.proofs.repeat.has_repeat.Given as goal
+use Rattle.nms_fees.proofs.repeat.repeats.Given as goal
 
 -- the set has the names so far, and none stood twice
 abbrev pub invariant-loop-row : goal.invariant-loop-row

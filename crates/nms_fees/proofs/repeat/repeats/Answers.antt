@@ -1,9 +1,9 @@
--- `has_repeat`: its result, by what stands before a name, from `NameLemmas`.
+-- `repeats`: its result, by what stands before a name, from `NameLemmas`.
 use Rattle.std.proofs.Common.{sym, ap, ◌∙◌}
 use Rattle.nms_fees.proofs.NameLemmas.{repeated, learned, names_of-unnamed, texts}
 use Rattle.nms_fees.specs.Places.{has_repeat}
-use Rattle.nms_fees.proofs.repeat.has_repeat.Goals as goal
-use Rattle.nms_fees.proofs.repeat.has_repeat.Goals.{in-Some+in-Ok+else-not-is_new, in_default}
+use Rattle.nms_fees.proofs.repeat.repeats.Goals as goal
+use Rattle.nms_fees.proofs.repeat.repeats.Goals.{in-Some+in-Ok+else-not-is_new, in_default}
 
 pub returns-then-not-is_new-clause-found : goal.returns-then-not-is_new-clause-found
 returns-then-not-is_new-clause-found c =
