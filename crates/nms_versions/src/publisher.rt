@@ -108,7 +108,7 @@ impl Publisher {
             changes,
             seen: self.history.token(),
         };
-        replace_with(&mut self.writer, (rt, batch), publish_batch);
+        show(rt, &mut self.writer, batch);
         self.fresh.begin();
         self.published = self.tape.len() as u64;
     }
@@ -172,6 +172,17 @@ fn put(tape: &mut Vec<Change>, change: Change)
 }
 
 /// Gives a batch to the pair, and shows the board that has it.
+fn show<R: Wait>(rt: &R, writer: &mut PairWriter, batch: Batch)
+    requires idle { drop writer.old.behind writer.old.log.items ≡ [] }
+    requires follows { Follows writer.old.desk.shown.value batch }
+    ensures idle { drop writer.new.behind writer.new.log.items ≡ [] }
+    ensures shown { writer.new.desk.shown.value.seen ≡ batch.seen }
+    ensures sizes { writer.new.desk.shown.value.boards.sizes ≡ writer.old.desk.shown.value.boards.sizes }
+{
+    replace_with(writer, (rt, batch), publish_batch);
+}
+
+/// The same, with a writer that is given back.
 #[tactic(auto, using(crate::proofs::PublishLemmas::sizes_taken))]
 fn publish_batch<R: Wait>(writer: PairWriter, with: (&R, Batch)) -> (PairWriter, ())
     requires idle { drop writer.behind writer.log.items ≡ [] }

@@ -1,4 +1,4 @@
--- `Publisher::publish`: clauses `publications` and `whole`, the call of `close`, the call of `replace_with` and
+-- `Publisher::publish`: clauses `publications` and `whole`, the call of `close`, the call of `show` and
 -- the invariant of what it leaves, by `batch_room`, `changes-push`, `committed_some`, `follows`, `no_items`,
 -- `publications_push` and `taped_close`.
 use Rattle.std.proofs.Common.{◌≡◌, ◌<◌, ◌↔◌, ◌⊎◌, ◌++◌, ◌∷◌, [], false, length, List, ap, sym, subst, ◌∙◌, arith, rules}
@@ -25,14 +25,15 @@ close-requires-clause-room g c =
     let short = batch_room _ _ _ _ _ _ c.self.invariant.1 in
     omega (arith, some, short.0)
 
-pub replace_with-requires : goal.replace_with-requires
-replace_with-requires g c = (
-  c.self.invariant.0.idle,
-  follows _ _ _ _ _ _ _ _ c.self.invariant.0 c.self.invariant.1
-      (c.token.ensures.book ∙ ap (λ (h : Chronicle). h.opening) c.close.ensures)
-      (c.token.ensures.log ∙ ap (λ (h : Chronicle). h.published) c.close.ensures
-      ∙ ap (λ (lent : List Change). c.self.inside.history.published ++ lent ∷ []) c.lend-changes.ensures) c.lend-changes.ensures,
-)
+pub show-requires-clause-idle : goal.show-requires-clause-idle
+show-requires-clause-idle g c = c.self.invariant.0.idle
+
+pub show-requires-clause-follows : goal.show-requires-clause-follows
+show-requires-clause-follows g c =
+    follows _ _ _ _ _ _ _ _ c.self.invariant.0 c.self.invariant.1
+    (c.token.ensures.book ∙ ap (λ (h : Chronicle). h.opening) c.close.ensures)
+    (c.token.ensures.log ∙ ap (λ (h : Chronicle). h.published) c.close.ensures
+    ∙ ap (λ (lent : List Change). c.self.inside.history.published ++ lent ∷ []) c.lend-changes.ensures) c.lend-changes.ensures
 
 pub invariant_of-self : goal.invariant_of-self
 invariant_of-self g c =
@@ -45,13 +46,13 @@ invariant_of-self g c =
       is_open = false;
     }) c.lend-changes.ensures in
     let count : c.len.result ≡ length c.self.inside.tape.items = search rules in
-    let shown = c.replace_with.ensures.1 in (
+    let shown = c.show.ensures in (
       record {
-        book = ap (λ s. s.book) shown.0 ∙ c.token.ensures.book;
-        log = ap (λ s. s.log) shown.0 ∙ c.token.ensures.log;
-        idle = c.replace_with.ensures.0;
+        book = ap (λ s. s.book) shown.shown ∙ c.token.ensures.book;
+        log = ap (λ s. s.log) shown.shown ∙ c.token.ensures.log;
+        idle = shown.idle;
       },
-      rw (shown.1, c.begin.ensures, count) (taped_close _ _ _ _ _ _ _ c.self.invariant.1 some closed),
+      rw (shown.sizes, c.begin.ensures, count) (taped_close _ _ _ _ _ _ _ c.self.invariant.1 some closed),
     )
 
 pub returns-clause-whole : goal.returns-clause-whole
