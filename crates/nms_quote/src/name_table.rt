@@ -1,7 +1,9 @@
 //! Entries under names, in order of adding: `specs/Names` and `specs/Roster`.
-ghost use Rattle.std.specs.Prelude.{◌≡◌, ℕ, List, Some, ◌<◌, [], ◌∷◌, ◌++◌, length, option_map, slice_get, true, IfSome, IfNone, IfErr, IfOk, OnOk, OnErr};
+ghost use Rattle.std.specs.Prelude.{◌≡◌, ℕ, List, Some, ◌<◌, [], ◌∷◌, ◌++◌, length, option_map, slice_get, true, IfSome, IfNone, IfErr, IfOk, MatchBool, OnOk, OnErr};
 ghost use Rattle.std.specs.Str.{IsUtf8};
-ghost use Rattle.nms_quote.specs.Names.{word_of};
+ghost use Rattle.std.specs.String.{string_eq};
+ghost use Rattle.indexmap.specs.IndexMap.{IsUnique};
+ghost use Rattle.nms_quote.specs.Names.{named, word_of};
 ghost use Rattle.nms_quote.specs.Roster.{place_in, refusal_in};
 
 use crate::hints::Hints;
@@ -135,22 +137,36 @@ impl<V: Copy> NameTable<V> {
         ensures unchanged { OnErr result (self.new ≡ self.old) }
         ensures memory { IfErr result (λ fault. fault ≡ RosterFault.NoMemory) }
     {
-        let text = std::str::from_utf8(name).unwrap();
-        let Ok(owned) = String::from_str(*self.entries.allocator(), text) else {
-            return Err(RosterFault::NoMemory);
-        };
         let word = word_of(name);
         let place = self.entries.len();
         let Ok(_) = self.words.push(word) else {
             return Err(RosterFault::NoMemory);
         };
-        let Ok(_) = self.entries.insert(owned, value) else {
+        if !put_last(&mut self.entries, name, value) {
             let _ = self.words.pop();
             return Err(RosterFault::NoMemory);
-        };
+        }
         self.hints.set(word, place);
         Ok(())
     }
+}
+
+/// Adds an entry under a name that is not there, and tells whether there was memory for it.
+fn put_last<V: Copy>(entries: &mut IndexMap<String, V>, name: &[u8], value: V) -> bool
+    requires unique { IsUnique string_eq entries.old }
+    requires text { IsUtf8 name.now }
+    requires absent { place_in (named entries.old.entries) name.now ≡ None }
+    ensures added { MatchBool result (named entries.new.entries ≡ named entries.old.entries ++ (name.now, value) ∷ []) (entries.new.entries ≡ entries.old.entries) }
+    ensures unique { IsUnique string_eq entries.new }
+{
+    let text = std::str::from_utf8(name).unwrap();
+    let Ok(owned) = String::from_str(*entries.allocator(), text) else {
+        return false;
+    };
+    let Ok(_) = entries.insert(owned, value) else {
+        return false;
+    };
+    true
 }
 
 /// A text of at most eight bytes, none of them 0, as one number; 0 where it is another text.
