@@ -8,7 +8,7 @@ ghost use Rattle.nms_lines.specs.Sources.{brings, is_foreign};
 use crate::field::field;
 use crate::letter::state_in;
 use crate::line::{Kind, Line, Reading};
-use crate::line_fault::{LineFault, refuse_if};
+use crate::line_fault::LineFault;
 use crate::lot_field::{average_in, lot_in};
 use crate::name::{part_in, symbol_in};
 use crate::side::sides_in;
@@ -28,7 +28,9 @@ pub(crate) fn quote_line(
     let sym = symbol_in(roster, field(row, 2))?;
     let state = state_in(field(row, 3))?;
     let (bid, offer) = sides_in(row)?;
-    refuse_if(is_foreign(from, roster.feed_of(part)), LineFault::WrongFeed)?;
+    if is_foreign(from, roster.feed_of(part)) {
+        return Err(LineFault::WrongFeed);
+    }
     Ok(Line::Change(Change::Quote {
         part,
         sym,
@@ -50,7 +52,9 @@ pub(crate) fn state_line(
     let part = part_in(roster, field(row, 1))?;
     let sym = symbol_in(roster, field(row, 2))?;
     let state = state_in(field(row, 3))?;
-    refuse_if(is_foreign(from, roster.feed_of(part)), LineFault::WrongFeed)?;
+    if is_foreign(from, roster.feed_of(part)) {
+        return Err(LineFault::WrongFeed);
+    }
     Ok(Line::Change(Change::State { part, sym, state }))
 }
 
@@ -64,7 +68,9 @@ pub(crate) fn withdraw_line(
     ensures of { brings from Kind.Withdraw ≡ true → IfOk result (IsLineOf roster.now from) }
 {
     let part = part_in(roster, field(row, 1))?;
-    refuse_if(is_foreign(from, roster.feed_of(part)), LineFault::WrongFeed)?;
+    if is_foreign(from, roster.feed_of(part)) {
+        return Err(LineFault::WrongFeed);
+    }
     Ok(Line::Change(Change::Withdraw { part }))
 }
 
@@ -75,7 +81,9 @@ pub(crate) fn lot_line(row: &ByteRecord, roster: &Roster, from: Reading) -> Resu
 {
     let sym = symbol_in(roster, field(row, 1))?;
     let average = average_in(row)?;
-    refuse_if(is_foreign(from, Feed::A), LineFault::WrongFeed)?;
+    if is_foreign(from, Feed::A) {
+        return Err(LineFault::WrongFeed);
+    }
     let lot = lot_in(row, average)?;
     Ok(Line::Change(Change::Lot { sym, lot }))
 }

@@ -1,7 +1,7 @@
 //! A field of a record: `specs/Layout`.
 ghost use Rattle.std.specs.Prelude.{◌≡◌};
 ghost use Rattle.csv.specs.Records.{fields_of};
-ghost use Rattle.nms_lines.specs.Layout.{field};
+ghost use Rattle.nms_lines.specs.Layout.{field, is_text};
 
 use csv::ByteRecord;
 
@@ -14,4 +14,11 @@ pub(crate) fn field(row: &ByteRecord, place: usize) -> &[u8]
         Some(text) => text,
         None => &[],
     }
+}
+
+/// Whether a field is a word.
+pub(crate) fn is_word(text: &[u8], word: &[u8]) -> bool
+    ensures { result ≡ is_text word.now text.now }
+{
+    text == word
 }

@@ -1,6 +1,6 @@
 //! Why a record is refused: `specs/Faults`.
 ghost use Rattle.std.specs.Prelude.{◌≡◌};
-ghost use Rattle.nms_lines.specs.Faults.{code_of, refuse_if};
+ghost use Rattle.nms_lines.specs.Faults.{code_of};
 ghost use Rattle.nms_lines.specs.RecordFaults.{refused_status};
 
 use std::fmt;
@@ -82,11 +82,4 @@ impl fmt::Display for LineFault {
     fn fmt<W: fmt::Write>(&self, f: &mut fmt::Formatter<W>) -> fmt::Result {
         f.write_str(self.message())
     }
-}
-
-/// The fault, where something is wrong.
-pub(crate) fn refuse_if(wrong: bool, fault: LineFault) -> Result<(), LineFault>
-    ensures { result ≡ refuse_if wrong fault }
-{
-    if wrong { Err(fault) } else { Ok(()) }
 }

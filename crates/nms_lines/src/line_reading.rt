@@ -9,7 +9,7 @@ use crate::change_line::{lot_line, quote_line, state_line, withdraw_line};
 use crate::desk_line::{best_line, sweep_line, tell_line, through_line};
 use crate::kind::{is_count, kind_in};
 use crate::line::{Kind, Line, Reading};
-use crate::line_fault::{LineFault, refuse_if};
+use crate::line_fault::LineFault;
 use csv::ByteRecord;
 use nms_quote::Roster;
 
@@ -22,8 +22,12 @@ pub fn read_line(row: &ByteRecord, roster: &Roster, from: Reading) -> Result<Lin
     ensures line { result ≡ reading roster.now from (fields_of row.now) }
     ensures of { IfOk result (IsLineOf roster.now from) }
 {
-    let kind = kind_in(row, from).ok_or(LineFault::UnknownKind)?;
-    refuse_if(!is_count(kind, row.len()), LineFault::FieldCount)?;
+    let Some(kind) = kind_in(row, from) else {
+        return Err(LineFault::UnknownKind);
+    };
+    if !is_count(kind, row.len()) {
+        return Err(LineFault::FieldCount);
+    }
     line_of_kind(row, roster, from, kind)
 }
 

@@ -5,7 +5,7 @@ ghost use Rattle.nms_lines.specs.Fields.{average_in, lot_in};
 ghost use Rattle.nms_lines.specs.Layout.{has_average};
 ghost use Rattle.nms_lines.specs.Numbers.{lot_number};
 
-use crate::field::field;
+use crate::field::{field, is_word};
 use crate::line_fault::LineFault;
 use crate::number::price_in;
 use csv::ByteRecord;
@@ -19,10 +19,10 @@ pub(crate) fn average_in(row: &ByteRecord) -> Result<Option<Price>, LineFault>
     if !has_average(row) {
         return Ok(None);
     }
-    match field(row, 2) {
-        b"AVG" => Ok(Some(price_in(field(row, 3))?)),
-        _ => Err(LineFault::BadState),
+    if !is_word(field(row, 2), b"AVG") {
+        return Err(LineFault::BadState);
     }
+    Ok(Some(price_in(field(row, 3))?))
 }
 
 /// The round lot that the average gives (17 CFR 242.600, "round lot"), else the one that the third field

@@ -135,7 +135,9 @@ fn read_cuts<R: Read>(
             need_end(reader, row)?;
             return Ok(cuts);
         }
-        let cut = cut_in(row).ok_or(PlanTextFault::BadPlanText)?;
+        let Some(cut) = cut_in(row) else {
+            return Err(PlanTextFault::BadPlanText);
+        };
         if cuts.try_push(cut).is_err() {
             return Err(PlanTextFault::BadPlanText);
         }

@@ -1,13 +1,12 @@
 //! The records of a plan's text, one by one: `specs/PlanReading`.
 ghost use Rattle.std.specs.Prelude.{◌≡◌, ◌<◌, IfSome, codes, length};
 ghost use Rattle.csv.specs.Records.{fields_of};
-ghost use Rattle.nms_lines.specs.Layout.{is_text};
 ghost use Rattle.nms_lines.specs.Named.{AreBelow};
 ghost use Rattle.nms_lines.specs.Numbers.{shares_number};
 ghost use Rattle.nms_lines.specs.PlanReading.{cut_in, head_by_order, is_plan, is_record, kind_in, leg_in, order_in, without_value};
 ghost use Rattle.nms_units.specs.Money.{money_number};
 
-use crate::field::field;
+use crate::field::{field, is_word};
 use crate::letter::{flag_named, side_of};
 use crate::named::named_at;
 use crate::number::{price_of, some_shares_of};
@@ -42,16 +41,20 @@ pub(crate) fn head_in(row: &ByteRecord, roster: &Roster) -> Option<PlanHead>
     if !is_plan(row) {
         return None;
     }
-    let version = parse_digits(field(row, 1), 8)?;
-    let order = order_in(row, roster)?;
-    let filled = shares_in(field(row, 7))?.get();
-    let cost = money_in(field(row, 8))?;
-    Some(PlanHead {
-        version,
-        order,
-        filled,
-        cost,
-    })
+    match (
+        parse_digits(field(row, 1), 8),
+        order_in(row, roster),
+        shares_in(field(row, 7)),
+        money_in(field(row, 8)),
+    ) {
+        (Some(version), Some(order), Some(filled), Some(cost)) => Some(PlanHead {
+            version,
+            order,
+            filled: filled.get(),
+            cost,
+        }),
+        _ => None,
+    }
 }
 
 /// What the order of a plan asks for, where its fields say that.
@@ -60,13 +63,19 @@ fn order_in(row: &ByteRecord, roster: &Roster) -> Option<Order>
     ensures there { IfSome result (λ order. order.sym < length roster.now.syms) }
     ensures named { IfSome result (λ order. AreBelow (length roster.now.parts) order.self_help) }
 {
-    let side = side_of(field(row, 2))?;
-    let sym = roster.find_sym(field(row, 3))?;
-    let shares = some_shares_of(field(row, 4))?;
-    let limit = price_of(field(row, 5))?;
-    let manual = flag_named(field(row, 6))?;
-    let self_help = named_at(row, 9, roster)?;
-    Order::new(side, sym, shares, limit, manual, self_help)
+    match (
+        side_of(field(row, 2)),
+        roster.find_sym(field(row, 3)),
+        some_shares_of(field(row, 4)),
+        price_of(field(row, 5)),
+        flag_named(field(row, 6)),
+        named_at(row, 9, roster),
+    ) {
+        (Some(side), Some(sym), Some(shares), Some(limit), Some(manual), Some(self_help)) => {
+            Order::new(side, sym, shares, limit, manual, self_help)
+        }
+        _ => None,
+    }
 }
 
 /// The leg that the row is, where it is one.
@@ -77,14 +86,18 @@ pub(crate) fn leg_in(row: &ByteRecord, roster: &Roster) -> Option<Leg>
     if !is_record(row, b"LEG", 4) {
         return None;
     }
-    let part = roster.find_part(field(row, 1))?;
-    let price = price_of(field(row, 2))?;
-    let shares = shares_in(field(row, 3))?;
-    Some(Leg {
-        part,
-        price,
-        shares,
-    })
+    match (
+        roster.find_part(field(row, 1)),
+        price_of(field(row, 2)),
+        shares_in(field(row, 3)),
+    ) {
+        (Some(part), Some(price), Some(shares)) => Some(Leg {
+            part,
+            price,
+            shares,
+        }),
+        _ => None,
+    }
 }
 
 /// The cut that the row is, where it is one.
@@ -94,9 +107,13 @@ pub(crate) fn cut_in(row: &ByteRecord) -> Option<Cut>
     if !is_record(row, b"CUT", 4) {
         return None;
     }
-    let price = price_of(field(row, 1))?;
-    let kind = kind_in(field(row, 2), field(row, 3))?;
-    Some(Cut { price, kind })
+    match (
+        price_of(field(row, 1)),
+        kind_in(field(row, 2), field(row, 3)),
+    ) {
+        (Some(price), Some(kind)) => Some(Cut { price, kind }),
+        _ => None,
+    }
 }
 
 /// Whether the row is the record of a plan, with a field of participants named or without one.
@@ -134,13 +151,6 @@ fn kind_in(word: &[u8], value: &[u8]) -> Option<CutKind>
         return None;
     }
     Some(CutKind::Marginal(money_in(value)?))
-}
-
-/// Whether a field is a word.
-fn is_word(text: &[u8], word: &[u8]) -> bool
-    ensures { result ≡ is_text word.now text.now }
-{
-    text == word
 }
 
 /// What a cut says with an empty field behind it.

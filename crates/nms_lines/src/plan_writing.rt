@@ -6,7 +6,7 @@ ghost use Rattle.nms_units.specs.Money.{money_text};
 ghost use Rattle.nms_units.specs.Price.{price_text};
 ghost use Rattle.nms_quote.specs.Roster.{part_text, symbol_text};
 ghost use Rattle.nms_lines.specs.Named.{AreBelow, named_fields, names_text};
-ghost use Rattle.nms_lines.specs.PlanText.{cut_record, end_record, flag_text, kind_fields, leg_record, order_fields, plan_fields, plan_record, plan_text, side_letter, terms_fields};
+ghost use Rattle.nms_lines.specs.PlanText.{cut_record, end_record, flag_text, kind_fields, leg_record, plan_fields, plan_record, plan_text, side_letter, terms_fields};
 ghost use Rattle.nms_lines.specs.Text.{later_fields, text_of};
 ghost use Rattle.nms_lines.specs.Written.{AppendsPart};
 
@@ -110,10 +110,24 @@ fn plan_before(buf: &mut [u8], end: usize, name: &str, plan: &Plan) -> Option<us
     ensures written { IfSome result (λ start. drop start buf.new ≡ codes "PLAN" ++ later_fields (plan_fields name.now plan.now) ++ drop end buf.old) }
 {
     let end = money_before(buf, end, plan.cost)?;
+    Some(terms_before(buf, end, name, plan))
+}
+
+/// Writes the fields of a plan up to its cost, which take at most 106 bytes, so that they end at a place, and tells where
+/// they start.
+fn terms_before(buf: &mut [u8], end: usize, name: &str, plan: &Plan) -> usize
+    requires room { 106 ≤ end }
+    requires within { end ≤ length buf.old }
+    requires name { length name.now ≤ 8 }
+    ensures within { result ≤ end }
+    ensures written { drop result buf.new ≡ codes "PLAN"
+        ++ later_fields (decimal plan.now.version ∷ (terms_fields name.now plan.now.order ++ decimal plan.now.filled ∷ []))
+        ++ drop end buf.old }
+{
     let end = number_before(buf, end, u64::from(plan.filled));
     let end = order_before(buf, end, name, &plan.order);
     let end = number_before(buf, end, plan.version);
-    Some(word_before(buf, end, "PLAN"))
+    word_before(buf, end, "PLAN")
 }
 
 /// Writes the fields of an order in the symbol of that name, which take at most 60 bytes, so that they end at a place, and
@@ -138,17 +152,9 @@ fn push_wide_plan(out: &mut Vec<u8>, roster: &Roster, plan: &Plan) -> Result<(),
     ensures { OnOk result (out.new.items ≡ out.old.items
         ++ (codes "PLAN" ++ later_fields (plan_fields (symbol_text roster.now plan.now.order.sym) plan.now))) }
 {
-    out.extend_from_slice(b"PLAN")?;
-    push_number(out, plan.version)?;
-    push_order(out, roster, &plan.order)?;
-    push_sums(out, plan)
-}
-
-/// Appends what a plan fills and what that costs.
-fn push_sums(out: &mut Vec<u8>, plan: &Plan) -> Result<(), AllocError>
-    ensures { OnOk result (out.new.items ≡ out.old.items ++ later_fields (decimal plan.now.filled ∷ money_text plan.now.cost ∷ [])) }
-{
-    push_number(out, u64::from(plan.filled))?;
+    let mut buf = [0; 112];
+    let start = terms_before(&mut buf, 112, name_of_sym(roster, plan.order.sym), plan);
+    out.extend_from_slice(&buf[start..])?;
     push_money(out, plan.cost)
 }
 
@@ -177,17 +183,6 @@ fn push_names(out: &mut Vec<u8>, roster: &Roster, set: PartSet) -> Result<(), Al
         }
     }
     Ok(())
-}
-
-/// Appends the fields of an order.
-fn push_order(out: &mut Vec<u8>, roster: &Roster, order: &Order) -> Result<(), AllocError>
-    ensures { OnOk result (out.new.items ≡ out.old.items ++ later_fields (order_fields roster.now order.now)) }
-{
-    push_text(out, letter_of(order.side))?;
-    push_text(out, name_of_sym(roster, order.sym))?;
-    push_number(out, u64::from(order.shares.get()))?;
-    push_price(out, order.limit)?;
-    push_text(out, flag_of(order.manual))
 }
 
 /// Appends a record for each leg.

@@ -7,7 +7,7 @@ ghost use Rattle.nms_lines.specs.Numbers.{shares_number};
 ghost use Rattle.nms_lines.specs.Sides.{sides_in, is_unfit, is_bad_price, is_bad_shares, is_half, side_content};
 
 use crate::field::field;
-use crate::line_fault::{LineFault, refuse_if};
+use crate::line_fault::LineFault;
 use csv::ByteRecord;
 use nms_quote::SideQuote;
 use nms_units::{Price, Shares, UnitFault};
@@ -36,11 +36,17 @@ fn other_sides_in(row: &ByteRecord) -> Result<(Option<SideQuote>, Option<SideQuo
     let (bid, bid_shares) = (field(row, 4), field(row, 5));
     let (offer, offer_shares) = (field(row, 6), field(row, 7));
     let bad_price = is_bad_price(bid, bid_shares) || is_bad_price(offer, offer_shares);
-    refuse_if(bad_price, LineFault::BadPrice)?;
+    if bad_price {
+        return Err(LineFault::BadPrice);
+    }
     let bad_shares = is_bad_shares(bid_shares) || is_bad_shares(offer_shares);
-    refuse_if(bad_shares, LineFault::BadShares)?;
+    if bad_shares {
+        return Err(LineFault::BadShares);
+    }
     let half = is_half(bid, bid_shares) || is_half(offer, offer_shares);
-    refuse_if(half, LineFault::HalfSide)?;
+    if half {
+        return Err(LineFault::HalfSide);
+    }
     Ok((quote_in(bid, bid_shares), quote_in(offer, offer_shares)))
 }
 

@@ -1,6 +1,6 @@
 -- `read_cuts`: clauses `refused` and `read` and the turns of its loop, by `cuts_bad`, `cuts_behind`,
 -- `cuts_end`, `cuts_many`, `cuts_more`, `cuts_out` and `cuts_over`.
-use Rattle.std.proofs.Common.{rules, arith, ◌≡◌, ◌≤◌, ◌++◌, ◌∷◌, ◌∙◌, [], Some, None, Err, refl, sym, length}
+use Rattle.std.proofs.Common.{rules, arith, ◌≡◌, ◌≤◌, ◌++◌, ◌∷◌, ◌∙◌, [], Some, Err, refl, sym, length}
 use Rattle.std.proofs.lemmas.List.{length-append}
 use Rattle.csv.specs.Records.{fields_of}
 use Rattle.nms_lines.specs.PlanReading.{cut_in}
@@ -21,40 +21,39 @@ returns-then-is_end-clause-read g c = λ left was.
     cuts_end (fields_of c.args.row.now ∷ left) here.0 c.loop.cuts.items (fields_of c.loop.row) here.1
     (sym c.is_end.ensures ∙ c.if-is_end.true) (c.in_ok-need_end.ensures.read here.0 here.2 refl)
 
-pub returns-in_err-cut-clause-refused : goal.returns-in_err-cut-clause-refused
-returns-in_err-cut-clause-refused g c = λ left was bad.
+pub returns-in_default-clause-refused : goal.returns-in_default-clause-refused
+returns-in_default-clause-refused g c = λ left was bad.
     let here = c.loop.invariant.1 left was in
-    let none : cut_in (fields_of c.loop.row) ≡ None = search rules in
     cuts_bad (fields_of c.args.row.now ∷ left) here.0 c.loop.cuts.items (fields_of c.loop.row) here.1
-    (sym c.is_end.ensures ∙ c.if-is_end.false) none
+    (sym c.is_end.ensures ∙ c.if-is_end.false) (sym c.cut_in.ensures ∙ c.in_default.is)
 
 pub returns-then-is_err-clause-refused : goal.returns-then-is_err-clause-refused
 returns-then-is_err-clause-refused g c = λ left was bad.
     let here = c.loop.invariant.1 left was in
-    let one : cut_in (fields_of c.loop.row) ≡ Some c.in_ok-cut.cut = search rules in
+    let one : cut_in (fields_of c.loop.row) ≡ Some c.in-Some.cut = sym c.cut_in.ensures ∙ c.in-Some.is in
     let full : 32 ≤ length c.loop.cuts.items = search rules in
-    cuts_many (fields_of c.args.row.now ∷ left) here.0 c.loop.cuts.items (fields_of c.loop.row) c.in_ok-cut.cut here.1
+    cuts_many (fields_of c.args.row.now ∷ left) here.0 c.loop.cuts.items (fields_of c.loop.row) c.in-Some.cut here.1
     (sym c.is_end.ensures ∙ c.if-is_end.false) one full
 
 pub returns-in_err-need_row-clause-refused : goal.returns-in_err-need_row-clause-refused
 returns-in_err-need_row-clause-refused g c = λ left was bad.
     let here = c.loop.invariant.1 left was in
-    let one : cut_in (fields_of c.loop.row) ≡ Some c.in_ok-cut.cut = search rules in
+    let one : cut_in (fields_of c.loop.row) ≡ Some c.in-Some.cut = sym c.cut_in.ensures ∙ c.in-Some.is in
     let out : c.need_row.result ≡ Err fault.BadPlanText = search rules in
-    let next = cuts_more (fields_of c.args.row.now ∷ left) here.0 c.loop.cuts.items (fields_of c.loop.row) c.in_ok-cut.cut here.1
+    let next = cuts_more (fields_of c.args.row.now ∷ left) here.0 c.loop.cuts.items (fields_of c.loop.row) c.in-Some.cut here.1
     (sym c.is_end.ensures ∙ c.if-is_end.false) one in
-    cuts_out (fields_of c.args.row.now ∷ left) (c.loop.cuts.items ++ c.in_ok-cut.cut ∷ []) here.0 next
+    cuts_out (fields_of c.args.row.now ∷ left) (c.loop.cuts.items ++ c.in-Some.cut ∷ []) here.0 next
     (c.need_row.ensures.refused here.0 here.2 out)
 
 pub loop-preserved : goal.loop-preserved
 loop-preserved g c =
-    let pushed : c.try_push.new.self.items ≡ c.loop.cuts.items ++ c.in_ok-cut.cut ∷ [] = search rules in
-    let one : cut_in (fields_of c.loop.row) ≡ Some c.in_ok-cut.cut = search rules in (
-      rw pushed (omega (arith, length-append c.loop.cuts.items (c.in_ok-cut.cut ∷ []), c.loop.invariant.0)),
+    let pushed : c.try_push.new.self.items ≡ c.loop.cuts.items ++ c.in-Some.cut ∷ [] = search rules in
+    let one : cut_in (fields_of c.loop.row) ≡ Some c.in-Some.cut = sym c.cut_in.ensures ∙ c.in-Some.is in (
+      rw pushed (omega (arith, length-append c.loop.cuts.items (c.in-Some.cut ∷ []), c.loop.invariant.0)),
       λ left was.
           let here = c.loop.invariant.1 left was in
           let row = c.in_ok-need_row.ensures.read here.0 here.2 refl in
-          let next = cuts_more (fields_of c.args.row.now ∷ left) here.0 c.loop.cuts.items (fields_of c.loop.row) c.in_ok-cut.cut here.1
+          let next = cuts_more (fields_of c.args.row.now ∷ left) here.0 c.loop.cuts.items (fields_of c.loop.row) c.in-Some.cut here.1
           (sym c.is_end.ensures ∙ c.if-is_end.false) one in
           (row.0, rw (pushed, ← row.1) next, row.2),
     )
