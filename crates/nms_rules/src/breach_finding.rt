@@ -1,10 +1,9 @@
 //! Which breach of a plan is the first: `specs/Breach`, and `specs/Faultless` for a plan without one.
-ghost use Rattle.std.specs.Prelude.{◌≡◌, ◌≤◌, ◌↔◌, IsNone, length};
-ghost use Rattle.std.specs.Result.{result_err};
+ghost use Rattle.std.specs.Prelude.{◌≡◌, ◌==◌, ◌≤◌, ◌↔◌, IsNone, length, not};
+ghost use Rattle.std.specs.Ordering.{int_eq};
 ghost use Rattle.nms_board.specs.View.{AreRows};
-ghost use Rattle.nms_rules.specs.Breach.{breach_of, leg_breach, sum_breach};
-ghost use Rattle.nms_rules.specs.Faultless.{IsFaultless};
-ghost use Rattle.nms_rules.specs.First.{when};
+ghost use Rattle.nms_rules.specs.Breach.{breach_of, is_other_order, leg_breach, sum_breach};
+ghost use Rattle.nms_rules.specs.Faultless.{IsFaultless, cost_of, sum_of};
 
 use crate::breach_kind::Breach;
 use crate::leg_test::{
@@ -24,65 +23,92 @@ pub fn breach(view: &View, order: &Order, fees: &FeeBook, plan: &Plan) -> Option
     ensures first { result ≡ breach_of view.now order.now fees.now plan.now }
     ensures lawful { IsNone result ↔ IsFaultless view.now order.now fees.now plan.now }
 {
-    find_breach(view, order, fees, plan).err()
+    find_breach(view, order, fees, plan)
 }
 
-/// The first breach, as a refusal.
-fn find_breach(view: &View, order: &Order, fees: &FeeBook, plan: &Plan) -> Result<(), Breach>
-    ensures first { result_err result ≡ breach_of view.now order.now fees.now plan.now }
+/// The first breach, beside what the view's type says of its rows.
+fn find_breach(view: &View, order: &Order, fees: &FeeBook, plan: &Plan) -> Option<Breach>
+    ensures first { result ≡ breach_of view.now order.now fees.now plan.now }
     ensures bids { AreRows view.now.bids }
     ensures offers { AreRows view.now.offers }
 {
-    refuse_if(plan.version != view.version(), Breach::OtherVersion)?;
-    refuse_if(
-        plan.order != *order || plan.order.sym != view.sym(),
-        Breach::OtherOrder,
-    )?;
-    check_legs(view, order, plan.legs.as_slice())?;
-    check_sums(view, order, &plan.legs)?;
-    let legs = plan.legs.as_slice();
-    refuse_if(u64::from(plan.filled) != sum_of(legs), Breach::FilledWrong)?;
-    refuse_if(
-        plan.cost != cost_of(fees, order.side, legs),
-        Breach::CostWrong,
-    )
-}
-
-/// Tests each leg by itself.
-fn check_legs(view: &View, order: &Order, legs: &[Leg]) -> Result<(), Breach>
-    ensures { result_err result ≡ leg_breach view.now order.now legs.now }
-{
-    refuse_if(
-        some_lacks_quotation(view, order, legs),
-        Breach::NoSuchQuotation,
-    )?;
-    refuse_if(
-        some_has_other_price(view, order, legs),
-        Breach::PriceDiffers,
-    )?;
-    refuse_if(some_has_no_shares(legs), Breach::ZeroLeg)?;
-    refuse_if(some_is_over_size(view, order, legs), Breach::OverSize)?;
-    refuse_if(has_repeat(legs), Breach::Repeated)?;
-    refuse_if(some_is_beyond_limit(order, legs), Breach::BeyondLimit)
-}
-
-/// Tests the legs together.
-fn check_sums(view: &View, order: &Order, legs: &ArrayVec<Leg, MOST_ROWS>) -> Result<(), Breach>
-    ensures { result_err result ≡ sum_breach view.now order.now legs.now.items }
-{
-    refuse_if(
-        sum_of(legs.as_slice()) > u64::from(order.shares.get()),
-        Breach::OverAsked,
-    )?;
-    match first_traded_through(view, order, legs.as_slice()) {
-        Some(row) => Err(Breach::TradedThrough { part: row.part }),
-        None => Ok(()),
+    if plan.version != view.version() {
+        return Some(Breach::OtherVersion);
     }
+    if is_other_order(view, order, plan) {
+        return Some(Breach::OtherOrder);
+    }
+    let legs = plan.legs.as_slice();
+    if let Some(breach) = leg_breach(view, order, legs) {
+        return Some(breach);
+    }
+    if let Some(breach) = sum_breach(view, order, &plan.legs) {
+        return Some(breach);
+    }
+    if is_filled_wrong(plan) {
+        return Some(Breach::FilledWrong);
+    }
+    if is_cost_wrong(fees, order, plan) {
+        return Some(Breach::CostWrong);
+    }
+    None
 }
 
-/// The breach, where it holds.
-fn refuse_if(holds: bool, breach: Breach) -> Result<(), Breach>
-    ensures { result_err result ≡ when holds breach }
+/// Whether a plan is for another order than the one given, or for another symbol than the view's.
+fn is_other_order(view: &View, order: &Order, plan: &Plan) -> bool
+    ensures { result ≡ is_other_order view.now order.now plan.now }
 {
-    if holds { Err(breach) } else { Ok(()) }
+    plan.order != *order || plan.order.sym != view.sym()
+}
+
+/// Whether what a plan fills is not the sum of its legs' shares.
+fn is_filled_wrong(plan: &Plan) -> bool
+    ensures { result ≡ not (plan.now.filled == sum_of plan.now.legs.items) }
+{
+    u64::from(plan.filled) != sum_of(plan.legs.as_slice())
+}
+
+/// Whether what a plan costs is not what its legs cost with fees.
+fn is_cost_wrong(fees: &FeeBook, order: &Order, plan: &Plan) -> bool
+    ensures { result ≡ not (int_eq plan.now.cost (cost_of fees.now order.now.side plan.now.legs.items)) }
+{
+    plan.cost != cost_of(fees, order.side, plan.legs.as_slice())
+}
+
+/// The first breach of a leg by itself.
+fn leg_breach(view: &View, order: &Order, legs: &[Leg]) -> Option<Breach>
+    ensures { result ≡ leg_breach view.now order.now legs.now }
+{
+    if some_lacks_quotation(view, order, legs) {
+        return Some(Breach::NoSuchQuotation);
+    }
+    if some_has_other_price(view, order, legs) {
+        return Some(Breach::PriceDiffers);
+    }
+    if some_has_no_shares(legs) {
+        return Some(Breach::ZeroLeg);
+    }
+    if some_is_over_size(view, order, legs) {
+        return Some(Breach::OverSize);
+    }
+    if has_repeat(legs) {
+        return Some(Breach::Repeated);
+    }
+    if some_is_beyond_limit(order, legs) {
+        return Some(Breach::BeyondLimit);
+    }
+    None
+}
+
+/// The first breach of the legs together.
+fn sum_breach(view: &View, order: &Order, legs: &ArrayVec<Leg, MOST_ROWS>) -> Option<Breach>
+    ensures { result ≡ sum_breach view.now order.now legs.now.items }
+{
+    if sum_of(legs.as_slice()) > u64::from(order.shares.get()) {
+        return Some(Breach::OverAsked);
+    }
+    match first_traded_through(view, order, legs.as_slice()) {
+        Some(row) => Some(Breach::TradedThrough { part: row.part }),
+        None => None,
+    }
 }

@@ -15,11 +15,11 @@ is-none found e = ap is_some e
 
 pub returns-clause-lawful : goal.returns-clause-lawful
 returns-clause-lawful c =
-    let same = sym c.find_breach.ensures.first ∙ sym c.err.ensures.value in
+    let same = sym c.find_breach.ensures.first in
     let bids = c.find_breach.ensures.bids in
     let offers = c.find_breach.ensures.offers in (
       (λ none. faultless_of_none c.args.view.now c.args.order.now c.args.fees.now c.args.plan.now bids offers
-          (same ∙ none-is c.err.result none)),
-      (λ is. is-none c.err.result (sym same
+          (same ∙ none-is c.find_breach.result none)),
+      (λ is. is-none c.find_breach.result (sym same
           ∙ none_of_faultless c.args.view.now c.args.order.now c.args.fees.now c.args.plan.now bids offers is)),
     )
