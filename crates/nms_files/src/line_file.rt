@@ -1,13 +1,13 @@
 //! Files of lines of one kind, taken up to the first line that is refused (specs/LineFile).
-ghost use Rattle.std.specs.Prelude.{◌≡◌, ◌++◌, ◌∷◌, [], List, None, Some, IfErr, IfOk, OnErr, OnOk};
+ghost use Rattle.std.specs.Prelude.{◌≡◌, ℕ, ◌++◌, ◌∷◌, [], List, Option, None, Some, IfErr, IfOk, OnErr, OnOk};
 ghost use Rattle.csv.specs.Records.{fields_of};
 ghost use Rattle.nms_fees.specs.Settings.{Settings};
 ghost use Rattle.nms_lines.specs.Layout.{Record};
-ghost use Rattle.nms_lines.specs.Records.{AreAllRecords};
+ghost use Rattle.nms_lines.specs.Records.{AreAllRecords, ReadsFrom};
 ghost use Rattle.nms_files.specs.LineFile.{HaveCome};
 
 use nms_fees::Setup;
-use nms_lines::{ByteRecord, RecordFault, open_records, read_next};
+use nms_lines::{ByteRecord, Reader, RecordFault, open_records, read_next};
 use std::alloc::Global;
 use std::io::Read;
 
@@ -53,10 +53,28 @@ pub(crate) fn read_items<R: Read + Drop, T: FileItem>(
         items: Vec::new(alloc),
         refused: None,
     };
+    match take_lines(&mut reader, &mut row, setup, &mut so_far) {
+        Ok(()) => Ok(so_far),
+        Err(fault) => Err(fault),
+    }
+}
+
+/// Takes the lines that are left.
+fn take_lines<R: Read, T: FileItem>(
+    reader: &mut Reader<R>,
+    row: &mut ByteRecord,
+    setup: &Setup,
+    so_far: &mut Taken<T, T::Fault>,
+) -> Result<(), RecordFault>
+    ensures { (bytes : Option (List ℕ)) (seen : List Record) → ReadsFrom R.remaining reader.old bytes seen
+        → HaveCome (T.are_taken setup.now) (T.is_refused setup.now) seen so_far.old.items.items so_far.old.refused
+        → OnOk result ((records : List Record) × AreAllRecords bytes records
+        × HaveCome (T.are_taken setup.now) (T.is_refused setup.now) records so_far.new.items.items so_far.new.refused) }
+{
     for _ in 0..u64::MAX {
-        match read_next(&mut reader, &mut row) {
-            Ok(true) => take_next(&mut so_far, setup, &row),
-            Ok(false) => return Ok(so_far),
+        match read_next(reader, row) {
+            Ok(true) => take_next(so_far, setup, row),
+            Ok(false) => return Ok(()),
             Err(fault) => return Err(fault),
         }
     }
