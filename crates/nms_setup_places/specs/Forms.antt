@@ -1,6 +1,6 @@
 -- What the value at each key has to be, with its bounds. This product's own rule; the caps of fees are those of 17 CFR
 -- 242.610(c), as adopted in 2005 or as amended in 2024.
-use Rattle.std.specs.Prelude.{ℕ, pos, length, Option, Some}
+use Rattle.std.specs.Prelude.{pos, length, Option, Some}
 use Rattle.std.specs.Option.{option_map_or}
 use Rattle.toml.specs.Data.{Data}
 use Rattle.nms_units.specs.declared.TheConstants.{MOST_LOT}

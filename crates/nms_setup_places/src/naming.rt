@@ -1,10 +1,13 @@
 //! Names that stand twice: `specs/Findings`.
-ghost use Rattle.std.specs.Prelude.{◌≡◌, map, option_and_then, option_copied};
+ghost use Rattle.std.specs.Prelude.{◌≡◌, ◌++◌, ◌∷◌, [], map, option_copied, IfOk, OnOk};
 ghost use Rattle.toml.specs.View.{view};
 ghost use Rattle.nms_fees.specs.Places.{name_in};
-ghost use Rattle.nms_setup_places.specs.Findings.{first_named, is_named, named_before};
+ghost use Rattle.nms_setup_places.specs.Findings.{named_before};
+ghost use Rattle.nms_setup_places.specs.Known.{KnowsNames};
 
+use indexmap::IndexMap;
 use nms_fees::value_at;
+use std::alloc::AllocError;
 use toml::Value;
 
 /// The name in an element of an array, where it is a text.
@@ -14,33 +17,26 @@ pub fn name_in(row: &Value) -> Option<&str>
     value_at(row.as_table()?, "name")?.as_str()
 }
 
-/// The first of these elements that has the name of another, by how many stand before it. Elements without a
-/// name count for nothing.
-pub(crate) fn earlier_named(before: &[Value], row: &Value) -> Option<usize>
-    ensures { result ≡ named_before (map view before.now) (view row.now) }
+/// The first of these elements that has the name of the next one, by how many stand before it. Elements without a name
+/// count for nothing. The names of these are known, and then the next one's too: a name is looked up once, however many
+/// elements there are.
+pub(crate) fn earlier_named<'a>(
+    known: &mut IndexMap<&'a str, usize>,
+    before: &[Value],
+    row: &'a Value,
+) -> Result<Option<usize>, AllocError>
+    requires known { KnowsNames known.old (map view before.now) }
+    ensures first { IfOk result (λ first. first ≡ named_before (map view before.now) (view row.now)) }
+    ensures known { OnOk result (KnowsNames known.new (map view before.now ++ view row.now ∷ [])) }
 {
-    match name_in(row) {
-        Some(name) => first_named(before, name),
-        None => None,
+    let Some(name) = name_in(row) else {
+        return Ok(None);
+    };
+    if let Some(first) = known.get(name) {
+        return Ok(Some(*first));
     }
-}
-
-fn first_named(rows: &[Value], name: &str) -> Option<usize>
-    ensures { result ≡ first_named name.now 0 (map view rows.now) }
-{
-    for place in 0..rows.len() {
-        if is_named(&rows[place], name) {
-            return Some(place);
-        }
-    }
-    None
-}
-
-fn is_named(row: &Value, name: &str) -> bool
-    ensures { result ≡ is_named name.now (view row.now) }
-{
-    match name_in(row) {
-        Some(other) => other == name,
-        None => false,
+    match known.insert(name, before.len()) {
+        Ok(_) => Ok(None),
+        Err(_) => Err(AllocError),
     }
 }

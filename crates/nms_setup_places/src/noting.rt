@@ -1,15 +1,17 @@
 //! All faults of a document: `specs/Findings`.
-ghost use Rattle.std.specs.Prelude.{◌≡◌, ◌++◌, map, IfOk, OnOk, []};
+ghost use Rattle.std.specs.Prelude.{◌≡◌, ◌++◌, ◌∷◌, map, IfOk, OnOk, []};
 ghost use Rattle.nms_fees.specs.Setup.{rows_at};
 ghost use Rattle.toml.specs.View.{view, table_view};
 ghost use Rattle.nms_setup_places.specs.Tables.{array_key, keys_of, text_of};
 ghost use Rattle.nms_setup_places.specs.Findings.{finding_at, others_fault, own_fault, key_findings, findings_in, element_findings, again_findings, row_findings, array_findings, findings_of};
+ghost use Rattle.nms_setup_places.specs.Known.{KnowsNames};
 
 use crate::finding::{Finding, Spot};
 use crate::form::form_of;
 use crate::known_key::KnownKey;
 use crate::naming::earlier_named;
 use crate::setup_table::{SetupArray, SetupTable};
+use indexmap::IndexMap;
 use nms_fees::{Choices, SetupFault, choices_in, rows_at, value_at};
 use std::alloc::{AllocError, Global};
 use toml::{Table, Value};
@@ -21,8 +23,14 @@ pub fn find_faults(alloc: Global, document: &Table) -> Result<Vec<Finding>, Allo
     let choices = choices_in(document);
     let mut found = Vec::new(alloc);
     note_table(&mut found, choices, SetupTable::Top, document)?;
-    note_array(&mut found, choices, SetupArray::Participant, document)?;
-    note_array(&mut found, choices, SetupArray::Symbol, document)?;
+    note_array(
+        alloc,
+        &mut found,
+        choices,
+        SetupArray::Participant,
+        document,
+    )?;
+    note_array(alloc, &mut found, choices, SetupArray::Symbol, document)?;
     Ok(found)
 }
 
@@ -101,6 +109,7 @@ fn others_fault(table: SetupTable, members: &Table) -> Option<SetupFault>
 
 /// Notes the faults of the elements of one of the two arrays.
 fn note_array(
+    alloc: Global,
     found: &mut Vec<Finding>,
     choices: Choices,
     array: SetupArray,
@@ -108,10 +117,17 @@ fn note_array(
 ) -> Result<(), AllocError>
     ensures { OnOk result (found.new.items ≡ found.old.items ++ array_findings choices array [] (rows_at (text_of (array_key array)) (table_view document.now))) }
 {
-    note_rows(found, choices, array, rows_at(document, array.key().text()))
+    note_rows(
+        alloc,
+        found,
+        choices,
+        array,
+        rows_at(document, array.key().text()),
+    )
 }
 
 fn note_rows(
+    alloc: Global,
     found: &mut Vec<Finding>,
     choices: Choices,
     array: SetupArray,
@@ -119,25 +135,36 @@ fn note_rows(
 ) -> Result<(), AllocError>
     ensures { OnOk result (found.new.items ≡ found.old.items ++ array_findings choices array [] (map view rows.now)) }
 {
+    let mut known = IndexMap::new(alloc);
     for place in 0..rows.len() {
-        note_row(found, choices, array, &rows[..place], &rows[place])?;
+        note_row(
+            found,
+            choices,
+            array,
+            &mut known,
+            &rows[..place],
+            &rows[place],
+        )?;
     }
     Ok(())
 }
 
-/// Notes the faults of one element of an array, of which these stand before it.
-fn note_row(
+/// Notes the faults of one element of an array, of which these stand before it, whose names are known.
+fn note_row<'a>(
     found: &mut Vec<Finding>,
     choices: Choices,
     array: SetupArray,
+    known: &mut IndexMap<&'a str, usize>,
     before: &[Value],
-    row: &Value,
+    row: &'a Value,
 ) -> Result<(), AllocError>
-    ensures { OnOk result (found.new.items ≡ found.old.items ++ row_findings choices array (map view before.now) (view row.now)) }
+    requires known { KnowsNames known.old (map view before.now) }
+    ensures known { OnOk result (KnowsNames known.new (map view before.now ++ view row.now ∷ [])) }
+    ensures found { OnOk result (found.new.items ≡ found.old.items ++ row_findings choices array (map view before.now) (view row.now)) }
 {
     let table = array.element(before.len());
     note_element(found, choices, table, row)?;
-    note_again(found, table, before, row)
+    note_again(found, table, known, before, row)
 }
 
 /// Notes the faults of an element by itself.
@@ -156,15 +183,18 @@ fn note_element(
 }
 
 /// Notes that an earlier element has the name.
-fn note_again(
+fn note_again<'a>(
     found: &mut Vec<Finding>,
     table: SetupTable,
+    known: &mut IndexMap<&'a str, usize>,
     before: &[Value],
-    row: &Value,
+    row: &'a Value,
 ) -> Result<(), AllocError>
-    ensures { OnOk result (found.new.items ≡ found.old.items ++ again_findings table (map view before.now) (view row.now)) }
+    requires known { KnowsNames known.old (map view before.now) }
+    ensures known { OnOk result (KnowsNames known.new (map view before.now ++ view row.now ∷ [])) }
+    ensures found { OnOk result (found.new.items ≡ found.old.items ++ again_findings table (map view before.now) (view row.now)) }
 {
-    match earlier_named(before, row) {
+    match earlier_named(known, before, row)? {
         Some(first) => note(found, table, Spot::NameOf(first), Some(SetupFault::BadName)),
         None => Ok(()),
     }
