@@ -21,9 +21,9 @@ impl<'a> Marked<'a> {
         self.line.get(start..end).unwrap_or(&[])
     }
 
-    /// The column that is told, in characters from 1.
+    /// The column at which the carets begin, in characters from 1.
     pub(crate) fn column(&self) -> u64 {
-        let before = self.line.get(..self.pair.key).unwrap_or(self.line);
+        let before = self.line.get(..self.pair.start).unwrap_or(self.line);
         let mut column = 1u64;
         for byte in before {
             if *byte & 0xC0 != 0x80 {
