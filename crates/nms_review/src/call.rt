@@ -42,22 +42,39 @@ pub(crate) fn no_sym(place: usize) -> Fault {
     )
 }
 
-/// The version that the first word names.
+/// The version that the first word names, in digits alone: `parse` would take a plus before them too.
 pub(crate) fn version_of(request: &Request) -> Result<u64, Fault> {
-    let version = word_at(request, 0).parse::<u64>();
-    version.map_err(|_| Fault::usage(About::Word(0), "a version is a number, 0 or more"))
+    let word = word_at(request, 0);
+    let version = if word.bytes().all(|byte| byte.is_ascii_digit()) {
+        word.parse::<u64>().ok()
+    } else {
+        None
+    };
+    version.ok_or(Fault::usage(About::Word(0), "a version is a number, 0 or more"))
 }
 
-/// The feed that `--feed` names, A where it is not given.
+/// The feed that `--feed` names, A if it is not given.
 pub(crate) fn feed_of(setup: &Setup, request: &Request) -> Result<Feed, Fault> {
+    let feed = letter_of(request)?;
+    if feed.place() < setup.feeds() {
+        Ok(feed)
+    } else {
+        Err(no_feed())
+    }
+}
+
+/// The same before a setup is known, so of the most feeds that one may have.
+pub(crate) fn letter_of(request: &Request) -> Result<Feed, Fault> {
     let letter = match &request.feed {
         Some(word) => word.as_str(),
         None => "A",
     };
-    match feed_named(letter) {
-        Some(feed) if feed.place() < setup.feeds() => Ok(feed),
-        _ => Err(Fault::usage(About::Feed, "it is the letter of no feed of the setup")),
-    }
+    feed_named(letter).ok_or(no_feed())
+}
+
+/// A word that names no feed.
+fn no_feed() -> Fault {
+    Fault::usage(About::Feed, "it is the letter of no feed of the setup")
 }
 
 /// How a request ends that has read a file: where the reading failed, the system's reason is told.

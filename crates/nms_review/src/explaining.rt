@@ -1,5 +1,5 @@
 //! The subcommand `explain`.
-use crate::call::{ended, feed_of, form_of};
+use crate::call::{ended, feed_of, form_of, letter_of};
 use crate::fault::{About, Fault};
 use crate::files::{open_word, read_file, setup_of, word_at};
 use crate::screen::Screen;
@@ -7,6 +7,7 @@ use crate::source::Source;
 use nms_explain::{explain_changes, explain_feed, explain_orders, explain_plan, explain_script};
 use nms_explain_setup::explain_setup;
 use nms_fees::Setup;
+use nms_quote::Feed;
 use nms_review_words::{Kind, Request};
 use nms_show::Ending;
 use std::io::Write;
@@ -47,6 +48,7 @@ fn serve_setup<T, W: Write>(
 where
     T: AllocGlobal + Files,
 {
+    letter_of(request)?;
     let file = word_at(request, FILE);
     let text = read_file(rt, file, About::Word(FILE))?;
     explain_setup(rt.alloc(), file, &text, form_of(screen, request), answers).map_err(
@@ -66,12 +68,13 @@ fn serve_kind<T, W: Write>(
 where
     T: AllocGlobal + Clock + Eprint + Files,
 {
+    let feed = feed_of(setup, request)?;
     if kind == Kind::Plan {
         return serve_plan(rt, screen, setup, request, answers);
     }
     let file = open_word(rt, request, FILE)?;
     let mut source = Source::new(rt, screen, file);
-    let served = serve_records(rt, screen, setup, kind, request, &mut source, answers);
+    let served = serve_records(rt, screen, setup, kind, feed, request, &mut source, answers);
     ended(&mut source, served)
 }
 
@@ -105,6 +108,7 @@ fn serve_records<T, R, W: Write>(
     screen: Screen,
     setup: &Setup,
     kind: Kind,
+    feed: Feed,
     request: &Request,
     source: &mut Source<'_, T, R>,
     answers: &mut W,
@@ -117,10 +121,7 @@ where
     let served = match kind {
         Kind::Script => explain_script(alloc, setup, file, source, form, answers),
         Kind::Orders => explain_orders(alloc, setup, file, source, form, answers),
-        Kind::Feed => {
-            let feed = feed_of(setup, request)?;
-            explain_feed(alloc, setup, feed, file, source, form, answers)
-        }
+        Kind::Feed => explain_feed(alloc, setup, feed, file, source, form, answers),
         Kind::Changes | Kind::Plan | Kind::Setup => {
             explain_changes(alloc, setup, file, source, form, answers)
         }

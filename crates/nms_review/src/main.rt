@@ -15,7 +15,7 @@ mod telling;
 use answers::Answers;
 use fault::Fault;
 use nms_review_words::{Request, WordsFault, read_words};
-use nms_show::Ending;
+use nms_show::{Ending, Form, Item, write_line};
 use screen::Screen;
 use serving::serve;
 use std::alloc::Global;
@@ -65,7 +65,7 @@ where
     match read_words(rt.alloc(), words) {
         Ok(request) => answer_request(rt, screen, &request, errors),
         Err(WordsFault::Parser { text, help: true }) => tell_help(rt, text.as_str(), errors),
-        Err(WordsFault::Parser { text, help: false }) => tell_early(errors, text.as_str(), 2),
+        Err(WordsFault::Parser { text, help: false }) => tell_refusal(errors, text.as_str()),
         Err(WordsFault::NoMemory) => tell_early(errors, NO_MEMORY, 5),
     }
 }
@@ -103,6 +103,20 @@ fn tell_help<T: Print, E: Write>(rt: &T, help: &str, errors: &mut E) -> u8 {
         Ok(()) => 0,
         Err(_) => tell_early(errors, NOT_WRITTEN, 1),
     }
+}
+
+/// Prints why the parser refuses the words on standard error, and gives the status. It quotes words of the call: so each
+/// line is written as one of a file is, with escapes.
+fn tell_refusal<E: Write>(errors: &mut E, text: &str) -> u8 {
+    let bytes = text.as_bytes();
+    let lines = bytes.strip_suffix(b"\n").unwrap_or(bytes);
+    for line in lines.split(|byte| *byte == b'\n') {
+        let items = [Item::Bytes(line)];
+        if write_line(errors, Form::Text { colours: false }, &items).is_err() {
+            break;
+        }
+    }
+    2
 }
 
 /// Tells a text on standard error, and gives the status. What standard error does not take changes no status.
