@@ -8,7 +8,8 @@ A file `X.cases` there has cases of the form of cases/commands.cases, of the kin
 streams, the status and the texts. The other files there are what docs/REVIEW.md names, and each has to be named. In that
 page a line of four spaces and `./nms_review WORDS` is a call, or one of `./nms_tool`, which TOOL stands for; the block
 behind it is what it writes, with the words `status N` in the text between them where N is not 0. Beside these the program
-meets a closed output, one whose reader has gone, records of a million bytes, and each byte of a file once. It writes a
+meets a closed output, one whose reader has gone, records of a million bytes, each byte of a file once, a setup of many
+symbols, streams of several pieces, and a day with more versions than a picture has columns. It writes a
 line for each difference, and last `N passed, M failed`; status 1 where one failed.
 """
 import os
@@ -162,7 +163,78 @@ def one_found(program, path):
     must((ran.returncode, told) == (6, "200000; refused: 1\n    L6: 1\n") and head.startswith(wanted), f"{ran.returncode}, {ran.stdout[:500]!r}")
 
 
+def many_symbols(file):
+    """A setup of 100,000 symbols, the last of which has the name of the first."""
+    file.write(b'tape_limit = 3\nqueue = 2\ndesks = 1\nparticipant = [{name = "N", feed = "A", fee = 0, rate = 0}]\n')
+    file.write(b"".join(b'[[symbol]]\nname = "S%d"\nlot = 100\n' % (it % 99_999) for it in range(100_000)))
+
+
+def name_found(program, path):
+    """Looking at all symbols before each would take 5,000,000,000 looks, for which a call has not the time."""
+    ran = called(program, ["explain", "setup", "given.changes"], capture_output=True, cwd=os.path.dirname(path))
+    wanted = ("given.changes:5:1: C8: top, key symbol: too many tables\n    [[symbol]]\n    ^^^^^^^^^^\n"
+              "    found `100000`; expected 1 to 1000 tables, each behind a line [[symbol]]\n    split the symbols over several runs\n"
+              "given.changes:300003:8: C4: symbol 100000, S0, key name: a name that stands twice\n    name = \"S0\"\n           ^^^^\n"
+              "    found `S0`; expected a name of its own: number 1 has it too\n"
+              "    1 to 4 of A to Z and 0 to 9 for a participant, 1 to 8 of these and the point for a symbol; each name once\n"
+              "given.changes: faults: 2, refused by C4\n")
+    must((ran.returncode, ran.stdout.decode(), ran.stderr) == (3, wanted, b""), f"{ran.returncode}, {ran.stdout[:1500]!r}, {ran.stderr[:500]!r}")
+
+
+def long_day(path):
+    """The option for a setup whose tape takes more changes than the built-in one's, in the folder of a file."""
+    file = os.path.join(os.path.dirname(path), "long.toml")
+    with open(file, "wb") as it:
+        it.write(b'tape_limit = 10000\nqueue = 2\ndesks = 1\nsymbol = [{name = "ABC", lot = 100}]\n')
+        it.write(b"".join(b'[[participant]]\nname = "%s"\nfeed = "A"\nfee = 0\nrate = 0\n' % name for name in (b"N", b"P", b"Z")))
+    return ["--setup", file]
+
+
+def each_other(file):
+    """4,000 changes of one quotation, each with other shares than the one before."""
+    file.write(b"".join(b"Q,N,ABC,A,9.99,%d,10.01,300\n" % (100 + it % 2 * 100) for it in range(4_000)))
+
+
+def pieces(program, path):
+    """A stream that is written in three pieces of 64 KiB and more, each of more than a thousand lines: no line is lost or doubled."""
+    lines = [(it + 1, 100 + it % 2 * 100) for it in range(4_000)]
+    head = "version,symbol,market,bid_participant,bid_price,bid_shares,offer_participant,offer_price,offer_shares\n"
+    wanted = head + "".join(f"{version},ABC,NORMAL,N,9.9900,{shares},N,10.0100,300\n" for version, shares in lines)
+    objects = "".join(f'{{"what":"line","version":{version},"symbol":"ABC","market":"NORMAL","bid_participant":"N","bid_price":"9.9900","bid_shares":{shares}'
+                      ',"offer_participant":"N","offer_price":"10.0100","offer_shares":300}\n' for version, shares in lines)
+    must(len(wanted) > 2 << 16, f"{len(wanted)} bytes")
+    for words, text in ((["stream", path], wanted), (["stream", path, "--json"], objects)):
+        ran = called(program, words + long_day(path), capture_output=True)
+        came, text = ran.stdout.splitlines(), text.encode().splitlines()
+        differs = next((it for it, (one, other) in enumerate(zip(came, text)) if one != other), min(len(came), len(text)))
+        must((ran.returncode, came, ran.stderr) == (0, text, b""), f"{words}: {ran.returncode}, {len(came)} lines, line {differs + 1}: {came[differs:differs + 1]}")
+
+
+def narrow(file):
+    """3,000 changes, so that a column of the picture has three versions: one from 300 on is locked, locked, crossed; one from
+    600 on locked once; one from 900 on locked, crossed; one from 1200 on crossed, locked, crossed."""
+    marked = {300: 1, 302: 2, 303: 0, 601: 1, 602: 0, 900: 1, 901: 2, 902: 0, 1200: 2, 1201: 1, 1202: 2, 1203: 0}
+    moves = (b"X,Z\n", b"Q,Z,ABC,A,10.01,100,,\n", b"Q,Z,ABC,A,10.02,100,,\n")
+    file.write(b"Q,N,ABC,A,9.99,100,10.01,100\n" + b"".join(moves[marked[it]] if it in marked else b"X,P\n" for it in range(2, 3_001)))
+
+
+def columns(program, path):
+    """A version takes 1500 of 3003 units across, a whole column is 680 high: each is hatched as high as the share of its versions
+    that are locked or crossed, and as crossed if one of them is. All are less than three units wide, and made that."""
+    ran = called(program, ["draw", path, "ABC", *long_day(path)], capture_output=True)
+    text = ran.stdout.decode()
+    hatched = re.findall(r'^<rect y="(\d+)" height="(\d+)" x="(\d+)" width="(\d+)" fill="url\(#(\w+)\)"/>$', text, re.M)
+    wanted = [("110", "680", "299", "3", "crossed"), ("564", "226", "449", "3", "locked"), ("337", "453", "599", "3", "crossed"), ("110", "680", "749", "3", "crossed")]
+    must((ran.returncode, hatched) == (0, wanted), f"{ran.returncode}, {hatched}, {ran.stderr!r}")
+    told = text[text.index("Versions that are"):text.index("</desc>")].splitlines()
+    stretches = [("Locked", 300, 301), ("Crossed", 302, 302), ("Locked", 601, 601), ("Locked", 900, 900), ("Crossed", 901, 901), ("Crossed", 1200, 1200)]
+    stretches += [("Locked", 1201, 1201), ("Crossed", 1202, 1202)]
+    wanted = ["Versions that are locked: 5; crossed: 4; all: 3001.", *(f"{kind} from version {first} to {last}." for kind, first, last in stretches)]
+    must(told[:9] == wanted and told[9].startswith("A column stands for 3 versions: "), f"{told}")
+
+
 TRIALS = [("closed", refused), ("reader_gone", refused), ("long", long_records), ("harmless", each_byte), ("small_memory", large), ("one_found", among)]
+TRIALS += [("name_found", many_symbols), ("pieces", each_other), ("columns", narrow)]
 
 
 def unnamed():
