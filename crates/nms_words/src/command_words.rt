@@ -7,6 +7,7 @@ ghost use Rattle.nms_words.specs.PlainCall.{IsPlainCall};
 
 use crate::command_line::tool_command;
 use crate::request::Request;
+use crate::shown::Shown;
 use crate::subcommand::{OwnWord, Sub};
 use crate::words_fault::WordsFault;
 use clap::error::ErrorKind;
@@ -65,12 +66,14 @@ fn fault_of(alloc: Global, words: &[&str], error: &Error) -> WordsFault
     }
 }
 
-// The parser's text, with a tip for an option that stands before its subcommand.
+// The parser's text with escapes, and with a tip for an option that stands before its subcommand.
 fn text_of(alloc: Global, words: &[&str], error: &Error) -> Result<String, AllocError> {
+    let text = format!(in alloc; "{error}")?;
+    let shown = Shown(text.as_str());
     if words.first().is_some_and(|word| is_setup_option(*word)) {
-        return format!(in alloc; "{error}{SETUP_TIP}");
+        return format!(in alloc; "{shown}{SETUP_TIP}");
     }
-    format!(in alloc; "{error}")
+    format!(in alloc; "{shown}")
 }
 
 // Whether the word is `--setup` or `--setup=FILE`.

@@ -6,6 +6,7 @@ mod command_words;
 mod help_text;
 mod option_word;
 mod request;
+mod shown;
 mod subcommand;
 mod words_fault;
 
