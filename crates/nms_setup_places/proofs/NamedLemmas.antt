@@ -1,5 +1,7 @@
--- The names of some elements, with one element more after them: a map that knows the names of the first knows the name of the last too.
-use Rattle.std.proofs.Common.{◌≡◌, ℕ, suc, ◌+◌, Bool, true, false, cond, List, [], ◌∷◌, ◌++◌, length, Option, Some, None, Bor, refl, sym, ap, ◌∙◌, if◌then◌else◌, arith}
+-- The names of some elements, with one element more after them: when a map knows the names of the elements, and then that
+-- of the one more.
+use Rattle.std.proofs.Common.{◌≡◌, ℕ, suc, ◌+◌, Bool, true, false, cond, List, [], ◌∷◌}
+use Rattle.std.proofs.Common.{◌++◌, length, Option, Some, None, Bor, refl, sym, ap, ◌∙◌, if◌then◌else◌, arith}
 use Rattle.std.specs.Option.{option_map_or}
 use Rattle.std.specs.Str.{bytes_eq}
 use Rattle.std.proofs.lemmas.Slice.Eq.{bytes_eq-Decides}
@@ -23,7 +25,8 @@ abbrev place_if : Bool → ℕ → Option ℕ
 place_if is_it place = if is_it then Some place else None
 
 first_named-push : (name : Name) (before : ℕ) (rows : List Data) (row : Data)
-    → first_named name before (rows ++ row ∷ []) ≡ or_else (first_named name before rows) (place_if (is_named name row) (before + length rows))
+    → first_named name before (rows ++ row ∷ [])
+    ≡ or_else (first_named name before rows) (place_if (is_named name row) (before + length rows))
 first_named-push name before [] row = ap (place_if (is_named name row)) (omega arith)
 first_named-push name before (first ∷ rows) row = by (is_named name first) (first_named-push name (suc before) rows row)
   where
@@ -31,7 +34,8 @@ first_named-push name before (first ∷ rows) row = by (is_named name first) (fi
         → (first_named name (suc before) (rows ++ row ∷ [])
         ≡ or_else (first_named name (suc before) rows) (place_if (is_named name row) (suc before + length rows)))
         → (if b then Some before else first_named name (suc before) (rows ++ row ∷ []))
-        ≡ or_else (if b then Some before else first_named name (suc before) rows) (place_if (is_named name row) (before + length (first ∷ rows)))
+        ≡ or_else (if b then Some before else first_named name (suc before) rows)
+        (place_if (is_named name row) (before + length (first ∷ rows)))
     by true rest = refl
     by false rest = rest
         ∙ ap (λ place. or_else (first_named name (suc before) rows) (place_if (is_named name row) place)) (omega arith)
