@@ -8,9 +8,10 @@ A file `X.cases` there has cases of the form of cases/commands.cases, of the kin
 streams, the status and the texts. The other files there are what docs/REVIEW.md names, and each has to be named. In that
 page a line of four spaces and `./nms_review WORDS` is a call, or one of `./nms_tool`, which TOOL stands for; the block
 behind it is what it writes, with the words `status N` in the text between them where N is not 0. Beside these the program
-meets a closed output, one whose reader has gone, records of a million bytes, each byte of a file once, a setup of many
-symbols, streams of several pieces, and a day with more versions than a picture has columns. It writes a
-line for each difference, and last `N passed, M failed`; status 1 where one failed.
+meets a closed output, one whose reader has gone, records of a million bytes, records whose fields and lists are longer than
+any that is right, byte order marks before quotes, each byte of a file once, a setup of many symbols, streams of several
+pieces, and a day with more versions than a picture has columns. It writes a line for each difference, and last
+`N passed, M failed`; status 1 where one failed.
 """
 import os
 import re
@@ -18,6 +19,7 @@ import resource
 import subprocess
 import sys
 import tempfile
+import time
 from concurrent.futures import ThreadPoolExecutor
 
 from check import MOST, Wrong, cases_of, command
@@ -25,7 +27,8 @@ from check import MOST, Wrong, cases_of, command
 HERE = os.path.dirname(os.path.realpath(__file__))
 TOP = os.path.dirname(HERE)
 ROOM = os.path.join(HERE, "review")
-# Memory within which a file of a hundred million bytes is explained: it must not grow with the file.
+# Memory within which a file of two hundred million bytes is explained: it must not grow with the file, but with the longest
+# record alone.
 LITTLE = 256 << 20
 # A call of the page, what stands between it and its block, and the block.
 CALL = re.compile(r"^    \./(nms_review|nms_tool) (.*)\n((?:(?!    \./nms_|```).*\n)*)```\w*\n([\s\S]*?)```$", re.M)
@@ -126,6 +129,65 @@ def long(program, path):
     must(ran.returncode == 6 and len(ran.stdout) < 5_000, f"{ran.returncode}, {len(ran.stdout)} bytes")
 
 
+def heads(program, words, path):
+    """The status of a call on a file, and of each line that it writes about the file what stands after the file's name."""
+    ran = called(program, [*words, "given.changes"], capture_output=True, cwd=os.path.dirname(path))
+    lines = ran.stdout.decode().splitlines()
+    return ran.returncode, [it.removeprefix("given.changes:") for it in lines if it.startswith("given.changes:")], lines
+
+
+def long_names(file):
+    """Orders whose lists of names are longer than all names there are: the last name of one is none, the other is well."""
+    order = b"O,0,B,ABC,100,10.01,,"
+    file.write(order + b"N+" * 36_900 + b"QQ\n" + order + b'"' + b"N+" * 39_999 + b'N"\n')
+
+
+def far_name(program, path):
+    status, told, lines = heads(program, ["explain", "orders"], path)
+    wanted = ["1:73822: L3: record 1, field 8, names", " records: 2; refused: 1"]
+    must((status, told) == (6, wanted) and any("found `QQ`" in it for it in lines), f"{status}, {told}")
+
+
+def long_fields(file):
+    """Records with a hundred thousand digits or commas where few may stand, and good ones between."""
+    many = b"0" * 100_000
+    file.write(b"Q,N,ABC,A," + many + b",100,10.01,100\nF\nQ,N,ABC,A,9.99," + many + b",10.01,100\nF\n")
+    file.write(b"N," + many + b",ABC\nF\nQ,N,ABC,A" + b"," * 100_000 + b"\nF\nR,ABC," + many + b"1\n")
+
+
+def far_fields(program, path):
+    status, told, lines = heads(program, ["explain", "script"], path)
+    wanted = ["1:11: L6: record 1, field 5, bid", "3:16: L7: record 3, field 6, bidshares", "5:3: L10: record 5, field 2, desk",
+              "7:15: L2: record 7, number of fields", "9:7: L14: record 9, field 3, lot", " records: 9; refused: 5"]
+    count = "    found 100004; expected 8: Q,part,sym,state,bid,bidshares,offer,offershares"
+    must((status, told) == (6, wanted) and count in lines, f"{status}, {told}, {[it for it in lines if 'found 1' in it]}")
+
+
+def marked(file):
+    """A byte order mark before a field in quotes that the first read doesn't end."""
+    file.write(b'\xef\xbb\xbf"\n' + b"b" * 8187 + b'",N\nX,QQ\n')
+
+
+def mark(program, path):
+    status, told, lines = heads(program, ["explain", "changes"], path)
+    wanted = ["1:1: L1: record 1, field 1, kind", "3:3: L3: record 2, field 2, part", " records: 2; refused: 2"]
+    must((status, told) == (6, wanted) and lines[1].startswith('    "\\nbbb'), f"{status}, {told}, {lines[1][:80]}")
+
+
+def nothing(_):
+    """The file is not read."""
+
+
+def mark_in_parts(program, _):
+    ran = subprocess.Popen([program, "explain", "changes", "/dev/stdin"], stdin=subprocess.PIPE, stdout=subprocess.PIPE)
+    ran.stdin.write(b'\xef\xbb\xbf"Q\n')
+    ran.stdin.flush()
+    time.sleep(0.4)
+    told, _ = ran.communicate(b'",N\nX,QQ\n', timeout=MOST)
+    at = re.findall(rb"^/dev/stdin:(\d+:\d+: L\d+)", told, re.M)
+    must((ran.returncode, at) == (6, [b"1:1: L1", b"3:3: L3"]), f"{ran.returncode}, {told!r}")
+
+
 def each_byte(file):
     file.write(b"".join(b"Q,N," + bytes([it]) + b",A,,,10.00,300\n" for it in range(256) if it not in b'"\r\n'))
 
@@ -137,16 +199,33 @@ def harmless(program, path):
         must(ran.returncode == 6 and not strange, f"{ran.returncode}, bytes {strange[:8]}")
 
 
+def limited(program, path):
+    """A call with little memory."""
+    def limit():
+        resource.setrlimit(resource.RLIMIT_AS, (LITTLE, LITTLE))
+    return called(program, ["explain", "changes", path], capture_output=True, preexec_fn=limit)
+
+
 def large(file):
-    """A hundred million bytes of records, one of them refused."""
-    file.write(b"Q,N,ABC,A,9.99,100,10.01,100\n" * 3_500_000 + b"Q,N,ABC,A,9.99,100,10.01\n")
+    """A hundred million bytes of records, as many of blank lines, and a record that is refused."""
+    file.write(b"Q,N,ABC,A,9.99,100,10.01,100\n" * 3_500_000)
+    file.write(b"\n" * 100_000_000 + b"Q,N,ABC,A,9.99,100,10.01\n")
 
 
 def small_memory(program, path):
-    def limit():
-        resource.setrlimit(resource.RLIMIT_AS, (LITTLE, LITTLE))
-    ran = called(program, ["explain", "changes", path], capture_output=True, preexec_fn=limit)
-    must(ran.returncode == 6 and b"3500001" in ran.stdout, f"{ran.returncode}, {ran.stdout[:500]!r}")
+    ran = limited(program, path)
+    must(ran.returncode == 6 and b":103500001:25: L2: record 3500001," in ran.stdout, f"{ran.returncode}, {ran.stdout[:500]!r}")
+
+
+def larger(file):
+    """A record of a thousand million bytes, which stand on no disk, after one that is refused."""
+    file.write(b"X,QQ\n")
+    file.truncate(1_000_000_000)
+
+
+def no_memory(program, path):
+    ran = limited(program, path)
+    must(ran.returncode == 5 and b": E4: " in ran.stderr and b"L1: record 2" not in ran.stdout, f"{ran.returncode}, {ran.stderr!r}")
 
 
 def among(file):
@@ -233,8 +312,11 @@ def columns(program, path):
     must(told[:9] == wanted and told[9].startswith("A column stands for 3 versions: "), f"{told}")
 
 
-TRIALS = [("closed", refused), ("reader_gone", refused), ("long", long_records), ("harmless", each_byte), ("small_memory", large), ("one_found", among)]
-TRIALS += [("name_found", many_symbols), ("pieces", each_other), ("columns", narrow)]
+TRIALS = [
+    ("closed", refused), ("reader_gone", refused), ("long", long_records), ("far_name", long_names), ("far_fields", long_fields),
+    ("mark", marked), ("mark_in_parts", nothing), ("harmless", each_byte), ("small_memory", large), ("no_memory", larger),
+    ("one_found", among), ("name_found", many_symbols), ("pieces", each_other), ("columns", narrow),
+]
 
 
 def unnamed():

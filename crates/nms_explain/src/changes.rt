@@ -3,12 +3,12 @@ use crate::expectation::{expected_field, layout_of};
 use crate::explain_fault::ExplainFault;
 use crate::hints::{hint_of, hint_of_feed, parted_number};
 use crate::line_count::LineCount;
-use crate::record_source::{RecordSource, RecordText};
+use crate::record_source::{RecordSource, RecordText, next_record, open_source, record_of};
 use crate::refusal::{Refusal, tell_refusal};
 use crate::span::{Point, Span, name_span, open_quote, point_at, span_of};
 use crate::tally::{Tally, tell_remark};
 use nms_fees::Setup;
-use nms_lines::{ByteRecord, LineFault, Reader, Reading, open_records, read_line, read_next};
+use nms_lines::{ByteRecord, LineFault, Reader, Reading, read_line};
 use nms_places::{Counts, FieldName, FieldPlace, Place, kind_of, place_of, text_at, unknown_name};
 use nms_quote::{Feed, Roster};
 use nms_show::{Ending, Form, Item};
@@ -140,7 +140,7 @@ fn explain_source<R: Read + Drop, W: Write>(
     source: R,
     answers: &mut W,
 ) -> Result<Tally, ExplainFault> {
-    let mut reader = open_records(asked.alloc, RecordSource::new(source));
+    let mut reader = open_source(asked.alloc, source);
     let mut row = ByteRecord::new(asked.alloc);
     explain_records(asked, &mut reader, &mut row, answers)
 }
@@ -154,7 +154,7 @@ fn explain_records<R: Read, W: Write>(
 ) -> Result<Tally, ExplainFault> {
     let mut tally = Tally::new();
     for _ in 0..u64::MAX {
-        if !read_next(reader, row).map_err(ExplainFault::Record)? {
+        if !next_record(reader, row).map_err(ExplainFault::Record)? {
             break;
         }
         match read_line(row, asked.roster, asked.from) {
@@ -177,21 +177,9 @@ fn tell_fault<R: Read, W: Write>(
     fault: LineFault,
     answers: &mut W,
 ) -> Result<(), ExplainFault> {
-    let record = record_of(reader, row);
+    let record = record_of(reader);
     let refusal = refusal_of(asked, record, number, row, fault);
     tell_refusal(asked.alloc, asked.form, &refusal, answers).map_err(ExplainFault::Show)
-}
-
-/// The text of the record that a reader gave last, and its line.
-pub(crate) fn record_of<'a, R: Read>(
-    reader: &'a Reader<RecordSource<R>>,
-    row: &ByteRecord,
-) -> RecordText<'a> {
-    let before = match row.position() {
-        Some(position) => position.byte,
-        None => 0,
-    };
-    reader.get_ref().record(before, reader.position().byte)
 }
 
 /// What is said of a refused record.

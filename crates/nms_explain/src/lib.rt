@@ -8,10 +8,10 @@ mod explain_fault;
 mod hints;
 mod line_count;
 mod plan_text;
+mod quoting;
 mod record_source;
 mod refusal;
 mod remedies;
-mod scan;
 mod span;
 mod tally;
 

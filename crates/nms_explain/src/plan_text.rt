@@ -1,13 +1,13 @@
 //! The text of a plan, explained.
-use crate::changes::{quote_at, record_of};
+use crate::changes::quote_at;
 use crate::explain_fault::ExplainFault;
 use crate::hints::hint_of_kind;
-use crate::record_source::{RecordSource, RecordText};
+use crate::record_source::{RecordSource, RecordText, next_record, open_source, record_of};
 use crate::refusal::{Refusal, tell_missing, tell_refusal};
 use crate::span::{Point, Span, span_of};
 use crate::tally::{tell_count, tell_counts};
 use nms_fees::Setup;
-use nms_lines::{ByteRecord, Reader, open_records, read_next};
+use nms_lines::{ByteRecord, Reader};
 use nms_places::{FieldName, FieldPlace, Place, PlanDue, PlanTrouble, PlanWalk, text_at};
 use nms_quote::Roster;
 use nms_show::{Ending, Form, Item, ShowFault};
@@ -52,7 +52,7 @@ pub fn explain_plan<W: Write>(
         file,
         form,
     };
-    let mut reader = open_records(alloc, RecordSource::new(text));
+    let mut reader = open_source(alloc, text);
     let mut row = ByteRecord::new(alloc);
     match explain_records(&asked, &mut reader, &mut row, answers) {
         Ok(came) => tell_end(&came, &asked, reader.get_ref().end(), answers).map_err(
@@ -75,7 +75,7 @@ fn explain_records<R: Read, W: Write>(
         refused: 0,
     };
     for _ in 0..u64::MAX {
-        if !read_next(reader, row).map_err(ExplainFault::Record)? {
+        if !next_record(reader, row).map_err(ExplainFault::Record)? {
             break;
         }
         let due = came.walk.due;
@@ -98,7 +98,7 @@ fn tell_trouble<R: Read, W: Write>(
     trouble: PlanTrouble,
     answers: &mut W,
 ) -> Result<(), ExplainFault> {
-    let record = record_of(reader, row);
+    let record = record_of(reader);
     let refusal = refusal_of(asked, record, number, row, due, trouble);
     tell_refusal(asked.alloc, asked.form, &refusal, answers).map_err(ExplainFault::Show)
 }

@@ -1,6 +1,6 @@
 //! Where a field stands in the text of its record, and where that is in the file.
 use crate::line_count::LineCount;
-use crate::scan::Quoting;
+use crate::quoting::Quoting;
 use memchr::memrchr2;
 
 /// Where something stands in the text of a record: its first byte, and the one behind its last.

@@ -1,0 +1,27 @@
+//! What is within quotes, as the reader of records sees it.
+
+/// Where a byte stands within quotes.
+#[derive(Clone, Copy)]
+pub(crate) enum Quoting {
+    /// At the start of a field.
+    Start,
+    /// In a field without quotes.
+    Plain,
+    /// Within quotes.
+    Within,
+    /// Behind a quote that closes, or is the first of two.
+    Behind,
+}
+
+impl Quoting {
+    /// Where the next byte stands behind this one.
+    pub(crate) fn behind(self, byte: u8) -> Self {
+        match (self, byte) {
+            (Quoting::Start, b'"') | (Quoting::Behind, b'"') => Quoting::Within,
+            (Quoting::Within, b'"') => Quoting::Behind,
+            (Quoting::Within, _) => Quoting::Within,
+            (_, b',' | b'\n' | b'\r') => Quoting::Start,
+            _ => Quoting::Plain,
+        }
+    }
+}
