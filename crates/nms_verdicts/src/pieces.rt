@@ -2,7 +2,7 @@
 ghost use Rattle.std.specs.Prelude.{◌<◌, ◌≤◌, length};
 
 use memchr::memchr2;
-use nms_lines::read_plan;
+use nms_lines::{ByteRecord, open_records, read_next, read_plan};
 use nms_quote::Roster;
 use std::alloc::{AllocError, Global};
 
@@ -75,7 +75,7 @@ fn push_pieces<'a>(
             break;
         }
         let (own, behind) = rest.split_at(line_length(rest));
-        let kind = kind_of(own);
+        let kind = kind_of(alloc, own)?;
         line = line.saturating_add(1);
         if kind == Kind::Plan || kind == Kind::Other {
             push_piece(pieces, alloc, roster, begun)?;
@@ -152,15 +152,37 @@ fn line_length(text: &[u8]) -> usize
     }
 }
 
-/// What a line is, by its first field.
-fn kind_of(line: &[u8]) -> Kind {
+/// What a line is, by its first field, which may stand in quotes: then it is what the reader of records reads of the line.
+/// A record of a plan takes one line, since no field of one may have a line end.
+fn kind_of(alloc: Global, line: &[u8]) -> Result<Kind, AllocError> {
+    if line.first() == Some(&b'"') {
+        return kind_of_quoted(alloc, line);
+    }
     let line = line.trim_ascii_end();
+    if line.is_empty() {
+        return Ok(Kind::Blank);
+    }
     let first = line.split(|byte| *byte == b',').next().unwrap_or(line);
-    match first {
+    Ok(kind_of_word(first))
+}
+
+/// What a line is that begins with a quote.
+fn kind_of_quoted(alloc: Global, line: &[u8]) -> Result<Kind, AllocError> {
+    let mut reader = open_records(alloc, line);
+    let mut row = ByteRecord::new(alloc);
+    match read_next(&mut reader, &mut row) {
+        Ok(_) => Ok(kind_of_word(row.get(0).unwrap_or(&[]).trim_ascii_end())),
+        // Bytes that are there can be read, so memory ran out.
+        Err(_) => Err(AllocError),
+    }
+}
+
+/// What a line is that begins with a word.
+fn kind_of_word(word: &[u8]) -> Kind {
+    match word {
         b"PLAN" => Kind::Plan,
         b"LEG" | b"CUT" => Kind::Inner,
         b"END" => Kind::End,
-        _ if line.is_empty() => Kind::Blank,
         _ => Kind::Other,
     }
 }
