@@ -3,9 +3,10 @@ ghost use Rattle.std.specs.Prelude.{◌≤◌, length};
 
 use crate::finding::marginal_of;
 use crate::telling::tell;
-use nms_board::MOST_ROWS;
-use nms_quote::{Cut, CutKind, Plan};
-use nms_rules::{Rank, UsableRow, least_cost, pool, swept};
+use nms_board::{MOST_ROWS, View};
+use nms_fees::FeeBook;
+use nms_quote::{Cut, CutKind, Order, Plan};
+use nms_rules::{Rank, UsableRow, is_better, is_swept, least_cost, pool, swept, usable_rows};
 use nms_show::{Form, Item, ShowFault};
 use nms_units::{MOST_SHARES, Money};
 use std::alloc::Global;
@@ -19,20 +20,55 @@ pub(crate) fn tell_cuts<W: Write>(
     alloc: Global,
     answers: &mut W,
     form: Form,
+    view: &View,
+    fees: &FeeBook,
     plan: &Plan,
-    rows: &[UsableRow],
     most: u64,
     cuts: &[Cut],
 ) -> Result<(), ShowFault>
-    requires rows { length rows.now ≤ MOST_ROWS }
     requires most { most ≤ MOST_SHARES }
 {
     let mut number: u64 = 0;
     for cut in cuts {
         number = number.saturating_add(1);
-        tell_cut(alloc, answers, form, plan, rows, most, number, cut)?;
+        tell_reached(alloc, answers, form, view, fees, plan, most, number, cut)?;
     }
     Ok(())
+}
+
+/// Tells what one cut says of the rows that its price reaches: those that the order may trade with, and at a price beyond the
+/// limit also the protected ones at better prices, which would have to be swept there.
+fn tell_reached<W: Write>(
+    alloc: Global,
+    answers: &mut W,
+    form: Form,
+    view: &View,
+    fees: &FeeBook,
+    plan: &Plan,
+    most: u64,
+    number: u64,
+    cut: &Cut,
+) -> Result<(), ShowFault>
+    requires most { most ≤ MOST_SHARES }
+{
+    let (side, limit) = (plan.order.side, plan.order.limit);
+    let cutoff = Rank::of(side, cut.price);
+    let reaching = Order {
+        limit: cut.price,
+        ..plan.order
+    };
+    let mut rows = usable_rows(view, &reaching, fees);
+    rows.retain(|row| is_swept(row, cutoff) || !is_better(side, limit, row.price));
+    tell_cut(
+        alloc,
+        answers,
+        form,
+        plan,
+        rows.as_slice(),
+        most,
+        number,
+        cut,
+    )
 }
 
 /// Tells what one cut says: the sums at its price, and the least that a plan with that worst price costs by its marginal.

@@ -164,15 +164,15 @@ fn tell_seen<W: Write>(
 ) -> Result<(), ShowFault> {
     tell_rows(alloc, answers, form, setup, view, plan)?;
     let rows = usable_rows(view, &plan.order, setup.fees());
-    let rows = rows.as_slice();
-    let most = fillable(rows, plan.order.shares);
+    let most = fillable(rows.as_slice(), plan.order.shares);
     tell_most(alloc, answers, form, plan, most)?;
     tell_cuts(
         alloc,
         answers,
         form,
+        view,
+        setup.fees(),
         plan,
-        rows,
         most,
         certificate.as_slice(),
     )?;
