@@ -4,9 +4,11 @@
     build/crates.py PROGRAM             builds nms_tool or nms_review
     build/crates.py --expect PROGRAM    prints what a build takes, and builds nothing
 
-Each crate is checked and built from nothing, as `rt ci` does it, and not over work that is kept, as `rt lib` does it: a
-check of a crate takes up to half as long again over libraries of the second kind. What is built from the same sources is
-not built again. A library comes to its place once it is whole, so an interrupt loses only what was under way.
+Each crate is checked and built from nothing, and its library keeps what it states and no proofs, as `rt ci` does it. A
+check over such libraries is cheaper than one over those of `rt lib`, the more so the more crates lie below. They stand in
+`crates/NAME/out/built`, apart from those of `rt`, since each fits only the very libraries that it was built over. What is
+built from the same sources is not built again. A library comes to its place once it is whole, so an interrupt loses only
+what was under way.
 
 `build/times` has each crate's processor seconds, as measured on one machine, the jobs that are cheapest for it, and the
 megabytes of its library. What this build took is written to `crates/PROGRAM/out/times`.
@@ -20,6 +22,7 @@ import signal
 import subprocess
 import sys
 import time
+import uuid
 
 sys.dont_write_bytecode = True
 
@@ -126,6 +129,8 @@ class Toolchain:
         folder = f"{TOP}/crates/{name}"
         if folder not in self.known:
             self.known[folder] = self.rtlib.Crate(folder, TOP, self.known)
+            for it in self.known.values():
+                it.rlib = f"{it.folder}/out/built/{it.name}.rlib"
         return self.known[folder]
 
     def build(self, name, jobs, to):
@@ -134,6 +139,8 @@ class Toolchain:
         words = crate.words(["--jobs", str(jobs)], keeps=False)
         if crate.is_program:
             words += ["--toolchain", f"{self.folder}/toolchain", "--backend", "llvm"]
+        else:
+            words += ["--statements"]
         return [self.rtlib.RATTLE, "build", *words, "-o", to]
 
     def link(self, made, to):
@@ -143,13 +150,45 @@ class Toolchain:
         subprocess.run([f"{self.folder}/bin/rattle-link", *words, *libraries], check=True)
 
 
+class Stamps:
+    """Of what each library was built: its sources, and which libraries below. Each building has a number of its own."""
+
+    def __init__(self, plan, tools):
+        self.plan, self.tools = plan, tools
+
+    def read(self, name):
+        """The number of a library that is there, and of what it was built; None if there is none."""
+        try:
+            with open(f"{TOP}/crates/{name}/out/built/stamp", encoding="utf-8") as file:
+                number, _, of = file.read().partition("\n")
+                return number, of
+        except FileNotFoundError:
+            return None
+
+    def wanted(self, name):
+        """Of what a library would be built now; None if one below is not there."""
+        found = [(low, self.read(low)) for low in below(self.plan.crates, name)]
+        if not all(stamp for _, stamp in found):
+            return None
+        return "\n".join([self.tools.crate(name).stamp(), *(f"{low} {stamp[0]}" for low, stamp in found)])
+
+    def is_built(self, name):
+        stamp = self.read(name)
+        return stamp is not None and stamp[1] == self.wanted(name)
+
+    def write(self, name, folder):
+        with open(f"{folder}/stamp", "w", encoding="utf-8") as file:
+            file.write(f"{uuid.uuid4()}\n{self.wanted(name)}")
+
+
 class Build:
     def __init__(self, plan):
         self.plan, self.lanes, self.tools = plan, lanes(), Toolchain()
         self.out = f"{TOP}/crates/{plan.program}/out"
+        self.stamps = Stamps(plan, self.tools)
         self.left, self.done, self.running, self.failed, self.took = [], [], {}, False, []
         for name in plan.all:
-            is_built = name != plan.program and self.tools.crate(name).is_built()
+            is_built = name != plan.program and not {*plan.crates[name]} & {*self.left} and self.stamps.is_built(name)
             (self.done if is_built else self.left).append(name)
         self.spoke = self.began = time.monotonic()
 
@@ -179,24 +218,20 @@ class Build:
         self.running[process.pid] = name, report, jobs, process
 
     def place(self, name):
-        """Brings what was built to its place, while no command `rt` works there."""
+        """Brings what was built to its place."""
         crate, to = self.tools.crate(name), self.made(name)
+        made = os.path.dirname(to)
         if crate.is_program:
             self.tools.link(to, f"{self.out}/{name}")
+            shutil.rmtree(made)
         else:
-            held = self.tools.rtlib.lock([crate])
-            folder = os.path.dirname(crate.rlib)
-            shutil.rmtree(folder, ignore_errors=True)
-            os.rename(os.path.dirname(to), folder)
-            with open(f"{folder}/stamp", "w", encoding="utf-8") as file:
-                file.write(crate.stamp())
-            for it in held:
-                os.close(it)
-        shutil.rmtree(os.path.dirname(to), ignore_errors=True)
+            self.stamps.write(name, made)
+            shutil.rmtree(os.path.dirname(crate.rlib), ignore_errors=True)
+            os.rename(made, os.path.dirname(crate.rlib))
 
     def size(self, name):
         """The megabytes of a library."""
-        paths = [f"{folder}/{it}" for folder, _, files in os.walk(f"{TOP}/crates/{name}/out/rlib") for it in files]
+        paths = [f"{folder}/{it}" for folder, _, files in os.walk(f"{TOP}/crates/{name}/out/built") for it in files]
         return round(sum(map(os.path.getsize, paths)) / 1_000_000)
 
     def end(self, pid, status, used):
