@@ -2,6 +2,7 @@
 //!
 //! Whole records are kept, however long they are, so that what is said of one is said of what the reader of records read.
 //! What stands before the record that is read is forgotten.
+ghost use Rattle.std.specs.Prelude.{◌≤◌, length};
 
 use crate::line_count::LineCount;
 use crate::span::{Point, point_at};
@@ -115,7 +116,7 @@ impl<R> RecordSource<R> {
 
     /// Forgets what stands before the record that is read, since more is asked for.
     fn forget(&mut self) {
-        let start = self.start();
+        let start = self.start().min(self.kept.len());
         if start > 0 {
             let lines = self.lines_at(start);
             self.passed = self.passed.saturating_add(start as u64);
@@ -158,7 +159,9 @@ impl<R: Read> Read for RecordSource<R> {
 }
 
 /// How many bytes the line ends take that a text begins with.
-fn blank_length(text: &[u8]) -> usize {
+fn blank_length(text: &[u8]) -> usize
+    ensures { result ≤ length text.now }
+{
     text.iter()
         .position(|byte| *byte != b'\n' && *byte != b'\r')
         .unwrap_or(text.len())
