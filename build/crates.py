@@ -90,7 +90,7 @@ class Plan:
         return sorted(found, key=self.chain, reverse=True)
 
     def minutes(self, at_once, scale=1.0):
-        """How long the build takes with so many crates at once, if each takes `scale` times the seconds of build/times."""
+        """How long the build takes with `at_once` crates at a time, if each takes `scale` times the seconds of build/times."""
         left, done, running, now = [*self.all], set(), [], 0.0
         while left or running:
             for name in self.ready(left, done):
