@@ -12,14 +12,14 @@ use nms_units::{MOST_SHARES, Money, Price};
 const MOST_MARGINAL: i128 = 1_000_000_000_000_000_000;
 
 /// Whether some cut is at a price.
-fn has_cut(cuts: &[Cut], price: Price) -> bool
+pub fn has_cut(cuts: &[Cut], price: Price) -> bool
     ensures { result ≡ has_cut cuts.now price }
 {
     cuts.iter().any(|cut| cut.price == price)
 }
 
 /// Whether some row is at a price.
-fn has_row(rows: &[UsableRow], price: Price) -> bool
+pub fn has_row(rows: &[UsableRow], price: Price) -> bool
     ensures { result ≡ has_row rows.now price }
 {
     rows.iter().any(|row| row.price == price)
@@ -64,7 +64,7 @@ pub(crate) fn is_out_of_order(side: OrderSide, cuts: &[Cut]) -> bool
 }
 
 /// Whether a cut says what the sums at its cutoff deny.
-fn is_wrong_kind(rows: &[UsableRow], most: u64, cutoff: Rank, kind: CutKind) -> bool
+pub fn is_wrong_kind(rows: &[UsableRow], most: u64, cutoff: Rank, kind: CutKind) -> bool
     requires { length rows.now ≤ MOST_ROWS }
     ensures { result ≡ is_wrong_kind rows.now most cutoff kind }
 {
@@ -91,7 +91,7 @@ pub(crate) fn some_is_wrong_kind(
 }
 
 /// Whether a cut's marginal is out of its range.
-fn is_out_of_range(kind: CutKind) -> bool
+pub fn is_out_of_range(kind: CutKind) -> bool
     ensures { result ≡ is_out_of_range kind }
 {
     match kind {

@@ -7,4 +7,5 @@ mod cuts;
 mod doubt;
 
 pub use confirming::confirm;
+pub use cuts::{has_cut, has_row, is_out_of_range, is_wrong_kind};
 pub use doubt::Doubt;

@@ -7,7 +7,7 @@ use csv::ByteRecord;
 
 /// The field at a place, empty past the last.
 #[tactic(auto, using(crate::proofs::FieldFacts::field_at_lem))]
-pub(crate) fn field(row: &ByteRecord, place: usize) -> &[u8]
+pub fn field(row: &ByteRecord, place: usize) -> &[u8]
     ensures { result.now ≡ field (fields_of row.now) place }
 {
     match row.get(place) {

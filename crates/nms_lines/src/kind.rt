@@ -19,7 +19,8 @@ pub(crate) fn kind_in(row: &ByteRecord, from: Reading) -> Option<Kind>
     }
 }
 
-fn kind_named(text: &[u8]) -> Option<Kind>
+/// The kind that a text names.
+pub fn kind_named(text: &[u8]) -> Option<Kind>
     ensures { result ≡ kind_named text.now }
 {
     match text {

@@ -26,6 +26,9 @@ mod side;
 mod text_writing;
 
 pub use csv::{ByteRecord, Reader};
+pub use field::field as field_at;
+pub use kind::kind_named;
+pub use side::{is_bad_price, is_bad_shares};
 pub use field_before::{number_before, price_before, text_before, word_before};
 pub use field_writing::{end_record, push_money, push_number, push_price, push_text};
 pub use laws::{

@@ -60,13 +60,15 @@ fn quote_in(price_text: &[u8], shares_text: &[u8]) -> Option<SideQuote>
     }
 }
 
-fn is_bad_price(price_text: &[u8], shares_text: &[u8]) -> bool
+/// Whether a price that is there is not of the form, or is zero beside shares that do not read as 0.
+pub fn is_bad_price(price_text: &[u8], shares_text: &[u8]) -> bool
     ensures { result ≡ is_bad_price price_text.now shares_text.now }
 {
     !price_text.is_empty() && is_unfit(Price::parse(price_text), Shares::parse(shares_text))
 }
 
-fn is_bad_shares(text: &[u8]) -> bool
+/// Whether shares that are there are not of the form.
+pub fn is_bad_shares(text: &[u8]) -> bool
     ensures { result ≡ is_bad_shares text.now }
 {
     !text.is_empty() && Shares::parse(text).is_err()

@@ -6,12 +6,8 @@ ghost use Rattle.nms_lines.specs.Layout.{field};
 use nms_lines::ByteRecord;
 
 /// The bytes of the field behind so many others, none past the last.
-#[tactic(auto, using(crate::proofs::FieldFacts::field_at_lem))]
 pub fn text_at(row: &ByteRecord, place: usize) -> &[u8]
     ensures { result.now ≡ field (fields_of row.now) place }
 {
-    match row.get(place) {
-        Some(text) => text,
-        None => &[],
-    }
+    nms_lines::field_at(row, place)
 }

@@ -1,16 +1,14 @@
 //! Which field of a quotation's sides is wrong: `specs/Looks` of `specs/FieldTable`.
 ghost use Rattle.std.specs.Prelude.{◌≡◌, Some, true};
 ghost use Rattle.csv.specs.Records.{fields_of};
-ghost use Rattle.nms_lines.specs.Numbers.{is_zero, shares_number};
-ghost use Rattle.nms_lines.specs.Sides.{has_bad_price, has_bad_shares, has_half_side, is_bad_price, is_bad_shares};
+ghost use Rattle.nms_lines.specs.Sides.{has_bad_price, has_bad_shares, has_half_side};
 ghost use Rattle.nms_places.specs.FieldTable.{half_looks, price_looks, shares_looks};
 ghost use Rattle.nms_places.specs.Looks.{first_wrong};
 
 use crate::field_name::FieldName;
 use crate::place::FieldPlace;
 use crate::record_field::text_at;
-use nms_lines::ByteRecord;
-use nms_units::{Price, Shares, UnitFault};
+use nms_lines::{ByteRecord, is_bad_price, is_bad_shares};
 
 /// The price that is not of the form: the bid's, or else the offer's.
 pub(crate) fn bad_price(row: &ByteRecord) -> FieldPlace
@@ -50,36 +48,4 @@ pub(crate) fn half_side(row: &ByteRecord) -> FieldPlace
     } else {
         FieldPlace::at(7, FieldName::OfferShares)
     }
-}
-
-/// Whether a price that is there is not of the form, or is zero beside shares that do not read as 0.
-#[tactic(auto, using(crate::proofs::SideFacts::by_reading, crate::proofs::SideFacts::by_fault))]
-fn is_bad_price(price_text: &[u8], shares_text: &[u8]) -> bool
-    ensures { result ≡ is_bad_price price_text.now shares_text.now }
-{
-    if price_text.is_empty() {
-        return false;
-    }
-    match Price::parse(price_text) {
-        Ok(_) => false,
-        Err(UnitFault::ZeroPrice) => !is_zero(shares_text),
-        Err(_) => true,
-    }
-}
-
-/// Whether shares read as 0.
-fn is_zero(text: &[u8]) -> bool
-    ensures { result ≡ is_zero (shares_number text.now) }
-{
-    match Shares::parse(text) {
-        Ok(shares) => shares.get() == 0,
-        Err(_) => false,
-    }
-}
-
-/// Whether shares that are there are not of the form.
-fn is_bad_shares(text: &[u8]) -> bool
-    ensures { result ≡ is_bad_shares text.now }
-{
-    !text.is_empty() && Shares::parse(text).is_err()
 }

@@ -6,12 +6,10 @@ ghost use Rattle.nms_rules.specs.Usable.{is_better, rank_of};
 ghost use Rattle.nms_cert.specs.Doubts.{has_cut, has_row, is_not_better, is_out_of_order, is_out_of_range, is_wrong_kind};
 
 use nms_board::MOST_ROWS;
+use nms_cert::{has_cut, has_row, is_out_of_range, is_wrong_kind};
 use nms_quote::{Cut, CutKind, OrderSide};
-use nms_rules::{Rank, UsableRow, is_better, pool, swept};
+use nms_rules::{Rank, UsableRow, is_better};
 use nms_units::{Money, Price};
-
-/// The most that a marginal may be, in nanodollars, and the least with a minus.
-const MOST_MARGINAL: i128 = 1_000_000_000_000_000_000;
 
 /// The first row at whose price no cut is.
 pub(crate) fn row_without_cut(rows: &[UsableRow], cuts: &[Cut]) -> Option<UsableRow>
@@ -20,25 +18,11 @@ pub(crate) fn row_without_cut(rows: &[UsableRow], cuts: &[Cut]) -> Option<Usable
     rows.iter().find(|row| !has_cut(cuts, row.price)).copied()
 }
 
-/// Whether some cut is at a price.
-fn has_cut(cuts: &[Cut], price: Price) -> bool
-    ensures { result ≡ has_cut cuts.now price }
-{
-    cuts.iter().any(|cut| cut.price == price)
-}
-
 /// The number of the first cut at no row's price.
 pub(crate) fn cut_without_row(rows: &[UsableRow], cuts: &[Cut]) -> Option<usize>
     ensures { result ≡ position (λ cut. not (has_row rows.now cut.price)) cuts.now }
 {
     cuts.iter().position(|cut| !has_row(rows, cut.price))
-}
-
-/// Whether some row is at a price.
-fn has_row(rows: &[UsableRow], price: Price) -> bool
-    ensures { result ≡ has_row rows.now price }
-{
-    rows.iter().any(|row| row.price == price)
 }
 
 /// The numbers of the first cut with one behind it than whose price its own is not better, and of the first such one.
@@ -81,34 +65,9 @@ pub(crate) fn wrong_kind_in(
     cuts.iter().position(|cut| is_wrong_kind(rows, most, Rank::of(side, cut.price), cut.kind))
 }
 
-/// Whether a cut says what the sums at its cutoff deny.
-fn is_wrong_kind(rows: &[UsableRow], most: u64, cutoff: Rank, kind: CutKind) -> bool
-    requires { length rows.now ≤ MOST_ROWS }
-    ensures { result ≡ is_wrong_kind rows.now most cutoff kind }
-{
-    let swept = swept(rows, cutoff);
-    match kind {
-        CutKind::TooMuch => swept <= most,
-        CutKind::TooLittle => most <= swept + pool(rows, cutoff),
-        CutKind::Marginal(_) => most < swept,
-    }
-}
-
 /// The number of the first cut whose marginal is out of its range.
 pub(crate) fn out_of_range_in(cuts: &[Cut]) -> Option<usize>
     ensures { result ≡ position (λ cut. is_out_of_range cut.kind) cuts.now }
 {
     cuts.iter().position(|cut| is_out_of_range(cut.kind))
-}
-
-/// Whether a cut's marginal is out of its range.
-fn is_out_of_range(kind: CutKind) -> bool
-    ensures { result ≡ is_out_of_range kind }
-{
-    match kind {
-        CutKind::TooMuch | CutKind::TooLittle => false,
-        CutKind::Marginal(marginal) => {
-            marginal < Money::new(-MOST_MARGINAL) || Money::new(MOST_MARGINAL) < marginal
-        }
-    }
 }

@@ -1,12 +1,11 @@
 //! A leg of a plan beside the quotation that it goes to (specs/LegPlaces).
 ghost use Rattle.std.specs.Prelude.{◌≡◌, ◌<◌, ◌≤◌, length, slice_index_or};
 ghost use Rattle.nms_quote.specs.declared.plan.Leg.{Leg};
-ghost use Rattle.nms_rules.specs.Breach.{row_for};
 ghost use Rattle.nms_plan_places.specs.LegPlaces.{IsLegPlace};
 
 use nms_board::{MOST_ROWS, Row, View};
 use nms_quote::{Leg, OrderSide};
-use nms_rules::contra;
+use nms_rules::row_for;
 
 /// A leg of a plan beside the quotation that it goes to.
 #[derive(Clone, Copy)]
@@ -34,11 +33,4 @@ pub(crate) fn leg_place(view: &View, side: OrderSide, legs: &[Leg], number: usiz
         leg,
         quotation: row_for(view, side, &leg),
     }
-}
-
-/// The quotation that a leg goes to.
-pub(crate) fn row_for(view: &View, side: OrderSide, leg: &Leg) -> Option<Row>
-    ensures { result ≡ row_for view.now side leg.now }
-{
-    view.row(contra(side), leg.part)
 }

@@ -2,14 +2,13 @@
 ghost use Rattle.std.specs.Prelude.{ℕ, ◌≡◌, ◌==◌, ◌+◌, ◌<◌, ◌≤◌, drop, false, length, position, slice_index_or, true};
 ghost use Rattle.std.specs.List.{list_any};
 ghost use Rattle.nms_quote.specs.declared.plan.Leg.{Leg};
-ghost use Rattle.nms_rules.specs.Breach.{goes_to, has_other_price, has_repeat, is_over_size, lacks_quotation, row_for};
-ghost use Rattle.nms_rules.specs.Usable.{is_allowed};
+ghost use Rattle.nms_rules.specs.Breach.{goes_to, has_repeat};
 ghost use Rattle.nms_plan_places.specs.LegPlaces.{IsBrokenLeg, breaks};
 
-use crate::leg_place::{LegPlace, leg_place, row_for};
-use nms_board::{MOST_ROWS, Row, View};
+use crate::leg_place::{LegPlace, leg_place};
+use nms_board::{MOST_ROWS, View};
 use nms_quote::{Leg, Order, Part};
-use nms_rules::{Breach, is_better};
+use nms_rules::{Breach, has_other_price, is_better, is_over_size, lacks_quotation};
 
 /// The first leg that has a breach by itself.
 pub(crate) fn first_broken(view: &View, order: &Order, legs: &[Leg], breach: Breach) -> LegPlace
@@ -47,43 +46,6 @@ fn breaks(view: &View, order: &Order, breach: Breach, leg: &Leg) -> bool
         | Breach::TradedThrough { .. }
         | Breach::FilledWrong
         | Breach::CostWrong => false,
-    }
-}
-
-/// Whether an order may not trade with what a leg goes to.
-fn lacks_quotation(view: &View, order: &Order, leg: &Leg) -> bool
-    ensures { result ≡ lacks_quotation order.now (row_for view.now order.now.side leg.now) }
-{
-    match row_for(view, order.side, leg) {
-        None => true,
-        Some(row) => !is_allowed(order, &row),
-    }
-}
-
-/// Whether an order may trade with a quotation, but for its price.
-fn is_allowed(order: &Order, row: &Row) -> bool
-    ensures { result ≡ is_allowed order.now row.now }
-{
-    !order.self_help.has(row.part) && (row.protected || order.manual)
-}
-
-/// Whether a leg has another price than its quotation.
-fn has_other_price(view: &View, order: &Order, leg: &Leg) -> bool
-    ensures { result ≡ has_other_price leg.now (row_for view.now order.now.side leg.now) }
-{
-    match row_for(view, order.side, leg) {
-        None => false,
-        Some(row) => leg.price != row.price,
-    }
-}
-
-/// Whether a leg has more shares than its quotation displays.
-fn is_over_size(view: &View, order: &Order, leg: &Leg) -> bool
-    ensures { result ≡ is_over_size leg.now (row_for view.now order.now.side leg.now) }
-{
-    match row_for(view, order.side, leg) {
-        None => false,
-        Some(row) => leg.shares.get() > row.size,
     }
 }
 

@@ -28,7 +28,7 @@ pub fn is_better(side: OrderSide, price: Price, other: Price) -> bool
 }
 
 /// The quotation that a leg goes to.
-fn row_for(view: &View, side: OrderSide, leg: &Leg) -> Option<Row>
+pub fn row_for(view: &View, side: OrderSide, leg: &Leg) -> Option<Row>
     ensures { result ≡ row_for view.now side leg.now }
 {
     view.row(contra(side), leg.part)
@@ -36,7 +36,7 @@ fn row_for(view: &View, side: OrderSide, leg: &Leg) -> Option<Row>
 
 /// Whether a leg goes to no quotation, to one of a participant that the order names, or to a manual one without the
 /// order's leave.
-fn lacks_quotation(view: &View, order: &Order, leg: &Leg) -> bool
+pub fn lacks_quotation(view: &View, order: &Order, leg: &Leg) -> bool
     ensures { result ≡ lacks_quotation order.now (row_for view.now order.now.side leg.now) }
 {
     match row_for(view, order.side, leg) {
@@ -46,7 +46,7 @@ fn lacks_quotation(view: &View, order: &Order, leg: &Leg) -> bool
 }
 
 /// Whether a leg has another price than its quotation.
-fn has_other_price(view: &View, order: &Order, leg: &Leg) -> bool
+pub fn has_other_price(view: &View, order: &Order, leg: &Leg) -> bool
     ensures { result ≡ has_other_price leg.now (row_for view.now order.now.side leg.now) }
 {
     match row_for(view, order.side, leg) {
@@ -56,7 +56,7 @@ fn has_other_price(view: &View, order: &Order, leg: &Leg) -> bool
 }
 
 /// Whether a leg has more shares than its quotation displays.
-fn is_over_size(view: &View, order: &Order, leg: &Leg) -> bool
+pub fn is_over_size(view: &View, order: &Order, leg: &Leg) -> bool
     ensures { result ≡ is_over_size leg.now (row_for view.now order.now.side leg.now) }
 {
     match row_for(view, order.side, leg) {

@@ -23,7 +23,10 @@ pub use laws::{
     an_accepted_plan_is_best, an_accepted_plan_is_optimal, naming_nobody_changes_nothing,
     naming_one_leaves_the_others,
 };
-pub use leg_test::{contra, cost_of, given_to, is_better, is_traded_through, sum_of};
+pub use leg_test::{
+    contra, cost_of, given_to, has_other_price, is_better, is_over_size, is_traded_through,
+    lacks_quotation, row_for, sum_of,
+};
 pub use rank::Rank;
 pub use through::traded_through;
 pub use usable_row::{UsableRow, is_usable, usable_rows};

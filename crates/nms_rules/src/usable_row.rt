@@ -16,7 +16,7 @@ use std::marker::Model;
 /// A quotation that an order may trade with: protected, or manual where the order allows it, of a participant that the
 /// order does not name, and not beyond the limit (17 CFR 242.600, "intermarket sweep order"; 242.611(b)(1); manual ones
 /// are this product's own rule).
-#[derive(Clone, Copy, Debug)]
+#[derive(Clone, Copy)]
 pub struct UsableRow {
     /// Whose it is.
     pub part: Part,
