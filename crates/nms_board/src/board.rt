@@ -10,7 +10,7 @@ ghost use Rattle.nms_board.specs.Carried.{AreCarried};
 ghost use Rattle.nms_board.specs.Cells.{altered, change_cell, place_of, withdraw_from};
 ghost use Rattle.nms_board.specs.Kept.{AreRanks, row_shown, symbol_cells};
 ghost use Rattle.nms_board.specs.Ranks.{AreOwn};
-ghost use Rattle.nms_board.specs.Ranking.{ranked_at};
+ghost use Rattle.nms_board.specs.Ranking.{ranked_at, total_size};
 
 use crate::MOST_ROWS;
 use crate::board_fault::BoardFault;
@@ -180,8 +180,34 @@ impl Boards {
         }
     }
 
-    /// The present round lot of a symbol of the roster.
-    fn lot_of(&self, sym: Sym) -> Option<Lot>
+    /// The sum of the sizes that a side of a symbol of the roster displays, in shares.
+    pub fn total(&self, side: Side, sym: Sym) -> u64
+        requires { sym < length self.now.sizes.lots }
+        ensures total { result ≡ total_size (rows_held self.now sym side) }
+        ensures within { result ≤ MOST_ROWS * 4294967295 }
+    {
+        self.orders_of(sym).total(side)
+    }
+
+    /// What a participant of the roster holds in a symbol of it: its state and both sides, those that no look shows
+    /// included (less than a round lot, or halted).
+    pub fn cell(&self, part: Part, sym: Sym) -> Cell
+        requires part { part < self.now.sizes.parts }
+        requires sym { sym < length self.now.sizes.lots }
+        ensures { slice_get self.now.cells (place_of part sym) ≡ Some result }
+    {
+        self.cells[place_of(part, sym)]
+    }
+
+    /// The round lot that a symbol opened with; `None` for a symbol out of the roster.
+    pub fn opening_lot(&self, sym: Sym) -> Option<Lot>
+        ensures { result ≡ slice_get self.now.sizes.lots sym }
+    {
+        self.opening.get(usize::from(sym.get())).copied()
+    }
+
+    /// The present round lot of a symbol; `None` for a symbol out of the roster.
+    pub fn lot_of(&self, sym: Sym) -> Option<Lot>
         ensures { result ≡ slice_get self.now.lots sym }
     {
         self.lots.get(usize::from(sym.get())).copied()
@@ -269,18 +295,18 @@ impl Boards {
     {
         let mut view = View::of_nothing(self.applied, sym);
         if let Some(lot) = self.lot_of(sym) {
-            view.orders = self.orders_of(sym);
+            view.orders = self.orders_of(sym).copied();
             self.show(sym, lot, &mut view.bids, &mut view.offers);
         }
         view
     }
 
-    /// The rank orders of a symbol of the roster, for a view to carry.
-    fn orders_of(&self, sym: Sym) -> SymbolRanks
+    /// The rank orders of a symbol of the roster, those that a view carries.
+    fn orders_of(&self, sym: Sym) -> &SymbolRanks
         requires { sym < length self.now.lots }
-        ensures { AreCarried (rows_held self.now sym Bid) (rows_held self.now sym Offer) result }
+        ensures { AreCarried (rows_held self.now sym Bid) (rows_held self.now sym Offer) result.now }
     {
-        self.ranks[usize::from(sym.get())].copied()
+        &self.ranks[usize::from(sym.get())]
     }
 
     /// Appends the quotations of a symbol in lots of that size to the rows of the sides.

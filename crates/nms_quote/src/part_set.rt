@@ -32,6 +32,20 @@ impl PartSet {
         PartSet { mask: 0 }
     }
 
+    /// The set that a number's binary digits say: the participant at a place is in it if that digit is 1.
+    pub fn of(digits: u32) -> Self
+        ensures { result ≡ digits }
+    {
+        PartSet { mask: digits }
+    }
+
+    /// The number whose binary digits say the set.
+    pub fn digits(self) -> u32
+        ensures { result ≡ self }
+    {
+        self.mask
+    }
+
     /// The set and this participant too. One who is in it already counts once.
     pub fn with(self, part: Part) -> Self
         ensures set { result ≡ with_part self part }
