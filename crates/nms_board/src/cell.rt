@@ -13,7 +13,7 @@ use std::marker::Model;
 
 /// One side of a participant in a symbol, and the number of the change that last altered it. It takes 16 bytes, so that
 /// the cells of a symbol, which are passed by one after another, lie close together.
-#[derive(Clone, Copy, Debug, PartialEq, Eq)]
+#[derive(Clone, Copy, PartialEq, Eq)]
 pub struct Held {
     /// In 1/10,000 dollar, and the least price where nothing is quoted.
     price: Price,
@@ -121,7 +121,7 @@ impl Held {
 }
 
 /// A participant in a symbol.
-#[derive(Clone, Copy, Debug, PartialEq, Eq)]
+#[derive(Clone, Copy, PartialEq, Eq)]
 pub struct Cell {
     /// `None` where the participant never quoted there.
     pub state: Option<QState>,

@@ -7,7 +7,7 @@ use nms_units::Price;
 
 /// A quotation: a participant's bid or offer in a symbol that shows at least one round lot
 /// (17 CFR 242.600, "bid or offer"). The wide fields stand first, so that a row takes 24 bytes.
-#[derive(Clone, Copy, Debug, PartialEq, Eq)]
+#[derive(Clone, Copy, PartialEq, Eq)]
 pub struct Row {
     /// In 1/10,000 dollar.
     pub price: Price,

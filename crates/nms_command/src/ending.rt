@@ -3,7 +3,7 @@ ghost use Rattle.std.specs.Prelude.{◌≡◌};
 ghost use Rattle.nms_command.specs.Statuses.{status_of_ending};
 
 /// How a request ends that was served.
-#[derive(Clone, Copy, Debug, PartialEq, Eq)]
+#[derive(Clone, Copy, PartialEq, Eq)]
 pub enum Ending {
     /// All that was asked for was done; of a plan, that it is confirmed.
     Done,

@@ -2,7 +2,7 @@
 
 /// The access fees of a participant (17 CFR 242.610(c)); a negative number is a rebate. The caps are those that its
 /// book keeps.
-#[derive(Clone, Copy, Debug, PartialEq, Eq)]
+#[derive(Clone, Copy, PartialEq, Eq)]
 pub struct FeeSchedule {
     /// Nanodollars for a share, at a price of one dollar or more: -`MOST_FEE` to `Caps::fee`.
     pub fee: i64,

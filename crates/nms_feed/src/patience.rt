@@ -16,7 +16,7 @@ const LONGEST_REST: u32 = 1024;
 /// How long a thread has waited in vain for another one, and so how it waits next: it spins, then it lets others
 /// run, then it rests, each time twice as long. What it waits for is looked at between two turns, and nobody wakes
 /// it. No proof rests on it.
-#[derive(Clone, Copy, Debug, PartialEq, Eq)]
+#[derive(Clone, Copy, PartialEq, Eq)]
 pub struct Patience {
     /// How many turns it waited without a rest.
     turns: u32,

@@ -64,7 +64,7 @@ pub enum Line {
 }
 
 /// The kind of a record, which its first field names.
-#[derive(Clone, Copy, Debug, PartialEq, Eq)]
+#[derive(Clone, Copy, PartialEq, Eq)]
 pub enum Kind {
     /// `Q`: both sides and the state of a participant's quotations in a symbol.
     Quote,

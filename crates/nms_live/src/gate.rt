@@ -6,7 +6,7 @@ use std::sync::Wait;
 use std::thread;
 
 /// A send, look or publishing of a live run.
-#[derive(Clone, Copy, Debug, PartialEq, Eq)]
+#[derive(Clone, Copy, PartialEq, Eq)]
 pub enum GatePoint {
     /// A feed's worker sends a change.
     Send {
@@ -39,7 +39,7 @@ pub trait Gate: Sync {
 }
 
 /// A gate that is always open.
-#[derive(Clone, Copy, Debug)]
+#[derive(Clone, Copy)]
 pub struct OpenGate;
 
 impl Gate for OpenGate {

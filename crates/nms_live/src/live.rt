@@ -2,7 +2,7 @@
 use nms_quote::{Answer, Change};
 
 /// What a live run came to.
-#[derive(Debug, Drop)]
+#[derive(Drop)]
 pub struct Live {
     /// All changes of all feeds, in the order in which they were taken.
     pub tape: Vec<Change>,

@@ -7,7 +7,7 @@ use std::marker::Model;
 
 /// Where a walk over a symbol's pairs stands, 0 to 1,024: the pair of two participants is at 32 times
 /// the bid's place on the roster plus the offer's, and 1,024 is behind the last (this product's own rule).
-#[derive(Clone, Copy, Debug, PartialEq, Eq, PartialOrd, Ord)]
+#[derive(Clone, Copy, PartialEq, Eq, PartialOrd, Ord)]
 pub struct PairPlace {
     place: u16,
 }

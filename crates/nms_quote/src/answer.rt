@@ -3,7 +3,7 @@ use crate::certificate::Certificate;
 use crate::plan::Plan;
 
 /// The plan that a desk made for an order, and why no lawful plan is better.
-#[derive(Debug, Drop)]
+#[derive(Drop)]
 pub struct Answer {
     /// The desk.
     pub desk: u8,

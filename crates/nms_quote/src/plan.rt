@@ -29,7 +29,7 @@ impl Default for Leg {
 
 /// A plan to fill an order with quotations of one published version. It need not be lawful: `nms_rules` says
 /// what breaks it.
-#[derive(Debug, Drop)]
+#[derive(Drop)]
 pub struct Plan {
     /// The number of the version that it was made on.
     pub version: u64,

@@ -1,7 +1,7 @@
 //! What a script came to (specs/Script).
 
 /// What a script came to.
-#[derive(Clone, Copy, Debug, PartialEq, Eq)]
+#[derive(Clone, Copy, PartialEq, Eq)]
 pub struct Counts {
     /// How many records were read, at most 10,000,000.
     pub records: u64,

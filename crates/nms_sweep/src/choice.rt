@@ -6,7 +6,7 @@ use nms_rules::Rank;
 use nms_units::Money;
 
 /// A cutoff at which an order can be filled.
-#[derive(Clone, Copy, Debug)]
+#[derive(Clone, Copy)]
 pub(crate) struct Choice {
     /// The rank of its price.
     pub(crate) cutoff: Rank,

@@ -12,7 +12,7 @@ use std::marker::Model;
 
 /// A quotation that an order may trade with, as `UsableRow` has it. What a share costs lies within 10^16 + 10^7
 /// nanodollars, so that 64 bits hold it; the wide fields stand first: a row takes 32 bytes.
-#[derive(Clone, Copy, Debug)]
+#[derive(Clone, Copy)]
 pub(crate) struct PricedRow {
     /// How good its price is.
     pub(crate) rank: Rank,

@@ -10,7 +10,7 @@ use nms_rules::{MOST_SIZE, Rank};
 use nms_units::{MOST_SHARES, Money};
 
 /// What so many shares of a pool cost, the cheapest first.
-#[derive(Clone, Copy, Debug)]
+#[derive(Clone, Copy)]
 pub(crate) struct Taken {
     /// What the last of them costs with its fee, in nanodollars; of none, what the cheapest does.
     pub(crate) marginal: Money,

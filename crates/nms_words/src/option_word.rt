@@ -1,5 +1,5 @@
 /// An option that a subcommand may take.
-#[derive(Clone, Copy, Debug, PartialEq, Eq)]
+#[derive(Clone, Copy, PartialEq, Eq)]
 pub(crate) enum OptionWord {
     /// `--setup FILE`: the file of the setup.
     Setup,

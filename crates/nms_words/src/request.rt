@@ -1,7 +1,7 @@
 use crate::subcommand::Sub;
 
 /// What the words of the command line ask for.
-#[derive(Debug, Drop)]
+#[derive(Drop)]
 pub struct Request {
     /// What is to be done.
     pub command: Sub,

@@ -18,7 +18,7 @@ pub enum Sub {
 }
 
 /// A word of a subcommand's own, with its explanation in the help.
-#[derive(Clone, Copy, Debug, PartialEq, Eq)]
+#[derive(Clone, Copy, PartialEq, Eq)]
 pub(crate) struct OwnWord {
     pub(crate) name: &'static str,
     pub(crate) help: &'static str,
