@@ -303,7 +303,7 @@ impl Boards {
 
     /// The rank orders of a symbol of the roster, those that a view carries.
     fn orders_of(&self, sym: Sym) -> &SymbolRanks
-        requires { sym < length self.now.lots }
+        requires { sym < length self.now.sizes.lots }
         ensures { AreCarried (rows_held self.now sym Bid) (rows_held self.now sym Offer) result.now }
     {
         &self.ranks[usize::from(sym.get())]

@@ -19,10 +19,11 @@ returns c =
     } in
     let orders : SymbolRanks = c.index.result.now in
     let ranks = c.self.inside.ranks.items in
-    let below : c.args.sym < length board.lots = subst (λ (b : Board). c.args.sym < length b.lots) (sym c.self.view_is) c.requires in
+    let in_syms : c.args.sym < length board.sizes.lots =
+    subst (λ (b : Board). c.args.sym < length b.sizes.lots) (sym c.self.view_is) c.requires in
+    let below : c.args.sym < length board.lots = omega (arith, in_syms, c.self.invariant.0.shape.lots) in
     let there : slice_get ranks c.args.sym ≡ Some orders =
     slice_get_read ranks (length ranks) c.args.sym orders refl (omega (arith, c.self.invariant.1.symbols, below))
     (c.index.ensures ∙ ap (λ n. get_or ranks n orders) (c.from.ensures ∙ c.get.ensures.place)) in
-    rw c.copied.ensures
-    (subst (λ (b : Board). AreCarried (rows_held b c.args.sym Bid) (rows_held b c.args.sym Offer) orders) c.self.view_is
-    (carried_from board ranks c.args.sym orders c.self.invariant.0 c.self.invariant.1 below there))
+    subst (λ (b : Board). AreCarried (rows_held b c.args.sym Bid) (rows_held b c.args.sym Offer) orders) c.self.view_is
+    (carried_from board ranks c.args.sym orders c.self.invariant.0 c.self.invariant.1 below there)

@@ -15,7 +15,7 @@ invariant_of-view c =
     rw (c.show.ensures.bids, c.show.ensures.offers) (
       rows_held_are_rows c.args.self.now c.args.sym Bid is,
       rows_held_are_rows c.args.self.now c.args.sym Offer is,
-      c.orders_of-view-inside.ensures,
+      rw c.copied-view-inside.ensures c.orders_of.ensures,
     )
 
 pub returns-in-Some-clause-cells : goal.returns-in-Some-clause-cells
