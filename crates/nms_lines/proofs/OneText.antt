@@ -35,7 +35,7 @@ IsPlainByte c = needs_byte default_writer c ≡ false
 pub record IsPlain (text : List ℕ) : Type 0 where
   pub none : needs_quotes default_writer text ≡ false
 
-plain_nil : IsPlain []
+pub plain_nil : IsPlain []
 plain_nil = record { none = refl }
 
 plain_cons : (c : ℕ) (text : List ℕ) → IsPlainByte c → IsPlain text → IsPlain (c ∷ text)
@@ -69,14 +69,14 @@ plain_onto (suc k) n behind plain =
     either true xs ys p q = p
     either false xs ys p q = q
 
-plain_decimal : (n : ℕ) → IsPlain (decimal n)
+pub plain_decimal : (n : ℕ) → IsPlain (decimal n)
 unfolding digits
 plain_decimal n = plain_onto 64 n [] plain_nil
 
 plain_digit_at : (unit n : ℕ) → IsPlainByte (digit_at unit n)
 plain_digit_at unit n = plain_digit (n / unit % 10) (omega arith)
 
-plain_price : (price : ℕ) → IsPlain (price_text price)
+pub plain_price : (price : ℕ) → IsPlain (price_text price)
 plain_price n =
     plain_append (decimal (n / 10000)) _ (plain_decimal (n / 10000))
     (plain_cons 46 _ refl (plain_cons _ _ (plain_digit_at 1000 n)
@@ -134,18 +134,18 @@ pub record IsNamed (roster : Listing) : Type 0 where
   pub parts : (part : ℕ) → part < length roster.parts → is_part_name (part_text roster part) ≡ true
   pub syms : (sym : ℕ) → sym < length roster.syms → is_symbol_name (symbol_text roster sym) ≡ true
 
-plain_part : (roster : Listing) → IsNamed roster → (part : ℕ) → IsPlain (part_text roster part)
+pub plain_part : (roster : Listing) → IsNamed roster → (part : ℕ) → IsPlain (part_text roster part)
 plain_part roster named part = plain_entry is_part_name roster.parts (λ name is. plain_name is_name_char 4 plain_name_char name is)
     named.parts part
 
-plain_symbol : (roster : Listing) → IsNamed roster → (sym : ℕ) → IsPlain (symbol_text roster sym)
+pub plain_symbol : (roster : Listing) → IsNamed roster → (sym : ℕ) → IsPlain (symbol_text roster sym)
 plain_symbol roster named sym =
     plain_entry is_symbol_name roster.syms (λ name is. plain_name is_symbol_char 8 plain_symbol_char name is) named.syms sym
 
 -- ---- records
 
 -- each of these fields
-abbrev ArePlain : Record → Type 0
+abbrev pub ArePlain : Record → Type 0
 ArePlain [] = Unit {0}
 ArePlain (field ∷ rest) = IsPlain field × ArePlain rest
 
@@ -164,12 +164,12 @@ body_as_it_is field (next ∷ rest) plain all =
 pub record IsSame (fields : Record) : Type 0 where
   pub same : row_text default_writer fields ≡ record_text fields
 
-row_as_it_is : (field next : List ℕ) (rest : Record) → IsPlain field → IsPlain next → ArePlain rest → IsSame (field ∷ next ∷ rest)
+pub row_as_it_is : (field next : List ℕ) (rest : Record) → IsPlain field → IsPlain next → ArePlain rest → IsSame (field ∷ next ∷ rest)
 unfolding is_blank
 row_as_it_is field next rest first second all =
     record { same = ap (λ (text : List ℕ). text ++ 10 ∷ []) (body_as_it_is field (next ∷ rest) first (second, all)) }
 
-word : (text : List ℕ) → needs_quotes default_writer text ≡ false → IsPlain text
+pub word : (text : List ℕ) → needs_quotes default_writer text ≡ false → IsPlain text
 word text none = record { none = none }
 
 plain_side : (side : OrderSide) → IsPlain (side_letter side)
@@ -243,14 +243,14 @@ end_same = record { same = refl }
 
 -- ---- all of them
 
-abbrev AreSame : List Record → Type 0
+abbrev pub AreSame : List Record → Type 0
 AreSame records = text_of records ≡ csv_text records
 
 one_more : (fields : Record) (records : List Record) → IsSame fields → AreSame records → AreSame (fields ∷ records)
 one_more fields records first rest =
     ap (λ (text : List ℕ). text ++ text_of records) (sym first.same) ∙ ap (λ (text : List ℕ). row_text default_writer fields ++ text) rest
 
-each_same : {A : Type 0} (record_of : A → Record) → ((item : A) → IsSame (record_of item)) → (items : List A)
+pub each_same : {A : Type 0} (record_of : A → Record) → ((item : A) → IsSame (record_of item)) → (items : List A)
     → AreSame (map record_of items)
 each_same record_of same [] = refl
 each_same record_of same (item ∷ items) = one_more (record_of item) (map record_of items) (same item) (each_same record_of same items)

@@ -40,7 +40,7 @@ use Rattle.nms_lines.specs.TextLaws.{NeedsNoQuote, csv_text}
 abbrev pub AreWhole : List Record → Type 0
 AreWhole records = All (λ fields. read_back fields ≡ fields) records
 
-reached : (records : List Record) → AreWhole records
+pub reached : (records : List Record) → AreWhole records
     → Reached default_config state.StartRecord (csv_text records) records state.StartRecord []
 unfolding Reached
 reached [] whole = (refl, refl)
@@ -53,7 +53,7 @@ reached (fields ∷ records) whole = (
 
 -- ---- numbers
 
-price_from : (found : Option ℕ) (price : ℕ) → units_price.above_zero found ≡ Ok price → above_zero found ≡ Some price
+pub price_from : (found : Option ℕ) (price : ℕ) → units_price.above_zero found ≡ Ok price → above_zero found ≡ Some price
 price_from None price is = let nothing : ⊥ = cc is in absurd nothing
 price_from (Some n) price is = elim (cases_Bool (n == 0)) [
   | inl zero ↦ let bad = rw zero at is in let nothing : ⊥ = cc bad in absurd nothing
@@ -85,7 +85,7 @@ money_back roster reads money range = money_from (money_number (money_text money
 shares_back : (roster : Listing) → Reads roster → (shares : ℕ) → shares ≤ MOST_SHARES → shares_number (decimal shares) ≡ Some shares
 shares_back roster reads shares most = reads.digits 9 shares (lit< tt) (omega (arith, most)) (omega (arith, most))
 
-some_back : (shares : ℕ) → 1 ≤ shares → above_zero (Some shares) ≡ Some shares
+pub some_back : (shares : ℕ) → 1 ≤ shares → above_zero (Some shares) ≡ Some shares
 some_back shares some = rw (ne_eqb shares 0 (omega (arith, some))) refl
 
 side_back : (side : OrderSide) → side_named (side_letter side) ≡ Some side

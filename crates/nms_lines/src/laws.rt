@@ -43,7 +43,7 @@ pub fn no_field_of_a_plan_needs_a_quote(roster: &Roster)
 }
 
 /// Each participant's name is of its form.
-fn part_names_are_formed(roster: &Roster)
+pub fn part_names_are_formed(roster: &Roster)
     ensures { (part : ℕ) → part < length roster.now.parts → is_part_name (part_text roster.now part) ≡ true }
 {
     for place in 0..roster.parts() {
@@ -62,7 +62,7 @@ fn part_name_is_formed(roster: &Roster, place: usize)
 }
 
 /// Each symbol's name is of its form.
-fn symbol_names_are_formed(roster: &Roster)
+pub fn symbol_names_are_formed(roster: &Roster)
     ensures { (sym : ℕ) → sym < length roster.now.syms → is_symbol_name (symbol_text roster.now sym) ≡ true }
 {
     for place in 0..roster.syms() {

@@ -33,7 +33,7 @@ pub use field_before::{number_before, price_before, text_before, word_before};
 pub use field_writing::{end_record, push_money, push_number, push_price, push_text};
 pub use laws::{
     a_plan_reads_as_written, a_text_has_one_list_of_records, no_field_of_a_plan_needs_a_quote,
-    the_least_fault_is_read,
+    part_names_are_formed, symbol_names_are_formed, the_least_fault_is_read,
 };
 pub use letter::side_of;
 pub use line::{Kind, Line, Reading};
