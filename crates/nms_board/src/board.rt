@@ -62,7 +62,7 @@ impl Model for Boards {
 }
 
 impl Boards {
-    ghost use Rattle.nms_board.specs.Cells.{Board, StandsFor, after, opening, takes};
+    ghost use Rattle.nms_board.specs.Cells.{Board, IsBoard, StandsFor, after, opening, takes};
     ghost use Rattle.nms_board.specs.Shown.{row_held, rows_held, seen_on};
     ghost use Rattle.nms_board.specs.View.{AreRows, rows_on, view_of};
 
@@ -284,6 +284,15 @@ impl Boards {
         ensures offers { AreRows (rows_held self.now sym Offer) }
     {
         let _ = (self.applied, sym);
+    }
+
+    /// A law: a board holds what some tape of changes says, so each receipt is the number of a change, and no two
+    /// participants' quoted sides in a symbol have one.
+    pub fn stands_for_a_tape(&self)
+        ensures { IsBoard self.now }
+    {
+        // A read of a field, so that the proof sees the invariant.
+        let _applied = self.applied;
     }
 
     /// The quotations of one symbol; no rows for a symbol out of the roster.

@@ -53,7 +53,7 @@ reached (fields ∷ records) whole = (
 
 -- ---- numbers
 
-pub price_from : (found : Option ℕ) (price : ℕ) → units_price.above_zero found ≡ Ok price → above_zero found ≡ Some price
+price_from : (found : Option ℕ) (price : ℕ) → units_price.above_zero found ≡ Ok price → above_zero found ≡ Some price
 price_from None price is = let nothing : ⊥ = cc is in absurd nothing
 price_from (Some n) price is = elim (cases_Bool (n == 0)) [
   | inl zero ↦ let bad = rw zero at is in let nothing : ⊥ = cc bad in absurd nothing
@@ -75,14 +75,14 @@ pub record Reads (roster : Listing) : Type 0 where
   pub formed : (part : ℕ) → part < length roster.parts → is_part_name (part_text roster part) ≡ true
   pub syms : (sym : ℕ) → sym < length roster.syms → place_in roster.syms (symbol_text roster sym) ≡ Some sym
 
-price_back : (roster : Listing) → Reads roster → (price : ℕ) → IsPriceInRange price
+pub price_back : (roster : Listing) → Reads roster → (price : ℕ) → IsPriceInRange price
     → above_zero (price_number (price_text price)) ≡ Some price
 price_back roster reads price range = price_from (price_number (price_text price)) price (reads.prices price range.0 range.1)
 
 money_back : (roster : Listing) → Reads roster → (money : ℤ) → IsMoneyInRange money → money_number (money_text money) ≡ Some money
 money_back roster reads money range = money_from (money_number (money_text money)) money (reads.monies money range.0 range.1)
 
-shares_back : (roster : Listing) → Reads roster → (shares : ℕ) → shares ≤ MOST_SHARES → shares_number (decimal shares) ≡ Some shares
+pub shares_back : (roster : Listing) → Reads roster → (shares : ℕ) → shares ≤ MOST_SHARES → shares_number (decimal shares) ≡ Some shares
 shares_back roster reads shares most = reads.digits 9 shares (lit< tt) (omega (arith, most)) (omega (arith, most))
 
 pub some_back : (shares : ℕ) → 1 ≤ shares → above_zero (Some shares) ≡ Some shares

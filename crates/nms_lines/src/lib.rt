@@ -43,7 +43,7 @@ pub use named::read_names;
 pub use number::{price_of, some_shares_of};
 pub use plan_reading::read_plan;
 pub use plan_text_fault::PlanTextFault;
-pub use plan_writing::{append_plan, write_plan};
+pub use plan_writing::{append_plan, name_of_part, name_of_sym, write_plan};
 pub use record_fault::RecordFault;
 pub use record_reading::{open_records, read_next};
 pub use text_writing::write_text;

@@ -305,8 +305,8 @@ fn append_end(out: &mut Vec<u8>) -> Result<(), AllocError>
     out.extend_from_slice(b"END\n")
 }
 
-/// The name of a symbol, which is nothing where it is not of the roster.
-fn name_of_sym(roster: &Roster, sym: Sym) -> &str
+/// The name of a symbol, which is empty if it is not of the roster.
+pub fn name_of_sym(roster: &Roster, sym: Sym) -> &str
     ensures name { result.now ≡ symbol_text roster.now sym }
     ensures short { length result.now ≤ 8 }
 {
@@ -317,8 +317,8 @@ fn name_of_sym(roster: &Roster, sym: Sym) -> &str
     }
 }
 
-/// The name of a participant, which is nothing where it is not of the roster.
-fn name_of_part(roster: &Roster, part: Part) -> &str
+/// The name of a participant, which is empty if it is not of the roster.
+pub fn name_of_part(roster: &Roster, part: Part) -> &str
     ensures name { result.now ≡ part_text roster.now part }
     ensures short { length result.now ≤ 4 }
 {
