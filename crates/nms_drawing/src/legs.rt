@@ -1,7 +1,7 @@
 //! The legs of a plan where it was made.
-use crate::names::part_name;
 use crate::picture::put;
 use crate::scale::Scale;
+use nms_lines::name_of_part;
 use nms_quote::{Leg, OrderSide, Plan, Roster};
 use nms_show::{Item, ShowFault};
 use std::io::Write;
@@ -112,7 +112,7 @@ fn write_entry<W: Write>(
             Item::Text(": "),
             Item::Number(u64::from(leg.shares.get())),
             Item::Text(" "),
-            Item::Text(part_name(roster, leg.part)),
+            Item::Text(name_of_part(roster, leg.part)),
             Item::Text(" "),
             Item::of_price(leg.price),
             Item::Text("</text>"),

@@ -1,14 +1,12 @@
 //! The changes of a day for people: as a file, at a version, as a stream, as a picture.
 #![tactic(auto)]
 
-mod change_text;
 mod curve;
 mod day;
 mod drawing;
 mod drawing_fault;
 mod json_lines;
 mod legs;
-mod names;
 mod picture;
 mod scale;
 mod streamed;

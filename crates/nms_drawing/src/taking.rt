@@ -1,6 +1,6 @@
 //! The changes that a script takes, as a file of changes.
-use crate::change_text::tell_change;
 use crate::drawing_fault::DrawingFault;
+use nms_change_text::append_change;
 use nms_fees::Setup;
 use nms_flow::{Flow, StepFault};
 use nms_lines::{ByteRecord, Line, Reader, Reading, open_records, read_line, read_next};
@@ -139,7 +139,7 @@ fn write_taken<W: Write>(
             break;
         }
         record.clear();
-        if tell_change(&mut record, roster, change).is_err() {
+        if append_change(&mut record, roster, change).is_err() {
             return Err(DrawingFault::NoMemory);
         }
         if answers.write_all(&record).is_err() {

@@ -4,10 +4,10 @@ ghost use Rattle.nms_quote.specs.Roster.{holds, sizes_of};
 ghost use Rattle.nms_quote.specs.declared.TheConstants.{MOST_CHANGES};
 
 use crate::drawing_fault::DrawingFault;
-use crate::names::{part_name, sym_name};
 use nms_board::{Boards, Row, View};
 use nms_fees::Setup;
 use nms_files::read_changes;
+use nms_lines::{name_of_part, name_of_sym};
 use nms_nbbo::{Clause, Pair, PairPlace, best, market, market_between, next_pair};
 use nms_quote::{Change, Roster, Side, Sym};
 use nms_show::{Column, Ending, Form, Item, ShowFault, write_object, write_row};
@@ -94,7 +94,7 @@ fn show_view<W: Write>(
     view: &View,
     answers: &mut W,
 ) -> Result<(), ShowFault> {
-    let symbol = sym_name(roster, view.sym());
+    let symbol = name_of_sym(roster, view.sym());
     write_object(
         alloc,
         answers,
@@ -133,7 +133,7 @@ fn show_one<W: Write>(
         &[
             ("what", Item::Text("row")),
             ("side", Item::Text(side)),
-            ("participant", Item::Text(part_name(roster, row.part))),
+            ("participant", Item::Text(name_of_part(roster, row.part))),
             ("price", Item::of_price(row.price)),
             ("shares", Item::Number(u64::from(row.size))),
             ("receipt", Item::Number(row.receipt)),
@@ -186,15 +186,15 @@ fn show_pair<W: Write>(
             ("kind", Item::Text(kind)),
             (
                 "bid_participant",
-                Item::Text(part_name(roster, pair.bid.part)),
+                Item::Text(name_of_part(roster, pair.bid.part)),
             ),
             (
                 "offer_participant",
-                Item::Text(part_name(roster, pair.offer.part)),
+                Item::Text(name_of_part(roster, pair.offer.part)),
             ),
             (
                 "later_participant",
-                Item::Text(part_name(roster, pair.later)),
+                Item::Text(name_of_part(roster, pair.later)),
             ),
             ("clause", Item::Text(clause)),
         ],
@@ -257,7 +257,7 @@ fn items_of<'a>(roster: &'a Roster, sym: Sym, quoted: &Quoted) -> [Item<'a>; 8] 
     let (bid, bid_price, bid_shares) = fields_of(roster, &quoted.bid);
     let (offer, offer_price, offer_shares) = fields_of(roster, &quoted.offer);
     [
-        Item::Text(sym_name(roster, sym)),
+        Item::Text(name_of_sym(roster, sym)),
         Item::Text(market),
         bid,
         bid_price,
@@ -310,7 +310,7 @@ fn fields_of<'a>(roster: &'a Roster, row: &Option<Row>) -> (Item<'a>, Item<'a>, 
     match row {
         None => (Item::Absent, Item::Absent, Item::Absent),
         Some(row) => (
-            Item::Text(part_name(roster, row.part)),
+            Item::Text(name_of_part(roster, row.part)),
             Item::of_price(row.price),
             Item::Number(u64::from(row.size)),
         ),

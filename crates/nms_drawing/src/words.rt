@@ -1,8 +1,8 @@
 //! What a picture shows in words, for those who can't see it and for those who can: its title, its numbers, what was left
 //! out, and what became of a plan.
 use crate::day::{Day, NOTHING, Span};
-use crate::names::{part_name, sym_name};
 use crate::picture::put;
+use nms_lines::{name_of_part, name_of_sym};
 use nms_quote::{Leg, Plan, Roster, Side, Sym};
 use nms_show::{Item, ShowFault};
 use std::io::Write;
@@ -63,7 +63,7 @@ pub(crate) fn write_title<W: Write>(
         answers,
         &[
             Item::Text("<title id=\"title\">"),
-            Item::Text(sym_name(roster, sym)),
+            Item::Text(name_of_sym(roster, sym)),
             Item::Text(SUBJECT),
             Item::Number(day.versions),
             Item::Text("</title>"),
@@ -82,7 +82,7 @@ pub(crate) fn write_heading<W: Write>(
         answers,
         &[
             Item::Text("<text x=\"150\" y=\"45\" font-size=\"30\">"),
-            Item::Text(sym_name(roster, sym)),
+            Item::Text(name_of_sym(roster, sym)),
             Item::Text(SUBJECT),
             Item::Number(day.versions),
             Item::Text("</text>"),
@@ -281,7 +281,7 @@ fn write_leg<W: Write>(roster: &Roster, leg: &Leg, answers: &mut W) -> Result<()
         &[
             Item::Number(u64::from(leg.shares.get())),
             Item::Text(" at "),
-            Item::Text(part_name(roster, leg.part)),
+            Item::Text(name_of_part(roster, leg.part)),
             Item::Text(" for "),
             Item::of_price(leg.price),
             Item::Text("."),

@@ -27,10 +27,9 @@ mod text_writing;
 
 pub use csv::{ByteRecord, Reader};
 pub use field::field as field_at;
-pub use kind::kind_named;
-pub use side::{is_bad_price, is_bad_shares};
 pub use field_before::{number_before, price_before, text_before, word_before};
 pub use field_writing::{end_record, push_money, push_number, push_price, push_text};
+pub use kind::kind_named;
 pub use laws::{
     a_plan_reads_as_written, a_text_has_one_list_of_records, no_field_of_a_plan_needs_a_quote,
     part_names_are_formed, symbol_names_are_formed, the_least_fault_is_read,
@@ -46,4 +45,5 @@ pub use plan_text_fault::PlanTextFault;
 pub use plan_writing::{append_plan, name_of_part, name_of_sym, write_plan};
 pub use record_fault::RecordFault;
 pub use record_reading::{open_records, read_next};
+pub use side::{is_bad_price, is_bad_shares};
 pub use text_writing::write_text;

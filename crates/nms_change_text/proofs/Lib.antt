@@ -1,0 +1,2 @@
+pub mod ChangeRoundTrip
+pub mod TextParts

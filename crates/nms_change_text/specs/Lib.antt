@@ -1,0 +1,2 @@
+pub mod ChangeText
+pub mod ReadBack
