@@ -1,0 +1,14 @@
+//! The opening changes of a board: a short list that, applied to a new board of its roster, shows the same.
+#![tactic(auto)]
+
+mod laws;
+mod next;
+mod opening_changes;
+mod opening_list;
+
+/// The most opening changes of a symbol: its round lot, and two sides of each of 32 participants.
+pub const MOST_OPENING: usize = 65;
+
+pub use laws::{alike_boards_show_the_same, alike_boards_stay_alike, worked_examples};
+pub use opening_changes::OpeningChanges;
+pub use opening_list::{opening, opening_of, reopened};
