@@ -1,4 +1,4 @@
-//! The changes of a day for people: as a file, at a version, as a stream, as a picture.
+//! The changes of a day for people: as a file, at a version, as its opening changes, as a stream, as a picture.
 #![tactic(auto)]
 
 mod curve;
@@ -7,6 +7,7 @@ mod drawing;
 mod drawing_fault;
 mod json_lines;
 mod legs;
+mod opened;
 mod picture;
 mod scale;
 mod streamed;
@@ -16,6 +17,7 @@ mod words;
 
 pub use drawing::draw_changes;
 pub use drawing_fault::DrawingFault;
+pub use opened::write_opening;
 pub use streamed::stream_changes;
 pub use taking::write_tape;
 pub use version::show_version;

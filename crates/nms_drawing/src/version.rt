@@ -31,6 +31,25 @@ pub fn show_version<R: Read + Drop, W: Write>(
 ) -> Result<Ending, DrawingFault>
     requires { IfSome sym (λ sym. sym < length setup.now.roster.syms) }
 {
+    let board = board_at(alloc, setup, source, version)?;
+    match sym {
+        Some(sym) => show_symbol(alloc, setup.roster(), &board, sym, form, answers)?,
+        None => show_all(alloc, setup.roster(), &board, form, answers)?,
+    }
+    Ok(Ending::Done)
+}
+
+/// The board of a version, the first so many changes of a file.
+///
+/// If the file has fewer changes it is `VersionBeyondTape`.
+pub(crate) fn board_at<R: Read + Drop>(
+    alloc: Global,
+    setup: &Setup,
+    source: R,
+    version: u64,
+) -> Result<Boards, DrawingFault>
+    ensures { IfOk result (λ board. board.sizes ≡ sizes_of setup.now.roster) }
+{
     let changes = match read_changes(alloc, setup, source) {
         Ok(changes) => changes,
         Err(fault) => return Err(DrawingFault::Changes(fault)),
@@ -38,12 +57,7 @@ pub fn show_version<R: Read + Drop, W: Write>(
     if version > changes.len() as u64 {
         return Err(DrawingFault::VersionBeyondTape);
     }
-    let board = board_after(alloc, setup.roster(), &changes[..version as usize])?;
-    match sym {
-        Some(sym) => show_symbol(alloc, setup.roster(), &board, sym, form, answers)?,
-        None => show_all(alloc, setup.roster(), &board, form, answers)?,
-    }
-    Ok(Ending::Done)
+    board_after(alloc, setup.roster(), &changes[..version as usize])
 }
 
 /// The board after these changes.

@@ -5,7 +5,7 @@ use crate::fault::{About, Fault};
 use crate::files::{open_word, read_file, setup_of, word_at};
 use crate::screen::Screen;
 use crate::source::Source;
-use nms_drawing::{draw_changes, show_version, stream_changes, write_tape};
+use nms_drawing::{draw_changes, show_version, stream_changes, write_opening, write_tape};
 use nms_fees::Setup;
 use nms_review_words::{Request, Sub};
 use nms_show::Ending;
@@ -47,6 +47,7 @@ where
         Sub::Explain => serve_explain(rt, screen, request, answers),
         Sub::Tape => serve_tape(rt, screen, setup, request, answers),
         Sub::At => serve_at(rt, screen, setup, request, answers),
+        Sub::Opening => serve_opening(rt, screen, setup, request, answers),
         Sub::Stream => serve_stream(rt, screen, setup, request, answers),
         Sub::Check => serve_check(rt, screen, setup, request, answers),
         Sub::Why => serve_why(rt, screen, setup, request, answers),
@@ -97,6 +98,26 @@ where
     let served = show_version(rt.alloc(), setup, &mut source, version, sym, form, answers).map_err(
         |fault| fault_of(fault.code(), fault.status(), ("A1", About::Word(0)), 1),
     );
+    ended(&mut source, served)
+}
+
+/// Writes the opening changes of a version.
+fn serve_opening<T, W: Write>(
+    rt: &T,
+    screen: Screen,
+    setup: &Setup,
+    request: &Request,
+    answers: &mut W,
+) -> Result<Ending, Fault>
+where
+    T: AllocGlobal + Clock + Eprint + Files,
+{
+    let version = version_of(request)?;
+    let file = open_word(rt, request, 1)?;
+    let mut source = Source::new(rt, screen, file);
+    let served = write_opening(rt.alloc(), setup, &mut source, version, answers).map_err(|fault| {
+        fault_of(fault.code(), fault.status(), ("A1", About::Word(0)), 1)
+    });
     ended(&mut source, served)
 }
 

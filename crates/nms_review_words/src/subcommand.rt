@@ -9,6 +9,8 @@ pub enum Sub {
     Tape,
     /// Shows any version. Its own words are `VERSION` and `CHANGES`, and `SYM` may stand behind them.
     At,
+    /// Writes the opening changes of a version. Its own words are `VERSION` and `CHANGES`.
+    Opening,
     /// Writes a line where a best bid, a best offer or a market changes. Its own word is `CHANGES`, and `SYM` may stand
     /// behind it.
     Stream,
@@ -128,6 +130,16 @@ static AT: [Word; 5] = [
     JSON,
 ];
 
+static OPENING: [Word; 3] = [
+    Word {
+        name: "VERSION",
+        help: "The number of the version: how many changes it has",
+        form: WordForm::Needed,
+    },
+    CHANGES,
+    SETUP,
+];
+
 static STREAM: [Word; 4] = [
     CHANGES,
     Word {
@@ -178,10 +190,11 @@ static DRAW: [Word; 4] = [
 
 impl Sub {
     /// Each of them.
-    pub(crate) const ALL: [Sub; 7] = [
+    pub(crate) const ALL: [Sub; 8] = [
         Sub::Explain,
         Sub::Tape,
         Sub::At,
+        Sub::Opening,
         Sub::Stream,
         Sub::Check,
         Sub::Why,
@@ -194,6 +207,7 @@ impl Sub {
             Sub::Explain => "explain",
             Sub::Tape => "tape",
             Sub::At => "at",
+            Sub::Opening => "opening",
             Sub::Stream => "stream",
             Sub::Check => "check",
             Sub::Why => "why",
@@ -208,6 +222,7 @@ impl Sub {
                 "Says of each refused record, or of a setup, where it went wrong and what to do",
             Sub::Tape => "Writes the changes that a script takes, as a file of changes",
             Sub::At => "Shows a version: a symbol's report, or all symbols in a table",
+            Sub::Opening => "Writes a short file of changes that shows what a version shows",
             Sub::Stream =>
                 "Writes a line of CSV wherever a best bid, a best offer or a market changes",
             Sub::Check => "Judges every plan in what a script, a live run or `plan` answered",
@@ -223,6 +238,7 @@ impl Sub {
             Sub::Explain => EXPLAIN.as_slice(),
             Sub::Tape => TAPE.as_slice(),
             Sub::At => AT.as_slice(),
+            Sub::Opening => OPENING.as_slice(),
             Sub::Stream => STREAM.as_slice(),
             Sub::Check => CHECK.as_slice(),
             Sub::Why => WHY.as_slice(),

@@ -1,5 +1,5 @@
 //! The tests of the crates below that take threads or long: the lane, published versions, live runs, the cutoffs of an
-//! order, the rank order of a board, and the planner against a plain slow one. What else no clause says stands in
+//! order, the rank order of a board, its opening changes, and the planner against a plain slow one. What else no clause says stands in
 //! `nms_examples`, and what a call of the program shows in `examples/`.
 //!
 //! They stand here because the gate proves a crate once more for its own tests.
@@ -13,6 +13,8 @@ mod cutoffs;
 mod feed;
 #[cfg(test)]
 mod live;
+#[cfg(test)]
+mod opening;
 #[cfg(test)]
 mod plans;
 #[cfg(test)]

@@ -1,0 +1,48 @@
+//! The opening changes of a version, as a file of changes.
+ghost use Rattle.std.specs.Prelude.{◌≡◌, List, IfOk};
+ghost use Rattle.nms_quote.specs.declared.change.Change.{Change};
+ghost use Rattle.nms_change_text.specs.ChangeText.{changes_text};
+ghost use Rattle.nms_opening.specs.Opening.{Opens};
+
+use crate::drawing_fault::DrawingFault;
+use crate::version::board_at;
+use nms_board::Boards;
+use nms_change_text::append_changes;
+use nms_fees::Setup;
+use nms_opening::opening;
+use nms_quote::Roster;
+use nms_show::Ending;
+use std::alloc::{AllocError, Global};
+use std::io::{Read, Write};
+
+/// Writes the opening changes of a version, the first so many changes of a file, as a file of changes. A new board that takes
+/// them shows what the version shows, with new receipts in the same order.
+///
+/// If the file has fewer changes it is `VersionBeyondTape`, and nothing is written. It is not flushed.
+pub fn write_opening<R: Read + Drop, W: Write>(
+    alloc: Global,
+    setup: &Setup,
+    source: R,
+    version: u64,
+    answers: &mut W,
+) -> Result<Ending, DrawingFault> {
+    let board = board_at(alloc, setup, source, version)?;
+    let Ok(text) = opening_text(alloc, setup.roster(), &board) else {
+        return Err(DrawingFault::NoMemory);
+    };
+    match answers.write_all(&text) {
+        Ok(()) => Ok(Ending::Done),
+        Err(_) => Err(DrawingFault::WriteFault),
+    }
+}
+
+/// The opening changes of a board, a record each.
+fn opening_text(alloc: Global, roster: &Roster, board: &Boards) -> Result<Vec<u8>, AllocError>
+    ensures { IfOk result (λ text. (changes : List Change) × Opens board.now changes
+        × (text.items ≡ changes_text roster.now changes)) }
+{
+    let changes = opening(alloc, board)?;
+    let mut text = Vec::new(alloc);
+    append_changes(&mut text, roster, &changes)?;
+    Ok(text)
+}
