@@ -1,7 +1,7 @@
 //! Why an answer was not written whole.
 use nms_board::BoardFault;
 use nms_files::ChangesFault;
-use nms_lines::{PlanTextFault, RecordFault};
+use nms_lines::PlanTextFault;
 use nms_show::ShowFault;
 use nms_stream::StreamFault;
 use thiserror::Error;
@@ -12,12 +12,6 @@ pub enum DrawingFault {
     /// The file of changes is no tape. Nothing was written.
     #[error("{0}")]
     Changes(ChangesFault),
-    /// E1 or E4: the script could not be read, or memory ran out. Nothing was written.
-    #[error("{0}")]
-    Record(RecordFault),
-    /// E3: the script has more than 10,000,000 records. Nothing was written.
-    #[error("E3: the input is too long")]
-    TooLong,
     /// B1: no board was made. Nothing was written.
     #[error("{0}")]
     Board(BoardFault),
@@ -40,8 +34,6 @@ impl DrawingFault {
     pub fn code(self) -> &'static str {
         match self {
             DrawingFault::Changes(fault) => fault.code(),
-            DrawingFault::Record(fault) => fault.code(),
-            DrawingFault::TooLong => "E3",
             DrawingFault::Board(fault) => fault.code(),
             DrawingFault::VersionBeyondTape => "A1",
             DrawingFault::Plan(PlanTextFault::BadPlanText) => "L11",
@@ -61,10 +53,7 @@ impl DrawingFault {
     pub fn status(self) -> u8 {
         match self {
             DrawingFault::Changes(fault) => fault.status(),
-            DrawingFault::Record(fault) => fault.status(),
-            DrawingFault::TooLong
-            | DrawingFault::VersionBeyondTape
-            | DrawingFault::Plan(PlanTextFault::BadPlanText) => 6,
+            DrawingFault::VersionBeyondTape | DrawingFault::Plan(PlanTextFault::BadPlanText) => 6,
             DrawingFault::Board(_)
             | DrawingFault::NoMemory
             | DrawingFault::Plan(PlanTextFault::NoMemory) => 5,

@@ -1,4 +1,4 @@
-//! The changes of a day for people: as a file, at a version, as its opening changes, as a stream, as a picture.
+//! The changes of a day for people: at a version, as its opening changes, as a stream, as a picture.
 #![tactic(auto)]
 
 mod curve;
@@ -11,7 +11,6 @@ mod opened;
 mod picture;
 mod scale;
 mod streamed;
-mod taking;
 mod version;
 mod words;
 
@@ -19,5 +18,4 @@ pub use drawing::draw_changes;
 pub use drawing_fault::DrawingFault;
 pub use opened::write_opening;
 pub use streamed::stream_changes;
-pub use taking::write_tape;
 pub use version::show_version;

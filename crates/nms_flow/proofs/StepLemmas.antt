@@ -1,7 +1,10 @@
 -- How each step moves what a machine keeps.
 use Rattle.std.proofs.Common.{ℕ, ◌≡◌, ◌≢◌, ◌+◌, ◌-◌, ◌≤◌, eqb, eq-eqb, ne_eqb, true, false, IsOk, List, [], ◌∷◌, ◌++◌, length, take, drop}
 use Rattle.std.proofs.Common.{None, Ok, Err, sym, refl, ap, subst, ◌∙◌, arith, length-append, inl, inr}
+use Rattle.std.proofs.Common.{zero, suc, slice_get}
+use Rattle.std.specs.Prelude.{option_map}
 use Rattle.std.proofs.Math.ListN.{length-map}
+use Rattle.std.proofs.lemmas.Option.{slice_get-map}
 use Rattle.std.proofs.lemmas.List.{append-nil, take-append-le, drop-append-le, length-take-le, length-drop, take-append-drop, map-append}
 use Rattle.std.proofs.lemmas.List.{drop-map, take-map}
 use Rattle.std.proofs.Math.Seq.{drop-append-add, take-add}
@@ -221,3 +224,20 @@ went_looked state desk symbol seen shows =
   where
     seen_answer : Seen → Answer
     seen_answer s = Ok (reply.Seen s)
+
+-- ---- what was sent since the publishing
+
+drop_at : {X : Type 0} (k : ℕ) (xs : List X) (i j : ℕ) → j ≡ k + i → slice_get (drop k xs) i ≡ slice_get xs j
+drop_at zero xs i j is = let same : i ≡ j = omega (arith, is) in ap (slice_get xs) same
+drop_at (suc k) [] i j is = refl
+drop_at (suc k) (x ∷ xs) i zero is = absurd (omega (arith, is))
+drop_at (suc k) (x ∷ xs) i (suc j) is = drop_at k xs i j (omega (arith, is))
+
+-- the change at a place of what the machine keeps is that at its place of all that was sent
+pub sent_there : (state : State) (at : Standing) (place since : ℕ) → StandsAt state at → at.published ≤ place
+    → since ≡ place - state.board.applied
+    → option_map (λ (m : Marked). m.change) (slice_get state.changes since) ≡ slice_get (changes_in at.sent) place
+sent_there state at place since h behind is =
+    let reading = reads state at h in
+    rw (h.changes, drop_at at.published at.sent since place (omega (arith, behind, is, reading.applied)))
+    (sym (slice_get-map (λ (m : Marked). m.change) at.sent place))

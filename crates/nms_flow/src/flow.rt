@@ -1,5 +1,5 @@
 //! The machine (specs/Flow): a published board, the changes sent since, and how many of these were taken.
-ghost use Rattle.std.specs.Prelude.{◌≡◌, ◌≢◌, ℕ, ◌+◌, ◌-◌, ◌<◌, ◌≤◌, ◌++◌, ◌∷◌, List, [], All, length, take, drop, nat_lt, true, IfOk, IfErr, OnOk, OnErr, Ok, Err};
+ghost use Rattle.std.specs.Prelude.{◌≡◌, ◌≢◌, ℕ, ◌+◌, ◌-◌, ◌<◌, ◌≤◌, ◌++◌, ◌∷◌, List, [], All, length, take, drop, nat_lt, slice_get, true, IfOk, IfErr, OnOk, OnErr, Ok, Err};
 ghost use Rattle.std.specs.VecDeque.{deque_len, deque_capacity};
 ghost use Rattle.nms_quote.specs.Roster.{holds};
 ghost use Rattle.nms_quote.specs.Tape.{Tape};
@@ -187,6 +187,18 @@ impl Flow {
         ensures within { result ≤ MOST_CHANGES }
     {
         self.board.applied() + self.pending as u64
+    }
+
+    /// The change that was sent at a place, counted from 0, if it was sent since the last publishing.
+    pub fn sent_at(&self, place: u64) -> Option<Change>
+        ensures { (at : Standing) → StandsAt self.now at → at.published ≤ place
+            → result ≡ slice_get (changes_in at.sent) place }
+    {
+        let since = place.checked_sub(self.board.applied())?;
+        match self.changes.get(since as usize) {
+            Some(marked) => Some(marked.change),
+            None => None,
+        }
     }
 
     /// What a look at a symbol shows: its quotations in the published version; no rows for a symbol out of the

@@ -5,10 +5,11 @@ use crate::fault::{About, Fault};
 use crate::files::{open_word, read_file, setup_of, word_at};
 use crate::screen::Screen;
 use crate::source::Source;
-use nms_drawing::{draw_changes, show_version, stream_changes, write_opening, write_tape};
+use nms_drawing::{draw_changes, show_version, stream_changes, write_opening};
 use nms_fees::Setup;
 use nms_review_words::{Request, Sub};
 use nms_show::Ending;
+use nms_tape::write_tape;
 use nms_verdicts::{check_answers, explain_why};
 use std::io::Write;
 use std::rt::Files;
@@ -68,11 +69,10 @@ where
 {
     let file = open_word(rt, request, 0)?;
     let mut source = Source::new(rt, screen, file);
-    let served = write_tape(rt.alloc(), setup, &mut source, answers).map_err(|fault| Fault::of(
-        fault.code(),
-        fault.status(),
-        About::Word(0),
-    ));
+    let served = match write_tape(rt.alloc(), setup, &mut source, answers) {
+        Ok(()) => Ok(Ending::Done),
+        Err(fault) => Err(Fault::of(fault.code(), fault.status(), About::Word(0))),
+    };
     ended(&mut source, served)
 }
 

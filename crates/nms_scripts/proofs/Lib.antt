@@ -2,3 +2,4 @@ mod ProgressFacts
 mod ScriptFacts
 mod ThroughFacts
 mod PlanFacts
+pub mod Offered

@@ -12,5 +12,6 @@ pub const MOST_RECORDS: u64 = 10_000_000;
 
 pub use counts::Counts;
 pub use nms_text::ScriptFault;
-pub use script::run_script;
+pub use script::{read as read_record, run_script};
+pub use script_record::serve;
 pub use setup_k::SETUP_K;

@@ -156,8 +156,8 @@ fn tell_answer<W: Write>(writer: &mut W, answer: &[u8]) -> Result<(), ScriptFaul
     tell(writer, answer)
 }
 
-/// Reads the next record.
-fn read<R: Read>(reader: &mut Reader<R>, row: &mut ByteRecord) -> Result<bool, ScriptFault>
+/// Reads the next record of a script. Returns whether there is one.
+pub fn read<R: Read>(reader: &mut Reader<R>, row: &mut ByteRecord) -> Result<bool, ScriptFault>
     ensures found { (bytes : Option (List ℕ)) (seen : List Record) → ReadsFrom R.remaining reader.old bytes seen → result ≡ Ok true → ReadsFrom R.remaining reader.new bytes (seen ++ fields_of row.new ∷ []) }
     ensures end { (bytes : Option (List ℕ)) (seen : List Record) → ReadsFrom R.remaining reader.old bytes seen → result ≡ Ok false → AreAllRecords bytes seen }
     ensures stopped { (bytes : Option (List ℕ)) (seen : List Record) → ReadsFrom R.remaining reader.old bytes seen → OnErr result (HasStopped reader.new) }

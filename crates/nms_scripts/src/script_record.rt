@@ -20,8 +20,9 @@ use nms_text::{tell_best, tell_published, tell_refusal, tell_taken, tell_through
 use nms_units::Price;
 use std::alloc::AllocError;
 
-/// Answers a record: moves the machine, and appends what is told of it. Tells whether it was refused.
-pub(crate) fn serve(
+/// Answers a record: moves the machine, and appends what is told of it. Returns whether it was refused. Out of memory
+/// leaves the machine where the record's steps so far led.
+pub fn serve(
     flow: &mut Flow,
     setup: &Setup,
     row: &ByteRecord,

@@ -1,0 +1,3 @@
+mod SentFacts
+mod ReadFacts
+mod WriteFacts
