@@ -1,12 +1,12 @@
 //! The command line as `clap` reads it.
-ghost use Rattle.std.specs.Prelude.{◌≡◌, IfOk, false};
-ghost use Rattle.clap.specs.Words.{app_of, new_rule, rule_of};
+ghost use Rattle.std.specs.Prelude.{◌≡◌, fold, map, IfOk, false};
+ghost use Rattle.clap.specs.Words.{Rule, app_of, new_rule, rule_of, with_rule, with_subcommand};
 ghost use Rattle.clap.specs.declared.builder.command.Command.TheViews.{out-Command as fields_of};
-ghost use Rattle.nms_words.specs.CommandLine.{app_of_sub, manual_rule, option_rule, own_rule, self_help_rule, setup_rule, tool, with_own, with_words, without_subs};
+ghost use Rattle.nms_words.specs.CommandLine.{app_of_sub, manual_rule, option_rule, own_rule, self_help_rule, setup_rule, tool, without_subs};
 
 use crate::help_text::{AFTER_HELP, VERSION};
 use crate::option_word::OptionWord;
-use crate::subcommand::{OwnWord, Sub};
+use crate::subcommand::{MoreWord, OwnWord, Sub};
 use clap::{Arg, ArgAction, Command};
 use std::alloc::{AllocError, Global};
 
@@ -18,7 +18,7 @@ pub(crate) fn tool_command<'a>(alloc: Global) -> Result<Command<'a>, AllocError>
 {
     let mut command = top_command(alloc)?;
     for sub in Sub::ALL {
-        command = command.subcommand(sub_command(alloc, sub)?)?;
+        command = with_sub(alloc, command, sub)?;
     }
     Ok(command)
 }
@@ -36,69 +36,82 @@ fn top_command<'a>(alloc: Global) -> Result<Command<'a>, AllocError>
         .bin_name("nms_tool")
 }
 
-// A subcommand with its own words and its options.
+// The command line with one more subcommand.
+fn with_sub<'a>(alloc: Global, command: Command<'a>, sub: Sub) -> Result<Command<'a>, AllocError>
+    ensures { IfOk result (λ more. app_of more ≡ with_subcommand (app_of command.entry) (app_of_sub sub).top) }
+{
+    match sub_command(alloc, sub) {
+        Ok(inner) => command.subcommand(inner),
+        Err(fault) => Err(fault),
+    }
+}
+
+// A subcommand with its own words, those that it needs and those that may stand behind them, and with its options.
 fn sub_command<'a>(alloc: Global, sub: Sub) -> Result<Command<'a>, AllocError>
     ensures app { IfOk result (λ command. app_of command ≡ app_of_sub sub) }
     ensures local { IfOk result (λ command. (fields_of command).has_globals ≡ false) }
 {
-    let mut command = worded_command(alloc, sub)?;
-    for option in sub.options() {
-        command = command.arg(option_arg(alloc, *option))?;
-    }
-    Ok(command)
-}
-
-// A subcommand with its own words, those that it needs and then those that may stand behind them.
-fn worded_command<'a>(alloc: Global, sub: Sub) -> Result<Command<'a>, AllocError>
-    ensures app { IfOk result (λ command. app_of command ≡ with_words sub) }
-    ensures local { IfOk result (λ command. (fields_of command).has_globals ≡ false) }
-{
-    let mut command = own_command(alloc, sub)?;
-    for word in sub.more_words() {
-        command = command.arg(more_arg(alloc, *word))?;
-    }
-    Ok(command)
-}
-
-// A subcommand with the own words that it needs.
-fn own_command<'a>(alloc: Global, sub: Sub) -> Result<Command<'a>, AllocError>
-    ensures app { IfOk result (λ command. app_of command ≡ with_own sub) }
-    ensures local { IfOk result (λ command. (fields_of command).has_globals ≡ false) }
-{
     let name: &'a str = sub.name();
     let about: &'a str = sub.about();
-    let mut command = Command::new(alloc, name).about(about);
-    for word in sub.own_words() {
-        command = command.arg(own_arg(alloc, *word))?;
+    let command = Command::new(alloc, name).about(about);
+    let command = with_words(alloc, command, sub.own_words())?;
+    let command = with_words(alloc, command, sub.more_words())?;
+    with_words(alloc, command, sub.options())
+}
+
+// A command that takes these words too.
+fn with_words<'a, W: ParserWord>(
+    alloc: Global,
+    command: Command<'a>,
+    words: &[W],
+) -> Result<Command<'a>, AllocError>
+    requires { (fields_of command).has_globals ≡ false }
+    ensures app { IfOk result (λ more. app_of more ≡ fold with_rule (app_of command.entry) (map W.rule words.now)) }
+    ensures local { IfOk result (λ more. (fields_of more).has_globals ≡ false) }
+{
+    let mut command = command;
+    for word in words {
+        command = command.arg(word.arg(alloc))?;
     }
     Ok(command)
 }
 
-// A word that a subcommand needs.
-fn own_arg<'a>(alloc: Global, word: OwnWord) -> Arg<'a>
-    ensures rule { rule_of result ≡ own_rule word.name.now }
-    ensures local { result.global ≡ false }
-{
-    Arg::new(alloc, word.name).help(word.help).required(true)
+/// A word that the parser takes.
+trait ParserWord: Copy {
+    // How the parser has it.
+    ghost rule: { Self → Rule };
+
+    /// The word with its explanation in the help.
+    fn arg<'a>(self, alloc: Global) -> Arg<'a>
+        ensures rule { rule_of result ≡ rule self }
+        ensures local { result.global ≡ false };
 }
 
-// A word that may stand behind those.
-fn more_arg<'a>(alloc: Global, word: OwnWord) -> Arg<'a>
-    ensures rule { rule_of result ≡ new_rule word.name.now }
-    ensures local { result.global ≡ false }
-{
-    Arg::new(alloc, word.name).help(word.help)
+impl ParserWord for OwnWord {
+    ghost rule = { λ word. own_rule word.name.now };
+
+    fn arg<'a>(self, alloc: Global) -> Arg<'a> {
+        Arg::new(alloc, self.name).help(self.help).required(true)
+    }
 }
 
-// An option of a subcommand.
-fn option_arg<'a>(alloc: Global, option: OptionWord) -> Arg<'a>
-    ensures rule { rule_of result ≡ option_rule option }
-    ensures local { result.global ≡ false }
-{
-    match option {
-        OptionWord::Setup => setup_arg(alloc),
-        OptionWord::Manual => manual_arg(alloc),
-        OptionWord::SelfHelp => self_help_arg(alloc),
+impl ParserWord for MoreWord {
+    ghost rule = { λ word. new_rule word.name.now };
+
+    fn arg<'a>(self, alloc: Global) -> Arg<'a> {
+        Arg::new(alloc, self.name).help(self.help)
+    }
+}
+
+impl ParserWord for OptionWord {
+    ghost rule = { option_rule };
+
+    fn arg<'a>(self, alloc: Global) -> Arg<'a> {
+        match self {
+            OptionWord::Setup => setup_arg(alloc),
+            OptionWord::Manual => manual_arg(alloc),
+            OptionWord::SelfHelp => self_help_arg(alloc),
+        }
     }
 }
 

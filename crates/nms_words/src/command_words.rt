@@ -8,7 +8,7 @@ ghost use Rattle.nms_words.specs.PlainCall.{IsPlainCall};
 use crate::command_line::tool_command;
 use crate::request::Request;
 use crate::shown::Shown;
-use crate::subcommand::{OwnWord, Sub};
+use crate::subcommand::{MoreWord, OwnWord, Sub};
 use crate::words_fault::WordsFault;
 use clap::error::ErrorKind;
 use clap::{ArgMatches, Error};
@@ -171,7 +171,7 @@ fn own_words(
 fn add_more(
     alloc: Global,
     words: &mut Vec<String>,
-    more: &[OwnWord],
+    more: &[MoreWord],
     matches: &ArgMatches<'_>,
 ) -> Result<(), AllocError>
     ensures { OnOk result (map string_bytes words.new.items

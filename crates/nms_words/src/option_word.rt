@@ -1,5 +1,5 @@
 /// An option that a subcommand may take.
-#[derive(Clone, Copy, PartialEq, Eq)]
+#[derive(Clone, Copy)]
 pub(crate) enum OptionWord {
     /// `--setup FILE`: the file of the setup.
     Setup,

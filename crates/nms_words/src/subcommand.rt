@@ -17,14 +17,23 @@ pub enum Sub {
     Live,
 }
 
-/// A word of a subcommand's own, with its explanation in the help.
-#[derive(Clone, Copy, PartialEq, Eq)]
+/// A word of a subcommand's own that it needs, with its explanation in the help.
+#[derive(Clone, Copy)]
 pub(crate) struct OwnWord {
     pub(crate) name: &'static str,
     pub(crate) help: &'static str,
 }
 
+/// A word that may stand behind those, with its explanation in the help.
+#[derive(Clone, Copy)]
+pub(crate) struct MoreWord {
+    pub(crate) name: &'static str,
+    pub(crate) help: &'static str,
+}
+
 static NO_WORDS: [OwnWord; 0] = [];
+
+static NO_MORE: [MoreWord; 0] = [];
 
 static REPORT_WORDS: [OwnWord; 2] = [
     OwnWord {
@@ -82,32 +91,32 @@ static LIVE_WORDS: [OwnWord; 2] = [
     },
 ];
 
-static MORE_FEEDS: [OwnWord; 7] = [
-    OwnWord {
+static MORE_FEEDS: [MoreWord; 7] = [
+    MoreWord {
         name: "FEED_B",
         help: "The file of the changes of feed B, where the setup has it",
     },
-    OwnWord {
+    MoreWord {
         name: "FEED_C",
         help: "The file of the changes of feed C, where the setup has it",
     },
-    OwnWord {
+    MoreWord {
         name: "FEED_D",
         help: "The file of the changes of feed D, where the setup has it",
     },
-    OwnWord {
+    MoreWord {
         name: "FEED_E",
         help: "The file of the changes of feed E, where the setup has it",
     },
-    OwnWord {
+    MoreWord {
         name: "FEED_F",
         help: "The file of the changes of feed F, where the setup has it",
     },
-    OwnWord {
+    MoreWord {
         name: "FEED_G",
         help: "The file of the changes of feed G, where the setup has it",
     },
-    OwnWord {
+    MoreWord {
         name: "FEED_H",
         help: "The file of the changes of feed H, where the setup has it",
     },
@@ -173,12 +182,12 @@ impl Sub {
     }
 
     /// The words that may stand behind those, in order: where one stands, each before it does.
-    pub(crate) fn more_words(self) -> &'static [OwnWord]
+    pub(crate) fn more_words(self) -> &'static [MoreWord]
         ensures { map (λ word. word.name.now) result.now ≡ more_names self }
     {
         match self {
             Sub::Live => MORE_FEEDS.as_slice(),
-            Sub::Script | Sub::Report | Sub::Plan | Sub::Check => NO_WORDS.as_slice(),
+            Sub::Script | Sub::Report | Sub::Plan | Sub::Check => NO_MORE.as_slice(),
         }
     }
 

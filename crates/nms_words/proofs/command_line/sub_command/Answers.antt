@@ -1,26 +1,25 @@
--- `sub_command`: what is left of the options after each of them, for the clauses `app` and `local`, by clap's `shape`.
-use Rattle.std.proofs.Common.{◌≡◌, ◌<◌, ◌+◌, ◌∷◌, ◌∙◌, ℕ, List, length, map, drop, fold, slice_index_or, refl, ap, sym, add-one, drop-cons}
-use Rattle.clap.specs.Words.{App, Rule, app_of, with_rule}
-use Rattle.nms_words.specs.CommandLine.{option_rule}
-use Rattle.nms_words.specs.declared.option_word.OptionWord.{OptionWord}
+-- `sub_command`: clause `app`: each list of words stands behind the ones before it.
+use Rattle.std.proofs.Common.{rules, ◌≡◌, ◌∙◌, List, map, fold, ap, sym}
+use Rattle.std.proofs.lemmas.Simd.{map-map}
+use Rattle.std.proofs.lemmas.Result.{IfOk-weaker}
+use Rattle.clap.specs.Words.{App, Rule, app_of, new_app, new_rule, with_rule}
+use Rattle.nms_words.specs.CommandLine.{name_of, option_rule, own_rule, with_own, with_words}
+use Rattle.nms_words.specs.declared.subcommand.MoreWord.{MoreWord}
+use Rattle.nms_words.specs.declared.subcommand.OwnWord.{OwnWord}
 use Rattle.nms_words.proofs.command_line.sub_command.Goals as goal
 
--- the options from i on are that at i and those after it
-rules_next : (options : List OptionWord) (i : ℕ) (d : OptionWord) → i < length options
-    → map option_rule (drop i options) ≡ option_rule (slice_index_or options i d) ∷ map option_rule (drop (i + 1) options)
-rules_next options i d lt = rw (add-one, drop-cons options i d lt) refl
+-- a command with more words, where both are as they should be
+behind : (app was : App) (met due : List Rule) → met ≡ due → app ≡ was → fold with_rule app met ≡ fold with_rule was due
+behind app was met due rules first = ap (λ (rs : List Rule). fold with_rule app rs) rules ∙ ap (λ (a : App). fold with_rule a due) first
 
-pub loop-option-preserved : goal.loop-option-preserved
-loop-option-preserved c =
-    let was = app_of c.loop-option.command in
-    let i = c.loop-option.option-index in
-    let options = c.options-option-items.result.now in
-    let added = c.in_ok-command-2.ensures.shape c.option_arg.ensures.local
-    ∙ ap (λ (rule : Rule). with_rule was rule) c.option_arg.ensures.rule in
-    record {
-      app =
-          ap (λ (app : App). fold with_rule app (map option_rule (drop (i + 1) options))) added
-          ∙ sym (ap (λ (rules : List Rule). fold with_rule was rules) (rules_next options i _ c.loop-option-test.true))
-          ∙ c.loop-option.invariant.app;
-      local = rw (c.loop-option.invariant.local, c.option_arg.ensures.local) at c.in_ok-command-2.ensures.globals;
-    }
+pub returns-clause-app : goal.returns-clause-app
+returns-clause-app c =
+    let sub = c.args.sub in
+    let bare : app_of c.about-command.result ≡ new_app (name_of sub) = search rules in
+    let own = sym (map-map own_rule (λ (word : OwnWord). word.name.now) c.own_words.result.now) ∙ ap (map own_rule) c.own_words.ensures in
+    let more = sym (map-map new_rule (λ (word : MoreWord). word.name.now) c.more_words.result.now)
+    ∙ ap (map new_rule) c.more_words.ensures in
+    let needed : app_of c.in_ok-command.command ≡ with_own sub = c.in_ok-command.ensures.app ∙ behind _ _ _ _ own bare in
+    let worded : app_of c.in_ok-command-2.command ≡ with_words sub = c.in_ok-command-2.ensures.app ∙ behind _ _ _ _ more needed in
+    IfOk-weaker c.with_words-3.result _ _ (λ command app. app ∙ behind _ _ _ _ (ap (map option_rule) c.options.ensures) worded)
+    c.with_words-3.ensures.app

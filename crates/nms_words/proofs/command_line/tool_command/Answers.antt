@@ -15,7 +15,6 @@ loop-sub-preserved c =
     let was = app_of c.loop-sub.command in
     let i = c.loop-sub.sub-index in
     let with_sub : App → Sub → App = λ app sub. with_subcommand app (app_of_sub sub).top in
-    let added = c.in_ok-command-2.ensures.shape c.in_ok-sub_command.ensures.local
-    ∙ ap (λ (sub : App). with_subcommand was sub.top) c.in_ok-sub_command.ensures.app in
-    ap (λ (app : App). fold with_sub app (drop (i + 1) subs)) added ∙ sym (fold_next with_sub was subs i _ c.loop-sub-test.true)
+    ap (λ (app : App). fold with_sub app (drop (i + 1) subs)) c.in_ok-command-2.ensures
+    ∙ sym (fold_next with_sub was subs i _ c.loop-sub-test.true)
     ∙ c.loop-sub.invariant
