@@ -10,9 +10,9 @@ use Rattle.nms_cert.specs.Codes as doubt_codes
 use Rattle.nms_cert.specs.declared.doubt.Doubt.{Doubt}
 use Rattle.nms_cert.specs.declared.doubt.Doubt.TheVariants as doubt
 use Rattle.nms_rules.specs.declared.breach_kind.Breach.{Breach}
-use Rattle.nms_files.specs.Audit.{IsBest, IsFinding}
+use Rattle.nms_file_answers.specs.Audit.{IsBest, IsFinding}
 use Rattle.nms_files.specs.ChangeFile.{IsFileTape}
-use Rattle.nms_files.specs.declared.audit_fault.AuditFault.TheVariants as fault
+use Rattle.nms_file_answers.specs.declared.audit_fault.AuditFault.TheVariants as fault
 use Rattle.nms_command.specs.Check.{Finding, Judges, JudgesFiles, JudgesOnFile, JudgesText, Says, Tells, doubt_record}
 use Rattle.nms_command.specs.declared.ending.Ending.{Ending}
 use Rattle.nms_command.specs.declared.ending.Ending.TheVariants as ending

@@ -3,13 +3,14 @@ use Rattle.std.proofs.Common.{ℕ, ◌≡◌, ◌<◌, refl, arith}
 use Rattle.nms_fees.specs.Faults as setup_faults
 use Rattle.nms_fees.specs.declared.setup_fault.SetupFault.{SetupFault}
 use Rattle.nms_fees.specs.declared.setup_fault.SetupFault.TheVariants as setup
+use Rattle.nms_file_answers.specs.Faults as answer_faults
+use Rattle.nms_file_answers.specs.declared.plan_fault.PlanFault.{PlanFault}
+use Rattle.nms_file_answers.specs.declared.plan_fault.PlanFault.TheVariants as plan
+use Rattle.nms_file_answers.specs.declared.report_fault.ReportFault.{ReportFault}
+use Rattle.nms_file_answers.specs.declared.report_fault.ReportFault.TheVariants as report
 use Rattle.nms_files.specs.Faults as file_faults
 use Rattle.nms_files.specs.declared.changes_fault.ChangesFault.{ChangesFault}
 use Rattle.nms_files.specs.declared.changes_fault.ChangesFault.TheVariants as changes
-use Rattle.nms_files.specs.declared.changes_fault.ReportFault.{ReportFault}
-use Rattle.nms_files.specs.declared.changes_fault.ReportFault.TheVariants as report
-use Rattle.nms_files.specs.declared.plan_fault.PlanFault.{PlanFault}
-use Rattle.nms_files.specs.declared.plan_fault.PlanFault.TheVariants as plan
 use Rattle.nms_lines.specs.PlanFaults as plan_faults
 use Rattle.nms_lines.specs.RecordFaults as record_faults
 use Rattle.nms_lines.specs.declared.plan_text_fault.PlanTextFault.{PlanTextFault}
@@ -65,13 +66,13 @@ changes_status (changes.Record fault) = record_status fault
 changes_status (changes.Line line) = six
 changes_status changes.TapeFull = six
 
-report_status : (fault : ReportFault) → IsFaultStatus (file_faults.status_of_report fault)
+report_status : (fault : ReportFault) → IsFaultStatus (answer_faults.status_of_report fault)
 report_status (report.Changes inner) = changes_status inner
 report_status (report.Board board) = five
 report_status report.WriteFault = one
 report_status report.NoMemory = five
 
-plan_status : (fault : PlanFault) → IsFaultStatus (file_faults.status_of_plan fault)
+plan_status : (fault : PlanFault) → IsFaultStatus (answer_faults.status_of_plan fault)
 plan_status (plan.Changes inner) = changes_status inner
 plan_status (plan.Board board) = five
 plan_status (plan.Text fault) = text_status fault

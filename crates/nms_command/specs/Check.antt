@@ -13,10 +13,10 @@ use Rattle.nms_lines.specs.Text.{record_text}
 use Rattle.nms_rules.specs.Codes as breach_codes
 use Rattle.nms_cert.specs.declared.doubt.Doubt.{Doubt}
 use Rattle.nms_cert.specs.declared.doubt.Doubt.TheVariants as doubt
-use Rattle.nms_files.specs.Audit.{IsBest, IsFinding}
+use Rattle.nms_file_answers.specs.Audit.{IsBest, IsFinding}
 use Rattle.nms_files.specs.ChangeFile.{IsFileTape}
-use Rattle.nms_files.specs.declared.audit_fault.AuditFault.{AuditFault}
-use Rattle.nms_files.specs.declared.audit_fault.AuditFault.TheVariants as fault
+use Rattle.nms_file_answers.specs.declared.audit_fault.AuditFault.{AuditFault}
+use Rattle.nms_file_answers.specs.declared.audit_fault.AuditFault.TheVariants as fault
 use Rattle.nms_command.specs.declared.ending.Ending.{Ending}
 use Rattle.nms_command.specs.declared.ending.Ending.TheVariants as ending
 

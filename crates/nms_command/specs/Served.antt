@@ -8,9 +8,9 @@ use Rattle.nms_fees.specs.Setup.{reading}
 use Rattle.nms_lines.specs.Layout.{field}
 use Rattle.nms_scripts.specs.Script.{Answers}
 use Rattle.nms_scripts.specs.declared.counts.Counts.{Counts}
-use Rattle.nms_files.specs.ChangeFile.{ReportsFile}
+use Rattle.nms_file_answers.specs.ReportFile.{ReportsFile}
 use Rattle.nms_files.specs.OrderWords.{order_asked}
-use Rattle.nms_files.specs.PlanFile.{PlansFile}
+use Rattle.nms_file_answers.specs.PlanFile.{PlansFile}
 use Rattle.nms_words.specs.CommandLine.{Asked}
 use Rattle.nms_words.specs.declared.subcommand.Sub.{Sub}
 use Rattle.nms_words.specs.declared.subcommand.Sub.TheVariants as sub

@@ -7,6 +7,7 @@ use Rattle.nms_command.specs.declared.command_fault.CommandFault.TheVariants as 
 use Rattle.nms_command.specs.declared.ending.Ending.{Ending}
 use Rattle.nms_command.specs.declared.ending.Ending.TheVariants as ending
 use Rattle.nms_fees.specs.Faults as setup_faults
+use Rattle.nms_file_answers.specs.Faults as answer_faults
 use Rattle.nms_files.specs.Faults as file_faults
 use Rattle.nms_lines.specs.PlanFaults as plan_faults
 use Rattle.nms_text.specs.Faults as text_faults
@@ -23,9 +24,9 @@ status_of fault.Usage = 2
 status_of fault.Unreadable = 1
 status_of (fault.Setup own) = setup_faults.status_of own
 status_of (fault.Script own) = text_faults.status_of_script own
-status_of (fault.Report own) = file_faults.status_of_report own
+status_of (fault.Report own) = answer_faults.status_of_report own
 status_of (fault.Changes own) = file_faults.status_of_changes own
-status_of (fault.Plan own) = file_faults.status_of_plan own
+status_of (fault.Plan own) = answer_faults.status_of_plan own
 status_of (fault.PlanText own) = plan_faults.status_of own
 status_of fault.NoAudit = 5
 
@@ -36,8 +37,8 @@ code_of fault.Usage = codes "usage"
 code_of fault.Unreadable = codes "E1"
 code_of (fault.Setup own) = setup_faults.code_of own
 code_of (fault.Script own) = text_faults.code_of_script own
-code_of (fault.Report own) = file_faults.code_of_report own
+code_of (fault.Report own) = answer_faults.code_of_report own
 code_of (fault.Changes own) = file_faults.code_of_changes own
-code_of (fault.Plan own) = file_faults.code_of_plan own
+code_of (fault.Plan own) = answer_faults.code_of_plan own
 code_of (fault.PlanText own) = plan_faults.code_of own
 code_of fault.NoAudit = codes "A3"

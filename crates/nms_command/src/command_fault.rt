@@ -3,7 +3,8 @@ ghost use Rattle.std.specs.Prelude.{◌≡◌};
 ghost use Rattle.nms_command.specs.Statuses.{code_of, status_of};
 
 use nms_fees::SetupFault;
-use nms_files::{AuditFault, ChangesFault, PlanFault, ReportFault};
+use nms_file_answers::{AuditFault, PlanFault, ReportFault};
+use nms_files::ChangesFault;
 use nms_lines::PlanTextFault;
 use nms_text::ScriptFault;
 use nms_words::WordsFault;

@@ -12,7 +12,7 @@ use crate::files::{open_file, read_file};
 use crate::line::write_whole;
 use crate::planning::serve_plan;
 use nms_fees::{Setup, SetupFault, read_setup};
-use nms_files::report_changes;
+use nms_file_answers::report_changes;
 use nms_scripts::{SETUP_K, run_script};
 use nms_text::ScriptFault;
 use nms_words::{Request, Sub};

@@ -3,7 +3,8 @@
 use crate::Failed;
 use nms_board::BoardFault;
 use nms_fees::SetupFault;
-use nms_files::{AuditFault, ChangesFault, FeedFault, OrdersFault, ReportFault};
+use nms_file_answers::{AuditFault, ReportFault};
+use nms_files::{ChangesFault, FeedFault, OrdersFault};
 use nms_flow::{FlowFault, StepFault};
 use nms_lines::{LineFault, PlanTextFault, RecordFault};
 use nms_live::LiveFault;

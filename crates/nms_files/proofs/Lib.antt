@@ -1,5 +1,2 @@
 mod LineFacts
 mod WordFacts
-mod PartFacts
-mod LegFacts
-mod FitFacts

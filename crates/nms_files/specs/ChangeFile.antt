@@ -1,12 +1,10 @@
--- A file of changes: what a line of it says, the tape that its lines make, the first line that is refused,
--- and the report of one symbol after them. This product's own rule.
-use Rattle.std.specs.Prelude.{ℕ, ⊤, ◌≡◌, ◌≤◌, All, Bool, true, false, List, length, Option, Result, Ok, Err}
-use Rattle.std.specs.Io.KnownBytes.{Appends}
+-- A file of changes: what a line of it says, the tape that its lines make, and the first line that is refused. This
+-- product's own rule.
+use Rattle.std.specs.Prelude.{ℕ, ◌≡◌, ◌≤◌, All, Bool, true, false, List, length, Option, Result, Ok, Err}
 use Rattle.nms_quote.specs.Roster.{Listing, holds, sizes_of}
 use Rattle.nms_quote.specs.Tape.{Tape}
 use Rattle.nms_quote.specs.declared.change.Change.{Change}
 use Rattle.nms_quote.specs.declared.TheConstants.{MOST_CHANGES}
-use Rattle.nms_board.specs.View.{view_of}
 use Rattle.nms_fees.specs.Settings.{Settings}
 use Rattle.nms_lines.specs.Faults.{◌>>=◌}
 use Rattle.nms_lines.specs.Layout.{Record}
@@ -19,10 +17,7 @@ use Rattle.nms_lines.specs.declared.line_fault.LineFault.{LineFault}
 use Rattle.nms_lines.specs.declared.line_fault.LineFault.TheVariants as line_fault
 use Rattle.nms_files.specs.declared.changes_fault.ChangesFault.{ChangesFault}
 use Rattle.nms_files.specs.declared.changes_fault.ChangesFault.TheVariants as fault
-use Rattle.nms_files.specs.declared.changes_fault.ReportFault.{ReportFault}
-use Rattle.nms_files.specs.declared.changes_fault.ReportFault.TheVariants as report_fault
 use Rattle.nms_files.specs.LineFile.{AreSaid, IsFirstRefused}
-use Rattle.nms_text.specs.Report.{IsReport}
 
 -- the change of a line that is one
 abbrev pub change_in : Line → Result Change LineFault
@@ -78,21 +73,3 @@ pub record AreChangesOf (settings : Settings) (records : List Record) (tape : Ta
 -- why one more line is refused, as far as the line is the cause
 abbrev pub IsLineFault : Settings → Tape → Record → ChangesFault → Type 0
 IsLineFault settings tape line why = is_of_line why ≡ true → IsRefusedBehind settings tape line why
-
--- the report of a symbol after all the changes of a file was written, and nothing else
-pub record ReportsFile (settings : Settings) (bytes : Option (List ℕ)) (sym : ℕ) (old new : Option (List ℕ)) : Type 0 where
-  pub tape : Tape
-  pub file : IsFileTape settings bytes tape
-  pub text : List ℕ
-  pub report : IsReport settings.roster (view_of (sizes_of settings.roster) tape sym) text
-  pub written : Appends old new text
-
--- why a file of changes is not reported, as far as the file itself is the cause
-abbrev pub IsReportFault : Settings → Option (List ℕ) → ReportFault → Type 0
-IsReportFault settings bytes (report_fault.Changes refused) = IsFileFault settings bytes refused
-IsReportFault settings bytes _ = ⊤
-
--- a report that is refused is not begun: where it was not the writer that failed nothing was written
-abbrev pub WritesNothing : Option (List ℕ) → Option (List ℕ) → ReportFault → Type 0
-WritesNothing old new report_fault.WriteFault = ⊤
-WritesNothing old new _ = new ≡ old

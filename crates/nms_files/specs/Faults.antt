@@ -1,21 +1,14 @@
--- The codes by which faults are told, and the exit status of a program that one of them ends: 1 for streams and files,
--- 5 for memory, 6 for lines, plans and lengths. This product's own rule.
+-- The codes by which faults are told, and the exit status of a program that one of them ends: 1 for files, 5 for
+-- memory, 6 for lines and lengths. This product's own rule.
 use Rattle.std.specs.Prelude.{ℕ, List, codes}
 use Rattle.nms_lines.specs.Faults as line_faults
 use Rattle.nms_lines.specs.RecordFaults as record_faults
-use Rattle.nms_text.specs.Faults as text_faults
-use Rattle.nms_files.specs.declared.audit_fault.AuditFault.{AuditFault}
-use Rattle.nms_files.specs.declared.audit_fault.AuditFault.TheVariants as audit_fault
 use Rattle.nms_files.specs.declared.changes_fault.ChangesFault.{ChangesFault}
 use Rattle.nms_files.specs.declared.changes_fault.ChangesFault.TheVariants as changes_fault
-use Rattle.nms_files.specs.declared.changes_fault.ReportFault.{ReportFault}
-use Rattle.nms_files.specs.declared.changes_fault.ReportFault.TheVariants as report_fault
 use Rattle.nms_files.specs.declared.feed_fault.FeedFault.{FeedFault}
 use Rattle.nms_files.specs.declared.feed_fault.FeedFault.TheVariants as feed_fault
 use Rattle.nms_files.specs.declared.orders_fault.OrdersFault.{OrdersFault}
 use Rattle.nms_files.specs.declared.orders_fault.OrdersFault.TheVariants as orders_fault
-use Rattle.nms_files.specs.declared.plan_fault.PlanFault.{PlanFault}
-use Rattle.nms_files.specs.declared.plan_fault.PlanFault.TheVariants as plan_fault
 
 abbrev pub code_of_changes : ChangesFault → List ℕ
 code_of_changes (changes_fault.Record fault) = record_faults.code_of fault
@@ -26,33 +19,6 @@ abbrev pub status_of_changes : ChangesFault → ℕ
 status_of_changes (changes_fault.Record fault) = record_faults.status_of fault
 status_of_changes (changes_fault.Line fault) = record_faults.refused_status
 status_of_changes changes_fault.TapeFull = 6
-
-abbrev pub code_of_report : ReportFault → List ℕ
-code_of_report (report_fault.Changes fault) = code_of_changes fault
-code_of_report (report_fault.Board fault) = codes "B1"
-code_of_report report_fault.WriteFault = codes "E2"
-code_of_report report_fault.NoMemory = codes "E4"
-
-abbrev pub status_of_report : ReportFault → ℕ
-status_of_report (report_fault.Changes fault) = status_of_changes fault
-status_of_report (report_fault.Board fault) = 5
-status_of_report report_fault.WriteFault = 1
-status_of_report report_fault.NoMemory = 5
-
-abbrev pub code_of_plan : PlanFault → List ℕ
-code_of_plan (plan_fault.Changes fault) = code_of_changes fault
-code_of_plan (plan_fault.Board fault) = codes "B1"
-code_of_plan (plan_fault.Text fault) = text_faults.code_of_text fault
-
-abbrev pub status_of_plan : PlanFault → ℕ
-status_of_plan (plan_fault.Changes fault) = status_of_changes fault
-status_of_plan (plan_fault.Board fault) = 5
-status_of_plan (plan_fault.Text fault) = text_faults.status_of_text fault
-
-abbrev pub code_of_audit : AuditFault → List ℕ
-code_of_audit audit_fault.VersionBeyondTape = codes "A1"
-code_of_audit (audit_fault.Doubt doubt) = codes "A2"
-code_of_audit audit_fault.NoMemory = codes "A3"
 
 abbrev pub code_of_orders : OrdersFault → List ℕ
 code_of_orders (orders_fault.Record fault) = record_faults.code_of fault

@@ -1,22 +1,17 @@
 //! Files of changes: `Q`, `S`, `X` and `R` lines, all of them one tape (specs/ChangeFile).
-ghost use Rattle.std.specs.Prelude.{◌≡◌, ◌<◌, ◌≤◌, All, length, true, IfErr, IfOk, OnOk};
+ghost use Rattle.std.specs.Prelude.{◌≡◌, ◌≤◌, All, length, true, IfErr, IfOk};
 ghost use Rattle.csv.specs.Records.{fields_of};
 ghost use Rattle.nms_quote.specs.Roster.{holds, sizes_of};
-ghost use Rattle.nms_quote.specs.declared.side_quote.Side.{Side};
 ghost use Rattle.nms_quote.specs.declared.TheConstants.{MOST_CHANGES};
-ghost use Rattle.nms_board.specs.View.{rows_on, view_of};
-ghost use Rattle.nms_lines.specs.Written.{WritesPart};
-ghost use Rattle.nms_files.specs.ChangeFile.{IsFileFault, IsFileTape, IsReportFault, ReportsFile, WritesNothing, change_reading};
+ghost use Rattle.nms_files.specs.ChangeFile.{IsFileFault, IsFileTape, change_reading};
 
-use crate::changes_fault::{ChangesFault, ReportFault};
+use crate::changes_fault::ChangesFault;
 use crate::line_file::{FileItem, outcome, read_items};
-use nms_board::{BoardFault, Boards, View};
 use nms_fees::Setup;
 use nms_lines::{ByteRecord, Line, LineFault, Reading, RecordFault, read_line};
-use nms_quote::{Change, Roster, SideQuote, Sym};
-use nms_text::{report, tell};
+use nms_quote::{Change, Roster, SideQuote};
 use std::alloc::Global;
-use std::io::{Read, Write};
+use std::io::Read;
 
 /// Reads the changes of a file, else gives the fault of its first line that is refused. `TapeFull` stands at
 /// the first accepted line beyond the tape's limit.
@@ -86,56 +81,4 @@ fn read_change(row: &ByteRecord, roster: &Roster) -> Result<Change, LineFault>
         ) => Err(LineFault::UnknownKind),
         Err(fault) => Err(fault),
     }
-}
-
-/// Writes the report of a symbol of the roster after all the changes of a file: one write, flushed.
-///
-/// The file is read first. Only `WriteFault` leaves something written: a first part of that report.
-pub fn report_changes<R: Read + Drop, W: Write>(
-    alloc: Global,
-    setup: &Setup,
-    source: R,
-    sym: Sym,
-    writer: &mut W,
-) -> Result<(), ReportFault>
-    requires { sym < length setup.now.roster.syms }
-    ensures written { OnOk result (ReportsFile setup.now (R.remaining source) sym (W.contents writer.old) (W.contents writer.new)) }
-    ensures refused { IfErr result (IsReportFault setup.now (R.remaining source)) }
-    ensures cut { IfErr result (λ fault. fault ≡ ReportFault.WriteFault → WritesPart (ReportsFile setup.now (R.remaining source) sym (W.contents writer.old)) (W.contents writer.old) (W.contents writer.new)) }
-    ensures unwritten { IfErr result (WritesNothing (W.contents writer.old) (W.contents writer.new)) }
-{
-    let changes = match read_changes(alloc, setup, source) {
-        Ok(changes) => changes,
-        Err(fault) => return Err(ReportFault::Changes(fault)),
-    };
-    let view = match view_after(alloc, setup.roster(), &changes, sym) {
-        Ok(view) => view,
-        Err(fault) => return Err(ReportFault::Board(fault)),
-    };
-    let mut text = Vec::new(alloc);
-    if report(&view, setup.roster(), &mut text).is_err() {
-        return Err(ReportFault::NoMemory);
-    }
-    match tell(writer, &text) {
-        Ok(()) => Ok(()),
-        Err(_) => Err(ReportFault::WriteFault),
-    }
-}
-
-/// What is seen of a symbol after these changes.
-pub(crate) fn view_after(
-    alloc: Global,
-    roster: &Roster,
-    changes: &[Change],
-    sym: Sym,
-) -> Result<View, BoardFault>
-    requires sym { sym < length roster.now.syms }
-    requires held { All (λ change. holds (sizes_of roster.now) change ≡ true) changes.now }
-    requires few { length changes.now ≤ MOST_CHANGES }
-    ensures shown { IfOk result (λ view. view ≡ view_of (sizes_of roster.now) changes.now sym) }
-    ensures parts { IfOk result (λ view. (side : Side) → All (λ row. row.part < length roster.now.parts) (rows_on side view)) }
-{
-    let mut board = Boards::new(alloc, roster)?;
-    board.apply_all(changes);
-    Ok(board.view(sym))
 }

@@ -12,7 +12,7 @@ use nms_plan_places::doubt_place;
 use nms_quote::{Certificate, Change, Plan, Roster};
 use std::alloc::Global;
 
-/// Judges a plan on the version that it names, as `audit` of `nms_files` does, and says where its doubt stands.
+/// Judges a plan on the version that it names, as `audit` of `nms_file_answers` does, and says where its doubt stands.
 ///
 /// The board is moved forward to that version; where it is past it, a new one is made.
 pub(crate) fn judge(

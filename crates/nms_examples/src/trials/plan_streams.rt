@@ -2,7 +2,8 @@
 use super::same;
 use super::streams::Pipe;
 use nms_fees::Setup;
-use nms_files::{order_of, plan_changes};
+use nms_file_answers::plan_changes;
+use nms_files::order_of;
 use nms_lines::{PlanTextFault, read_plan, write_plan};
 use std::alloc::Global;
 use std::cell::Cell;

@@ -2,7 +2,7 @@
 use super::same;
 use super::streams::{Pipe, Source};
 use nms_fees::Setup;
-use nms_files::report_changes;
+use nms_file_answers::report_changes;
 use std::alloc::Global;
 use std::cell::Cell;
 use std::test::Fail;

@@ -1,0 +1,3 @@
+mod PartFacts
+mod LegFacts
+mod FitFacts

@@ -1,0 +1,79 @@
+//! The plan of an order on all the changes of a file (specs/PlanFile).
+ghost use Rattle.std.specs.Prelude.{◌≡◌, ◌≢◌, ◌<◌, ℕ, List, All, Option, length, IfErr, OnOk};
+ghost use Rattle.nms_quote.specs.declared.side_quote.Side.{Side};
+ghost use Rattle.nms_board.specs.View.{rows_on};
+ghost use Rattle.nms_lines.specs.Named.{AreBelow};
+ghost use Rattle.nms_lines.specs.Written.{WritesPart};
+ghost use Rattle.nms_file_answers.specs.PlanFile.{IsPlanFault, PlansFile, PlansOn};
+
+use crate::changes_view::view_after;
+use crate::plan_fault::PlanFault;
+use nms_board::View;
+use nms_fees::Setup;
+use nms_files::read_changes;
+use nms_lines::{PlanTextFault, write_plan};
+use nms_quote::Order;
+use nms_sweep::plan;
+use nms_text::TextFault;
+use std::alloc::Global;
+use std::io::{Read, Write};
+
+/// Plans an order on all the changes of a file, and writes the plan with its certificate as text, flushed
+/// (17 CFR 242.600, "intermarket sweep order").
+///
+/// The plan is accepted with its certificate on what the changes show, with the fees of the setup: no lawful plan
+/// fills more, or as much for less. The file is read first. Only a writer that fails leaves something written: a first part of
+/// that text. The order's symbol is of the setup's roster, and so are the participants that it names.
+pub fn plan_changes<R: Read + Drop, W: Write>(
+    alloc: Global,
+    setup: &Setup,
+    source: R,
+    order: &Order,
+    writer: &mut W,
+) -> Result<(), PlanFault>
+    requires sym { order.now.sym < length setup.now.roster.syms }
+    requires self_help { AreBelow (length setup.now.roster.parts) order.now.self_help }
+    ensures written { OnOk result (PlansFile setup.now (R.remaining source) order.now (W.contents writer.old) (W.contents writer.new)) }
+    ensures refused { IfErr result (IsPlanFault setup.now (R.remaining source)) }
+    ensures cut { IfErr result (λ fault. fault ≡ PlanFault.Text TextFault.WriteFault → WritesPart (PlansFile setup.now (R.remaining source) order.now (W.contents writer.old)) (W.contents writer.old) (W.contents writer.new)) }
+    ensures unwritten { IfErr result (λ fault. fault ≢ PlanFault.Text TextFault.WriteFault → W.contents writer.new ≡ W.contents writer.old) }
+{
+    let changes = match read_changes(alloc, setup, source) {
+        Ok(changes) => changes,
+        Err(fault) => return Err(PlanFault::Changes(fault)),
+    };
+    match view_after(alloc, setup.roster(), &changes, order.sym) {
+        Ok(view) => plan_view(alloc, setup, &view, order, writer),
+        Err(fault) => Err(PlanFault::Board(fault)),
+    }
+}
+
+/// Plans an order on what is seen, and writes the plan with its certificate.
+fn plan_view<W: Write>(
+    alloc: Global,
+    setup: &Setup,
+    view: &View,
+    order: &Order,
+    writer: &mut W,
+) -> Result<(), PlanFault>
+    requires same { order.now.sym ≡ view.now.sym }
+    requires sym { order.now.sym < length setup.now.roster.syms }
+    requires self_help { AreBelow (length setup.now.roster.parts) order.now.self_help }
+    requires parts { (side : Side) → All (λ row. row.part < length setup.now.roster.parts) (rows_on side view.now) }
+    ensures written { OnOk result (PlansOn setup.now view.now order.now (W.contents writer.old) (W.contents writer.new)) }
+    ensures refused { (bytes : Option (List ℕ)) → IfErr result (IsPlanFault setup.now bytes) }
+    ensures cut { IfErr result (λ fault. fault ≡ PlanFault.Text TextFault.WriteFault → WritesPart (PlansOn setup.now view.now order.now (W.contents writer.old)) (W.contents writer.old) (W.contents writer.new)) }
+    ensures unwritten { IfErr result (λ fault. fault ≢ PlanFault.Text TextFault.WriteFault → W.contents writer.new ≡ W.contents writer.old) }
+{
+    let (plan, certificate) = plan(view, order, setup.fees());
+    match write_plan(alloc, &plan, &certificate, setup.roster(), writer) {
+        Ok(()) => {}
+        Err(PlanTextFault::NoMemory) => return Err(PlanFault::Text(TextFault::NoMemory)),
+        Err(PlanTextFault::WriteFault) => return Err(PlanFault::Text(TextFault::WriteFault)),
+        Err(PlanTextFault::BadPlanText) => unreachable!(),
+    }
+    match writer.flush() {
+        Ok(()) => Ok(()),
+        Err(_) => Err(PlanFault::Text(TextFault::WriteFault)),
+    }
+}
