@@ -1,3 +1,4 @@
 pub mod Check
 pub mod Served
 pub mod Statuses
+pub mod Unread
