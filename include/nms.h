@@ -1,0 +1,472 @@
+/* nms.h: the proved quote board and sweep planner after Regulation NMS, in the caller's own process.
+ *
+ * HOW TO CALL
+ *   Every call returns a code of `enum nms_code`: NMS_OK (0), or why it was refused. A refused call leaves the board
+ *   as it was and writes nothing to the caller's structs; the calls that differ say so.
+ *   Set a board to NMS_BOARD_CLOSED before nms_open. Close each board that was opened, once.
+ *   Find the number of a name once (nms_find_part, nms_find_sym), and use the number after that. A participant's number is
+ *   its place in the setup's document, 0 to 31; a symbol's likewise, 0 to 999.
+ *
+ * UNITS
+ *   Prices are in 1/10,000 dollar, 1 to 99,999,999,999 (9,999,999.9999 dollars). A price for nms_traded_through is in
+ *   1/1,000,000 dollar. Shares are 1 to 999,999,999. Money is in nanodollars (10^-9 dollar).
+ *
+ * MEMORY
+ *   nms_open takes memory, and nms_close gives it back. nms_setup_place takes memory and gives it back before it returns.
+ *   No other call takes any. The caller's structs may lie anywhere: on the stack, in an array, in shared memory.
+ *
+ * THREADS
+ *   A board is for one call at a time. Give each thread a board of its own, or call under a lock of your own. A board may
+ *   go from one thread to another if a lock, a start or a join orders the two. No call waits, starts a thread, or may be
+ *   made from a signal handler. The library holds no state beside the boards. It does not publish versions to several
+ *   threads: that needs the runtime of a whole program, and a library that C calls has none.
+ *
+ * NULL POINTERS
+ *   The calls below are inline functions. Each tests its pointers, answers NMS_NULL (18) if one is null, and then calls the
+ *   function of the library, which has the same name with `nms_raw_` in place of `nms_` and the same arguments. C and C++
+ *   call the inline functions. A language that can't read this header calls nms_raw_*, and passes no null pointer.
+ *
+ * WHAT NO CALL CAN SEE
+ *   A pointer that is not null has to point at a whole struct of its type, or at as many bytes or elements as the caller
+ *   says, and two arguments of one call may not overlap. A struct nms_board is never copied: after one copy is closed
+ *   or used, the other points at memory that is no longer its own, and no test can find that out. Treat it as a
+ *   pthread_mutex_t. The same holds for a board whose bytes the caller alters.
+ */
+#ifndef NMS_H
+#define NMS_H
+
+#include <stddef.h>
+#include <stdint.h>
+
+#ifdef __cplusplus
+extern "C" {
+#endif
+
+/* The version of this header's layout. Compare it with nms_abi() once. */
+#define NMS_ABI 1
+
+#define NMS_MOST_PARTS 32    /* participants of a setup, and rows of a side */
+#define NMS_MOST_SYMS 1000   /* symbols of a setup */
+#define NMS_MOST_OPENING 65  /* opening changes of a symbol: a round lot, and 64 sides */
+
+/* Room that always suffices for a text with its closing zero. */
+#define NMS_NAME_ROOM 9        /* the name of a participant or a symbol */
+#define NMS_CODE_TEXT_ROOM 128 /* the text of a code, or the library's version */
+#define NMS_PLAN_TEXT_ROOM 8192 /* the text of a plan with its certificate */
+
+/* The answer of a call. Of several faults of the numbers of one call, the least code is answered. */
+enum nms_code {
+    NMS_OK = 0,
+    /* why a text is no setup, as nms_tool names it: C1 to C9 */
+    NMS_C1_NOT_TOML = 1,      /* not a TOML document, or not UTF-8 */
+    NMS_C2_MISSING = 2,       /* a key is missing */
+    NMS_C3_UNKNOWN_KEY = 3,   /* an unknown key */
+    NMS_C4_BAD_NAME = 4,      /* a bad name, or the same name twice */
+    NMS_C5_WRONG_TYPE = 5,    /* a value of another kind */
+    NMS_C6_OUT_OF_RANGE = 6,  /* a value out of range, or an empty array */
+    NMS_C7_OVER_CAP = 7,      /* a fee or a rate over its cap */
+    NMS_C8_TOO_MANY = 8,      /* more than 32 participants or 1,000 symbols */
+    NMS_NO_MEMORY = 9,        /* C9: out of memory */
+    /* why numbers are refused */
+    NMS_RANGE = 10,           /* a number that is out of its range, or a side with a price and no shares, or the reverse */
+    NMS_NO_PART = 11,         /* no such participant on the roster */
+    NMS_NO_SYM = 12,          /* no such symbol on the roster */
+    NMS_FULL = 13,            /* the tape has as many changes as the setup's tape_limit allows */
+    NMS_NONE = 14,            /* no row at that place, no such code */
+    NMS_CLOSED = 15,          /* the board is not open: never opened, closed, or overwritten */
+    NMS_DOUBTED = 16,         /* the plan is not confirmed: nms_doubt says why */
+    NMS_OPEN_ALREADY = 17,    /* the board is open already */
+    NMS_NULL = 18,            /* a null pointer */
+    NMS_ROOM = 19,            /* the caller's buffer is too small */
+    /* why a record or the text of a plan is refused, as nms_tool names it: L1 to L8, L11, L14 */
+    NMS_L1_UNKNOWN_KIND = 101,
+    NMS_L2_FIELD_COUNT = 102,
+    NMS_L3_UNKNOWN_PARTICIPANT = 103,
+    NMS_L4_UNKNOWN_SYMBOL = 104,
+    NMS_L5_BAD_STATE = 105,
+    NMS_L6_BAD_PRICE = 106,
+    NMS_L7_BAD_SHARES = 107,
+    NMS_L8_HALF_SIDE = 108,
+    NMS_L9_WRONG_FEED = 109,  /* never answered by this library: it reads records of any participant */
+    NMS_L10_BAD_DESK = 110,   /* never answered by this library: it has no desks */
+    NMS_L11_BAD_PLAN_TEXT = 111,
+    NMS_L14_BAD_LOT = 114
+};
+
+enum nms_side { NMS_BID = 0, NMS_OFFER = 1 };
+enum nms_order_side { NMS_BUY = 0, NMS_SELL = 1 };
+enum nms_state { NMS_AUTOMATED = 0, NMS_MANUAL = 1, NMS_HALTED = 2 };
+enum nms_kind { NMS_QUOTE = 0, NMS_STATE = 1, NMS_WITHDRAW = 2, NMS_LOT = 3 };
+enum nms_market { NMS_EMPTY = 0, NMS_ONE_SIDED = 1, NMS_NORMAL = 2, NMS_LOCKED = 3, NMS_CROSSED = 4 };
+enum nms_cut_kind { NMS_TOO_MUCH = 0, NMS_TOO_LITTLE = 1, NMS_MARGINAL = 2 };
+enum nms_table { NMS_TABLE_TOP = 0, NMS_TABLE_PARTICIPANT = 1, NMS_TABLE_SYMBOL = 2 };
+enum nms_spot { NMS_SPOT_TEXT = 0, NMS_SPOT_ELEMENT = 1, NMS_SPOT_KEY = 2, NMS_SPOT_OTHER_KEY = 3, NMS_SPOT_NAME = 4 };
+
+/* A board. Set it to NMS_BOARD_CLOSED (all zero) before nms_open. Its fields are the library's, and it is never copied. */
+typedef struct nms_board {
+    uint64_t mark;
+    void *at;
+} nms_board;
+#define NMS_BOARD_CLOSED { 0, 0 }
+
+/* A change of the board. The fields that its kind does not use are not looked at.
+ *   NMS_QUOTE     part, sym, state, and both sides: a side is a price and 1 or more shares, or 0 and 0 for no quotation
+ *   NMS_STATE     part, sym, state
+ *   NMS_WITHDRAW  part: no quotation in any symbol
+ *   NMS_LOT       sym, lot: the round lot from now on, 1 to 1,000 shares */
+typedef struct nms_change {
+    uint64_t bid_price, offer_price; /* 1/10,000 dollar */
+    uint32_t bid_shares, offer_shares;
+    uint16_t sym, lot;
+    uint8_t part, kind, state, spare;
+} nms_change;
+
+/* A quotation of at least one round lot. size 0: no row. */
+typedef struct nms_row {
+    uint64_t price;       /* 1/10,000 dollar */
+    uint64_t receipt;     /* the number of the change that last altered the side's price or shares, from 1 on */
+    uint32_t size;        /* shares, whole round lots */
+    uint8_t part;
+    uint8_t is_protected; /* 1: automated, a protected quotation; 0: manual */
+    uint16_t spare;       /* 0 */
+} nms_row;
+
+/* The best bid and the best offer of a symbol. */
+typedef struct nms_best {
+    uint64_t version;     /* changes applied so far */
+    nms_row bid, offer;   /* size 0: the side is empty */
+    uint32_t market;      /* enum nms_market */
+    uint32_t spare;       /* 0 */
+} nms_best;
+
+/* The rows of one side in rank order, best first: by price, then by size, then by receipt. */
+typedef struct nms_rows {
+    uint64_t total; /* shares of all rows */
+    uint64_t price[NMS_MOST_PARTS], receipt[NMS_MOST_PARTS];
+    uint32_t size[NMS_MOST_PARTS];
+    uint8_t part[NMS_MOST_PARTS], is_protected[NMS_MOST_PARTS];
+    uint32_t count; /* rows; the places from it on are 0 */
+    uint32_t spare; /* 0 */
+} nms_rows;
+
+/* All rows of a symbol. */
+typedef struct nms_view {
+    uint64_t version;
+    uint32_t market, spare;
+    nms_rows bid, offer;
+} nms_view;
+
+/* The protected quotations that a price trades through: bids above it and offers below it, each by participant. */
+typedef struct nms_through {
+    uint64_t version;
+    uint32_t bids, offers;       /* how many; the places from there on are rows of size 0 */
+    nms_row bid[NMS_MOST_PARTS], offer[NMS_MOST_PARTS];
+} nms_through;
+
+/* What is to be traded: 1 or more shares at the limit or better. */
+typedef struct nms_order {
+    uint64_t limit;     /* 1/10,000 dollar */
+    uint32_t shares;
+    uint32_t self_help; /* bit n: participant n is passed over (17 CFR 242.611(b)(1)). No bit for a number out of the roster */
+    uint16_t sym;
+    uint8_t side;       /* enum nms_order_side */
+    uint8_t manual;     /* 1: may also trade with manual quotations; else 0 */
+    uint32_t spare;
+} nms_order;
+
+/* An order that goes to one participant. */
+typedef struct nms_leg {
+    uint64_t price;
+    uint32_t shares;
+    uint8_t part, spare_a;
+    uint16_t spare_b;
+} nms_leg;
+
+/* What a plan's certificate says of one price. */
+typedef struct nms_cut {
+    uint64_t price;
+    int64_t marginal; /* nanodollars for one more share; 0 where kind is not NMS_MARGINAL */
+    uint32_t kind;    /* enum nms_cut_kind */
+    uint32_t spare;   /* 0 */
+} nms_cut;
+
+/* A plan with its certificate: the most shares that a lawful plan fills, at the least cost with fees. */
+typedef struct nms_plan {
+    uint64_t version;     /* changes applied when it was made */
+    uint64_t cost_low;    /* cost_high * 2^64 + cost_low nanodollars, fees included; negative for a sale */
+    int64_t cost_high;
+    uint32_t filled;      /* shares of all legs */
+    uint32_t legs, cuts;  /* how many; the places from there on are 0 */
+    uint32_t spare;       /* 0 */
+    nms_leg leg[NMS_MOST_PARTS];
+    nms_cut cut[NMS_MOST_PARTS];
+} nms_plan;
+
+/* Why a plan is not confirmed, as nms_tool names it. All 0 where it is confirmed. */
+typedef struct nms_doubt {
+    uint32_t doubt;  /* 1 to 7: K1 to K7 */
+    uint32_t breach; /* 1 to 12: P1 to P12, where doubt is 1; else 0 */
+    uint32_t part;   /* where breach is 10, the participant that is traded through; else 0 */
+    uint32_t cut;    /* where doubt is 7, the first cut whose bound fails, from 0 on; else 0 */
+} nms_doubt;
+
+/* What a board holds. */
+typedef struct nms_counts {
+    uint64_t applied; /* changes applied */
+    uint64_t room;    /* changes that may still be applied, by the setup's tape_limit */
+    uint32_t parts, syms;
+} nms_counts;
+
+/* Changes that bring an empty board of the same setup to a symbol's present rows. */
+typedef struct nms_opening {
+    uint32_t count, spare;
+    nms_change change[NMS_MOST_OPENING];
+} nms_opening;
+
+/* The place of a setup's first fault of the least code. */
+typedef struct nms_place {
+    uint64_t line, column; /* of C1: where the parser stopped, from 1 on, the column in bytes. Else 0 */
+    uint64_t element;      /* table participant or symbol: how many elements stand before it in its array. Else 0 */
+    uint64_t first;        /* spot NMS_SPOT_NAME: the element that has the name already. Else 0 */
+    uint32_t code;         /* NMS_OK, or 1 to 8 */
+    uint32_t table, spot;  /* enum nms_table, enum nms_spot */
+    uint32_t key_bytes;    /* length of key */
+    char key[16];          /* spot NMS_SPOT_KEY and NMS_SPOT_NAME: the key, with a closing zero. Else empty */
+} nms_place;
+
+/* ---- sizes, compared with the library by the gate ---- */
+#ifdef __cplusplus
+#define NMS_HOLDS(fact, text) static_assert(fact, text)
+#else
+#define NMS_HOLDS(fact, text) _Static_assert(fact, text)
+#endif
+NMS_HOLDS(sizeof(void *) == 8, "64-bit pointers");
+NMS_HOLDS(sizeof(nms_board) == 16 && offsetof(nms_board, at) == 8, "nms_board");
+NMS_HOLDS(sizeof(nms_change) == 32, "nms_change");
+NMS_HOLDS(offsetof(nms_change, offer_price) == 8 && offsetof(nms_change, bid_shares) == 16, "nms_change");
+NMS_HOLDS(offsetof(nms_change, offer_shares) == 20 && offsetof(nms_change, sym) == 24, "nms_change");
+NMS_HOLDS(offsetof(nms_change, lot) == 26 && offsetof(nms_change, part) == 28, "nms_change");
+NMS_HOLDS(offsetof(nms_change, kind) == 29 && offsetof(nms_change, state) == 30, "nms_change");
+NMS_HOLDS(sizeof(nms_row) == 24 && offsetof(nms_row, receipt) == 8 && offsetof(nms_row, size) == 16, "nms_row");
+NMS_HOLDS(offsetof(nms_row, part) == 20 && offsetof(nms_row, is_protected) == 21, "nms_row");
+NMS_HOLDS(sizeof(nms_best) == 64 && offsetof(nms_best, bid) == 8 && offsetof(nms_best, offer) == 32, "nms_best");
+NMS_HOLDS(offsetof(nms_best, market) == 56, "nms_best");
+NMS_HOLDS(sizeof(nms_rows) == 720 && offsetof(nms_rows, price) == 8 && offsetof(nms_rows, receipt) == 264, "nms_rows");
+NMS_HOLDS(offsetof(nms_rows, size) == 520 && offsetof(nms_rows, part) == 648, "nms_rows");
+NMS_HOLDS(offsetof(nms_rows, is_protected) == 680 && offsetof(nms_rows, count) == 712, "nms_rows");
+NMS_HOLDS(sizeof(nms_view) == 1456 && offsetof(nms_view, bid) == 16 && offsetof(nms_view, offer) == 736, "nms_view");
+NMS_HOLDS(sizeof(nms_through) == 1552 && offsetof(nms_through, bid) == 16, "nms_through");
+NMS_HOLDS(offsetof(nms_through, offers) == 12 && offsetof(nms_through, offer) == 784, "nms_through");
+NMS_HOLDS(sizeof(nms_order) == 24 && offsetof(nms_order, shares) == 8 && offsetof(nms_order, self_help) == 12, "nms_order");
+NMS_HOLDS(offsetof(nms_order, sym) == 16 && offsetof(nms_order, side) == 18, "nms_order");
+NMS_HOLDS(offsetof(nms_order, manual) == 19, "nms_order");
+NMS_HOLDS(sizeof(nms_leg) == 16 && offsetof(nms_leg, shares) == 8 && offsetof(nms_leg, part) == 12, "nms_leg");
+NMS_HOLDS(sizeof(nms_cut) == 24 && offsetof(nms_cut, marginal) == 8 && offsetof(nms_cut, kind) == 16, "nms_cut");
+NMS_HOLDS(sizeof(nms_plan) == 1320 && offsetof(nms_plan, cost_low) == 8 && offsetof(nms_plan, cost_high) == 16, "nms_plan");
+NMS_HOLDS(offsetof(nms_plan, filled) == 24 && offsetof(nms_plan, legs) == 28, "nms_plan");
+NMS_HOLDS(offsetof(nms_plan, cuts) == 32 && offsetof(nms_plan, leg) == 40 && offsetof(nms_plan, cut) == 552, "nms_plan");
+NMS_HOLDS(sizeof(nms_doubt) == 16 && sizeof(nms_counts) == 24 && offsetof(nms_counts, parts) == 16, "nms_counts");
+NMS_HOLDS(sizeof(nms_opening) == 2088 && offsetof(nms_opening, change) == 8, "nms_opening");
+NMS_HOLDS(sizeof(nms_place) == 64 && offsetof(nms_place, code) == 32 && offsetof(nms_place, key) == 48, "nms_place");
+
+/* ---- the functions of the library ---- */
+uint32_t nms_abi(void); /* NMS_ABI of the header that the library was made with */
+uint32_t nms_raw_version(uint8_t *out, size_t room, size_t *bytes);
+uint32_t nms_raw_code_text(uint32_t code, uint8_t *out, size_t room, size_t *bytes);
+uint32_t nms_raw_open(const uint8_t *setup, size_t setup_bytes, nms_board *board);
+uint32_t nms_raw_close(nms_board *board);
+uint32_t nms_raw_setup_place(const uint8_t *setup, size_t setup_bytes, nms_place *place);
+uint32_t nms_raw_counts_of(nms_board *board, nms_counts *counts);
+uint32_t nms_raw_find_part(nms_board *board, const uint8_t *name, size_t name_bytes, uint8_t *part);
+uint32_t nms_raw_find_sym(nms_board *board, const uint8_t *name, size_t name_bytes, uint16_t *sym);
+uint32_t nms_raw_part_name(nms_board *board, uint8_t part, uint8_t *out, size_t room, size_t *bytes);
+uint32_t nms_raw_sym_name(nms_board *board, uint16_t sym, uint8_t *out, size_t room, size_t *bytes);
+uint32_t nms_raw_apply(nms_board *board, const nms_change *change);
+uint32_t nms_raw_apply_all(nms_board *board, const nms_change *changes, size_t count, size_t *applied);
+uint32_t nms_raw_apply_text(nms_board *board, const uint8_t *record, size_t record_bytes);
+uint32_t nms_raw_best_of(nms_board *board, uint16_t sym, nms_best *best);
+uint32_t nms_raw_ranked(nms_board *board, uint16_t sym, uint8_t side, uint8_t place, nms_row *row);
+uint32_t nms_raw_rows_of(nms_board *board, uint16_t sym, uint8_t side, nms_rows *rows);
+uint32_t nms_raw_view_of(nms_board *board, uint16_t sym, nms_view *view);
+uint32_t nms_raw_traded_through(nms_board *board, uint16_t sym, uint64_t millionths, nms_through *through);
+uint32_t nms_raw_plan_order(nms_board *board, const nms_order *order, nms_plan *plan);
+uint32_t nms_raw_confirm(nms_board *board, const nms_order *order, const nms_plan *plan, nms_doubt *doubt);
+uint32_t nms_raw_unit_cost(nms_board *board, uint8_t part, uint8_t side, uint64_t price, int64_t *nanodollars);
+uint32_t nms_raw_plan_text(nms_board *board, const nms_order *order, const nms_plan *plan, uint8_t *out, size_t room, size_t *bytes);
+uint32_t nms_raw_read_plan(nms_board *board, const uint8_t *text, size_t text_bytes, nms_order *order, nms_plan *plan);
+uint32_t nms_raw_opening_of(nms_board *board, uint16_t sym, nms_opening *opening);
+
+/* ---- the calls ---- */
+
+/* Writes the version of the library, as "0.1.0", with a closing zero. *bytes is its length without the zero.
+ * Codes: NMS_ROOM. */
+static inline uint32_t nms_version(char *out, size_t room, size_t *bytes)
+{
+    return out && bytes ? nms_raw_version((uint8_t *)out, room, bytes) : (uint32_t)NMS_NULL;
+}
+
+/* Writes what a code says, in English, with a closing zero. *bytes is its length without the zero.
+ * Codes: NMS_NONE if no call answers that code, NMS_ROOM. */
+static inline uint32_t nms_code_text(uint32_t code, char *out, size_t room, size_t *bytes)
+{
+    return out && bytes ? nms_raw_code_text(code, (uint8_t *)out, room, bytes) : (uint32_t)NMS_NULL;
+}
+
+/* Opens a board from the text of a setup, a TOML document in UTF-8. The board is empty: no change was applied.
+ * Codes: NMS_OPEN_ALREADY; 1 to 8 if the text is no setup; NMS_NO_MEMORY. The board stays closed then. Takes memory. */
+static inline uint32_t nms_open(const char *setup, size_t setup_bytes, nms_board *board)
+{
+    return setup && board ? nms_raw_open((const uint8_t *)setup, setup_bytes, board) : (uint32_t)NMS_NULL;
+}
+
+/* Closes a board and gives its memory back. It may be opened again. Codes: NMS_CLOSED. */
+static inline uint32_t nms_close(nms_board *board)
+{
+    return board ? nms_raw_close(board) : (uint32_t)NMS_NULL;
+}
+
+/* Says where the text of a setup has its first fault of the least code: place->code is NMS_OK if it has none. Needs no
+ * board. Codes: NMS_NO_MEMORY. Takes memory and gives it back. */
+static inline uint32_t nms_setup_place(const char *setup, size_t setup_bytes, nms_place *place)
+{
+    return setup && place ? nms_raw_setup_place((const uint8_t *)setup, setup_bytes, place) : (uint32_t)NMS_NULL;
+}
+
+/* Writes how many changes were applied, how many may still be, and how many participants and symbols there are.
+ * Codes: NMS_CLOSED. */
+static inline uint32_t nms_counts_of(nms_board *board, nms_counts *counts)
+{
+    return board && counts ? nms_raw_counts_of(board, counts) : (uint32_t)NMS_NULL;
+}
+
+/* Writes the number of the participant of that name (no closing zero is needed). Codes: NMS_NO_PART, NMS_CLOSED. */
+static inline uint32_t nms_find_part(nms_board *board, const char *name, size_t name_bytes, uint8_t *part)
+{
+    return board && name && part ? nms_raw_find_part(board, (const uint8_t *)name, name_bytes, part) : (uint32_t)NMS_NULL;
+}
+
+/* Writes the number of the symbol of that name. Codes: NMS_NO_SYM, NMS_CLOSED. */
+static inline uint32_t nms_find_sym(nms_board *board, const char *name, size_t name_bytes, uint16_t *sym)
+{
+    return board && name && sym ? nms_raw_find_sym(board, (const uint8_t *)name, name_bytes, sym) : (uint32_t)NMS_NULL;
+}
+
+/* Writes the name of a participant with a closing zero. *bytes is its length without the zero, 1 to 4.
+ * Codes: NMS_NO_PART, NMS_CLOSED, NMS_ROOM. */
+static inline uint32_t nms_part_name(nms_board *board, uint8_t part, char *out, size_t room, size_t *bytes)
+{
+    return board && out && bytes ? nms_raw_part_name(board, part, (uint8_t *)out, room, bytes) : (uint32_t)NMS_NULL;
+}
+
+/* Writes the name of a symbol with a closing zero. *bytes is its length without the zero, 1 to 8.
+ * Codes: NMS_NO_SYM, NMS_CLOSED, NMS_ROOM. */
+static inline uint32_t nms_sym_name(nms_board *board, uint16_t sym, char *out, size_t room, size_t *bytes)
+{
+    return board && out && bytes ? nms_raw_sym_name(board, sym, (uint8_t *)out, room, bytes) : (uint32_t)NMS_NULL;
+}
+
+/* Applies one change. Codes: NMS_RANGE, NMS_NO_PART, NMS_NO_SYM, NMS_FULL, NMS_CLOSED; the board is as it was then. */
+static inline uint32_t nms_apply(nms_board *board, const nms_change *change)
+{
+    return board && change ? nms_raw_apply(board, change) : (uint32_t)NMS_NULL;
+}
+
+/* Applies changes in order, up to the first that is refused. *applied is how many were applied; that many of the first
+ * changes are on the board, and the answer is the code of the next one. Codes: as nms_apply. *applied is written unless
+ * the answer is NMS_CLOSED or NMS_NULL. */
+static inline uint32_t nms_apply_all(nms_board *board, const nms_change *changes, size_t count, size_t *applied)
+{
+    return board && changes && applied ? nms_raw_apply_all(board, changes, count, applied) : (uint32_t)NMS_NULL;
+}
+
+/* Applies the change that one record says, as "Q,NYSE,ABC,A,10.01,300,10.03,200": a line of a file of changes, with or
+ * without its end of line. Records of kinds Q, S, X and R are read, of any participant.
+ * Codes: NMS_L1 to NMS_L8, NMS_L14, NMS_FULL, NMS_CLOSED; the board is as it was then. */
+static inline uint32_t nms_apply_text(nms_board *board, const char *record, size_t record_bytes)
+{
+    return board && record ? nms_raw_apply_text(board, (const uint8_t *)record, record_bytes) : (uint32_t)NMS_NULL;
+}
+
+/* Writes the best bid, the best offer and the state of the market of a symbol. Codes: NMS_NO_SYM, NMS_CLOSED. */
+static inline uint32_t nms_best_of(nms_board *board, uint16_t sym, nms_best *best)
+{
+    return board && best ? nms_raw_best_of(board, sym, best) : (uint32_t)NMS_NULL;
+}
+
+/* Writes the row at a place of a side's rank order, from 0 on. side: enum nms_side.
+ * Codes: NMS_RANGE (the side), NMS_NO_SYM, NMS_NONE (no row there), NMS_CLOSED. */
+static inline uint32_t nms_ranked(nms_board *board, uint16_t sym, uint8_t side, uint8_t place, nms_row *row)
+{
+    return board && row ? nms_raw_ranked(board, sym, side, place, row) : (uint32_t)NMS_NULL;
+}
+
+/* Writes all rows of a side in rank order, and their total size. Codes: NMS_RANGE (the side), NMS_NO_SYM, NMS_CLOSED. */
+static inline uint32_t nms_rows_of(nms_board *board, uint16_t sym, uint8_t side, nms_rows *rows)
+{
+    return board && rows ? nms_raw_rows_of(board, sym, side, rows) : (uint32_t)NMS_NULL;
+}
+
+/* Writes both sides of a symbol, as nms_rows_of, with the state of the market. Codes: NMS_NO_SYM, NMS_CLOSED. */
+static inline uint32_t nms_view_of(nms_board *board, uint16_t sym, nms_view *view)
+{
+    return board && view ? nms_raw_view_of(board, sym, view) : (uint32_t)NMS_NULL;
+}
+
+/* Writes the protected quotations that an execution at a price trades through (17 CFR 242.600, "trade-through"): the
+ * protected bids above it and the protected offers below it. The price is in 1/1,000,000 dollar, 1 to 9,999,999,999,999,
+ * so that an average price is judged as it is, and not rounded to 1/10,000 dollar first.
+ * Codes: NMS_RANGE (the price), NMS_NO_SYM, NMS_CLOSED. */
+static inline uint32_t nms_traded_through(nms_board *board, uint16_t sym, uint64_t millionths, nms_through *through)
+{
+    return board && through ? nms_raw_traded_through(board, sym, millionths, through) : (uint32_t)NMS_NULL;
+}
+
+/* Plans an order: a lawful plan that fills most, and of those one of least cost with fees, with its certificate. A plan
+ * that fills nothing has 0 legs. Codes: NMS_RANGE, NMS_NO_PART (self_help), NMS_NO_SYM, NMS_CLOSED. */
+static inline uint32_t nms_plan_order(nms_board *board, const nms_order *order, nms_plan *plan)
+{
+    return board && order && plan ? nms_raw_plan_order(board, order, plan) : (uint32_t)NMS_NULL;
+}
+
+/* Confirms on the board that a plan is lawful and the best one for the order, whoever made it. It trusts nothing of the
+ * planner. Codes: NMS_OK if it is; NMS_DOUBTED, and then *doubt says why; NMS_RANGE, NMS_NO_PART and NMS_NO_SYM if the
+ * numbers say no order and no plan; NMS_CLOSED. *doubt is written at NMS_OK and NMS_DOUBTED alone. */
+static inline uint32_t nms_confirm(nms_board *board, const nms_order *order, const nms_plan *plan, nms_doubt *doubt)
+{
+    return board && order && plan && doubt ? nms_raw_confirm(board, order, plan, doubt) : (uint32_t)NMS_NULL;
+}
+
+/* Writes what one share costs with the fee of a participant, in nanodollars: for a buyer the price and the fee, for a
+ * seller what is received, negative. side: enum nms_order_side. Codes: NMS_RANGE, NMS_NO_PART, NMS_CLOSED. */
+static inline uint32_t nms_unit_cost(nms_board *board, uint8_t part, uint8_t side, uint64_t price, int64_t *nanodollars)
+{
+    return board && nanodollars ? nms_raw_unit_cost(board, part, side, price, nanodollars) : (uint32_t)NMS_NULL;
+}
+
+/* Writes a plan and its certificate as text, in the layout that nms_tool writes and reads, with a closing zero.
+ * *bytes is its length without the zero. The plan need not be lawful.
+ * Codes: NMS_RANGE, NMS_NO_PART, NMS_NO_SYM, NMS_CLOSED, NMS_ROOM. */
+static inline uint32_t nms_plan_text(nms_board *board, const nms_order *order, const nms_plan *plan, char *out, size_t room, size_t *bytes)
+{
+    return board && order && plan && out && bytes ? nms_raw_plan_text(board, order, plan, (uint8_t *)out, room, bytes) : (uint32_t)NMS_NULL;
+}
+
+/* Reads a plan, its order and its certificate from that text. What it reads need not be lawful: nms_confirm judges that.
+ * Codes: NMS_L11_BAD_PLAN_TEXT, NMS_CLOSED. */
+static inline uint32_t nms_read_plan(nms_board *board, const char *text, size_t text_bytes, nms_order *order, nms_plan *plan)
+{
+    return board && text && order && plan ? nms_raw_read_plan(board, (const uint8_t *)text, text_bytes, order, plan) : (uint32_t)NMS_NULL;
+}
+
+/* Writes the changes that bring an empty board of the same setup to the symbol's rows: its round lot where it differs from
+ * the setup's, then its sides in order of receipt, hidden ones included. A caller cuts its day with them: open a new
+ * board, apply the opening of each symbol, close the old one. Codes: NMS_NO_SYM, NMS_CLOSED. */
+static inline uint32_t nms_opening_of(nms_board *board, uint16_t sym, nms_opening *opening)
+{
+    return board && opening ? nms_raw_opening_of(board, sym, opening) : (uint32_t)NMS_NULL;
+}
+
+#ifdef __cplusplus
+}
+#endif
+#endif
