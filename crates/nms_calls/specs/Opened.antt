@@ -1,0 +1,110 @@
+-- What stands behind an open handle, and what a call answers there. This product's own rule.
+use Rattle.std.specs.Prelude.{◌≡◌, ℕ, nat_lt, length, List, Option, Some, None, Result, Ok, Err, if◌then◌else◌}
+use Rattle.nms_quote.specs.Roster.{sizes_of}
+use Rattle.nms_quote.specs.Terms.{Terms}
+use Rattle.nms_quote.specs.declared.change.Change.{Change}
+use Rattle.nms_board.specs.Cells.{Board, after}
+use Rattle.nms_board.specs.Shown.{seen_on}
+use Rattle.nms_cert.specs.Doubts.{doubt_of}
+use Rattle.nms_cert.specs.declared.doubt.Doubt.{Doubt}
+use Rattle.nms_fees.specs.Settings.{Settings}
+use Rattle.nms_sweep.specs.Planned.{Planned}
+use Rattle.nms_calls.specs.ChangeSaid.{change_said}
+use Rattle.nms_calls.specs.OrderSaid.{order_said}
+use Rattle.nms_calls.specs.PlanSaid.{plan_said}
+use Rattle.nms_calls.specs.declared.call_fault.CallFault.{CallFault}
+use Rattle.nms_calls.specs.declared.call_fault.CallFault.TheVariants as fault
+use Rattle.nms_calls.specs.declared.change_numbers.NmsChange.{NmsChange}
+use Rattle.nms_calls.specs.DoubtNumbers.{doubt_numbers, no_doubt}
+use Rattle.nms_calls.specs.declared.doubt_numbers.NmsDoubt.{NmsDoubt}
+use Rattle.nms_calls.specs.declared.order_numbers.NmsOrder.{NmsOrder}
+use Rattle.nms_calls.specs.declared.plan_numbers.NmsPlan.{NmsPlan}
+
+-- the settings and the board
+pub record Opened : Type 0 where
+  pub settings : Settings
+  pub board : Board
+
+-- the board is of the settings' roster
+abbrev pub IsOfRoster : Opened → Type 0
+IsOfRoster opened = opened.board.sizes ≡ sizes_of opened.settings.roster
+
+-- ---- a symbol
+
+-- why a look at a symbol is refused
+abbrev pub sym_fault : Opened → ℕ → Option CallFault
+sym_fault opened sym = if nat_lt sym (length opened.board.sizes.lots) then None else Some fault.NoSymbol
+
+-- ---- a change
+
+-- why a change is refused that numbers say: the tape is looked at last
+abbrev pub room_fault : Opened → Result Change CallFault → Option CallFault
+room_fault opened (Err found) = Some found
+room_fault opened (Ok change) = if nat_lt opened.board.applied opened.settings.tape_limit then None else Some fault.Full
+
+abbrev pub apply_fault : Opened → NmsChange → Option CallFault
+apply_fault opened n = room_fault opened (change_said opened.board.sizes n)
+
+-- one more change on the board
+abbrev pub with_change : Opened → Result Change CallFault → Opened
+with_change opened (Err found) = opened
+with_change opened (Ok change) = record { settings = opened.settings; board = after opened.board change }
+
+-- what is left after an answer: one more change where it was applied
+abbrev pub left_by : Opened → NmsChange → Option CallFault → Opened
+left_by opened n None = with_change opened (change_said opened.board.sizes n)
+left_by opened n (Some found) = opened
+
+abbrev pub apply_left : Opened → NmsChange → Opened
+apply_left opened n = left_by opened n (apply_fault opened n)
+
+-- ---- an order
+
+abbrev pub error_of : {X : Type 0} → Result X CallFault → Option CallFault
+error_of (Ok value) = None
+error_of (Err found) = Some found
+
+-- why an order is not planned
+abbrev pub order_fault : Opened → NmsOrder → Option CallFault
+order_fault opened n = error_of (order_said opened.board.sizes n)
+
+-- ---- a plan to confirm
+
+-- what is doubtful of a plan for an order
+abbrev pub doubt_on : Opened → Terms → Planned → Option Doubt
+doubt_on opened order made = doubt_of (seen_on opened.board order.sym) order opened.settings.fees made.plan made.cuts
+
+abbrev pub with_order : Terms → Result Planned CallFault → Result (Terms × Planned) CallFault
+with_order order (Err found) = Err found
+with_order order (Ok made) = Ok (order, made)
+
+-- the plan that numbers say for the order that numbers say: the order is looked at first
+abbrev pub made_for : Opened → NmsPlan → Result Terms CallFault → Result (Terms × Planned) CallFault
+made_for opened plan (Err found) = Err found
+made_for opened plan (Ok order) = with_order order (plan_said opened.board.sizes.parts order plan)
+
+abbrev pub made_said : Opened → NmsOrder → NmsPlan → Result (Terms × Planned) CallFault
+made_said opened order plan = made_for opened plan (order_said opened.board.sizes order)
+
+-- what is found of it
+abbrev pub found_of : Opened → Result (Terms × Planned) CallFault → Result (Option Doubt) CallFault
+found_of opened (Err found) = Err found
+found_of opened (Ok made) = Ok (doubt_on opened made.0 made.1)
+
+abbrev pub finding : Opened → NmsOrder → NmsPlan → Result (Option Doubt) CallFault
+finding opened order plan = found_of opened (made_said opened order plan)
+
+-- why a plan is not confirmed
+abbrev pub doubted : Result (Option Doubt) CallFault → Option CallFault
+doubted (Err found) = Some found
+doubted (Ok None) = None
+doubted (Ok (Some doubt)) = Some fault.Doubted
+
+abbrev pub confirm_fault : Opened → NmsOrder → NmsPlan → Option CallFault
+confirm_fault opened order plan = doubted (finding opened order plan)
+
+-- what is written of a finding, over what stood there
+abbrev pub doubt_written : NmsDoubt → Result (Option Doubt) CallFault → NmsDoubt
+doubt_written out (Err found) = out
+doubt_written out (Ok None) = no_doubt
+doubt_written out (Ok (Some doubt)) = doubt_numbers doubt

@@ -1,0 +1,103 @@
+//! Why a call is refused, and the code that crosses: `specs/Codes`.
+ghost use Rattle.std.specs.Prelude.{◌≡◌, ◌≤◌, Ok};
+ghost use Rattle.std.specs.Result.{result_err};
+ghost use Rattle.nms_calls.specs.Codes.{answer_of, code_of, line_code, setup_code};
+
+use nms_fees::SetupFault;
+use nms_lines::LineFault;
+
+/// Why a call is refused. It leaves the board as it was.
+#[derive(Clone, Copy, Debug, PartialEq, Eq)]
+pub enum CallFault {
+    /// 1 to 9: the text is no setup, or out of memory.
+    Setup(SetupFault),
+    /// 10: a number is out of its range, or a side has a price and no shares, or shares and no price.
+    Range,
+    /// 11: no such participant on the roster.
+    NoParticipant,
+    /// 12: no such symbol on the roster.
+    NoSymbol,
+    /// 13: the tape has as many changes as the setup's limit allows.
+    Full,
+    /// 14: no row stands at that place of the rank order.
+    NoRow,
+    /// 16: the plan is not confirmed.
+    Doubted,
+    /// 19: the caller's buffer is too small.
+    NoRoom,
+    /// 101 to 110, and 114: the record is refused.
+    Line(LineFault),
+    /// 111: the text is no plan.
+    PlanText,
+}
+
+impl CallFault {
+    /// The code that crosses, 1 to 114.
+    pub fn code(self) -> u32
+        ensures code { result ≡ code_of self }
+        ensures low { 1 ≤ result }
+    {
+        match self {
+            CallFault::Setup(fault) => setup_code(fault),
+            CallFault::Range => 10,
+            CallFault::NoParticipant => 11,
+            CallFault::NoSymbol => 12,
+            CallFault::Full => 13,
+            CallFault::NoRow => 14,
+            CallFault::Doubted => 16,
+            CallFault::NoRoom => 19,
+            CallFault::Line(fault) => line_code(fault),
+            CallFault::PlanText => 111,
+        }
+    }
+}
+
+/// The number of a setup's fault, C1 to C9.
+fn setup_code(fault: SetupFault) -> u32
+    ensures code { result ≡ setup_code fault }
+    ensures low { 1 ≤ result }
+{
+    match fault {
+        SetupFault::NotToml => 1,
+        SetupFault::Missing => 2,
+        SetupFault::UnknownKey => 3,
+        SetupFault::BadName => 4,
+        SetupFault::WrongType => 5,
+        SetupFault::OutOfRange => 6,
+        SetupFault::OverCap => 7,
+        SetupFault::TooMany => 8,
+        SetupFault::NoMemory => 9,
+    }
+}
+
+/// 100 more than the number of a record's fault, L1 to L10 or L14.
+fn line_code(fault: LineFault) -> u32
+    ensures code { result ≡ line_code fault }
+    ensures low { 1 ≤ result }
+{
+    match fault {
+        LineFault::UnknownKind => 101,
+        LineFault::FieldCount => 102,
+        LineFault::UnknownParticipant => 103,
+        LineFault::UnknownSymbol => 104,
+        LineFault::BadState => 105,
+        LineFault::BadPrice => 106,
+        LineFault::BadShares => 107,
+        LineFault::HalfSide => 108,
+        LineFault::WrongFeed => 109,
+        LineFault::BadDesk => 110,
+        LineFault::BadLot => 114,
+    }
+}
+
+/// The answer of a call: 0, or the code of why it is refused.
+pub fn answer(called: Result<(), CallFault>) -> u32
+    ensures code { result ≡ answer_of (result_err called) }
+    ensures done { called ≡ Ok tt → result ≡ 0 }
+    ensures refused { result ≡ 0 → called ≡ Ok tt }
+{
+    match called {
+        Ok(()) => 0,
+        Err(fault) => fault.code(),
+    }
+}

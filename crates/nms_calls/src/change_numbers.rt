@@ -1,0 +1,27 @@
+//! The numbers of a change as they cross.
+
+/// A change of the board. The fields that its kind does not use are not looked at.
+#[repr(C)]
+#[derive(Clone, Copy)]
+pub struct NmsChange {
+    /// The best bid in 1/10,000 dollar; 0 with 0 shares for none.
+    pub bid_price: u64,
+    /// The best offer, likewise.
+    pub offer_price: u64,
+    /// The shares of the bid, 1 to 999,999,999; 0 with price 0 for none.
+    pub bid_shares: u32,
+    /// The shares of the offer, likewise.
+    pub offer_shares: u32,
+    /// The symbol's place.
+    pub sym: u16,
+    /// The round lot from now on, 1 to 1,000 shares.
+    pub lot: u16,
+    /// The participant's place.
+    pub part: u8,
+    /// 0 a quotation, 1 a state, 2 a withdrawal, 3 a round lot.
+    pub kind: u8,
+    /// 0 automated, 1 manual, 2 halted.
+    pub state: u8,
+    /// Not looked at.
+    pub spare: u8,
+}

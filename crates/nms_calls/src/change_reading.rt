@@ -1,0 +1,133 @@
+//! A change read from its numbers: `specs/ChangeSaid`.
+ghost use Rattle.std.specs.Prelude.{◌≡◌, ◌<◌, ◌&&◌, length, nat_lt, true, IfOk, Ok};
+ghost use Rattle.nms_quote.specs.Roster.{holds};
+ghost use Rattle.nms_calls.specs.ChangeSaid.{change_said, content_said, lot_said, quotation_said, restating_said, side_said, state_said};
+
+use crate::call_fault::CallFault;
+use crate::change_numbers::NmsChange;
+use nms_board::Boards;
+use nms_quote::{Change, Part, QState, SideQuote, Sym};
+use nms_units::{Lot, Price, Shares};
+
+/// The change that numbers say on a board, or the fault of least code.
+pub(crate) fn change_of(board: &Boards, numbers: &NmsChange) -> Result<Change, CallFault>
+    ensures change { result ≡ change_said board.now.sizes numbers.now }
+    ensures held { IfOk result (λ change. holds board.now.sizes change ≡ true) }
+{
+    match numbers.kind {
+        0 => quotation_of(board, numbers),
+        1 => restating_of(board, numbers),
+        2 => {
+            let part = part_of(board, numbers.part)?;
+            Ok(Change::Withdraw { part })
+        }
+        3 => lot_of(board, numbers),
+        _ => Err(CallFault::Range),
+    }
+}
+
+/// A quotation of both sides.
+fn quotation_of(board: &Boards, numbers: &NmsChange) -> Result<Change, CallFault>
+    ensures change { result ≡ quotation_said board.now.sizes numbers.now (state_said numbers.now.state)
+        (side_said numbers.now.bid_price numbers.now.bid_shares) (side_said numbers.now.offer_price numbers.now.offer_shares) }
+    ensures held { IfOk result (λ change. holds board.now.sizes change ≡ true) }
+{
+    let Some(state) = state_of(numbers.state) else {
+        return Err(CallFault::Range);
+    };
+    let Some(bid) = side_of(numbers.bid_price, numbers.bid_shares) else {
+        return Err(CallFault::Range);
+    };
+    let Some(offer) = side_of(numbers.offer_price, numbers.offer_shares) else {
+        return Err(CallFault::Range);
+    };
+    let part = part_of(board, numbers.part)?;
+    let sym = sym_of(board, numbers.sym)?;
+    Ok(Change::Quote {
+        part,
+        sym,
+        state,
+        bid,
+        offer,
+    })
+}
+
+/// A state of both sides.
+fn restating_of(board: &Boards, numbers: &NmsChange) -> Result<Change, CallFault>
+    ensures change { result ≡ restating_said board.now.sizes numbers.now (state_said numbers.now.state) }
+    ensures held { IfOk result (λ change. holds board.now.sizes change ≡ true) }
+{
+    let Some(state) = state_of(numbers.state) else {
+        return Err(CallFault::Range);
+    };
+    let part = part_of(board, numbers.part)?;
+    let sym = sym_of(board, numbers.sym)?;
+    Ok(Change::State { part, sym, state })
+}
+
+/// A round lot.
+fn lot_of(board: &Boards, numbers: &NmsChange) -> Result<Change, CallFault>
+    ensures change { result ≡ lot_said board.now.sizes numbers.now }
+    ensures held { IfOk result (λ change. holds board.now.sizes change ≡ true) }
+{
+    let Some(lot) = Lot::new(numbers.lot) else {
+        return Err(CallFault::Range);
+    };
+    let sym = sym_of(board, numbers.sym)?;
+    Ok(Change::Lot { sym, lot })
+}
+
+/// The state of a number.
+fn state_of(number: u8) -> Option<QState>
+    ensures { result ≡ state_said number }
+{
+    match number {
+        0 => Some(QState::Automated),
+        1 => Some(QState::Manual),
+        2 => Some(QState::Halted),
+        _ => None,
+    }
+}
+
+/// One side: no quotation where both numbers are 0. `None` where they say no side.
+fn side_of(price: u64, shares: u32) -> Option<Option<SideQuote>>
+    ensures { result ≡ side_said price shares }
+{
+    if price == 0 && shares == 0 {
+        return Some(None);
+    }
+    match content_of(price, shares) {
+        Some(quote) => Some(Some(quote)),
+        None => None,
+    }
+}
+
+/// A price and at least one share.
+fn content_of(price: u64, shares: u32) -> Option<SideQuote>
+    ensures { result ≡ content_said price shares }
+{
+    match (Price::new(price), Shares::new(shares)) {
+        (Some(price), Some(shares)) => SideQuote::new(price, shares),
+        _ => None,
+    }
+}
+
+/// A participant of the board's roster.
+pub(crate) fn part_of(board: &Boards, place: u8) -> Result<Part, CallFault>
+    ensures { result ≡ (if nat_lt place board.now.sizes.parts then Ok place else Err CallFault.NoParticipant) }
+{
+    match Part::new(place) {
+        Some(part) if place < board.parts() => Ok(part),
+        _ => Err(CallFault::NoParticipant),
+    }
+}
+
+/// A symbol of the board's roster.
+pub(crate) fn sym_of(board: &Boards, place: u16) -> Result<Sym, CallFault>
+    ensures { result ≡ (if nat_lt place (length board.now.sizes.lots) then Ok place else Err CallFault.NoSymbol) }
+{
+    match Sym::new(place) {
+        Some(sym) if board.has_sym(sym) => Ok(sym),
+        _ => Err(CallFault::NoSymbol),
+    }
+}

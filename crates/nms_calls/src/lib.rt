@@ -1,0 +1,23 @@
+//! The calls of the library that other languages link: numbers in, numbers out, and a code for each refusal. It knows
+//! no pointer.
+#![tactic(auto)]
+
+mod call_fault;
+mod change_numbers;
+mod change_reading;
+mod doubt_numbers;
+mod open_board;
+mod order_numbers;
+mod order_reading;
+mod plan_numbers;
+mod plan_reading;
+mod plan_writing;
+mod row_numbers;
+
+pub use call_fault::{CallFault, answer};
+pub use change_numbers::NmsChange;
+pub use doubt_numbers::NmsDoubt;
+pub use open_board::OpenBoard;
+pub use order_numbers::NmsOrder;
+pub use plan_numbers::{NmsCut, NmsLeg, NmsPlan};
+pub use row_numbers::{NmsBest, NmsRow};

@@ -1,0 +1,151 @@
+//! What stands behind an open handle, and the calls on it: `specs/Opened`.
+ghost use Rattle.std.specs.Prelude.{◌≡◌, ◌++◌, ◌∷◌, ◌<◌, [], length, IfOk, IfErr, OnOk, OnErr, Ok, Err};
+ghost use Rattle.std.specs.Result.{result_err};
+ghost use Rattle.nms_quote.specs.Roster.{sizes_of};
+ghost use Rattle.nms_quote.specs.Tape.{Tape};
+ghost use Rattle.nms_board.specs.Cells.{StandsFor, opening};
+ghost use Rattle.nms_fees.specs.Setup.{reading};
+ghost use Rattle.nms_calls.specs.ChangeSaid.{change_said};
+ghost use Rattle.nms_calls.specs.OrderSaid.{order_said};
+ghost use Rattle.nms_calls.specs.PlanNumbers.{IsBestPlan};
+ghost use Rattle.nms_calls.specs.RowNumbers.{AreBest};
+
+use crate::call_fault::CallFault;
+use crate::change_numbers::NmsChange;
+use crate::change_reading::{change_of, sym_of};
+use crate::doubt_numbers::NmsDoubt;
+use crate::order_numbers::NmsOrder;
+use crate::order_reading::order_of;
+use crate::plan_numbers::NmsPlan;
+use crate::plan_reading::plan_of;
+use crate::plan_writing::put_plan;
+use crate::row_numbers::{NmsBest, NmsRow, market_number};
+use nms_board::Boards;
+use nms_cert::confirm;
+use nms_fees::{Setup, SetupFault, read_setup};
+use nms_nbbo::{best_on, market_between};
+use nms_quote::Side;
+use nms_sweep::{Planner, an_accepted_plan_is_within_bounds};
+use std::alloc::Global;
+use std::marker::Model;
+use std::str;
+
+/// A board with its setup, and all the room that its calls need: none of them takes memory.
+#[derive(Drop)]
+pub struct OpenBoard {
+    setup: Setup,
+    board: Boards,
+    planner: Planner,
+}
+
+impl Model for OpenBoard {
+    ghost use Rattle.nms_calls.specs.Opened.{IsOfRoster, Opened};
+
+    ghost Value = { Opened };
+
+    ghost view = { λ o. record { settings = o.setup; board = o.board } };
+
+    ghost invariant = { λ o. IsOfRoster (record { settings = o.setup; board = o.board }) };
+}
+
+impl OpenBoard {
+    ghost use Rattle.nms_calls.specs.Opened.{apply_fault, apply_left, confirm_fault, doubt_written, finding, order_fault, sym_fault};
+
+    /// A board with nothing on it, of the setup that a text is. A text that is not UTF-8 is no TOML document. `NoMemory`
+    /// may come in place of any other answer.
+    pub fn new(alloc: Global, text: &[u8]) -> Result<Self, SetupFault>
+        ensures setup { IfOk result (λ opened. reading text.now ≡ Ok opened.settings) }
+        ensures empty { IfOk result (λ opened. opened.board ≡ opening (sizes_of opened.settings.roster)) }
+        ensures stands { IfOk result (λ opened. StandsFor opened.board []) }
+    {
+        let Ok(text) = str::from_utf8(text) else {
+            return Err(SetupFault::NotToml);
+        };
+        let setup = read_setup(alloc, text)?;
+        let Ok(board) = Boards::new(alloc, setup.roster()) else {
+            return Err(SetupFault::NoMemory);
+        };
+        Ok(OpenBoard {
+            setup,
+            board,
+            planner: Planner::new(),
+        })
+    }
+
+    /// Applies the change that numbers say.
+    #[inline(always)]
+    pub fn apply(&mut self, numbers: &NmsChange) -> Result<(), CallFault>
+        ensures answer { result_err result ≡ apply_fault self.old numbers.now }
+        ensures left { self.new ≡ apply_left self.old numbers.now }
+        ensures stands { (tape : Tape) → StandsFor self.old.board tape → OnOk result (IfOk (change_said self.old.board.sizes numbers.now) (λ change. StandsFor self.new.board (tape ++ change ∷ []))) }
+    {
+        let change = change_of(&self.board, numbers)?;
+        if self.board.applied() >= self.setup.tape_limit() {
+            return Err(CallFault::Full);
+        }
+        self.board.apply(change);
+        Ok(())
+    }
+
+    /// Writes the best bid and the best offer of a symbol.
+    #[inline(always)]
+    pub fn best(&self, place: u16, out: &mut NmsBest) -> Result<(), CallFault>
+        ensures answer { result_err result ≡ sym_fault self.now place }
+        ensures best { OnOk result (AreBest self.now.board place out.new) }
+        ensures unwritten { OnErr result (out.new ≡ out.old) }
+    {
+        let sym = sym_of(&self.board, place)?;
+        let bid = best_on(&self.board, Side::Bid, sym);
+        let offer = best_on(&self.board, Side::Offer, sym);
+        *out = NmsBest {
+            version: self.board.applied(),
+            bid: NmsRow::of(&bid),
+            offer: NmsRow::of(&offer),
+            market: market_number(market_between(bid, offer)),
+            spare: 0,
+        };
+        Ok(())
+    }
+
+    /// Plans the order that numbers say, and writes the plan with its certificate.
+    pub fn plan(&mut self, numbers: &NmsOrder, out: &mut NmsPlan) -> Result<(), CallFault>
+        ensures answer { result_err result ≡ order_fault self.old numbers.now }
+        ensures best { OnOk result (IfOk (order_said self.old.board.sizes numbers.now) (λ order. IsBestPlan self.old.board self.old.settings.fees order out.new)) }
+        ensures same { self.new ≡ self.old }
+        ensures unwritten { OnErr result (out.new ≡ out.old) }
+    {
+        let order = order_of(&self.board, numbers)?;
+        let fees = self.setup.fees();
+        self.planner.plan_on(&self.board, &order, fees);
+        let plan = self.planner.plan();
+        an_accepted_plan_is_within_bounds(&order, fees, plan);
+        put_plan(plan, self.planner.certificate(), out);
+        Ok(())
+    }
+
+    /// Confirms that the plan that numbers say is the best lawful one for the order that numbers say, and writes the doubt
+    /// where it is not.
+    pub fn confirm(
+        &self,
+        numbers: &NmsOrder,
+        plan: &NmsPlan,
+        out: &mut NmsDoubt,
+    ) -> Result<(), CallFault>
+        ensures answer { result_err result ≡ confirm_fault self.now numbers.now plan.now }
+        ensures written { out.new ≡ doubt_written out.old (finding self.now numbers.now plan.now) }
+    {
+        let order = order_of(&self.board, numbers)?;
+        let (plan, certificate) = plan_of(self.board.parts(), &order, plan)?;
+        let view = self.board.view(order.sym);
+        match confirm(&view, &order, self.setup.fees(), &plan, &certificate) {
+            Ok(()) => {
+                *out = NmsDoubt::none();
+                Ok(())
+            }
+            Err(doubt) => {
+                *out = NmsDoubt::of(doubt);
+                Err(CallFault::Doubted)
+            }
+        }
+    }
+}

@@ -1,0 +1,70 @@
+//! An order read from its numbers: `specs/OrderSaid`.
+ghost use Rattle.std.specs.Prelude.{◌≡◌, ◌<◌, ◌^◌, length, nat_lt, IfOk};
+ghost use Rattle.nms_calls.specs.OrderSaid.{flag_said, order_said, side_said};
+
+use crate::call_fault::CallFault;
+use crate::change_reading::sym_of;
+use crate::order_numbers::NmsOrder;
+use nms_board::Boards;
+use nms_quote::{Order, OrderSide, PartSet};
+use nms_units::{Price, Shares};
+
+/// The order that numbers say on a board, or the fault of least code.
+pub(crate) fn order_of(board: &Boards, numbers: &NmsOrder) -> Result<Order, CallFault>
+    ensures order { result ≡ order_said board.now.sizes numbers.now }
+    ensures there { IfOk result (λ order. order.sym < length board.now.sizes.lots) }
+    ensures named { IfOk result (λ order. order.self_help < 2 ^ board.now.sizes.parts) }
+{
+    let (Some(side), Some(manual)) = (side_of(numbers.side), flag_of(numbers.manual)) else {
+        return Err(CallFault::Range);
+    };
+    let (Some(shares), Some(limit)) = (Shares::new(numbers.shares), Price::new(numbers.limit)) else {
+        return Err(CallFault::Range);
+    };
+    if shares.get() == 0 {
+        return Err(CallFault::Range);
+    }
+    let self_help = set_of(board, numbers.self_help)?;
+    let sym = sym_of(board, numbers.sym)?;
+    Ok(Order {
+        side,
+        sym,
+        shares,
+        limit,
+        manual,
+        self_help,
+    })
+}
+
+/// The participants of the board's roster that the binary digits of a number say.
+fn set_of(board: &Boards, digits: u32) -> Result<PartSet, CallFault>
+    ensures { result ≡ (if nat_lt digits (2 ^ board.now.sizes.parts) then Ok digits else Err CallFault.NoParticipant) }
+{
+    if u64::from(digits) < 1 << board.parts() {
+        Ok(PartSet::of(digits))
+    } else {
+        Err(CallFault::NoParticipant)
+    }
+}
+
+/// The side of a number.
+pub(crate) fn side_of(number: u8) -> Option<OrderSide>
+    ensures { result ≡ side_said number }
+{
+    match number {
+        0 => Some(OrderSide::Buy),
+        1 => Some(OrderSide::Sell),
+        _ => None,
+    }
+}
+
+/// The flag of a number.
+fn flag_of(number: u8) -> Option<bool>
+    ensures { result ≡ flag_said number }
+{
+    match number {
+        0 => Some(false),
+        1 => Some(true),
+        _ => None,
+    }
+}

@@ -1,0 +1,76 @@
+//! The numbers of a plan as they cross.
+
+/// An order that goes to one participant.
+#[repr(C)]
+#[derive(Clone, Copy)]
+pub struct NmsLeg {
+    /// In 1/10,000 dollar.
+    pub price: u64,
+    /// How many shares.
+    pub shares: u32,
+    /// The participant's place.
+    pub part: u8,
+    /// 0.
+    pub spare_a: u8,
+    /// 0.
+    pub spare_b: u16,
+}
+
+/// What a certificate says of one price.
+#[repr(C)]
+#[derive(Clone, Copy)]
+pub struct NmsCut {
+    /// In 1/10,000 dollar.
+    pub price: u64,
+    /// What one more share costs in nanodollars; 0 where the kind has none.
+    pub marginal: i64,
+    /// 0 too much, 1 too little, 2 a marginal.
+    pub kind: u32,
+    /// 0.
+    pub spare: u32,
+}
+
+/// A plan with its certificate.
+#[repr(C)]
+#[derive(Clone, Copy)]
+pub struct NmsPlan {
+    /// How many changes had been applied when it was made.
+    pub version: u64,
+    /// The cost is `cost_high` * 2^64 + `cost_low` nanodollars, fees included.
+    pub cost_low: u64,
+    /// Negative where more is received than paid.
+    pub cost_high: i64,
+    /// The shares of all legs.
+    pub filled: u32,
+    /// How many legs there are, at most 32.
+    pub legs: u32,
+    /// How many cuts there are, at most 32.
+    pub cuts: u32,
+    /// 0.
+    pub spare: u32,
+    /// The legs; the places from their number on are 0.
+    pub leg: [NmsLeg; 32],
+    /// The cuts, likewise.
+    pub cut: [NmsCut; 32],
+}
+
+impl NmsLeg {
+    /// The numbers of a place without a leg.
+    pub(crate) const NONE: NmsLeg = NmsLeg {
+        price: 0,
+        shares: 0,
+        part: 0,
+        spare_a: 0,
+        spare_b: 0,
+    };
+}
+
+impl NmsCut {
+    /// The numbers of a place without a cut.
+    pub(crate) const NONE: NmsCut = NmsCut {
+        price: 0,
+        marginal: 0,
+        kind: 0,
+        spare: 0,
+    };
+}

@@ -1,0 +1,143 @@
+//! A plan and its certificate read from numbers: `specs/PlanSaid`.
+ghost use Rattle.std.specs.Prelude.{◌≡◌, ◌≤◌, map, length, true, IfOk, Ok, nat_lt};
+ghost use Rattle.std.specs.List.{list_all};
+ghost use Rattle.std.specs.Result.{result_map};
+ghost use Rattle.nms_calls.specs.PlanNumbers.{cost_said};
+ghost use Rattle.nms_calls.specs.PlanSaid.{cut_said, is_cut, is_leg, is_there, kind_said, leg_said, plan_said};
+
+use crate::call_fault::CallFault;
+use crate::plan_numbers::{NmsCut, NmsLeg, NmsPlan};
+use arrayvec::ArrayVec;
+use nms_quote::{Certificate, Cut, CutKind, Leg, Order, Part, Plan};
+use nms_units::{Money, Price, Shares};
+
+/// The plan for an order, with its certificate, that numbers say on a roster of so many participants, or the fault of
+/// least code.
+pub(crate) fn plan_of(
+    parts: u8,
+    order: &Order,
+    numbers: &NmsPlan,
+) -> Result<(Plan, Certificate), CallFault>
+    requires { parts ≤ 32 }
+    ensures { result_map (λ made. record { plan = made.0; cuts = made.1.items }) result ≡ plan_said parts order.now numbers.now }
+{
+    let (legs, cuts) = (numbers.legs as usize, numbers.cuts as usize);
+    if legs > 32 || cuts > 32 {
+        return Err(CallFault::Range);
+    }
+    let (legs, cuts) = (&numbers.leg[..legs], &numbers.cut[..cuts]);
+    if !are_legs(legs) || !are_cuts(cuts) {
+        return Err(CallFault::Range);
+    }
+    if !are_there(parts, legs) {
+        return Err(CallFault::NoParticipant);
+    }
+    let plan = Plan {
+        version: numbers.version,
+        order: *order,
+        legs: legs_of(legs),
+        filled: numbers.filled,
+        cost: cost_of(numbers),
+    };
+    Ok((plan, cuts_of(cuts)))
+}
+
+/// The amount of the two numbers of a cost.
+fn cost_of(numbers: &NmsPlan) -> Money
+    ensures { result ≡ cost_said numbers.now.cost_high numbers.now.cost_low }
+{
+    Money::new(i128::from(numbers.cost_high) * (1 << 64) + i128::from(numbers.cost_low))
+}
+
+fn are_legs(legs: &[NmsLeg]) -> bool
+    ensures { result ≡ list_all is_leg legs.now }
+{
+    legs.iter().all(|leg| is_leg(leg))
+}
+
+fn are_cuts(cuts: &[NmsCut]) -> bool
+    ensures { result ≡ list_all is_cut cuts.now }
+{
+    cuts.iter().all(|cut| is_cut(cut))
+}
+
+/// Whether each leg goes to one of so many participants.
+fn are_there(parts: u8, legs: &[NmsLeg]) -> bool
+    ensures { result ≡ list_all (is_there parts) legs.now }
+{
+    legs.iter().all(|leg| leg.part < parts)
+}
+
+fn is_leg(leg: &NmsLeg) -> bool
+    ensures { result ≡ is_leg leg.now }
+{
+    Price::new(leg.price).is_some() && Shares::new(leg.shares).is_some()
+}
+
+fn is_cut(cut: &NmsCut) -> bool
+    ensures { result ≡ is_cut cut.now }
+{
+    Price::new(cut.price).is_some() && cut.kind <= 2
+}
+
+/// The legs that numbers say.
+fn legs_of(numbers: &[NmsLeg]) -> ArrayVec<Leg, 32>
+    requires few { length numbers.now ≤ 32 }
+    requires range { list_all is_leg numbers.now ≡ true }
+    requires there { list_all (is_there 32) numbers.now ≡ true }
+    ensures { result.items ≡ map leg_said numbers.now }
+{
+    let mut legs = ArrayVec::new_in(());
+    for leg in numbers {
+        legs.push(leg_of(leg));
+    }
+    legs
+}
+
+/// The cuts that numbers say.
+fn cuts_of(numbers: &[NmsCut]) -> Certificate
+    requires few { length numbers.now ≤ 32 }
+    requires range { list_all is_cut numbers.now ≡ true }
+    ensures { result.items ≡ map cut_said numbers.now }
+{
+    let mut cuts = ArrayVec::new_in(());
+    for cut in numbers {
+        cuts.push(cut_of(cut));
+    }
+    cuts
+}
+
+/// The leg that numbers say.
+fn leg_of(leg: &NmsLeg) -> Leg
+    requires range { is_leg leg.now ≡ true }
+    requires there { is_there 32 leg.now ≡ true }
+    ensures { result ≡ leg_said leg.now }
+{
+    Leg {
+        part: Part::new(leg.part).unwrap(),
+        price: Price::new(leg.price).unwrap(),
+        shares: Shares::new(leg.shares).unwrap(),
+    }
+}
+
+/// The cut that numbers say.
+fn cut_of(cut: &NmsCut) -> Cut
+    requires { is_cut cut.now ≡ true }
+    ensures { result ≡ cut_said cut.now }
+{
+    Cut {
+        price: Price::new(cut.price).unwrap(),
+        kind: kind_of(cut),
+    }
+}
+
+/// What a cut says, by its number.
+fn kind_of(cut: &NmsCut) -> CutKind
+    ensures { result ≡ kind_said cut.now.kind cut.now.marginal }
+{
+    match cut.kind {
+        0 => CutKind::TooMuch,
+        1 => CutKind::TooLittle,
+        _ => CutKind::Marginal(Money::new(i128::from(cut.marginal))),
+    }
+}

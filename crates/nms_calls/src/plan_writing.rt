@@ -1,0 +1,100 @@
+//! A plan and its certificate written as numbers: `specs/PlanNumbers`.
+ghost use Rattle.std.specs.Prelude.{◌≡◌, ◌≤◌, ◌≤ℤ◌, ◌^◌, pos, neg_ℤ, All, length};
+ghost use Rattle.nms_sweep.specs.Choice.{IsInRange};
+ghost use Rattle.nms_calls.specs.PlanNumbers.{AreCuts, AreLegs, AreNumbersOf, cost_said, cut_at, cut_numbers, kind_number, leg_at, leg_numbers, marginal_of};
+
+use crate::plan_numbers::{NmsCut, NmsLeg, NmsPlan};
+use nms_quote::{Certificate, Cut, CutKind, Leg, Plan};
+use nms_units::Money;
+
+/// Writes a plan and its certificate, whose marginals are within 10^18 either way.
+pub(crate) fn put_plan(plan: &Plan, certificate: &Certificate, out: &mut NmsPlan)
+    requires { All (λ cut. IsInRange cut.kind) certificate.now.items }
+    ensures { AreNumbersOf plan.now certificate.now.items out.new }
+{
+    let (legs, cuts) = (plan.legs.as_slice(), certificate.as_slice());
+    out.version = plan.version;
+    out.cost_low = cost_low(plan.cost);
+    out.cost_high = cost_high(plan.cost);
+    out.filled = plan.filled;
+    out.legs = legs.len() as u32;
+    out.cuts = cuts.len() as u32;
+    out.spare = 0;
+    put_legs(legs, &mut out.leg);
+    put_cuts(cuts, &mut out.cut);
+}
+
+/// Writes legs to the first places, and none to the others.
+fn put_legs(legs: &[Leg], places: &mut [NmsLeg; 32])
+    ensures { AreLegs places.new legs.now }
+{
+    for place in 0..32 {
+        places[place] = leg_at(legs.get(place));
+    }
+}
+
+/// Writes cuts likewise.
+fn put_cuts(cuts: &[Cut], places: &mut [NmsCut; 32])
+    requires { All (λ cut. IsInRange cut.kind) cuts.now }
+    ensures { AreCuts places.new cuts.now }
+{
+    for place in 0..32 {
+        places[place] = match cuts.get(place) {
+            Some(cut) => cut_numbers(cut),
+            None => NmsCut::NONE,
+        };
+    }
+}
+
+/// The numbers of a leg, all 0 where there is none.
+fn leg_at(leg: Option<&Leg>) -> NmsLeg
+    ensures { result ≡ leg_at leg }
+{
+    match leg {
+        Some(leg) => NmsLeg {
+            price: leg.price.get(),
+            shares: leg.shares.get(),
+            part: leg.part.get(),
+            spare_a: 0,
+            spare_b: 0,
+        },
+        None => NmsLeg::NONE,
+    }
+}
+
+/// The numbers of a cut.
+fn cut_numbers(cut: &Cut) -> NmsCut
+    requires { IsInRange cut.now.kind }
+    ensures { result ≡ cut_numbers cut.now }
+{
+    let (kind, marginal) = match cut.kind {
+        CutKind::TooMuch => (0, 0),
+        CutKind::TooLittle => (1, 0),
+        CutKind::Marginal(marginal) => (2, marginal_number(marginal)),
+    };
+    NmsCut {
+        price: cut.price.get(),
+        marginal,
+        kind,
+        spare: 0,
+    }
+}
+
+/// A marginal within 10^18 either way.
+fn marginal_number(marginal: Money) -> i64
+    requires low { neg_ℤ (pos (10 ^ 18)) ≤ℤ marginal }
+    requires high { marginal ≤ℤ pos (10 ^ 18) }
+    ensures { result ≡ marginal }
+{
+    marginal.get() as i64
+}
+
+/// The upper half of an amount.
+fn cost_high(cost: Money) -> i64 {
+    cost.get().div_euclid(1 << 64) as i64
+}
+
+/// The lower half.
+fn cost_low(cost: Money) -> u64 {
+    cost.get().rem_euclid(1 << 64) as u64
+}

@@ -1,0 +1,95 @@
+//! Rows of a board as numbers: `specs/RowNumbers`.
+ghost use Rattle.std.specs.Prelude.{◌≡◌};
+ghost use Rattle.nms_calls.specs.RowNumbers.{market_number, no_row, row_numbers, some_row};
+
+use nms_board::Row;
+use nms_nbbo::Market;
+
+/// A quotation. Of size 0 it stands for none, and all its numbers are 0.
+#[repr(C)]
+#[derive(Clone, Copy)]
+pub struct NmsRow {
+    /// In 1/10,000 dollar.
+    pub price: u64,
+    /// The number of the change that last altered the side's price or shares.
+    pub receipt: u64,
+    /// In shares: whole round lots, at least one.
+    pub size: u32,
+    /// The participant's place.
+    pub part: u8,
+    /// 1 where it is protected, 0 where it is manual.
+    pub is_protected: u8,
+    /// 0.
+    pub spare: u16,
+}
+
+/// The best bid and the best offer of a symbol.
+#[repr(C)]
+#[derive(Clone, Copy)]
+pub struct NmsBest {
+    /// How many changes were applied.
+    pub version: u64,
+    /// The best bid.
+    pub bid: NmsRow,
+    /// The best offer.
+    pub offer: NmsRow,
+    /// 0 empty, 1 one-sided, 2 normal, 3 locked, 4 crossed.
+    pub market: u32,
+    /// 0.
+    pub spare: u32,
+}
+
+impl NmsRow {
+    /// The numbers that stand for no row.
+    pub(crate) fn none() -> Self
+        ensures { result ≡ no_row }
+    {
+        NmsRow {
+            price: 0,
+            receipt: 0,
+            size: 0,
+            part: 0,
+            is_protected: 0,
+            spare: 0,
+        }
+    }
+
+    /// The numbers of a row, if there is one.
+    #[inline(always)]
+    pub(crate) fn of(row: &Option<Row>) -> Self
+        ensures { result ≡ row_numbers row.now }
+    {
+        match row {
+            Some(row) => NmsRow::some(row),
+            None => NmsRow::none(),
+        }
+    }
+
+    /// The numbers of a row.
+    #[inline(always)]
+    pub(crate) fn some(row: &Row) -> Self
+        ensures { result ≡ some_row row.now }
+    {
+        NmsRow {
+            price: row.price.get(),
+            receipt: row.receipt,
+            size: row.size,
+            part: row.part.get(),
+            is_protected: u8::from(row.protected),
+            spare: 0,
+        }
+    }
+}
+
+/// The number of a market's state.
+pub(crate) fn market_number(market: Market) -> u32
+    ensures { result ≡ market_number market }
+{
+    match market {
+        Market::Empty => 0,
+        Market::OneSided => 1,
+        Market::Normal => 2,
+        Market::Locked => 3,
+        Market::Crossed => 4,
+    }
+}
