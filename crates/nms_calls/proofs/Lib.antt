@@ -1,0 +1,2 @@
+pub mod OpenedLemmas
+pub mod PlaceLemmas

@@ -1,13 +1,18 @@
 -- What stands behind an open handle, and what a call answers there. This product's own rule.
-use Rattle.std.specs.Prelude.{◌≡◌, ℕ, nat_lt, length, List, Option, Some, None, Result, Ok, Err, if◌then◌else◌}
-use Rattle.nms_quote.specs.Roster.{sizes_of}
+use Rattle.std.specs.Prelude.{◌≡◌, ◌⊎◌, ◌++◌, ◌∷◌, [], ℕ, IfOk, Bool, nat_lt, length, List, Option, Some, None, Result, Ok, Err, if◌then◌else◌}
+use Rattle.std.specs.Str.{IsUtf8}
+use Rattle.nms_quote.specs.Roster.{Sizes, sizes_of}
+use Rattle.nms_quote.specs.Tape.{Tape}
 use Rattle.nms_quote.specs.Terms.{Terms}
 use Rattle.nms_quote.specs.declared.change.Change.{Change}
-use Rattle.nms_board.specs.Cells.{Board, after}
+use Rattle.nms_board.specs.Cells.{Board, StandsFor, after, opening}
 use Rattle.nms_board.specs.Shown.{seen_on}
 use Rattle.nms_cert.specs.Doubts.{doubt_of}
 use Rattle.nms_cert.specs.declared.doubt.Doubt.{Doubt}
 use Rattle.nms_fees.specs.Settings.{Settings}
+use Rattle.nms_fees.specs.Setup.{reading}
+use Rattle.nms_fees.specs.declared.setup_fault.SetupFault.{SetupFault}
+use Rattle.nms_fees.specs.declared.setup_fault.SetupFault.TheVariants as setup
 use Rattle.nms_sweep.specs.Planned.{Planned}
 use Rattle.nms_calls.specs.ChangeSaid.{change_said}
 use Rattle.nms_calls.specs.OrderSaid.{order_said}
@@ -29,34 +34,55 @@ pub record Opened : Type 0 where
 abbrev pub IsOfRoster : Opened → Type 0
 IsOfRoster opened = opened.board.sizes ≡ sizes_of opened.settings.roster
 
+-- why a text is no setup: its fault of least number, and one that is not UTF-8 is no TOML document
+abbrev pub IsRefused : List ℕ → SetupFault → Type 0
+IsRefused text fault = (reading text ≡ Err fault) ⊎ ((fault ≡ setup.NotToml) × (¬ (IsUtf8 text)))
+
+-- a board with nothing on it, of the setup that a text is
+pub record IsNew (text : List ℕ) (opened : Opened) : Type 0 where
+  pub setup : reading text ≡ Ok opened.settings
+  pub board : opened.board ≡ opening (sizes_of opened.settings.roster)
+  pub stands : StandsFor opened.board []
+
+-- the sizes of the roster
+abbrev pub sizes_on : Opened → Sizes
+sizes_on opened = sizes_of opened.settings.roster
+
 -- ---- a symbol
 
 -- why a look at a symbol is refused
 abbrev pub sym_fault : Opened → ℕ → Option CallFault
-sym_fault opened sym = if nat_lt sym (length opened.board.sizes.lots) then None else Some fault.NoSymbol
+sym_fault opened sym = if nat_lt sym (length opened.settings.roster.syms) then None else Some fault.NoSymbol
 
 -- ---- a change
+
+-- whether the tape has room for one more
+abbrev pub has_room : Opened → Bool
+has_room opened = nat_lt opened.board.applied opened.settings.tape_limit
 
 -- why a change is refused that numbers say: the tape is looked at last
 abbrev pub room_fault : Opened → Result Change CallFault → Option CallFault
 room_fault opened (Err found) = Some found
-room_fault opened (Ok change) = if nat_lt opened.board.applied opened.settings.tape_limit then None else Some fault.Full
+room_fault opened (Ok change) = if has_room opened then None else Some fault.Full
 
 abbrev pub apply_fault : Opened → NmsChange → Option CallFault
-apply_fault opened n = room_fault opened (change_said opened.board.sizes n)
+apply_fault opened n = room_fault opened (change_said (sizes_on opened) n)
 
--- one more change on the board
-abbrev pub with_change : Opened → Result Change CallFault → Opened
-with_change opened (Err found) = opened
-with_change opened (Ok change) = record { settings = opened.settings; board = after opened.board change }
+-- one more change on the board, where it is applied
+abbrev pub with_change : Opened → Change → Opened
+with_change opened change = record { settings = opened.settings; board = after opened.board change }
 
--- what is left after an answer: one more change where it was applied
-abbrev pub left_by : Opened → NmsChange → Option CallFault → Opened
-left_by opened n None = with_change opened (change_said opened.board.sizes n)
-left_by opened n (Some found) = opened
+abbrev pub left_on : Opened → Result Change CallFault → Opened
+left_on opened (Err found) = opened
+left_on opened (Ok change) = if has_room opened then with_change opened change else opened
 
 abbrev pub apply_left : Opened → NmsChange → Opened
-apply_left opened n = left_by opened n (apply_fault opened n)
+apply_left opened n = left_on opened (change_said (sizes_on opened) n)
+
+-- the board stands for one change more than before, the one that the numbers say
+abbrev pub Grew : NmsChange → Opened → Opened → Type 0
+Grew n old new =
+    (tape : Tape) → StandsFor old.board tape → IfOk (change_said (sizes_on old) n) (λ change. StandsFor new.board (tape ++ change ∷ []))
 
 -- ---- an order
 
@@ -66,7 +92,7 @@ error_of (Err found) = Some found
 
 -- why an order is not planned
 abbrev pub order_fault : Opened → NmsOrder → Option CallFault
-order_fault opened n = error_of (order_said opened.board.sizes n)
+order_fault opened n = error_of (order_said (sizes_on opened) n)
 
 -- ---- a plan to confirm
 
@@ -81,10 +107,10 @@ with_order order (Ok made) = Ok (order, made)
 -- the plan that numbers say for the order that numbers say: the order is looked at first
 abbrev pub made_for : Opened → NmsPlan → Result Terms CallFault → Result (Terms × Planned) CallFault
 made_for opened plan (Err found) = Err found
-made_for opened plan (Ok order) = with_order order (plan_said opened.board.sizes.parts order plan)
+made_for opened plan (Ok order) = with_order order (plan_said (length opened.settings.roster.parts) order plan)
 
 abbrev pub made_said : Opened → NmsOrder → NmsPlan → Result (Terms × Planned) CallFault
-made_said opened order plan = made_for opened plan (order_said opened.board.sizes order)
+made_said opened order plan = made_for opened plan (order_said (sizes_on opened) order)
 
 -- what is found of it
 abbrev pub found_of : Opened → Result (Terms × Planned) CallFault → Result (Option Doubt) CallFault

@@ -61,14 +61,14 @@ abbrev pub cost_said : ℤ → ℕ → ℤ
 cost_said high low = high *ℤ pos (2 ^ 64) +ℤ pos low
 
 -- the numbers of a plan and its certificate
-pub record AreNumbersOf (plan : Plan) (cuts : List Cut) (out : NmsPlan) : Type 0 where
+pub record AreNumbersOf (plan : Plan) (certificate : List Cut) (out : NmsPlan) : Type 0 where
   pub version : out.version ≡ plan.version
   pub cost : cost_said out.cost_high out.cost_low ≡ plan.cost
   pub filled : out.filled ≡ plan.filled
   pub legs : out.legs ≡ length plan.legs.items
-  pub cuts : out.cuts ≡ length cuts
+  pub cuts : out.cuts ≡ length certificate
   pub leg : AreLegs out.leg plan.legs.items
-  pub cut : AreCuts out.cut cuts
+  pub cut : AreCuts out.cut certificate
 
 -- the numbers of the best lawful plan for an order on a board, with the certificate that shows it
 pub record IsBestPlan (board : Board) (fees : Charges) (order : Terms) (out : NmsPlan) : Type 0 where

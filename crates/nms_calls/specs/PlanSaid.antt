@@ -1,5 +1,5 @@
 -- What the numbers of a plan and its certificate say. This product's own rule.
-use Rattle.std.specs.Prelude.{ℕ, ℤ, ◌==◌, ◌&&◌, Bool, nat_le, nat_lt, List, map, take, Option, Some, None, Result, Ok, Err, if◌then◌else◌}
+use Rattle.std.specs.Prelude.{ℕ, ℤ, ◌==◌, ◌&&◌, Bool, nat_le, nat_lt, List, map, take, Result, Ok, Err, if◌then◌else◌}
 use Rattle.std.specs.List.{list_all}
 use Rattle.nms_units.specs.declared.TheConstants.{MOST_PRICE, MOST_SHARES}
 use Rattle.nms_quote.specs.Terms.{Terms}
@@ -7,7 +7,6 @@ use Rattle.nms_quote.specs.declared.certificate.Cut.{Cut}
 use Rattle.nms_quote.specs.declared.certificate.CutKind.{CutKind}
 use Rattle.nms_quote.specs.declared.certificate.CutKind.TheVariants as kind
 use Rattle.nms_quote.specs.declared.plan.Leg.{Leg}
-use Rattle.nms_quote.specs.declared.plan.Plan.{Plan}
 use Rattle.nms_sweep.specs.Planned.{Planned}
 use Rattle.nms_calls.specs.PlanNumbers.{cost_said}
 use Rattle.nms_calls.specs.declared.call_fault.CallFault.{CallFault}

@@ -1,36 +1,35 @@
 //! A change read from its numbers: `specs/ChangeSaid`.
-ghost use Rattle.std.specs.Prelude.{◌≡◌, ◌<◌, ◌&&◌, length, nat_lt, true, IfOk, Ok};
-ghost use Rattle.nms_quote.specs.Roster.{holds};
+ghost use Rattle.std.specs.Prelude.{◌≡◌, ◌<◌, ◌&&◌, length, nat_lt, true, if◌then◌else◌, IfOk, Ok};
+ghost use Rattle.nms_quote.specs.Roster.{holds, sizes_of};
 ghost use Rattle.nms_calls.specs.ChangeSaid.{change_said, content_said, lot_said, quotation_said, restating_said, side_said, state_said};
 
 use crate::call_fault::CallFault;
 use crate::change_numbers::NmsChange;
-use nms_board::Boards;
-use nms_quote::{Change, Part, QState, SideQuote, Sym};
+use nms_quote::{Change, Part, QState, Roster, SideQuote, Sym};
 use nms_units::{Lot, Price, Shares};
 
-/// The change that numbers say on a board, or the fault of least code.
-pub(crate) fn change_of(board: &Boards, numbers: &NmsChange) -> Result<Change, CallFault>
-    ensures change { result ≡ change_said board.now.sizes numbers.now }
-    ensures held { IfOk result (λ change. holds board.now.sizes change ≡ true) }
+/// The change that numbers say on a roster, or the fault of least code.
+pub(crate) fn change_of(roster: &Roster, numbers: &NmsChange) -> Result<Change, CallFault>
+    ensures change { result ≡ change_said (sizes_of roster.now) numbers.now }
+    ensures held { IfOk result (λ change. holds (sizes_of roster.now) change ≡ true) }
 {
     match numbers.kind {
-        0 => quotation_of(board, numbers),
-        1 => restating_of(board, numbers),
+        0 => quotation_of(roster, numbers),
+        1 => restating_of(roster, numbers),
         2 => {
-            let part = part_of(board, numbers.part)?;
+            let part = part_of(roster, numbers.part)?;
             Ok(Change::Withdraw { part })
         }
-        3 => lot_of(board, numbers),
+        3 => lot_of(roster, numbers),
         _ => Err(CallFault::Range),
     }
 }
 
 /// A quotation of both sides.
-fn quotation_of(board: &Boards, numbers: &NmsChange) -> Result<Change, CallFault>
-    ensures change { result ≡ quotation_said board.now.sizes numbers.now (state_said numbers.now.state)
+fn quotation_of(roster: &Roster, numbers: &NmsChange) -> Result<Change, CallFault>
+    ensures change { result ≡ quotation_said (sizes_of roster.now) numbers.now (state_said numbers.now.state)
         (side_said numbers.now.bid_price numbers.now.bid_shares) (side_said numbers.now.offer_price numbers.now.offer_shares) }
-    ensures held { IfOk result (λ change. holds board.now.sizes change ≡ true) }
+    ensures held { IfOk result (λ change. holds (sizes_of roster.now) change ≡ true) }
 {
     let Some(state) = state_of(numbers.state) else {
         return Err(CallFault::Range);
@@ -41,8 +40,8 @@ fn quotation_of(board: &Boards, numbers: &NmsChange) -> Result<Change, CallFault
     let Some(offer) = side_of(numbers.offer_price, numbers.offer_shares) else {
         return Err(CallFault::Range);
     };
-    let part = part_of(board, numbers.part)?;
-    let sym = sym_of(board, numbers.sym)?;
+    let part = part_of(roster, numbers.part)?;
+    let sym = sym_of(roster, numbers.sym)?;
     Ok(Change::Quote {
         part,
         sym,
@@ -53,27 +52,27 @@ fn quotation_of(board: &Boards, numbers: &NmsChange) -> Result<Change, CallFault
 }
 
 /// A state of both sides.
-fn restating_of(board: &Boards, numbers: &NmsChange) -> Result<Change, CallFault>
-    ensures change { result ≡ restating_said board.now.sizes numbers.now (state_said numbers.now.state) }
-    ensures held { IfOk result (λ change. holds board.now.sizes change ≡ true) }
+fn restating_of(roster: &Roster, numbers: &NmsChange) -> Result<Change, CallFault>
+    ensures change { result ≡ restating_said (sizes_of roster.now) numbers.now (state_said numbers.now.state) }
+    ensures held { IfOk result (λ change. holds (sizes_of roster.now) change ≡ true) }
 {
     let Some(state) = state_of(numbers.state) else {
         return Err(CallFault::Range);
     };
-    let part = part_of(board, numbers.part)?;
-    let sym = sym_of(board, numbers.sym)?;
+    let part = part_of(roster, numbers.part)?;
+    let sym = sym_of(roster, numbers.sym)?;
     Ok(Change::State { part, sym, state })
 }
 
 /// A round lot.
-fn lot_of(board: &Boards, numbers: &NmsChange) -> Result<Change, CallFault>
-    ensures change { result ≡ lot_said board.now.sizes numbers.now }
-    ensures held { IfOk result (λ change. holds board.now.sizes change ≡ true) }
+fn lot_of(roster: &Roster, numbers: &NmsChange) -> Result<Change, CallFault>
+    ensures change { result ≡ lot_said (sizes_of roster.now) numbers.now }
+    ensures held { IfOk result (λ change. holds (sizes_of roster.now) change ≡ true) }
 {
     let Some(lot) = Lot::new(numbers.lot) else {
         return Err(CallFault::Range);
     };
-    let sym = sym_of(board, numbers.sym)?;
+    let sym = sym_of(roster, numbers.sym)?;
     Ok(Change::Lot { sym, lot })
 }
 
@@ -112,22 +111,24 @@ fn content_of(price: u64, shares: u32) -> Option<SideQuote>
     }
 }
 
-/// A participant of the board's roster.
-pub(crate) fn part_of(board: &Boards, place: u8) -> Result<Part, CallFault>
-    ensures { result ≡ (if nat_lt place board.now.sizes.parts then Ok place else Err CallFault.NoParticipant) }
+/// A participant of the roster.
+pub(crate) fn part_of(roster: &Roster, place: u8) -> Result<Part, CallFault>
+    ensures { result ≡ (if nat_lt place (length roster.now.parts) then Ok place else Err CallFault.NoParticipant) }
 {
-    match Part::new(place) {
-        Some(part) if place < board.parts() => Ok(part),
-        _ => Err(CallFault::NoParticipant),
+    if usize::from(place) < roster.parts() {
+        Ok(Part::new(place).unwrap())
+    } else {
+        Err(CallFault::NoParticipant)
     }
 }
 
-/// A symbol of the board's roster.
-pub(crate) fn sym_of(board: &Boards, place: u16) -> Result<Sym, CallFault>
-    ensures { result ≡ (if nat_lt place (length board.now.sizes.lots) then Ok place else Err CallFault.NoSymbol) }
+/// A symbol of the roster.
+pub(crate) fn sym_of(roster: &Roster, place: u16) -> Result<Sym, CallFault>
+    ensures { result ≡ (if nat_lt place (length roster.now.syms) then Ok place else Err CallFault.NoSymbol) }
 {
-    match Sym::new(place) {
-        Some(sym) if board.has_sym(sym) => Ok(sym),
-        _ => Err(CallFault::NoSymbol),
+    if usize::from(place) < roster.syms() {
+        Ok(Sym::new(place).unwrap())
+    } else {
+        Err(CallFault::NoSymbol)
     }
 }

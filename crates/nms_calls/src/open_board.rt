@@ -1,5 +1,5 @@
 //! What stands behind an open handle, and the calls on it: `specs/Opened`.
-ghost use Rattle.std.specs.Prelude.{◌≡◌, ◌++◌, ◌∷◌, ◌<◌, [], length, IfOk, IfErr, OnOk, OnErr, Ok, Err};
+ghost use Rattle.std.specs.Prelude.{◌≡◌, ◌≢◌, ◌++◌, ◌∷◌, ◌<◌, [], length, IfOk, IfErr, OnOk, OnErr, Ok, Err};
 ghost use Rattle.std.specs.Result.{result_err};
 ghost use Rattle.nms_quote.specs.Roster.{sizes_of};
 ghost use Rattle.nms_quote.specs.Tape.{Tape};
@@ -24,8 +24,9 @@ use nms_board::Boards;
 use nms_cert::confirm;
 use nms_fees::{Setup, SetupFault, read_setup};
 use nms_nbbo::{best_on, market_between};
-use nms_quote::Side;
+use nms_quote::{Side, SideQuote};
 use nms_sweep::{Planner, an_accepted_plan_is_within_bounds};
+use nms_units::Lot;
 use std::alloc::Global;
 use std::marker::Model;
 use std::str;
@@ -49,14 +50,13 @@ impl Model for OpenBoard {
 }
 
 impl OpenBoard {
-    ghost use Rattle.nms_calls.specs.Opened.{apply_fault, apply_left, confirm_fault, doubt_written, finding, order_fault, sym_fault};
+    ghost use Rattle.nms_calls.specs.Opened.{Grew, IsNew, IsRefused, apply_fault, apply_left, confirm_fault, doubt_written, finding, order_fault, sizes_on, sym_fault};
 
     /// A board with nothing on it, of the setup that a text is. A text that is not UTF-8 is no TOML document. `NoMemory`
     /// may come in place of any other answer.
     pub fn new(alloc: Global, text: &[u8]) -> Result<Self, SetupFault>
-        ensures setup { IfOk result (λ opened. reading text.now ≡ Ok opened.settings) }
-        ensures empty { IfOk result (λ opened. opened.board ≡ opening (sizes_of opened.settings.roster)) }
-        ensures stands { IfOk result (λ opened. StandsFor opened.board []) }
+        ensures new { IfOk result (IsNew text.now) }
+        ensures refused { IfErr result (λ fault. fault ≢ SetupFault.NoMemory → IsRefused text.now fault) }
     {
         let Ok(text) = str::from_utf8(text) else {
             return Err(SetupFault::NotToml);
@@ -77,12 +77,14 @@ impl OpenBoard {
     pub fn apply(&mut self, numbers: &NmsChange) -> Result<(), CallFault>
         ensures answer { result_err result ≡ apply_fault self.old numbers.now }
         ensures left { self.new ≡ apply_left self.old numbers.now }
-        ensures stands { (tape : Tape) → StandsFor self.old.board tape → OnOk result (IfOk (change_said self.old.board.sizes numbers.now) (λ change. StandsFor self.new.board (tape ++ change ∷ []))) }
+        ensures stands { OnOk result (Grew numbers.now self.old self.new) }
     {
-        let change = change_of(&self.board, numbers)?;
+        let change = change_of(self.setup.roster(), numbers)?;
         if self.board.applied() >= self.setup.tape_limit() {
             return Err(CallFault::Full);
         }
+        // Moving a change takes a mention of the types in it: the prover has to have seen them.
+        let _seen: (Option<SideQuote>, Option<Lot>) = (None, None);
         self.board.apply(change);
         Ok(())
     }
@@ -94,7 +96,7 @@ impl OpenBoard {
         ensures best { OnOk result (AreBest self.now.board place out.new) }
         ensures unwritten { OnErr result (out.new ≡ out.old) }
     {
-        let sym = sym_of(&self.board, place)?;
+        let sym = sym_of(self.setup.roster(), place)?;
         let bid = best_on(&self.board, Side::Bid, sym);
         let offer = best_on(&self.board, Side::Offer, sym);
         *out = NmsBest {
@@ -110,11 +112,11 @@ impl OpenBoard {
     /// Plans the order that numbers say, and writes the plan with its certificate.
     pub fn plan(&mut self, numbers: &NmsOrder, out: &mut NmsPlan) -> Result<(), CallFault>
         ensures answer { result_err result ≡ order_fault self.old numbers.now }
-        ensures best { OnOk result (IfOk (order_said self.old.board.sizes numbers.now) (λ order. IsBestPlan self.old.board self.old.settings.fees order out.new)) }
+        ensures best { OnOk result (IfOk (order_said (sizes_on self.old) numbers.now) (λ order. IsBestPlan self.old.board self.old.settings.fees order out.new)) }
         ensures same { self.new ≡ self.old }
         ensures unwritten { OnErr result (out.new ≡ out.old) }
     {
-        let order = order_of(&self.board, numbers)?;
+        let order = order_of(self.setup.roster(), numbers)?;
         let fees = self.setup.fees();
         self.planner.plan_on(&self.board, &order, fees);
         let plan = self.planner.plan();
@@ -134,8 +136,8 @@ impl OpenBoard {
         ensures answer { result_err result ≡ confirm_fault self.now numbers.now plan.now }
         ensures written { out.new ≡ doubt_written out.old (finding self.now numbers.now plan.now) }
     {
-        let order = order_of(&self.board, numbers)?;
-        let (plan, certificate) = plan_of(self.board.parts(), &order, plan)?;
+        let order = order_of(self.setup.roster(), numbers)?;
+        let (plan, certificate) = plan_of(self.setup.roster(), &order, plan)?;
         let view = self.board.view(order.sym);
         match confirm(&view, &order, self.setup.fees(), &plan, &certificate) {
             Ok(()) => {

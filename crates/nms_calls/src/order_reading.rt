@@ -1,19 +1,19 @@
 //! An order read from its numbers: `specs/OrderSaid`.
-ghost use Rattle.std.specs.Prelude.{◌≡◌, ◌<◌, ◌^◌, length, nat_lt, IfOk};
+ghost use Rattle.std.specs.Prelude.{◌≡◌, ◌<◌, ◌^◌, length, nat_lt, if◌then◌else◌, IfOk};
+ghost use Rattle.nms_quote.specs.Roster.{sizes_of};
 ghost use Rattle.nms_calls.specs.OrderSaid.{flag_said, order_said, side_said};
 
 use crate::call_fault::CallFault;
 use crate::change_reading::sym_of;
 use crate::order_numbers::NmsOrder;
-use nms_board::Boards;
-use nms_quote::{Order, OrderSide, PartSet};
+use nms_quote::{Order, OrderSide, PartSet, Roster};
 use nms_units::{Price, Shares};
 
-/// The order that numbers say on a board, or the fault of least code.
-pub(crate) fn order_of(board: &Boards, numbers: &NmsOrder) -> Result<Order, CallFault>
-    ensures order { result ≡ order_said board.now.sizes numbers.now }
-    ensures there { IfOk result (λ order. order.sym < length board.now.sizes.lots) }
-    ensures named { IfOk result (λ order. order.self_help < 2 ^ board.now.sizes.parts) }
+/// The order that numbers say on a roster, or the fault of least code.
+pub(crate) fn order_of(roster: &Roster, numbers: &NmsOrder) -> Result<Order, CallFault>
+    ensures order { result ≡ order_said (sizes_of roster.now) numbers.now }
+    ensures there { IfOk result (λ order. order.sym < length roster.now.syms) }
+    ensures named { IfOk result (λ order. order.self_help < 2 ^ length roster.now.parts) }
 {
     let (Some(side), Some(manual)) = (side_of(numbers.side), flag_of(numbers.manual)) else {
         return Err(CallFault::Range);
@@ -24,8 +24,8 @@ pub(crate) fn order_of(board: &Boards, numbers: &NmsOrder) -> Result<Order, Call
     if shares.get() == 0 {
         return Err(CallFault::Range);
     }
-    let self_help = set_of(board, numbers.self_help)?;
-    let sym = sym_of(board, numbers.sym)?;
+    let self_help = set_of(roster, numbers.self_help)?;
+    let sym = sym_of(roster, numbers.sym)?;
     Ok(Order {
         side,
         sym,
@@ -36,11 +36,11 @@ pub(crate) fn order_of(board: &Boards, numbers: &NmsOrder) -> Result<Order, Call
     })
 }
 
-/// The participants of the board's roster that the binary digits of a number say.
-fn set_of(board: &Boards, digits: u32) -> Result<PartSet, CallFault>
-    ensures { result ≡ (if nat_lt digits (2 ^ board.now.sizes.parts) then Ok digits else Err CallFault.NoParticipant) }
+/// The participants of the roster that the binary digits of a number say.
+fn set_of(roster: &Roster, digits: u32) -> Result<PartSet, CallFault>
+    ensures { result ≡ (if nat_lt digits (2 ^ length roster.now.parts) then Ok digits else Err CallFault.NoParticipant) }
 {
-    if u64::from(digits) < 1 << board.parts() {
+    if u64::from(digits) < 1 << roster.parts() {
         Ok(PartSet::of(digits))
     } else {
         Err(CallFault::NoParticipant)

@@ -1,25 +1,23 @@
 //! A plan and its certificate read from numbers: `specs/PlanSaid`.
-ghost use Rattle.std.specs.Prelude.{◌≡◌, ◌≤◌, map, length, true, IfOk, Ok, nat_lt};
+ghost use Rattle.std.specs.Prelude.{◌≡◌, ◌≤◌, map, length, true, Ok, Err, MatchResult};
 ghost use Rattle.std.specs.List.{list_all};
-ghost use Rattle.std.specs.Result.{result_map};
 ghost use Rattle.nms_calls.specs.PlanNumbers.{cost_said};
 ghost use Rattle.nms_calls.specs.PlanSaid.{cut_said, is_cut, is_leg, is_there, kind_said, leg_said, plan_said};
 
 use crate::call_fault::CallFault;
 use crate::plan_numbers::{NmsCut, NmsLeg, NmsPlan};
 use arrayvec::ArrayVec;
-use nms_quote::{Certificate, Cut, CutKind, Leg, Order, Part, Plan};
+use nms_quote::{Certificate, Cut, CutKind, Leg, Order, Part, Plan, Roster};
 use nms_units::{Money, Price, Shares};
 
-/// The plan for an order, with its certificate, that numbers say on a roster of so many participants, or the fault of
-/// least code.
+/// The plan for an order, with its certificate, that numbers say on a roster, or the fault of least code.
 pub(crate) fn plan_of(
-    parts: u8,
+    roster: &Roster,
     order: &Order,
     numbers: &NmsPlan,
 ) -> Result<(Plan, Certificate), CallFault>
-    requires { parts ≤ 32 }
-    ensures { result_map (λ made. record { plan = made.0; cuts = made.1.items }) result ≡ plan_said parts order.now numbers.now }
+    ensures { MatchResult result (λ made. plan_said (length roster.now.parts) order.now numbers.now ≡ Ok (record { plan = made.0; cuts = made.1.items }))
+        (λ fault. plan_said (length roster.now.parts) order.now numbers.now ≡ Err fault) }
 {
     let (legs, cuts) = (numbers.legs as usize, numbers.cuts as usize);
     if legs > 32 || cuts > 32 {
@@ -29,13 +27,13 @@ pub(crate) fn plan_of(
     if !are_legs(legs) || !are_cuts(cuts) {
         return Err(CallFault::Range);
     }
-    if !are_there(parts, legs) {
+    if !are_there(roster, legs) {
         return Err(CallFault::NoParticipant);
     }
     let plan = Plan {
         version: numbers.version,
         order: *order,
-        legs: legs_of(legs),
+        legs: legs_of(roster.parts(), legs),
         filled: numbers.filled,
         cost: cost_of(numbers),
     };
@@ -61,11 +59,12 @@ fn are_cuts(cuts: &[NmsCut]) -> bool
     cuts.iter().all(|cut| is_cut(cut))
 }
 
-/// Whether each leg goes to one of so many participants.
-fn are_there(parts: u8, legs: &[NmsLeg]) -> bool
-    ensures { result ≡ list_all (is_there parts) legs.now }
+/// Whether each leg goes to a participant of the roster.
+fn are_there(roster: &Roster, legs: &[NmsLeg]) -> bool
+    ensures { result ≡ list_all (is_there (length roster.now.parts)) legs.now }
 {
-    legs.iter().all(|leg| leg.part < parts)
+    let parts = roster.parts();
+    legs.iter().all(|leg| usize::from(leg.part) < parts)
 }
 
 fn is_leg(leg: &NmsLeg) -> bool
@@ -80,16 +79,17 @@ fn is_cut(cut: &NmsCut) -> bool
     Price::new(cut.price).is_some() && cut.kind <= 2
 }
 
-/// The legs that numbers say.
-fn legs_of(numbers: &[NmsLeg]) -> ArrayVec<Leg, 32>
+/// The legs that numbers say, of so many participants.
+fn legs_of(parts: usize, numbers: &[NmsLeg]) -> ArrayVec<Leg, 32>
+    requires parts { parts ≤ 32 }
     requires few { length numbers.now ≤ 32 }
     requires range { list_all is_leg numbers.now ≡ true }
-    requires there { list_all (is_there 32) numbers.now ≡ true }
+    requires there { list_all (is_there parts) numbers.now ≡ true }
     ensures { result.items ≡ map leg_said numbers.now }
 {
     let mut legs = ArrayVec::new_in(());
     for leg in numbers {
-        legs.push(leg_of(leg));
+        legs.push(leg_of(parts, leg));
     }
     legs
 }
@@ -100,6 +100,8 @@ fn cuts_of(numbers: &[NmsCut]) -> Certificate
     requires range { list_all is_cut numbers.now ≡ true }
     ensures { result.items ≡ map cut_said numbers.now }
 {
+    // Pushing a cut takes a mention of the type in it: the prover has to have seen it.
+    let _seen: Option<CutKind> = None;
     let mut cuts = ArrayVec::new_in(());
     for cut in numbers {
         cuts.push(cut_of(cut));
@@ -107,10 +109,11 @@ fn cuts_of(numbers: &[NmsCut]) -> Certificate
     cuts
 }
 
-/// The leg that numbers say.
-fn leg_of(leg: &NmsLeg) -> Leg
+/// The leg that numbers say, of so many participants.
+fn leg_of(parts: usize, leg: &NmsLeg) -> Leg
+    requires parts { parts ≤ 32 }
     requires range { is_leg leg.now ≡ true }
-    requires there { is_there 32 leg.now ≡ true }
+    requires there { is_there parts leg.now ≡ true }
     ensures { result ≡ leg_said leg.now }
 {
     Leg {

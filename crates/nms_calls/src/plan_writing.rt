@@ -1,7 +1,8 @@
 //! A plan and its certificate written as numbers: `specs/PlanNumbers`.
-ghost use Rattle.std.specs.Prelude.{◌≡◌, ◌≤◌, ◌≤ℤ◌, ◌^◌, pos, neg_ℤ, All, length};
+ghost use Rattle.std.specs.Prelude.{◌≡◌, ◌≤◌, ◌≤ℤ◌, ◌^◌, pos, neg_ℤ, All, slice_get, unsigned_abs};
+ghost use Rattle.std.specs.Int.{int_div_euclid, int_rem_euclid};
 ghost use Rattle.nms_sweep.specs.Choice.{IsInRange};
-ghost use Rattle.nms_calls.specs.PlanNumbers.{AreCuts, AreLegs, AreNumbersOf, cost_said, cut_at, cut_numbers, kind_number, leg_at, leg_numbers, marginal_of};
+ghost use Rattle.nms_calls.specs.PlanNumbers.{AreCuts, AreLegs, AreNumbersOf, cut_at, cut_numbers, leg_at, leg_numbers};
 
 use crate::plan_numbers::{NmsCut, NmsLeg, NmsPlan};
 use nms_quote::{Certificate, Cut, CutKind, Leg, Plan};
@@ -29,7 +30,7 @@ fn put_legs(legs: &[Leg], places: &mut [NmsLeg; 32])
     ensures { AreLegs places.new legs.now }
 {
     for place in 0..32 {
-        places[place] = leg_at(legs.get(place));
+        places[place] = leg_at(legs, place);
     }
 }
 
@@ -39,26 +40,41 @@ fn put_cuts(cuts: &[Cut], places: &mut [NmsCut; 32])
     ensures { AreCuts places.new cuts.now }
 {
     for place in 0..32 {
-        places[place] = match cuts.get(place) {
-            Some(cut) => cut_numbers(cut),
-            None => NmsCut::NONE,
-        };
+        places[place] = cut_at(cuts, place);
     }
 }
 
-/// The numbers of a leg, all 0 where there is none.
-fn leg_at(leg: Option<&Leg>) -> NmsLeg
-    ensures { result ≡ leg_at leg }
+/// The numbers of the leg at a place, all 0 where there is none.
+fn leg_at(legs: &[Leg], place: usize) -> NmsLeg
+    ensures { result ≡ leg_at (slice_get legs.now place) }
 {
-    match leg {
-        Some(leg) => NmsLeg {
-            price: leg.price.get(),
-            shares: leg.shares.get(),
-            part: leg.part.get(),
-            spare_a: 0,
-            spare_b: 0,
-        },
+    match legs.get(place) {
+        Some(leg) => leg_numbers(leg),
         None => NmsLeg::NONE,
+    }
+}
+
+/// The numbers of the cut at a place, all 0 where there is none.
+fn cut_at(cuts: &[Cut], place: usize) -> NmsCut
+    requires { All (λ cut. IsInRange cut.kind) cuts.now }
+    ensures { result ≡ cut_at (slice_get cuts.now place) }
+{
+    match cuts.get(place) {
+        Some(cut) => cut_numbers(cut),
+        None => NmsCut::NONE,
+    }
+}
+
+/// The numbers of a leg.
+fn leg_numbers(leg: &Leg) -> NmsLeg
+    ensures { result ≡ leg_numbers leg.now }
+{
+    NmsLeg {
+        price: leg.price.get(),
+        shares: leg.shares.get(),
+        part: leg.part.get(),
+        spare_a: 0,
+        spare_b: 0,
     }
 }
 
@@ -90,11 +106,15 @@ fn marginal_number(marginal: Money) -> i64
 }
 
 /// The upper half of an amount.
-fn cost_high(cost: Money) -> i64 {
+fn cost_high(cost: Money) -> i64
+    ensures { result ≡ int_div_euclid cost (pos (2 ^ 64)) }
+{
     cost.get().div_euclid(1 << 64) as i64
 }
 
 /// The lower half.
-fn cost_low(cost: Money) -> u64 {
+fn cost_low(cost: Money) -> u64
+    ensures { result ≡ unsigned_abs (int_rem_euclid cost (pos (2 ^ 64))) }
+{
     cost.get().rem_euclid(1 << 64) as u64
 }

@@ -1,0 +1,28 @@
+//! Changes of a board.
+ghost use Rattle.std.specs.Prelude.{◌≡◌, ◌≢◌, Some};
+ghost use Rattle.nms_calls.specs.Codes.{answer_of};
+ghost use Rattle.nms_calls.specs.Opened.{Grew, apply_fault, apply_left};
+ghost use Rattle.nms_c.specs.Behind.{Behind};
+ghost use Rattle.nms_c.specs.Held.{open_mark};
+
+use crate::handle::NmsBoard;
+use crate::taking::{CLOSED, give, take};
+use nms_calls::{NmsChange, answer};
+use std::alloc::Global;
+
+/// Applies one change.
+#[unsafe(no_mangle)]
+pub extern "C" fn nms_raw_apply(alloc: Global, board: &mut NmsBoard, change: &NmsChange) -> u32
+    ensures closed { board.old.mark ≢ open_mark → (result ≡ 15) × (board.new ≡ board.old) }
+    ensures open { board.old.mark ≡ open_mark → board.new.mark ≡ open_mark }
+    ensures answer { board.old.mark ≡ open_mark → Behind board.old.value (λ opened. result ≡ answer_of (apply_fault opened change.now)) }
+    ensures left { board.old.mark ≡ open_mark → Behind board.old.value (λ opened. board.new.value ≡ Some (apply_left opened change.now)) }
+    ensures grew { result ≡ 0 → Behind board.old.value (λ old. Behind board.new.value (λ new. Grew change.now old new)) }
+{
+    let Some(mut kept) = take(alloc, board) else {
+        return CLOSED;
+    };
+    let code = answer(kept.apply(change));
+    give(board, kept);
+    code
+}

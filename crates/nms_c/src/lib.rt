@@ -1,0 +1,11 @@
+//! The static library that C, C++, Rust and Python link: `include/nms.h` declares its functions. Each takes what stands
+//! behind a handle, makes one call of `nms_calls`, and puts it back.
+#![tactic(auto)]
+
+mod changing;
+mod handle;
+mod looking;
+mod loose;
+mod opening;
+mod planning;
+mod taking;

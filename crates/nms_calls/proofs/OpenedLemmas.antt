@@ -1,0 +1,51 @@
+-- What is left by a change, and what a plan's numbers are of.
+use Rattle.std.proofs.Common.{◌≡◌, ◌∙◌, ◌<◌, Bool, true, List, Result, Ok, sym, ap, subst, if◌then◌else◌}
+use Rattle.std.proofs.lemmas.Bool.{lt-ltb}
+use Rattle.std.specs.Result.{IfOk}
+use Rattle.nms_quote.specs.Terms.{Terms}
+use Rattle.nms_quote.specs.declared.certificate.Cut.{Cut}
+use Rattle.nms_quote.specs.declared.change.Change.{Change}
+use Rattle.nms_quote.specs.declared.plan.Plan.{Plan}
+use Rattle.nms_board.specs.Cells.{Board, after}
+use Rattle.nms_board.specs.Shown.{seen_on}
+use Rattle.nms_fee_book.specs.Fees.{Charges}
+use Rattle.nms_rules.specs.Accepted.{IsAccepted}
+use Rattle.nms_rules.specs.Assignment.{IsOptimal}
+use Rattle.nms_rules.specs.Faultless.{given_by}
+use Rattle.nms_rules.specs.Usable.{usable}
+use Rattle.nms_sweep.specs.Planned.{Planned}
+use Rattle.nms_calls.specs.ChangeSaid.{change_said}
+use Rattle.nms_calls.specs.Opened.{Opened, apply_left, has_room, left_on, sizes_on, with_change}
+use Rattle.nms_calls.specs.OrderSaid.{order_said}
+use Rattle.nms_calls.specs.PlanNumbers.{AreNumbersOf, IsBestPlan}
+use Rattle.nms_calls.specs.declared.call_fault.CallFault.{CallFault}
+use Rattle.nms_calls.specs.declared.change_numbers.NmsChange.{NmsChange}
+use Rattle.nms_calls.specs.declared.order_numbers.NmsOrder.{NmsOrder}
+use Rattle.nms_calls.specs.declared.plan_numbers.NmsPlan.{NmsPlan}
+
+-- where there is room for the change that numbers say, it is what is left
+pub applied-left : (opened : Opened) (n : NmsChange) (change : Change) (board : Board) → change_said (sizes_on opened) n ≡ Ok change
+    → opened.board.applied < opened.settings.tape_limit → board ≡ after opened.board change
+    → record { settings = opened.settings; board = board } ≡ apply_left opened n
+applied-left opened n change board said room is =
+    let made : Board → Opened = λ b. record { settings = opened.settings; board = b } in
+    let chosen : Bool → Opened = λ b. if b then with_change opened change else opened in
+    let roomy : has_room opened ≡ true = lt-ltb opened.board.applied opened.settings.tape_limit room in
+    ap made is ∙ sym (ap (left_on opened) said ∙ ap chosen roomy)
+
+-- numbers of a plan that is accepted for the order that numbers say are those of the best plan
+pub best-when : (opened : Opened) (n : NmsOrder) (order : Terms) (fees : Charges) (made : Planned) (plan : Plan) (cuts : List Cut) (out : NmsPlan)
+    → order_said (sizes_on opened) n ≡ Ok order → fees ≡ opened.settings.fees → plan ≡ made.plan → cuts ≡ made.cuts
+    → AreNumbersOf plan cuts out
+    → IsAccepted (seen_on opened.board order.sym) order fees made.plan made.cuts
+    → IsOptimal (usable (seen_on opened.board order.sym) order fees) order.shares (given_by made.plan.legs.items)
+    → IfOk (order_said (sizes_on opened) n) (λ order. IsBestPlan opened.board opened.settings.fees order out)
+best-when opened n order fees made plan cuts out said of_fees of_plan of_cuts numbers accepted optimal =
+    let best : IsBestPlan opened.board opened.settings.fees order out = record {
+      plan = made.plan;
+      certificate = made.cuts;
+      numbers = subst (λ (p : Plan). AreNumbersOf p made.cuts out) of_plan (subst (λ (cs : List Cut). AreNumbersOf plan cs out) of_cuts numbers);
+      accepted = subst (λ (f : Charges). IsAccepted (seen_on opened.board order.sym) order f made.plan made.cuts) of_fees accepted;
+      optimal = subst (λ (f : Charges). IsOptimal (usable (seen_on opened.board order.sym) order f) order.shares (given_by made.plan.legs.items)) of_fees optimal;
+    } in
+    subst (λ (r : Result Terms CallFault). IfOk r (λ order. IsBestPlan opened.board opened.settings.fees order out)) (sym said) best

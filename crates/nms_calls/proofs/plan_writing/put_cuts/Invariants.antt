@@ -1,0 +1,7 @@
+-- `put_cuts`: the places up to here are written.
+use Rattle.std.proofs.Common.{◌≡◌, ◌<◌, ℕ, Some, length, slice_get}
+use Rattle.nms_calls.specs.PlanNumbers.{cut_at}
+use Rattle.nms_calls.proofs.plan_writing.put_cuts.Given as goal
+
+abbrev pub invariant-loop-place : goal.invariant-loop-place
+invariant-loop-place l = (length l.places ≡ 32) × ((place : ℕ) → place < l.place → slice_get l.places place ≡ Some (cut_at (slice_get l.cuts place)))
