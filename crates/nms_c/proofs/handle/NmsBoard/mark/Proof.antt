@@ -1,5 +1,5 @@
 -- `mark` reads the word and leaves the rest.
-use Rattle.std.proofs.Common.{◌≡◌, List, [], ◌∷◌, refl, sym, ap, ◌∙◌, w64}
+use Rattle.std.proofs.Common.{List, [], ◌∷◌, refl, sym, w64}
 use Rattle.std.proofs.raw_atomic.Walks.{proved}
 use base.Fraction.{full_share}
 use base.Fml.{ftrue, flft}
