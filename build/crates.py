@@ -1,8 +1,13 @@
 #!/usr/bin/env python3
-"""Proves and builds a program and the crates below it, side by side, and reports on standard error how far it is.
+"""Proves and builds a program, or the library for other languages, and the crates below it, side by side, and reports on
+standard error how far it is.
 
-    build/crates.py PROGRAM             builds nms_tool or nms_review
-    build/crates.py --expect PROGRAM    prints what a build takes, and builds nothing
+    build/crates.py NAME             builds nms_tool, nms_review or nms_c
+    build/crates.py --expect NAME    prints what a build takes, and builds nothing
+    build/crates.py --last NAME      builds NAME alone, over the libraries that `rt ci` left
+
+Of `nms_c`, a static library, it makes `libnms.a`: the proved archive with the toolchain's object through which it calls
+the C library's malloc, realloc and free. Of that archive it links `libnms.so`, by the toolchain's own linker.
 
 Each crate is checked and built from nothing, and its library keeps what it states and no proofs, as `rt ci` does it. A
 check over such libraries is cheaper than one over those of `rt lib`, the more so the more crates lie below. They stand in
@@ -11,8 +16,9 @@ built from the same sources is not built again. A library comes to its place onc
 what was under way.
 
 `build/times` has each crate's processor seconds, as measured on one machine, the jobs that are cheapest for it, and the
-megabytes of its library. What this build took is written to `crates/PROGRAM/out/times`.
+megabytes of its library. What this build took is written to `crates/NAME/out/times`.
 """
+import contextlib
 import functools
 import heapq
 import os
@@ -114,7 +120,8 @@ class Plan:
 class Toolchain:
     """The toolchain that `rt` belongs to: its compiler, and the words by which its command `rt` calls it."""
 
-    def __init__(self):
+    def __init__(self, built="built"):
+        self.built = built
         page = subprocess.run(["rt", "doc"], stdout=subprocess.PIPE, check=True, text=True).stdout.split()[0]
         self.folder = os.path.dirname(page)
         sys.path.insert(0, f"{self.folder}/bin")
@@ -130,14 +137,14 @@ class Toolchain:
         if folder not in self.known:
             self.known[folder] = self.rtlib.Crate(folder, TOP, self.known)
             for it in self.known.values():
-                it.rlib = f"{it.folder}/out/built/{it.name}.rlib"
+                it.rlib = f"{it.folder}/out/{self.built}/{it.name}.rlib"
         return self.known[folder]
 
     def build(self, name, jobs, to):
         """The command that proves a crate from nothing and builds it."""
         crate = self.crate(name)
         words = crate.words(["--jobs", str(jobs)], keeps=False)
-        if crate.is_program:
+        if crate.is_program or crate.is_static:
             words += ["--toolchain", f"{self.folder}/toolchain", "--backend", "llvm"]
         else:
             words += ["--statements"]
@@ -148,6 +155,30 @@ class Toolchain:
         words = ["--target", "x86_64-unknown-linux-gnu", "--toolchain", f"{self.folder}/toolchain", "-o", to, made]
         libraries = [f"{self.folder}/c/{it}" for it in ("libos_c.a", "liblibc_c.a")]
         subprocess.run([f"{self.folder}/bin/rattle-link", *words, *libraries], check=True)
+
+    def join(self, made, out):
+        """Makes `libnms.a` of an archive that was built, and `libnms.so` of that. Returns whether there is a `libnms.so`."""
+        tools, archive, shared = f"{self.folder}/toolchain/bin", f"{out}/libnms.a", f"{out}/libnms.so"
+        shutil.copy(made, f"{made}.new")
+        room = os.path.dirname(made)
+        subprocess.run([f"{tools}/llvm-ar", "x", f"{self.folder}/c/liblibc_c.a"], cwd=room, check=True)
+        objects = sorted(it for it in os.listdir(room) if it.endswith(".o"))
+        subprocess.run([f"{tools}/llvm-ar", "rcs", f"{made}.new", *objects], cwd=room, check=True)
+        # It gives its callers the functions of nms.h, and needs the C library alone.
+        with open(f"{room}/exports", "w", encoding="ascii") as file:
+            file.write("{ global: nms_*; local: *; };\n")
+        words = ["-shared", "-soname", "libnms.so", "-z", "defs", "--version-script", "exports", "--whole-archive", f"{made}.new"]
+        words += ["--no-whole-archive", f"{self.folder}/toolchain/lib/libc.so.6", "-o", "libnms.so"]
+        with contextlib.suppress(FileNotFoundError):
+            os.remove(shared)
+        try:
+            linked = subprocess.run([f"{tools}/ld.lld", *words], cwd=room, check=False).returncode == 0
+        except OSError:
+            linked = False
+        if linked:
+            os.replace(f"{room}/libnms.so", shared)
+        os.replace(f"{made}.new", archive)
+        return linked
 
 
 class Stamps:
@@ -182,13 +213,13 @@ class Stamps:
 
 
 class Build:
-    def __init__(self, plan):
-        self.plan, self.lanes, self.tools = plan, lanes(), Toolchain()
+    def __init__(self, plan, last=False):
+        self.plan, self.lanes, self.tools = plan, lanes(), Toolchain("rlib" if last else "built")
         self.out = f"{TOP}/crates/{plan.program}/out"
         self.stamps = Stamps(plan, self.tools)
         self.left, self.done, self.running, self.failed, self.took = [], [], {}, False, []
         for name in plan.all:
-            is_built = name != plan.program and not {*plan.crates[name]} & {*self.left} and self.stamps.is_built(name)
+            is_built = name != plan.program and not {*plan.crates[name]} & {*self.left} and (last or self.stamps.is_built(name))
             (self.done if is_built else self.left).append(name)
         self.spoke = self.began = time.monotonic()
 
@@ -204,7 +235,8 @@ class Build:
 
     def made(self, name):
         """Where a crate is built, before it comes to its place."""
-        return f"{TOP}/crates/{name}/out/made/{name}" + (".o" if name == self.plan.program else ".rlib")
+        crate = self.tools.crate(name)
+        return f"{TOP}/crates/{name}/out/made/{name}" + (".o" if crate.is_program else ".a" if crate.is_static else ".rlib")
 
     def start(self, name):
         """Starts the proof of a crate."""
@@ -223,6 +255,10 @@ class Build:
         made = os.path.dirname(to)
         if crate.is_program:
             self.tools.link(to, f"{self.out}/{name}")
+            shutil.rmtree(made)
+        elif crate.is_static:
+            if not self.tools.join(to, self.out):
+                self.tell("libnms.so was not made: the toolchain has no linker that could make it")
             shutil.rmtree(made)
         else:
             self.stamps.write(name, made)
@@ -295,12 +331,13 @@ def main(words):
         plan = Plan(words[1])
         print(f"{len(plan.all)} crates, {plan.expects(lanes())}, {plan.megabytes() / 1000:.1f} GB of disk")
         return 0
-    if len(words) != 1:
+    last = words[:1] == ["--last"]
+    if len(words) != 1 + last or words[-1] not in listed():
         sys.exit(__doc__)
-    plan = Plan(words[0])
+    plan = Plan(words[-1])
     os.makedirs(f"{TOP}/crates/{plan.program}/out", exist_ok=True)
     signal.signal(signal.SIGTERM, lambda *_: sys.exit(1))
-    build = Build(plan)
+    build = Build(plan, last)
     try:
         return 0 if build.run() else 1
     except KeyboardInterrupt:
