@@ -1,0 +1,291 @@
+"""The proved quote board and sweep planner for Python 3.8 and later, over libnms.so by ctypes.
+
+    import nms
+    board = nms.Board(open("examples/builtin.toml", "rb").read())
+    board.apply_text("Q,N,ABC,A,9.99,200,10.00,300")
+    print(board.best("ABC").offer)
+
+libnms.so is taken from NMS_LIBRARY if that is set, else from where ./nms_lib builds it in this repository.
+
+Prices are whole 1/10,000 dollars, sizes are shares, money is whole nanodollars: int, and no float anywhere.
+"""
+import ctypes
+import enum
+import os
+from ctypes import POINTER, Structure, byref, c_char, c_int64, c_size_t, c_uint8, c_uint16, c_uint32, c_uint64, c_void_p
+from typing import Dict, List, NamedTuple, Optional, Tuple
+
+__all__ = ["Board", "Doubt", "Market", "NmsError", "OrderSide", "Plan", "Row", "Best", "Leg", "Order"]
+
+_HERE = os.path.dirname(os.path.realpath(__file__))
+_BUILT = os.path.join(_HERE, "..", "..", "crates", "nms_c", "out", "libnms.so")
+_ABI, _MOST_PARTS = 1, 32
+_OK, _DOUBTED = 0, 16
+
+
+# The structs of nms.h. Nothing compares these with the library but _SIZES below.
+
+class _Board(Structure):
+    _fields_ = [("mark", c_uint64), ("at", c_void_p)]
+
+
+class _Row(Structure):
+    _fields_ = [("price", c_uint64), ("receipt", c_uint64), ("size", c_uint32), ("part", c_uint8), ("is_protected", c_uint8),
+                ("spare", c_uint16)]
+
+
+class _Best(Structure):
+    _fields_ = [("version", c_uint64), ("bid", _Row), ("offer", _Row), ("market", c_uint32), ("spare", c_uint32)]
+
+
+class _Order(Structure):
+    _fields_ = [("limit", c_uint64), ("shares", c_uint32), ("self_help", c_uint32), ("sym", c_uint16), ("side", c_uint8),
+                ("manual", c_uint8), ("spare", c_uint32)]
+
+
+class _Leg(Structure):
+    _fields_ = [("price", c_uint64), ("shares", c_uint32), ("part", c_uint8), ("spare_a", c_uint8), ("spare_b", c_uint16)]
+
+
+class _Cut(Structure):
+    _fields_ = [("price", c_uint64), ("marginal", c_int64), ("kind", c_uint32), ("spare", c_uint32)]
+
+
+class _Plan(Structure):
+    _fields_ = [("version", c_uint64), ("cost_low", c_uint64), ("cost_high", c_int64), ("filled", c_uint32), ("legs", c_uint32),
+                ("cuts", c_uint32), ("spare", c_uint32), ("leg", _Leg * _MOST_PARTS), ("cut", _Cut * _MOST_PARTS)]
+
+
+class _Doubt(Structure):
+    _fields_ = [("doubt", c_uint32), ("breach", c_uint32), ("part", c_uint32), ("cut", c_uint32)]
+
+
+class _Counts(Structure):
+    _fields_ = [("applied", c_uint64), ("room", c_uint64), ("parts", c_uint32), ("syms", c_uint32)]
+
+
+_SIZES = {_Board: 16, _Row: 24, _Best: 64, _Order: 24, _Leg: 16, _Cut: 24, _Plan: 1320, _Doubt: 16, _Counts: 24}
+
+# The arguments of each function that is used here. Every one returns a code.
+_CALLS = {
+    "nms_abi": [],
+    "nms_raw_code_text": [c_uint32, POINTER(c_char), c_size_t, POINTER(c_size_t)],
+    "nms_raw_open": [POINTER(c_char), c_size_t, POINTER(_Board)],
+    "nms_raw_close": [POINTER(_Board)],
+    "nms_raw_counts_of": [POINTER(_Board), POINTER(_Counts)],
+    "nms_raw_find_part": [POINTER(_Board), POINTER(c_char), c_size_t, POINTER(c_uint8)],
+    "nms_raw_find_sym": [POINTER(_Board), POINTER(c_char), c_size_t, POINTER(c_uint16)],
+    "nms_raw_part_name": [POINTER(_Board), c_uint8, POINTER(c_char), c_size_t, POINTER(c_size_t)],
+    "nms_raw_apply_text": [POINTER(_Board), POINTER(c_char), c_size_t],
+    "nms_raw_best_of": [POINTER(_Board), c_uint16, POINTER(_Best)],
+    "nms_raw_plan_order": [POINTER(_Board), POINTER(_Order), POINTER(_Plan)],
+    "nms_raw_confirm": [POINTER(_Board), POINTER(_Order), POINTER(_Plan), POINTER(_Doubt)],
+    "nms_raw_plan_text": [POINTER(_Board), POINTER(_Order), POINTER(_Plan), POINTER(c_char), c_size_t, POINTER(c_size_t)],
+    "nms_raw_read_plan": [POINTER(_Board), POINTER(c_char), c_size_t, POINTER(_Order), POINTER(_Plan)],
+}
+
+
+def _load() -> ctypes.CDLL:
+    """The library, with the types of its functions; refuses one of another layout."""
+    path = os.environ.get("NMS_LIBRARY", _BUILT)
+    if not os.path.exists(path):
+        raise ImportError(f"{path} is not there: ./nms_lib builds it")
+    library = ctypes.CDLL(path)
+    for name, arguments in _CALLS.items():
+        function = getattr(library, name)
+        function.argtypes, function.restype = arguments, c_uint32
+    if library.nms_abi() != _ABI or any(ctypes.sizeof(it) != size for it, size in _SIZES.items()):
+        raise ImportError(f"{path} is of another version than nms.py")
+    return library
+
+
+_LIBRARY = _load()
+
+
+class NmsError(Exception):
+    """A call that was refused: `code` is one of `enum nms_code` of nms.h."""
+
+    def __init__(self, code: int) -> None:
+        text, size = ctypes.create_string_buffer(128), c_size_t()
+        _LIBRARY.nms_raw_code_text(code, text, len(text), byref(size))
+        super().__init__(f"code {code}: {text.raw[:size.value].decode()}")
+        self.code = code
+
+
+def _must(code: int) -> None:
+    if code != _OK:
+        raise NmsError(code)
+
+
+class OrderSide(enum.IntEnum):
+    """Whether an order buys or sells."""
+    BUY, SELL = 0, 1
+
+
+class Market(enum.IntEnum):
+    """How the best bid and the best offer stand to each other."""
+    EMPTY, ONE_SIDED, NORMAL, LOCKED, CROSSED = range(5)
+
+
+class Row(NamedTuple):
+    """A quotation of at least one round lot."""
+    part: str
+    price: int
+    size: int
+    receipt: int
+    is_protected: bool
+
+
+class Best(NamedTuple):
+    """The best rows of a symbol; None where a side has none."""
+    version: int
+    market: Market
+    bid: Optional[Row]
+    offer: Optional[Row]
+
+
+class Leg(NamedTuple):
+    """What goes to one participant, at the price of its quotation."""
+    part: str
+    price: int
+    shares: int
+
+
+class Order(NamedTuple):
+    """What is to be traded. `manual`: also with manual quotations. `self_help`: participants that are passed over."""
+    side: OrderSide
+    sym: str
+    shares: int
+    limit: int
+    manual: bool = False
+    self_help: Tuple[str, ...] = ()
+
+
+class Doubt(NamedTuple):
+    """Why a plan is not confirmed: 1 to 7 for K1 to K7, and of K1 the breach, 1 to 12 for P1 to P12."""
+    doubt: int
+    breach: int
+
+
+class Plan:
+    """A plan with the numbers of the order that it was made for, and its certificate."""
+
+    def __init__(self, board: "Board", order: _Order, raw: _Plan) -> None:
+        self._order, self._raw = order, raw
+        self.version: int = raw.version
+        self.filled: int = raw.filled
+        # Nanodollars with fees; negative for a sale.
+        self.cost: int = (raw.cost_high << 64) + raw.cost_low
+        self.legs: List[Leg] = [Leg(board.part_name(it.part), it.price, it.shares) for it in raw.leg[:raw.legs]]
+
+
+class Board:
+    """A board, for one thread at a time. It is closed by `close`, by `with`, or when nothing holds it any more."""
+
+    def __init__(self, setup: bytes) -> None:
+        """Opens a board from the text of a setup. Only this call takes memory of the library."""
+        self._board = _Board()
+        self._parts: Dict[str, int] = {}
+        self._syms: Dict[str, int] = {}
+        self._is_open = False
+        _must(_LIBRARY.nms_raw_open(setup, len(setup), byref(self._board)))
+        self._is_open = True
+
+    def close(self) -> None:
+        """Gives the board's memory back. Every other call is refused from then on."""
+        if self._is_open:
+            self._is_open = False
+            _must(_LIBRARY.nms_raw_close(byref(self._board)))
+
+    def __enter__(self) -> "Board":
+        return self
+
+    def __exit__(self, *_: object) -> None:
+        self.close()
+
+    def __del__(self) -> None:
+        if getattr(self, "_is_open", False):
+            self.close()
+
+    def __copy__(self) -> "Board":
+        raise TypeError("a board is never copied")
+
+    __deepcopy__ = __reduce_ex__ = lambda self, *_: self.__copy__()
+
+    def part(self, name: str) -> int:
+        """The number of a participant."""
+        if name not in self._parts:
+            text, number = name.encode(), c_uint8()
+            _must(_LIBRARY.nms_raw_find_part(byref(self._board), text, len(text), byref(number)))
+            self._parts[name] = number.value
+        return self._parts[name]
+
+    def sym(self, name: str) -> int:
+        """The number of a symbol."""
+        if name not in self._syms:
+            text, number = name.encode(), c_uint16()
+            _must(_LIBRARY.nms_raw_find_sym(byref(self._board), text, len(text), byref(number)))
+            self._syms[name] = number.value
+        return self._syms[name]
+
+    def part_name(self, part: int) -> str:
+        """The name of a participant's number."""
+        text, size = ctypes.create_string_buffer(9), c_size_t()
+        _must(_LIBRARY.nms_raw_part_name(byref(self._board), part, text, len(text), byref(size)))
+        return text.raw[:size.value].decode()
+
+    def applied(self) -> int:
+        """How many changes were applied: the version that answers rest on."""
+        counts = _Counts()
+        _must(_LIBRARY.nms_raw_counts_of(byref(self._board), byref(counts)))
+        return counts.applied
+
+    def apply_text(self, record: str) -> None:
+        """Applies the change that a record says, as `Q,N,ABC,A,9.99,200,10.00,300`. A refused one alters nothing."""
+        text = record.encode()
+        _must(_LIBRARY.nms_raw_apply_text(byref(self._board), text, len(text)))
+
+    def best(self, sym: str) -> Best:
+        """The best bid and the best offer of a symbol."""
+        best = _Best()
+        _must(_LIBRARY.nms_raw_best_of(byref(self._board), self.sym(sym), byref(best)))
+        return Best(best.version, Market(best.market), self._row(best.bid), self._row(best.offer))
+
+    def _row(self, row: _Row) -> Optional[Row]:
+        if row.size == 0:
+            return None
+        return Row(self.part_name(row.part), row.price, row.size, row.receipt, bool(row.is_protected))
+
+    def plan(self, order: Order) -> Plan:
+        """The best lawful plan for an order."""
+        numbers, plan = self._numbers(order), _Plan()
+        _must(_LIBRARY.nms_raw_plan_order(byref(self._board), byref(numbers), byref(plan)))
+        return Plan(self, numbers, plan)
+
+    def _numbers(self, order: Order) -> _Order:
+        bits = sum(1 << self.part(name) for name in set(order.self_help))
+        # ctypes cuts a number that is too large without a word: this one is refused here.
+        if not 0 <= order.shares < 2**32 or not 0 <= order.limit < 2**64:
+            raise NmsError(10)
+        return _Order(order.limit, order.shares, bits, self.sym(order.sym), order.side, order.manual)
+
+    def confirm(self, plan: Plan) -> Optional[Doubt]:
+        """None if the plan is lawful and the best one for its order on this board; else why it is not confirmed."""
+        doubt = _Doubt()
+        code = _LIBRARY.nms_raw_confirm(byref(self._board), byref(plan._order), byref(plan._raw), byref(doubt))
+        if code == _DOUBTED:
+            return Doubt(doubt.doubt, doubt.breach)
+        _must(code)
+        return None
+
+    def text(self, plan: Plan) -> str:
+        """The text of a plan and its certificate, as `nms_tool check` reads it."""
+        text, size = ctypes.create_string_buffer(8192), c_size_t()
+        _must(_LIBRARY.nms_raw_plan_text(byref(self._board), byref(plan._order), byref(plan._raw), text, len(text), byref(size)))
+        return text.raw[:size.value].decode()
+
+    def read(self, text: str) -> Plan:
+        """The plan that such a text says. It need not be lawful: `confirm` judges that."""
+        order, plan, data = _Order(), _Plan(), text.encode()
+        _must(_LIBRARY.nms_raw_read_plan(byref(self._board), data, len(data), byref(order), byref(plan)))
+        return Plan(self, order, plan)
