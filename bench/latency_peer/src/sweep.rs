@@ -7,16 +7,16 @@ use crate::types::*;
 
 /// A row that the order may trade with, and its unit cost.
 #[derive(Clone, Copy)]
-struct Usable {
-    part: Part,
-    price: Price,
-    size: u32,
-    protected: bool,
-    unit: i64,
+pub struct Usable {
+    pub part: Part,
+    pub price: Price,
+    pub size: u32,
+    pub protected: bool,
+    pub unit: i64,
 }
 
 /// By better price, then place.
-fn usable_rows(book: &Book, order: &Order, fees: &FeeBook) -> List<Usable, MAX_PARTS> {
+pub fn usable_rows(book: &Book, order: &Order, fees: &FeeBook) -> List<Usable, MAX_PARTS> {
     let side = order.side.contra();
     let mut rows: List<Usable, MAX_PARTS> = book
         .ranked(side)

@@ -1,0 +1,225 @@
+#!/usr/bin/env python3
+"""Tests the library for other languages, as a part of the gate: its header against its archive, its four callers, a hostile
+caller, and its answers beside the program's.
+
+    tests/library.py PROGRAM        PROGRAM is nms_tool, which the gate has built
+    NMS_OUT=FOLDER tests/library.py PROGRAM      takes libnms.a and libnms.so from there, and builds nothing
+
+It builds the archive over the libraries that `rt ci` left. What needs a compiler or a tool that this machine lacks is skipped,
+and named in a line; with CI=true a skip is a failure. It writes a line for each difference, and last `N passed, M failed`, or
+`N passed, M failed, K skipped`.
+"""
+import os
+import re
+import shutil
+import subprocess
+import sys
+import tempfile
+
+TOP = os.path.dirname(os.path.dirname(os.path.realpath(__file__)))
+# Bytes that the archive may have.
+MOST_BYTES = 300_000
+# Seconds that a program may take.
+MOST = 300
+# What counts requests for memory stands before the C library's own functions.
+WRAP = "-Wl," + ",".join(f"--wrap={it}" for it in ("malloc", "realloc", "calloc", "free"))
+WARNINGS = ["-Wall", "-Wextra", "-Werror"]
+
+
+class Count:
+    passed = failed = skipped = 0
+
+
+def check(what, holds, shown=""):
+    """Counts a test, and prints what differs."""
+    if holds:
+        Count.passed += 1
+    else:
+        Count.failed += 1
+        print(f"DIFFERS: {what}: {shown}"[:2000])
+    return holds
+
+
+def skip(what, lacks):
+    """Counts a test that this machine can't make."""
+    if os.environ.get("CI") == "true":
+        check(what, False, f"this machine has no {lacks}")
+    else:
+        Count.skipped += 1
+        print(f"skipped: {what}: this machine has no {lacks}")
+
+
+def run(words, **how):
+    """Runs a command, and gives its status and what it wrote, the error stream behind it."""
+    try:
+        ran = subprocess.run(words, stdout=subprocess.PIPE, stderr=subprocess.STDOUT, timeout=MOST, check=False, **how)
+    except subprocess.TimeoutExpired:
+        return 1, f"not done after {MOST} seconds"
+    return ran.returncode, ran.stdout.decode(errors="replace")
+
+
+def built(what, words):
+    """Whether a command that builds something did, without a warning."""
+    status, said = run(words)
+    return check(what, status == 0 and not said, said or f"status {status}")
+
+
+def counted(what, words):
+    """Runs a program that counts its own tests in its last line, and takes them over."""
+    status, said = run(words)
+    *lines, last = said.rstrip("\n").split("\n")
+    found = re.fullmatch(r"(\d+) passed, (\d+) failed", last)
+    for line in lines:
+        print(line if line.startswith("DIFFERS") else f"{what}: {line}")
+    if not found:
+        check(what, False, f"status {status}: {said[-1500:]}")
+        return
+    Count.passed += int(found[1])
+    Count.failed += int(found[2])
+    check(f"{what}: its status", status == int(found[2] != "0"), status)
+
+
+def prints(what, words, wanted, given=None, environment=None):
+    """Runs a caller, and compares what it prints with the file beside it."""
+    with open(f"{TOP}/{given}" if given else os.devnull, "rb") as stdin:
+        how = {"stdin": stdin, "stdout": subprocess.PIPE, "stderr": subprocess.PIPE, "timeout": MOST, "cwd": TOP}
+        ran = subprocess.run(words, check=False, env={**os.environ, **(environment or {})}, **how)
+    with open(f"{TOP}/{wanted}", "rb") as file:
+        text = file.read()
+    check(f"{what} prints {wanted}", (ran.returncode, ran.stdout, ran.stderr) == (0, text, b""), (ran.returncode, ran.stdout, ran.stderr))
+
+
+def tool(*names):
+    """The first of some commands that this machine has."""
+    return next((it for it in map(shutil.which, names) if it), None)
+
+
+class Library:
+    def __init__(self, room):
+        self.room, self.out = room, os.environ.get("NMS_OUT", f"{TOP}/crates/nms_c/out")
+        self.archive, self.shared = f"{self.out}/libnms.a", f"{self.out}/libnms.so"
+        self.cc, self.cxx = tool(os.environ.get("CC", "cc"), "gcc", "clang"), tool(os.environ.get("CXX", "c++"), "g++", "clang++")
+
+    def make(self):
+        """Builds the archive and the shared object, unless they are given."""
+        if "NMS_OUT" not in os.environ:
+            status, said = run([sys.executable, f"{TOP}/build/crates.py", "--last", "nms_c"])
+            if not check("the library is built", status == 0, said[-1500:]):
+                return False
+        there = [os.path.exists(it) for it in (self.archive, self.shared)]
+        return check("the archive and the shared object are there", all(there), there)
+
+    def c(self, name, to, *more):
+        """The command that builds a program of C with the library."""
+        return [self.cc, "-std=c11", *WARNINGS, "-I", f"{TOP}/include", *more, f"{TOP}/{name}", self.archive, "-o", f"{self.room}/{to}"]
+
+    def link(self):
+        """What the archive gives and needs."""
+        size = os.path.getsize(self.archive)
+        check(f"the archive has less than {MOST_BYTES} bytes", size < MOST_BYTES, size)
+        with open(f"{TOP}/include/nms.h", encoding="utf-8") as file:
+            declared = set(re.findall(r"^uint32_t (nms_\w+)\(", file.read(), re.M))
+        nm = tool("nm", "llvm-nm")
+        if not nm:
+            skip("the names of the library", "nm")
+            return
+        for file, flags in ((self.archive, ["-g"]), (self.shared, ["-D"])):
+            status, said = run([nm, *flags, file])
+            has = {it for kind, it in re.findall(r"\b([A-Z]) (\w+)", said) if kind == "T"}
+            needs = {it for kind, it in re.findall(r"\b([A-Z]) (\w+)", said) if kind == "U"} - has
+            own = {it for it in has if not it.startswith("rattle_")}
+            check(f"{os.path.basename(file)} has the functions of nms.h, and no others", own == declared, sorted(own ^ declared))
+            wanted = {"malloc", "realloc", "free", "memcpy", "memmove", "memset", "memcmp", "bcmp"}
+            check(f"{os.path.basename(file)} needs the C library alone", needs <= wanted, sorted(needs - wanted))
+
+    def header(self):
+        """The header's own assertions in C and in C++, and its structs beside what the library reads and writes."""
+        if not self.cc:
+            skip("the header in C", "C compiler")
+            return
+        if built("tests/sizes.c is built", self.c("tests/sizes.c", "sizes", "-O1", "-pedantic")):
+            counted("the header beside the library", [f"{self.room}/sizes", f"{TOP}/examples/builtin.toml"])
+        if not self.cxx:
+            skip("the header in C++", "C++ compiler")
+            return
+        with open(f"{self.room}/header.cpp", "w", encoding="ascii") as file:
+            file.write("#include <nms.h>\nint main() { return nms_abi() != NMS_ABI; }\n")
+        for standard in ("c++11", "c++20"):
+            words = [self.cxx, f"-std={standard}", *WARNINGS, "-pedantic", "-I", f"{TOP}/include", f"{self.room}/header.cpp", self.archive]
+            if built(f"the header is taken as {standard}", [*words, "-o", f"{self.room}/header"]):
+                check("a program of C++ is of the library's layout", run([f"{self.room}/header"])[0] == 0)
+
+    def callers(self):
+        """Each caller, with what it must print."""
+        setup = "examples/builtin.toml"
+        if not self.cc:
+            skip("the caller in C", "C compiler")
+        elif built("examples/c/board.c is built", self.c("examples/c/board.c", "board", "-pedantic")):
+            prints("the caller in C", [f"{self.room}/board", setup], "examples/c/board.out")
+        if not self.cxx:
+            skip("the caller in C++", "C++ compiler")
+        else:
+            words = [self.cxx, "-std=c++17", *WARNINGS, "-pedantic", "-I", f"{TOP}/include", f"{TOP}/examples/cpp/router.cpp", self.archive]
+            if built("examples/cpp/router.cpp is built", [*words, "-o", f"{self.room}/router"]):
+                prints("the caller in C++", [f"{self.room}/router", setup], "examples/cpp/router.out", "examples/cpp/day.feed")
+        self.rust(setup)
+        environment = {"NMS_LIBRARY": self.shared, "PYTHONDONTWRITEBYTECODE": "1"}
+        prints("the caller in Python", [sys.executable, "examples/python/worked.py", setup], "examples/python/worked.out", None, environment)
+
+    def rust(self, setup):
+        if not (tool("cargo") and tool("rustc") and self.cc):
+            skip("the caller in Rust", "cargo or rustc")
+            return
+        # Built from a copy, so that cargo writes nothing into the repository.
+        folder = f"{self.room}/rust"
+        shutil.copytree(f"{TOP}/examples/rust", folder, ignore=shutil.ignore_patterns("target", "Cargo.lock"))
+        status, said = run(["cargo", "build", "--offline", "--quiet", "--manifest-path", f"{folder}/Cargo.toml", "--target-dir", f"{folder}/made"],
+                           env={**os.environ, "NMS_OUT": os.path.realpath(self.out), "RUSTFLAGS": "-D warnings"})
+        if check("examples/rust is built", status == 0 and not said, said):
+            prints("the caller in Rust", [f"{folder}/made/debug/nms", setup], "examples/rust/trade.out")
+
+    def hostile(self):
+        """The hostile caller: plain, under the sanitizers, and under valgrind."""
+        setup = f"{TOP}/examples/builtin.toml"
+        if not self.cc:
+            skip("the hostile caller", "C compiler")
+            return
+        if built("tests/hostile.c is built", self.c("tests/hostile.c", "hostile", "-g", "-O1", WRAP)):
+            counted("a hostile caller", [f"{self.room}/hostile", setup, "100000"])
+            if tool("valgrind"):
+                words = ["valgrind", "-q", "--error-exitcode=99", "--leak-check=full", "--errors-for-leak-kinds=all"]
+                counted("a hostile caller under valgrind", [*words, f"{self.room}/hostile", setup, "200"])
+            else:
+                skip("the hostile caller under valgrind", "valgrind")
+        sanitizers = ["-fsanitize=address,undefined", "-fno-sanitize-recover=all"]
+        with open(f"{self.room}/empty.c", "w", encoding="ascii") as file:
+            file.write("int main(void) { return 0; }\n")
+        status, _ = run([self.cc, *sanitizers, f"{self.room}/empty.c", "-o", f"{self.room}/empty"])
+        if status or run([f"{self.room}/empty"])[0]:
+            skip("the hostile caller under the sanitizers", "address and undefined-behaviour sanitizers")
+        elif built("tests/hostile.c is built with sanitizers", self.c("tests/hostile.c", "sane", "-g", "-O1", WRAP, *sanitizers)):
+            counted("a hostile caller under the sanitizers", [f"{self.room}/sane", setup, "50000"])
+
+    def parity(self, program):
+        if not self.cc:
+            skip("the library's answers beside the program's", "C compiler")
+            return
+        counted("the library beside the program", [sys.executable, f"{TOP}/tests/parity.py", program])
+
+
+def main(program):
+    with tempfile.TemporaryDirectory(prefix="nms-library-") as room:
+        library = Library(room)
+        if library.make():
+            for part in (library.link, library.header, library.callers, library.hostile):
+                part()
+            library.parity(program)
+    skipped = f", {Count.skipped} skipped" if Count.skipped else ""
+    print(f"{Count.passed} passed, {Count.failed} failed{skipped}")
+    return 1 if Count.failed else 0
+
+
+if __name__ == "__main__":
+    if len(sys.argv) != 2:
+        sys.exit(__doc__)
+    sys.exit(main(os.path.realpath(sys.argv[1])))
