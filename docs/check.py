@@ -90,7 +90,7 @@ class Crate:
 
 TREE = {name: Crate(name) for name in CRATES}
 TESTS = set().union(*(it.tests for it in TREE.values()))
-SCRIPTS = [it for it in FILES if re.search(r"\.(py|sh|toml|edit)$|^gate$|^nms_(tool|review)$|^build/|^crates\.txt$|Cargo|peer/", it)]
+SCRIPTS = [it for it in FILES if re.search(r"\.(py|sh|toml|edit|c|cpp|hpp|h|rs)$|^gate$|^nms_(tool|review|lib)$|^bench/latency$|^build/|^crates\.txt$|Cargo|peer/", it)]
 TITLES = "\n".join(re.findall(r"^(?:==|--) .*", "\n".join(read(it) for it in sorted(FILES) if it.endswith(".cases")), re.M))
 WORDS = set().union(*(it.words for it in TREE.values()), re.findall(r"\w+", TITLES),
                     *(re.findall(r"\w+", read(it)) for it in SCRIPTS if it != "docs/check.py"))
@@ -169,7 +169,7 @@ def has_path(page, path):
     path = path.rstrip("/.,").split("#")[0]
     if path.startswith("./"):
         path = path[2:]
-    places = ["", f"{os.path.dirname(page)}/", "examples/", "examples/cases/", "bench/", "build/", "docs/", "crates/"]
+    places = ["", f"{os.path.dirname(page)}/", "examples/", "examples/cases/", "bench/", "build/", "docs/", "tests/", "include/", "crates/"]
     places += [f"crates/{it}/{below}" for it in CRATES for below in ("", "src/", "specs/", "proofs/", "src/trials/")]
     for place in places:
         whole = os.path.normpath(place + path)
@@ -181,7 +181,9 @@ def has_path(page, path):
     return False
 
 
-KNOWN_ENDS = r"\.(rt|antt|py|sh|md|edit|cases|script|changes|plan|out|toml|report|txt|orders|feed_a|feed_b|planned|check)$"
+# The sources that a block of a language is text of.
+ENDS_OF = {"rust": (".rt", ".rs"), "c": (".c",), "cpp": (".cpp",), "python": (".py",)}
+KNOWN_ENDS = r"\.(rt|antt|py|sh|md|edit|cases|script|changes|plan|out|toml|report|txt|orders|feed|feed_a|feed_b|planned|check|c|cpp|hpp|h|rs)$"
 
 
 def is_path(word):
@@ -209,7 +211,7 @@ def check_names():
         text = prose(page)
         for span in SPAN.findall(text):
             named(page, span)
-        for word in re.findall(r"\b((?:examples|crates|docs|bench|build)/[\w./-]+)", "\n".join(re.findall(r"^    .*", text, re.M))):
+        for word in re.findall(r"\b((?:examples|crates|docs|bench|build|tests|include)/[\w./-]+)", "\n".join(re.findall(r"^    .*", text, re.M))):
             check(has_path(page, word) or "/out" in word, page, f"no file `{word}`")
         for span, crate in re.findall(r"`([A-Za-z_][\w:]*)`(?: and `\w+`)? of `(nms_\w+)`", text):
             if crate in TREE:
@@ -412,7 +414,7 @@ def sentences(text):
 
 
 def check_front():
-    """README.md is short; its sentences are; its blocks are files of examples/."""
+    """README.md is short; its sentences are; its blocks are files of examples/, and so are those of CALLING.md with no language."""
     page = "README.md"
     lines = read(page).count("\n")
     check(lines <= MOST_LINES, page, f"{lines} lines, and at most {MOST_LINES} are wanted")
@@ -420,12 +422,13 @@ def check_front():
         count = len(re.findall(r"[\w`][\w`.,:/()'-]*", sentence))
         check(count <= MOST_WORDS, page, f"a sentence of {count} words: {sentence[:60]}..")
     shown = {read(it) for it in FILES if it.startswith("examples/") and not it.endswith((".md", ".py"))}
-    for language, text in blocks(page):
-        check(bool(language) or text in shown, page, f"a block that is no file of examples/: {text[:40]!r}")
+    for page in (page, "docs/CALLING.md"):
+        for language, text in blocks(page):
+            check(bool(language) or text in shown, page, f"a block that is no file of examples/: {text[:40]!r}")
 
 
 def check_twice():
-    """The headline, speeds, limits and numbers of edits and of lines are said alike; a block of Rust is a crate's text."""
+    """The headline, speeds, limits and numbers of edits and of lines are said alike; a block of a language is text of a source."""
     headline = [re.findall(r"^> \**(.*?)\**$", read(it), re.M)[0] for it in ("README.md", "docs/HEADLINE.md")]
     check(headline[0] == headline[1], "README.md", "the headline is not that of docs/HEADLINE.md")
     number = r"\b\d{1,3}(?:,\d{3})+\b|\b\d\.\d+\b"
@@ -444,9 +447,9 @@ def check_twice():
         for count in re.findall(r"\b(\d+) edits\b", prose(page)):
             check(int(count) == edits, page, f"{count} edits, and there are {edits}")
         for language, text in blocks(page):
-            if language == "rust":
-                there = any(text.strip() in read(it) for it in FILES if it.endswith(".rt"))
-                check(there, page, f"a block of Rust that no crate has: {text.strip()[:60]!r}")
+            if language in ENDS_OF:
+                there = any(text.strip() in read(it) for it in FILES if it.endswith(ENDS_OF[language]))
+                check(there, page, f"a block that no source has: {text.strip()[:60]!r}")
 
 
 def kit_there():

@@ -149,7 +149,7 @@ class Library:
             if built(f"the header is taken as {standard}", [*words, "-o", f"{self.room}/header"]):
                 check("a program of C++ is of the library's layout", run([f"{self.room}/header"])[0] == 0)
 
-    def callers(self):
+    def callers(self, program):
         """Each caller, with what it must print."""
         setup = "examples/builtin.toml"
         if not self.cc:
@@ -165,6 +165,7 @@ class Library:
         self.rust(setup)
         environment = {"NMS_LIBRARY": self.shared, "PYTHONDONTWRITEBYTECODE": "1"}
         prints("the caller in Python", [sys.executable, "examples/python/worked.py", setup], "examples/python/worked.out", None, environment)
+        prints("a child process", [sys.executable, "examples/python/child.py", program], "examples/python/child.out")
 
     def rust(self, setup):
         if not (tool("cargo") and tool("rustc") and self.cc):
@@ -211,8 +212,10 @@ def main(program):
     with tempfile.TemporaryDirectory(prefix="nms-library-") as room:
         library = Library(room)
         if library.make():
-            for part in (library.link, library.header, library.callers, library.hostile):
-                part()
+            library.link()
+            library.header()
+            library.callers(program)
+            library.hostile()
             library.parity(program)
     skipped = f", {Count.skipped} skipped" if Count.skipped else ""
     print(f"{Count.passed} passed, {Count.failed} failed{skipped}")
