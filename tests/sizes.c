@@ -170,6 +170,10 @@ int main(int count, char **words)
               plan.cuts == 2 && plan.spare == 0, "nms_plan: version, filled, legs, cuts");
     holds(plan.leg[0].part == 2 && plan.leg[0].price == 100203 && plan.leg[0].shares == 602 && plan.leg[1].part == 3 &&
               plan.leg[1].price == 100811 && plan.leg[1].shares == 1015, "nms_leg: price, shares, part");
+    nms_order fewer = order;
+    nms_plan shorter;
+    fewer.shares = 500;
+    holds(nms_plan_order(&board, &fewer, &shorter) == NMS_OK && shorter.legs == 1 && shorter.cuts == 2, "nms_plan: legs is not cuts");
     int64_t cheap = 0, dear = 0;
     holds(nms_unit_cost(&board, 2, NMS_BUY, 100203, &cheap) == NMS_OK && cheap == 10020100000 && nms_unit_cost(&board, 3, NMS_BUY, 100811, &dear) == NMS_OK &&
               dear == 10084100000, "nms_unit_cost");
