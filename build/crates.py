@@ -335,7 +335,12 @@ def main(words):
     if len(words) != 1 + last or words[-1] not in listed():
         sys.exit(__doc__)
     plan = Plan(words[-1])
-    os.makedirs(f"{TOP}/crates/{plan.program}/out", exist_ok=True)
+    out = f"{TOP}/crates/{plan.program}/out"
+    os.makedirs(out, exist_ok=True)
+    for file in os.listdir(out) if last else ():
+        # What the launcher noted is of another build.
+        if file.endswith(".built_of"):
+            os.remove(f"{out}/{file}")
     signal.signal(signal.SIGTERM, lambda *_: sys.exit(1))
     build = Build(plan, last)
     try:
