@@ -64,16 +64,16 @@ def built(what, words):
     return check(what, status == 0 and not said, said or f"status {status}")
 
 
-def counted(what, words):
+def counted(what, words, **how):
     """Runs a program that counts its own tests in its last line, and takes them over."""
-    status, said = run(words)
+    status, said = run(words, **how)
     *lines, last = said.rstrip("\n").split("\n")
     found = re.fullmatch(r"(\d+) passed, (\d+) failed", last)
-    for line in lines:
-        print(line if line.startswith("DIFFERS") else f"{what}: {line}")
     if not found:
         check(what, False, f"status {status}: {said[-1500:]}")
         return
+    for line in lines:
+        print(line if line.startswith("DIFFERS") else f"{what}: {line}")
     Count.passed += int(found[1])
     Count.failed += int(found[2])
     check(f"{what}: its status", status == int(found[2] != "0"), status)
@@ -83,10 +83,14 @@ def prints(what, words, wanted, given=None, environment=None):
     """Runs a caller, and compares what it prints with the file beside it."""
     with open(f"{TOP}/{given}" if given else os.devnull, "rb") as stdin:
         how = {"stdin": stdin, "stdout": subprocess.PIPE, "stderr": subprocess.PIPE, "timeout": MOST, "cwd": TOP}
-        ran = subprocess.run(words, check=False, env={**os.environ, **(environment or {})}, **how)
+        try:
+            ran = subprocess.run(words, check=False, env={**os.environ, **(environment or {})}, **how)
+            came = (ran.returncode, ran.stdout, ran.stderr)
+        except subprocess.TimeoutExpired:
+            came = f"not done after {MOST} seconds"
     with open(f"{TOP}/{wanted}", "rb") as file:
         text = file.read()
-    check(f"{what} prints {wanted}", (ran.returncode, ran.stdout, ran.stderr) == (0, text, b""), (ran.returncode, ran.stdout, ran.stderr))
+    check(f"{what} prints {wanted}", came == (0, text, b""), came)
 
 
 def tool(*names):
@@ -205,7 +209,7 @@ class Library:
         if not self.cc:
             skip("the library's answers beside the program's", "C compiler")
             return
-        counted("the library beside the program", [sys.executable, f"{TOP}/tests/parity.py", program])
+        counted("the library beside the program", [sys.executable, f"{TOP}/tests/parity.py", program], env={**os.environ, "CC": self.cc})
 
 
 def main(program):
