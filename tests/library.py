@@ -183,6 +183,34 @@ class Library:
         if check("examples/rust is built", status == 0 and not said, said):
             prints("the caller in Rust", [f"{folder}/made/debug/nms", setup], "examples/rust/trade.out")
 
+    def page(self, program):
+        """Follows docs/CALLING.md word for word in a copy of what it names: each part's commands, and what the last must give."""
+        clone = f"{self.room}/clone"
+        os.makedirs(f"{clone}/crates/nms_c")
+        for folder in ("include", "examples"):
+            shutil.copytree(f"{TOP}/{folder}", f"{clone}/{folder}", ignore=shutil.ignore_patterns("target", "Cargo.lock"))
+        os.symlink(os.path.realpath(self.out), f"{clone}/crates/nms_c/out")
+        os.symlink(program, f"{clone}/nms_tool")
+        # The library is there already.
+        with open(f"{clone}/nms_lib", "w", encoding="ascii") as file:
+            file.write("#!/bin/sh\n")
+        os.chmod(f"{clone}/nms_lib", 0o755)
+        with open(f"{TOP}/docs/CALLING.md", encoding="utf-8") as file:
+            parts = re.findall(r"^## (.*)\n\n((?:    .*\n)+)\nmust give `([^`]*)`", file.read(), re.M)
+        check("docs/CALLING.md has a part for each language", len(parts) == 5, [it[0] for it in parts])
+        for name, commands, wanted in parts:
+            needs = {"gcc", "g++", "cargo", "python3"} & set(commands.split())
+            lacks = [it for it in sorted(needs) if not tool(it)]
+            if lacks:
+                skip(f"docs/CALLING.md, {name}", " and no ".join(lacks))
+                continue
+            for line in commands.replace("/tmp/", f"{self.room}/page_").splitlines():
+                ran = subprocess.run(["bash", "-c", line], cwd=clone, stdout=subprocess.PIPE, stderr=subprocess.PIPE, timeout=MOST, check=False)
+                if not check(f"docs/CALLING.md, {name}: {line.strip()}", ran.returncode == 0, ran.stderr):
+                    break
+            with open(f"{TOP}/{wanted}", "rb") as file:
+                check(f"docs/CALLING.md, {name}: it gives {wanted}", ran.stdout == file.read(), ran.stdout)
+
     def hostile(self):
         """The hostile caller: plain, under the sanitizers, and under valgrind."""
         setup = f"{TOP}/examples/builtin.toml"
@@ -219,6 +247,7 @@ def main(program):
             library.link()
             library.header()
             library.callers(program)
+            library.page(program)
             library.hostile()
             library.parity(program)
     skipped = f", {Count.skipped} skipped" if Count.skipped else ""
