@@ -102,7 +102,7 @@ static void *filled(int edge, size_t size, int fill)
 /* The last bytes of an edge, copied from somewhere. */
 static void *copied(int edge, const void *from, size_t size)
 {
-    return memcpy(edges[edge] - size, from, size);
+    return memmove(edges[edge] - size, from, size);
 }
 
 static int is_filled(const void *at, size_t size, int fill)
@@ -817,62 +817,83 @@ static void scatter(void *at, size_t size)
         ((unsigned char *)at)[i] = (unsigned char)(draw() >> 29);
 }
 
+/* Every struct, in and out, ends at a page that can't be touched. */
 static void random_bytes(unsigned long rounds)
 {
     nms_board board;
     unsigned long applied = 0, planned = 0, unconfirmed = 0;
     open_board(&board);
     for (unsigned long round = 0; round < rounds; ++round) {
-        nms_change change;
-        nms_order order;
-        nms_plan plan;
-        nms_doubt doubt;
+        nms_change *change = filled(0, sizeof *change, 0);
+        nms_order *order;
+        nms_plan *plan;
+        nms_doubt *doubt;
         nms_counts counts;
-        unsigned char out[2100];
+        char *text;
         uint32_t code;
+        size_t bytes;
         const unsigned long from = requests;
-        scatter(&change, sizeof change);
+        const uint16_t sym = (uint16_t)(draw() % 9 ? draw() & 1 : draw());
+        const uint8_t side = (uint8_t)(draw() % 9 ? draw() & 1 : draw());
+        scatter(change, sizeof *change);
         /* Now and then numbers that may be right, so that some calls go on. */
         if (draw() % 8) {
-            change.kind &= 3;
-            change.part &= 3;
-            change.sym &= 1;
-            change.state %= 3;
-            change.lot = (uint16_t)(1 + change.lot % 1000);
-            change.bid_price %= 200000;
-            change.offer_price %= 200000;
-            change.bid_shares %= 3000;
-            change.offer_shares %= 3000;
+            change->kind &= 3;
+            change->part &= 3;
+            change->sym &= 1;
+            change->state %= 3;
+            change->lot = (uint16_t)(1 + change->lot % 1000);
+            change->bid_price %= 200000;
+            change->offer_price %= 200000;
+            change->bid_shares %= 3000;
+            change->offer_shares %= 3000;
         }
-        code = nms_apply(&board, &change);
+        code = nms_apply(&board, change);
         equals(code == NMS_OK || (code >= NMS_RANGE && code <= NMS_FULL), 1, "a random change");
         applied += code == NMS_OK;
-        scatter(&order, sizeof order);
+        order = filled(0, sizeof *order, 0);
+        scatter(order, sizeof *order);
         if (draw() % 8) {
-            order.side &= 1;
-            order.manual &= 1;
-            order.sym &= 1;
-            order.self_help &= 15;
-            order.limit = 1 + order.limit % 200000;
-            order.shares = 1 + order.shares % 5000;
+            order->side &= 1;
+            order->manual &= 1;
+            order->sym &= 1;
+            order->self_help &= 15;
+            order->limit = 1 + order->limit % 200000;
+            order->shares = 1 + order->shares % 5000;
         }
-        code = nms_plan_order(&board, &order, &plan);
+        plan = filled(1, sizeof *plan, 0x5A);
+        doubt = filled(2, sizeof *doubt, 0x5A);
+        code = nms_plan_order(&board, order, plan);
         equals(code == NMS_OK || (code >= NMS_RANGE && code <= NMS_NO_SYM), 1, "a random order");
         if (code == NMS_OK) {
             ++planned;
-            unconfirmed += nms_confirm(&board, &order, &plan, &doubt) != NMS_OK;
+            unconfirmed += nms_confirm(&board, order, plan, doubt) != NMS_OK;
+            text = filled(3, NMS_PLAN_TEXT_ROOM, 0x5A);
+            equals(nms_plan_text(&board, order, plan, text, NMS_PLAN_TEXT_ROOM, &bytes), NMS_OK, "the text of a random plan");
+            text = copied(3, text, bytes);
+            equals(nms_read_plan(&board, text, bytes, order, plan), NMS_OK, "the reading of a random plan");
+            unconfirmed += nms_confirm(&board, order, plan, doubt) != NMS_OK;
         }
-        scatter(&plan, draw() % sizeof plan);
-        code = nms_confirm(&board, &order, &plan, &doubt);
+        scatter(plan, draw() % sizeof *plan);
+        code = nms_confirm(&board, order, plan, doubt);
         equals(code == NMS_OK || code == NMS_DOUBTED || (code >= NMS_RANGE && code <= NMS_NO_SYM), 1, "a random plan");
-        nms_ranked(&board, (uint16_t)draw(), (uint8_t)draw(), (uint8_t)draw(), (nms_row *)out);
-        nms_traded_through(&board, (uint16_t)(draw() & 1), draw(), (nms_through *)out);
-        nms_unit_cost(&board, (uint8_t)draw(), (uint8_t)draw(), draw(), (int64_t *)out);
-        scatter(out, 64);
-        nms_apply_text(&board, (char *)out, draw() % 64);
+        nms_plan_text(&board, order, plan, filled(3, NMS_PLAN_TEXT_ROOM, 0x5A), NMS_PLAN_TEXT_ROOM, &bytes);
+        nms_best_of(&board, sym, filled(3, sizeof(nms_best), 0x5A));
+        nms_ranked(&board, sym, side, (uint8_t)(draw() % 7), filled(3, sizeof(nms_row), 0x5A));
+        nms_rows_of(&board, sym, side, filled(3, sizeof(nms_rows), 0x5A));
+        nms_view_of(&board, sym, filled(3, sizeof(nms_view), 0x5A));
+        nms_traded_through(&board, sym, draw() % 9 ? draw() % 20000000 : draw(), filled(3, sizeof(nms_through), 0x5A));
+        nms_opening_of(&board, sym, filled(3, sizeof(nms_opening), 0x5A));
+        nms_unit_cost(&board, (uint8_t)(draw() % 6), side, draw() % 9 ? draw() % 200000 : draw(), filled(3, sizeof(int64_t), 0x5A));
+        nms_counts_of(&board, filled(3, sizeof(nms_counts), 0x5A));
+        bytes = draw() % 64;
+        text = filled(3, bytes, 0);
+        scatter(text, bytes);
+        nms_apply_text(&board, text, bytes);
+        nms_read_plan(&board, text, bytes, order, plan);
         equals(requests, from, "requests for memory of calls on an open board");
         nms_counts_of(&board, &counts);
-        if (counts.room == 0) {
+        if (counts.room < 2) {
             nms_close(&board);
             open_board(&board);
         }
