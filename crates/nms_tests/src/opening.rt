@@ -125,6 +125,7 @@ fn try_roster(alloc: Global, roster: &mut Roster, seed: u64, count: u32) -> Opti
 
 /// Applies so many changes.
 fn run(board: &mut Boards, chance: &mut Chance, crowd: Crowd, seed: u64, count: u32) -> Option<()> {
+    let _seen: (Option<SideQuote>, Option<Lot>) = (None, None);
     for _ in 0..count {
         let (change, _) = next_change(chance, crowd, is_calm(seed))?;
         apply(board, &change);
@@ -160,6 +161,7 @@ fn compare(
     crowd: Crowd,
     seed: u64,
 ) -> Option<&'static str> {
+    let _seen: (Option<SideQuote>, Option<Lot>) = (None, None);
     let told = compare_all(board, again, crowd)?;
     if !told.is_empty() {
         return Some(told);
