@@ -72,7 +72,7 @@ static operation *read_operations(const char *path, size_t *count)
         const char kind = *at++;
         uint64_t numbers[8] = { 0 };
         int many = 0;
-        if (kind == 'P' || kind == 'S') {
+        if (kind == 'p' || kind == 's') {
             at = strchr(at, '\n') + 1;
             continue;
         }
@@ -101,6 +101,19 @@ static operation *read_operations(const char *path, size_t *count)
             next->sym = (uint16_t)numbers[0];
             next->has_sym = 1;
             break;
+        case 'S':
+            next->change.kind = NMS_STATE;
+            next->change.part = (uint8_t)numbers[0];
+            next->change.sym = next->sym = (uint16_t)numbers[1];
+            next->change.state = (uint8_t)numbers[2];
+            next->has_sym = 1;
+            break;
+        case 'R':
+            next->change.kind = NMS_LOT;
+            next->change.sym = next->sym = (uint16_t)numbers[0];
+            next->change.lot = (uint16_t)numbers[1];
+            next->has_sym = 1;
+            break;
         default:
             next->kind = PLAN;
             next->order.side = (uint8_t)numbers[0];
@@ -108,6 +121,7 @@ static operation *read_operations(const char *path, size_t *count)
             next->order.shares = (uint32_t)numbers[2];
             next->order.limit = numbers[3];
             next->order.manual = (uint8_t)numbers[4];
+            next->order.self_help = (uint32_t)numbers[5];
             next->has_sym = 1;
         }
     }
@@ -214,16 +228,18 @@ int main(int argc, char **words)
         }
     printf("apply_all %zu %.2f\n", many, (double)(now() - from) / (double)many);
 
-    /* All looks in one go, on the board that they left: at the symbols of the changes, one after another. */
+    /* All looks in one go, on the board that they left, at the symbols of the changes. Each look waits for the answer of the
+     * one before it, as a caller's does who acts on it: no price has 64 bits, but that is not known before it is there. */
     uint16_t *syms = malloc(count * sizeof *syms);
     many = 0;
     for (size_t at = 0; at < count; ++at)
         if (operations[at].has_sym)
             syms[many++] = operations[at].sym;
+    size_t looked = 0;
     from = now();
-    for (size_t at = 0; at < many; ++at)
+    for (size_t at = 0; at < many; at += 1 + (best.bid.price >> 63) + (best.offer.price >> 63), ++looked)
         must(nms_best_of(&board, syms[at], &best), "nms_best_of");
-    printf("best_all %zu %.2f\n", many, (double)(now() - from) / (double)many);
+    printf("best_all %zu %.2f\n", looked, (double)(now() - from) / (double)looked);
     must(nms_close(&board), "nms_close");
 
     /* Each call by itself, and a sum of what all of them answer. */

@@ -7,11 +7,14 @@ use crate::types::*;
 /// Whether a plan is lawful for its order: none of the breaches holds.
 fn is_lawful(view: View, order: &Order, fees: &FeeBook, plan: &Plan) -> bool {
     let side = order.side.contra();
-    if plan.version != view.version {
+    if plan.version != view.version || plan.order != *order || order.sym != view.sym {
         return false;
     }
     let legs = &plan.legs;
-    let row_of = |leg: &Leg| view.book.ranked(side).iter().find(|r| r.part == leg.part).filter(|r| r.protected || order.manual);
+    let row_of = |leg: &Leg| {
+        let row = view.book.ranked(side).iter().find(|r| r.part == leg.part);
+        row.filter(|r| (r.protected || order.manual) && !order.self_help.has(r.part))
+    };
     let mut given = [0u32; MAX_PARTS];
     for leg in legs.iter() {
         let Some(row) = row_of(leg) else { return false };
@@ -26,7 +29,12 @@ fn is_lawful(view: View, order: &Order, fees: &FeeBook, plan: &Plan) -> bool {
         given[leg.part as usize] = leg.shares;
     }
     let sum: u64 = legs.iter().map(|leg| u64::from(leg.shares)).sum();
-    let passed_over = |r: &Row| r.protected && given[r.part as usize] < r.size && legs.iter().any(|leg| side.better(r.price, leg.price));
+    let passed_over = |r: &Row| {
+        r.protected
+            && !order.self_help.has(r.part)
+            && given[r.part as usize] < r.size
+            && legs.iter().any(|leg| side.better(r.price, leg.price))
+    };
     let cost: Money = legs
         .iter()
         .map(|leg| Money::from(fees.unit_cost(leg.part, order.side, leg.price)) * Money::from(leg.shares))

@@ -43,11 +43,11 @@ fn read_load(path: &str) -> Load {
     let mut load = Load { parts: vec![], syms: vec![], lots: vec![], fees, operations: vec![] };
     for line in text.lines() {
         let (kind, rest) = line.split_once(' ').expect("a kind");
-        if kind == "P" || kind == "S" {
+        if kind == "p" || kind == "s" {
             let mut words = rest.split(' ');
             let name = words.next().expect("a name").to_string();
             let numbers: Vec<i64> = words.map(|it| it.parse().expect("a number")).collect();
-            if kind == "P" {
+            if kind == "p" {
                 load.fees.0[load.parts.len()] = Fee { fee: numbers[0], rate: numbers[1] };
                 load.parts.push(name);
             } else {
@@ -63,6 +63,8 @@ fn read_load(path: &str) -> Load {
                 let sides = [side(n[3], n[4]), side(n[5], n[6])];
                 Operation::Apply(Change::Quote { part: n[0] as u8, sym: n[1] as u16, state, sides })
             }
+            "S" => Operation::Apply(Change::State { part: n[0] as u8, sym: n[1] as u16, state: [QState::Automated, QState::Manual, QState::Halted][n[2] as usize] }),
+            "R" => Operation::Apply(Change::Lot { sym: n[0] as u16, lot: n[1] as u16 }),
             "X" => Operation::Apply(Change::Withdraw { part: n[0] as u8 }),
             "N" => Operation::Look(n[0] as u16),
             _ => Operation::Plan(Order {
@@ -71,6 +73,7 @@ fn read_load(path: &str) -> Load {
                 shares: n[2] as u32,
                 limit: n[3],
                 manual: n[4] == 1,
+                self_help: PartSet(n[5] as u32),
             }),
         });
     }
@@ -177,13 +180,17 @@ fn calls(load: &Load) {
     }
     println!("apply_all {many} {:.2}", (now() - from) as f64 / many as f64);
 
-    // All looks in one go, on the board that they left: at the symbols of the changes, one after another.
+    // All looks in one go, on the board that they left, at the symbols of the changes. Each look waits for the answer of the
+    // one before it, as a caller's does who acts on it: no price has 64 bits, but that is not known before it is there.
     let syms: Vec<Sym> = load.operations.iter().filter_map(sym_of).collect();
+    let (mut at, mut many) = (0, 0);
     let from = now();
-    for sym in &syms {
-        black_box(best_of(&boards, *sym));
+    while at < syms.len() {
+        let (_, bid, offer, _) = black_box(best_of(&boards, syms[at]));
+        at += 1 + (bid.map_or(0, |r| r.price) >> 63) as usize + (offer.map_or(0, |r| r.price) >> 63) as usize;
+        many += 1;
     }
-    println!("best_all {} {:.2}", syms.len(), (now() - from) as f64 / syms.len() as f64);
+    println!("best_all {many} {:.2}", (now() - from) as f64 / many as f64);
 
     // Each call by itself, and a sum of what all of them answer.
     let (mut apply, mut best, mut planning, mut confirming) = (Times::default(), Times::default(), Times::default(), Times::default());
@@ -216,7 +223,7 @@ fn calls(load: &Load) {
 /// The symbol of an operation that has one.
 fn sym_of(operation: &Operation) -> Option<Sym> {
     match operation {
-        Operation::Apply(Change::Quote { sym, .. }) | Operation::Look(sym) => Some(*sym),
+        Operation::Apply(Change::Quote { sym, .. } | Change::State { sym, .. } | Change::Lot { sym, .. }) | Operation::Look(sym) => Some(*sym),
         Operation::Apply(Change::Withdraw { .. }) => None,
         Operation::Plan(order) => Some(order.sym),
     }

@@ -82,6 +82,7 @@ pub fn serve(load: &Load) {
                     shares: fields[4].parse().expect("shares"),
                     limit: price_of(fields[5]),
                     manual: fields.get(6) == Some(&"M"),
+                    self_help: PartSet::default(),
                 };
                 let (plan, certificate) = plan(boards.view(order.sym), &order, &load.fees);
                 let flag = if order.manual { "M" } else { "" };

@@ -22,7 +22,7 @@ pub fn usable_rows(book: &Book, order: &Order, fees: &FeeBook) -> List<Usable, M
         .ranked(side)
         .iter()
         .take_while(|r| !side.better(order.limit, r.price))
-        .filter(|r| r.protected || order.manual)
+        .filter(|r| (r.protected || order.manual) && !order.self_help.has(r.part))
         .map(|r| Usable {
             part: r.part,
             price: r.price,
@@ -106,6 +106,6 @@ pub fn plan(view: View, order: &Order, fees: &FeeBook) -> (Plan, Certificate) {
         .filter(|(_, shares)| *shares > 0)
         .map(|(row, shares)| Leg { part: row.part, price: row.price, shares })
         .collect();
-    let plan = Plan { version: view.version, legs, filled: filled as u32, cost };
+    let plan = Plan { version: view.version, order: *order, legs, filled: filled as u32, cost };
     (plan, certificate)
 }

@@ -61,7 +61,19 @@ pub struct SideQuote {
 #[derive(Clone, Copy, PartialEq, Eq)]
 pub enum Change {
     Quote { part: Part, sym: Sym, state: QState, sides: [Option<SideQuote>; 2] },
+    State { part: Part, sym: Sym, state: QState },
     Withdraw { part: Part },
+    Lot { sym: Sym, lot: u16 },
+}
+
+/// A set of participant places.
+#[derive(Clone, Copy, PartialEq, Eq, Default)]
+pub struct PartSet(pub u32);
+
+impl PartSet {
+    pub fn has(self, part: Part) -> bool {
+        self.0 >> part & 1 == 1
+    }
 }
 
 #[derive(Clone, Copy, PartialEq, Eq)]
@@ -71,6 +83,7 @@ pub struct Order {
     pub shares: u32,
     pub limit: Price,
     pub manual: bool,
+    pub self_help: PartSet,
 }
 
 #[derive(Clone, Copy)]
@@ -97,6 +110,7 @@ pub type Certificate = List<Cut, MAX_PARTS>;
 
 pub struct Plan {
     pub version: u64,
+    pub order: Order,
     pub legs: List<Leg, MAX_PARTS>,
     pub filled: u32,
     pub cost: Money,
