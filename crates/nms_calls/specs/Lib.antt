@@ -1,8 +1,11 @@
 pub mod ChangeSaid
 pub mod Codes
 pub mod DoubtNumbers
+pub mod Looked
+pub mod Named
 pub mod Opened
 pub mod OrderSaid
 pub mod PlanNumbers
 pub mod PlanSaid
 pub mod RowNumbers
+pub mod Written

@@ -12,7 +12,10 @@ mod order_reading;
 mod plan_numbers;
 mod plan_reading;
 mod plan_writing;
+mod roster_calls;
+mod row_calls;
 mod row_numbers;
+mod text_writing;
 
 pub use call_fault::{CallFault, answer};
 pub use change_numbers::NmsChange;
@@ -20,4 +23,5 @@ pub use doubt_numbers::NmsDoubt;
 pub use open_board::OpenBoard;
 pub use order_numbers::NmsOrder;
 pub use plan_numbers::{NmsCut, NmsLeg, NmsPlan};
+pub use roster_calls::NmsCounts;
 pub use row_numbers::{NmsBest, NmsRow};

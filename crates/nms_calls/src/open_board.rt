@@ -34,8 +34,8 @@ use std::str;
 /// A board with its setup, and all the room that its calls need: none of them takes memory.
 #[derive(Drop)]
 pub struct OpenBoard {
-    setup: Setup,
-    board: Boards,
+    pub(crate) setup: Setup,
+    pub(crate) board: Boards,
     planner: Planner,
 }
 

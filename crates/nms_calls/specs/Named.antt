@@ -1,0 +1,30 @@
+-- What a board holds, and names for numbers. This product's own rule.
+use Rattle.std.specs.Prelude.{ℕ, ◌-◌, nat_lt, List, length, Option, Some, None, if◌then◌else◌}
+use Rattle.nms_quote.specs.Roster.{part_text, symbol_text}
+use Rattle.nms_calls.specs.Opened.{Opened}
+use Rattle.nms_calls.specs.Written.{text_fault}
+use Rattle.nms_calls.specs.declared.call_fault.CallFault.{CallFault}
+use Rattle.nms_calls.specs.declared.call_fault.CallFault.TheVariants as fault
+use Rattle.nms_calls.specs.declared.roster_calls.NmsCounts.{NmsCounts}
+
+abbrev pub counts_of : Opened → NmsCounts
+counts_of opened = record {
+  applied = opened.board.applied;
+  room = opened.settings.tape_limit - opened.board.applied;
+  parts = length opened.settings.roster.parts;
+  syms = length opened.settings.roster.syms;
+}
+
+-- why a name is not found
+abbrev pub absent : CallFault → Option ℕ → Option CallFault
+absent found None = Some found
+absent found (Some place) = None
+
+-- why a name is not written
+abbrev pub part_name_fault : Opened → ℕ → List ℕ → Option CallFault
+part_name_fault opened part out =
+    if nat_lt part (length opened.settings.roster.parts) then text_fault (part_text opened.settings.roster part) out else Some fault.NoParticipant
+
+abbrev pub sym_name_fault : Opened → ℕ → List ℕ → Option CallFault
+sym_name_fault opened sym out =
+    if nat_lt sym (length opened.settings.roster.syms) then text_fault (symbol_text opened.settings.roster sym) out else Some fault.NoSymbol

@@ -1,0 +1,100 @@
+//! What a board holds, and names for numbers: `specs/Named`.
+ghost use Rattle.std.specs.Prelude.{◌≡◌, ◌-◌, Some, OnErr, OnOk};
+ghost use Rattle.std.specs.Result.{result_err};
+ghost use Rattle.nms_quote.specs.Roster.{part_text, place_in, symbol_text};
+ghost use Rattle.nms_calls.specs.Named.{absent, counts_of, part_name_fault, sym_name_fault};
+ghost use Rattle.nms_calls.specs.Written.{IsWritten};
+
+use crate::call_fault::CallFault;
+use crate::change_reading::{part_of, sym_of};
+use crate::open_board::OpenBoard;
+use crate::text_writing::put_text;
+
+/// What a board holds.
+#[repr(C)]
+#[derive(Clone, Copy)]
+pub struct NmsCounts {
+    /// How many changes were applied.
+    pub applied: u64,
+    /// How many may still be, by the setup's limit of the tape.
+    pub room: u64,
+    /// How many participants there are.
+    pub parts: u32,
+    /// How many symbols there are.
+    pub syms: u32,
+}
+
+impl OpenBoard {
+    /// How many changes were applied and may still be, and how many participants and symbols there are.
+    pub fn counts(&self) -> NmsCounts
+        ensures { result ≡ counts_of self.now }
+    {
+        NmsCounts {
+            applied: self.board.applied(),
+            room: room_left(self.setup.tape_limit(), self.board.applied()),
+            parts: self.setup.roster().parts() as u32,
+            syms: self.setup.roster().syms() as u32,
+        }
+    }
+
+    /// Writes the place of the participant of a name.
+    pub fn find_part(&self, name: &[u8], out: &mut u8) -> Result<(), CallFault>
+        ensures answer { result_err result ≡ absent CallFault.NoParticipant (place_in self.now.settings.roster.parts name.now) }
+        ensures found { OnOk result (place_in self.now.settings.roster.parts name.now ≡ Some out.new) }
+        ensures unwritten { OnErr result (out.new ≡ out.old) }
+    {
+        match self.setup.roster().find_part(name) {
+            Some(part) => {
+                *out = part.get();
+                Ok(())
+            }
+            None => Err(CallFault::NoParticipant),
+        }
+    }
+
+    /// Writes the place of the symbol of a name.
+    pub fn find_sym(&self, name: &[u8], out: &mut u16) -> Result<(), CallFault>
+        ensures answer { result_err result ≡ absent CallFault.NoSymbol (place_in self.now.settings.roster.syms name.now) }
+        ensures found { OnOk result (place_in self.now.settings.roster.syms name.now ≡ Some out.new) }
+        ensures unwritten { OnErr result (out.new ≡ out.old) }
+    {
+        match self.setup.roster().find_sym(name) {
+            Some(sym) => {
+                *out = sym.get();
+                Ok(())
+            }
+            None => Err(CallFault::NoSymbol),
+        }
+    }
+
+    /// Writes the name of a participant.
+    pub fn part_name(&self, place: u8, out: &mut [u8], bytes: &mut usize) -> Result<(), CallFault>
+        ensures answer { result_err result ≡ part_name_fault self.now place out.old }
+        ensures written { OnOk result (IsWritten (part_text self.now.settings.roster place) out.old out.new bytes.new) }
+        ensures unwritten { OnErr result ((out.new ≡ out.old) × (bytes.new ≡ bytes.old)) }
+    {
+        let part = part_of(self.setup.roster(), place)?;
+        put_text(self.setup.roster().part_name(part).as_bytes(), out, bytes)
+    }
+
+    /// Writes the name of a symbol.
+    pub fn sym_name(&self, place: u16, out: &mut [u8], bytes: &mut usize) -> Result<(), CallFault>
+        ensures answer { result_err result ≡ sym_name_fault self.now place out.old }
+        ensures written { OnOk result (IsWritten (symbol_text self.now.settings.roster place) out.old out.new bytes.new) }
+        ensures unwritten { OnErr result ((out.new ≡ out.old) × (bytes.new ≡ bytes.old)) }
+    {
+        let sym = sym_of(self.setup.roster(), place)?;
+        put_text(self.setup.roster().sym_name(sym).as_bytes(), out, bytes)
+    }
+}
+
+/// How many more there may be.
+fn room_left(most: u64, applied: u64) -> u64
+    ensures { result ≡ most - applied }
+{
+    if applied < most {
+        most - applied
+    } else {
+        0
+    }
+}
