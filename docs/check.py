@@ -15,7 +15,7 @@ import sys
 
 TOP = os.path.dirname(os.path.dirname(os.path.realpath(__file__)))
 # Lines of the front page, and words of a sentence there.
-MOST_LINES, MOST_WORDS = 150, 30
+MOST_LINES, MOST_WORDS = 155, 30
 # Columns of a definition or a proof.
 MOST_COLUMNS = 140
 SPAN = re.compile(r"`([^`]+)`")
@@ -73,7 +73,8 @@ class Crate:
         self.fields = set(re.findall(r"\b(\w+) :", self.specs))
         root = self.root()
         passed_on = " ".join(re.findall(r"pub use ([^;]*);", root))
-        self.public = set(re.findall(r"^ +pub fn (\w+)", self.src, re.M)) | set(re.findall(r"\w+", passed_on))
+        exported = re.findall(r"#\[unsafe\(no_mangle\)\]\s+pub extern \"C\" fn (\w+)", self.src)
+        self.public = set(re.findall(r"^ +pub fn (\w+)", self.src, re.M)) | set(re.findall(r"\w+", passed_on)) | set(exported)
 
     def root(self):
         root = "src/lib.rt" if "src/lib.rt" in self.files else "src/main.rt"
