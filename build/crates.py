@@ -78,6 +78,12 @@ class Plan:
     def jobs(self, name):
         return self.times.get(name, (60.0, 1, 100))[1]
 
+    def granted(self, name, idle, at_once):
+        """The jobs that a crate gets when so many of `at_once` processors are idle: those that pay for it. Of more than two
+        processors one may be shared for a while, since a long crate with a job fewer would be late by more than that costs."""
+        shared = 1 if at_once > 2 else 0
+        return max(1, min(self.jobs(name), idle + shared))
+
     def megabytes(self):
         return sum(self.times.get(name, (60.0, 1, 100))[2] for name in self.all)
 
@@ -103,7 +109,7 @@ class Plan:
                 idle = at_once - sum(jobs for _, _, jobs in running)
                 if idle < 1:
                     break
-                jobs = min(idle, self.jobs(name))
+                jobs = self.granted(name, idle, at_once)
                 left.remove(name)
                 # Two jobs take two thirds of the time, and four take four ninths.
                 heapq.heappush(running, (now + scale * self.seconds(name) / jobs**0.6, name, jobs))
@@ -244,7 +250,7 @@ class Build:
         shutil.rmtree(os.path.dirname(to), ignore_errors=True)
         os.makedirs(os.path.dirname(to))
         report = open(f"{self.out}/{name}.report", "w+", encoding="utf-8", errors="replace")
-        jobs = max(1, min(self.lanes - self.jobs(), self.plan.jobs(name)))
+        jobs = self.plan.granted(name, self.lanes - self.jobs(), self.lanes)
         how = {"stdin": subprocess.DEVNULL, "stdout": report, "stderr": subprocess.STDOUT}
         process = subprocess.Popen(self.tools.build(name, jobs, to), cwd=f"{TOP}/crates/{name}", **how)
         self.running[process.pid] = name, report, jobs, process
