@@ -1,10 +1,13 @@
 //! The opening changes of random boards: a new board that takes them reports the same rows in the same rank order, at once
 //! and after each of 50 more changes that both take.
+ghost use Rattle.std.specs.Prelude.{◌≡◌};
+ghost use Rattle.nms_quote.specs.Roster.{sizes_of};
+
 use crate::chance::Chance;
-use crate::rank_order::{apply, drawn_change, fill};
+use crate::rank_order::{apply, drawn_change, fill, offer};
 use crate::same::same;
 use nms_board::{Boards, View};
-use nms_opening::opening;
+use nms_opening::{opening, reopened};
 use nms_quote::{Change, Part, Roster, Side, SideQuote, Sym};
 use nms_units::{Lot, Price};
 use std::alloc::Global;
@@ -21,6 +24,50 @@ type Came = (&'static str, u64, Vec<Change>);
 fn opening_changes(rt: HostRuntime) {
     let none = Vec::new(rt.alloc());
     same(&rt, try_boards(rt.alloc()), Some(("", 0, none)));
+}
+
+/// A board with one quotation is reopened: it took one change, and shows the shares.
+#[test]
+fn a_board_is_reopened(rt: HostRuntime) {
+    same(&rt, reopened_in_all(rt.alloc()), Some((1, 300)));
+}
+
+/// The version of a board that was reopened, and the shares of its offers.
+fn reopened_in_all(alloc: Global) -> Option<(u64, u64)> {
+    match Roster::new(alloc) {
+        Ok(mut roster) => reopened_under(alloc, &mut roster),
+        Err(_) => None,
+    }
+}
+
+/// The same of a roster that has yet to be filled.
+fn reopened_under(alloc: Global, roster: &mut Roster) -> Option<(u64, u64)> {
+    let _seen: (Option<SideQuote>, Option<Lot>) = (None, None);
+    fill(roster, 2, 1)?;
+    let change = offer(0, 300)?;
+    match Boards::new(alloc, roster) {
+        Ok(mut board) => reopened_after(alloc, roster, &mut board, &change),
+        Err(_) => None,
+    }
+}
+
+/// The same of a board after one change.
+fn reopened_after(
+    alloc: Global,
+    roster: &Roster,
+    board: &mut Boards,
+    change: &Change,
+) -> Option<(u64, u64)>
+    requires { board.old.sizes ≡ sizes_of roster.now }
+{
+    if !board.takes(change) {
+        return None;
+    }
+    board.apply(*change);
+    match reopened(alloc, roster, board) {
+        Ok(again) => Some((again.applied(), again.view(Sym::new(0)?).total(Side::Offer))),
+        Err(_) => None,
+    }
 }
 
 /// Tries each board, and gives the first that fails.
