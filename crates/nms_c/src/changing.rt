@@ -1,7 +1,7 @@
 //! Changes of a board.
 ghost use Rattle.std.specs.Prelude.{◌≡◌, ◌≢◌, Some};
 ghost use Rattle.nms_calls.specs.Codes.{answer_of};
-ghost use Rattle.nms_calls.specs.Opened.{Grew, apply_fault, apply_left};
+ghost use Rattle.nms_calls.specs.Opened.{Grew, all_applied, apply_fault, apply_left};
 ghost use Rattle.nms_c.specs.Behind.{Behind};
 ghost use Rattle.nms_c.specs.Held.{open_mark};
 
@@ -23,6 +23,28 @@ pub extern "C" fn nms_raw_apply(alloc: Global, board: &mut NmsBoard, change: &Nm
         return CLOSED;
     };
     let code = answer(kept.apply(change));
+    give(board, kept);
+    code
+}
+
+/// Applies changes in order up to the first that is refused, and writes how many were applied.
+#[unsafe(no_mangle)]
+pub extern "C" fn nms_raw_apply_all(
+    alloc: Global,
+    board: &mut NmsBoard,
+    changes: &[NmsChange],
+    applied: &mut usize,
+) -> u32
+    ensures closed { board.old.mark ≢ open_mark → (result ≡ 15) × (board.new ≡ board.old) × (applied.new ≡ applied.old) }
+    ensures open { board.old.mark ≡ open_mark → board.new.mark ≡ open_mark }
+    ensures answer { board.old.mark ≡ open_mark → Behind board.old.value (λ opened. result ≡ answer_of ((all_applied opened changes.now).fault)) }
+    ensures left { board.old.mark ≡ open_mark → Behind board.old.value (λ opened. board.new.value ≡ Some (all_applied opened changes.now).opened) }
+    ensures applied { board.old.mark ≡ open_mark → Behind board.old.value (λ opened. applied.new ≡ (all_applied opened changes.now).applied) }
+{
+    let Some(mut kept) = take(alloc, board) else {
+        return CLOSED;
+    };
+    let code = answer(kept.apply_all(changes, applied));
     give(board, kept);
     code
 }

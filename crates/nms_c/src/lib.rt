@@ -6,6 +6,7 @@ mod changing;
 mod handle;
 mod looking;
 mod loose;
+mod naming;
 mod opening;
 mod planning;
 mod taking;

@@ -1,2 +1,3 @@
 pub mod OpenedLemmas
 pub mod PlaceLemmas
+pub mod SideLemmas

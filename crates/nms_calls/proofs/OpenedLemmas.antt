@@ -1,6 +1,7 @@
 -- What is left by a change, and what a plan's numbers are of.
-use Rattle.std.proofs.Common.{◌≡◌, ◌∙◌, ◌<◌, Bool, true, List, Result, Ok, sym, ap, subst, if◌then◌else◌}
+use Rattle.std.proofs.Common.{◌≡◌, ◌∙◌, ◌<◌, ℕ, None, Some, fold, take, get_or, length, refl, Bool, true, List, Result, Ok, sym, ap, subst, if◌then◌else◌}
 use Rattle.std.proofs.lemmas.Bool.{lt-ltb}
+use Rattle.std.proofs.lemmas.List.Folds.{fold_stuck}
 use Rattle.std.specs.Result.{IfOk}
 use Rattle.nms_quote.specs.Terms.{Terms}
 use Rattle.nms_quote.specs.declared.certificate.Cut.{Cut}
@@ -15,7 +16,7 @@ use Rattle.nms_rules.specs.Faultless.{given_by}
 use Rattle.nms_rules.specs.Usable.{usable}
 use Rattle.nms_sweep.specs.Planned.{Planned}
 use Rattle.nms_calls.specs.ChangeSaid.{change_said}
-use Rattle.nms_calls.specs.Opened.{Opened, apply_left, has_room, left_on, sizes_on, with_change}
+use Rattle.nms_calls.specs.Opened.{Opened, Progress, all_applied, apply_fault, apply_left, from_start, next, tried, has_room, left_on, sizes_on, with_change}
 use Rattle.nms_calls.specs.OrderSaid.{order_said}
 use Rattle.nms_calls.specs.PlanNumbers.{AreNumbersOf, IsBestPlan}
 use Rattle.nms_calls.specs.declared.call_fault.CallFault.{CallFault}
@@ -49,3 +50,16 @@ best-when opened n order fees made plan cuts out said of_fees of_plan of_cuts nu
       optimal = subst (λ (f : Charges). IsOptimal (usable (seen_on opened.board order.sym) order f) order.shares (given_by made.plan.legs.items)) of_fees optimal;
     } in
     subst (λ (r : Result Terms CallFault). IfOk r (λ order. IsBestPlan opened.board opened.settings.fees order out)) (sym said) best
+
+-- at a refusal the rest of many changes alters nothing
+pub stopped-at : (opened now : Opened) (changes : List NmsChange) (i taken : ℕ) (d : NmsChange) (found : CallFault) → i < length changes
+    → record { opened = now; applied = taken; fault = None } ≡ fold next (from_start opened) (take i changes)
+    → apply_fault now (get_or changes i d) ≡ Some found
+    → record { opened = now; applied = taken; fault = Some found } ≡ all_applied opened changes
+stopped-at opened now changes i taken d found within reached refused =
+    let n : NmsChange = get_or changes i d in
+    let before : Progress = record { opened = now; applied = taken; fault = None } in
+    let stopped : Progress = record { opened = now; applied = taken; fault = Some found } in
+    let step : next (fold next (from_start opened) (take i changes)) n ≡ stopped =
+        ap (λ (p : Progress). next p n) (sym reached) ∙ ap (tried before n) refused in
+    fold_stuck next stopped (λ x. refl) (from_start opened) changes i d within step

@@ -8,8 +8,9 @@ use Rattle.nms_board.specs.Ranking.{ranked_at}
 use Rattle.nms_board.specs.Shown.{rows_held}
 use Rattle.nms_board.specs.declared.row.Row.{Row}
 use Rattle.nms_fee_book.specs.Fees.{unit_cost_of}
-use Rattle.nms_calls.specs.Opened.{Opened}
+use Rattle.nms_calls.specs.Opened.{Opened, sym_fault}
 use Rattle.nms_calls.specs.OrderSaid.{side_said}
+use Rattle.nms_calls.specs.declared.TheConstants.{MOST_MILLIONTHS}
 use Rattle.nms_calls.specs.declared.call_fault.CallFault.{CallFault}
 use Rattle.nms_calls.specs.declared.call_fault.CallFault.TheVariants as fault
 
@@ -44,3 +45,8 @@ cost_at opened part price (Some side) =
 
 abbrev pub cost_on : Opened → ℕ → ℕ → ℕ → Result ℤ CallFault
 cost_on opened part side price = cost_at opened part price (side_said side)
+
+-- why a price in 1/1,000,000 dollar is not looked at in a symbol: the symbol is looked at last
+abbrev pub through_fault : Opened → ℕ → ℕ → Option CallFault
+through_fault opened sym millionths =
+    if nat_le 1 millionths && nat_le millionths MOST_MILLIONTHS then sym_fault opened sym else Some fault.Range

@@ -1,5 +1,5 @@
 -- What stands behind an open handle, and what a call answers there. This product's own rule.
-use Rattle.std.specs.Prelude.{◌≡◌, ◌⊎◌, ◌++◌, ◌∷◌, [], ℕ, IfOk, Bool, nat_lt, length, List, Option, Some, None, Result, Ok, Err, if◌then◌else◌}
+use Rattle.std.specs.Prelude.{◌≡◌, ◌⊎◌, ◌+◌, fold, ◌++◌, ◌∷◌, [], ℕ, IfOk, Bool, nat_lt, length, List, Option, Some, None, Result, Ok, Err, if◌then◌else◌}
 use Rattle.std.specs.Str.{IsUtf8}
 use Rattle.nms_quote.specs.Roster.{Sizes, sizes_of}
 use Rattle.nms_quote.specs.Tape.{Tape}
@@ -83,6 +83,33 @@ apply_left opened n = left_on opened (change_said (sizes_on opened) n)
 abbrev pub Grew : NmsChange → Opened → Opened → Type 0
 Grew n old new =
     (tape : Tape) → StandsFor old.board tape → IfOk (change_said (sizes_on old) n) (λ change. StandsFor new.board (tape ++ change ∷ []))
+
+-- ---- many changes
+
+-- how far a call came with many changes: what stands there, how many were applied, and why one was refused
+pub record Progress : Type 0 where
+  pub opened : Opened
+  pub applied : ℕ
+  pub fault : Option CallFault
+
+abbrev pub tried : Progress → NmsChange → Option CallFault → Progress
+tried p n None = record { opened = apply_left p.opened n; applied = p.applied + 1; fault = None }
+tried p n (Some found) = record { opened = p.opened; applied = p.applied; fault = Some found }
+
+-- one change more, and nothing after a refusal
+abbrev pub next_from : Progress → NmsChange → Option CallFault → Progress
+next_from p n None = tried p n (apply_fault p.opened n)
+next_from p n (Some found) = p
+
+abbrev pub next : Progress → NmsChange → Progress
+next p n = next_from p n p.fault
+
+abbrev pub from_start : Opened → Progress
+from_start opened = record { opened = opened; applied = 0; fault = None }
+
+-- changes in order, up to the first that is refused
+abbrev pub all_applied : Opened → List NmsChange → Progress
+all_applied opened changes = fold next (from_start opened) changes
 
 -- ---- an order
 

@@ -2,7 +2,11 @@
 //! no pointer.
 #![tactic(auto)]
 
+/// The most that a price in 1/1,000,000 dollar may be: 9,999,999.999999 dollars.
+pub const MOST_MILLIONTHS: u64 = 9_999_999_999_999;
+
 mod call_fault;
+mod change_calls;
 mod change_numbers;
 mod change_reading;
 mod doubt_numbers;
@@ -15,6 +19,8 @@ mod plan_writing;
 mod roster_calls;
 mod row_calls;
 mod row_numbers;
+mod side_calls;
+mod side_writing;
 mod text_writing;
 
 pub use call_fault::{CallFault, answer};
@@ -24,4 +30,4 @@ pub use open_board::OpenBoard;
 pub use order_numbers::NmsOrder;
 pub use plan_numbers::{NmsCut, NmsLeg, NmsPlan};
 pub use roster_calls::NmsCounts;
-pub use row_numbers::{NmsBest, NmsRow};
+pub use row_numbers::{NmsBest, NmsRow, NmsRows, NmsThrough, NmsView};

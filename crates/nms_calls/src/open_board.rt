@@ -77,6 +77,7 @@ impl OpenBoard {
     pub fn apply(&mut self, numbers: &NmsChange) -> Result<(), CallFault>
         ensures answer { result_err result ≡ apply_fault self.old numbers.now }
         ensures left { self.new ≡ apply_left self.old numbers.now }
+        ensures unchanged { OnErr result (self.new ≡ self.old) }
         ensures stands { OnOk result (Grew numbers.now self.old self.new) }
     {
         let change = change_of(self.setup.roster(), numbers)?;

@@ -39,6 +39,60 @@ pub struct NmsBest {
     pub spare: u32,
 }
 
+/// The rows of one side in rank order, best first.
+#[repr(C)]
+#[derive(Clone, Copy)]
+pub struct NmsRows {
+    /// The shares of all rows.
+    pub total: u64,
+    /// Their prices, in 1/10,000 dollar.
+    pub price: [u64; 32],
+    /// Their receipts.
+    pub receipt: [u64; 32],
+    /// Their sizes, in shares.
+    pub size: [u32; 32],
+    /// Their participants' places.
+    pub part: [u8; 32],
+    /// 1 where a row is protected, 0 where it is manual.
+    pub is_protected: [u8; 32],
+    /// How many there are. The places from there on are 0.
+    pub count: u32,
+    /// 0.
+    pub spare: u32,
+}
+
+/// Both sides of a symbol.
+#[repr(C)]
+#[derive(Clone, Copy)]
+pub struct NmsView {
+    /// How many changes were applied.
+    pub version: u64,
+    /// The state of the market, as in `NmsBest`.
+    pub market: u32,
+    /// 0.
+    pub spare: u32,
+    /// The bids.
+    pub bid: NmsRows,
+    /// The offers.
+    pub offer: NmsRows,
+}
+
+/// The protected quotations that a price trades through, by participant place.
+#[repr(C)]
+#[derive(Clone, Copy)]
+pub struct NmsThrough {
+    /// How many changes were applied.
+    pub version: u64,
+    /// How many bids there are. The places from there on are rows of size 0.
+    pub bids: u32,
+    /// How many offers there are, likewise.
+    pub offers: u32,
+    /// The bids above the price.
+    pub bid: [NmsRow; 32],
+    /// The offers below it.
+    pub offer: [NmsRow; 32],
+}
+
 impl NmsRow {
     /// The numbers that stand for no row.
     pub(crate) fn none() -> Self

@@ -1,0 +1,71 @@
+//! All rows of a side or of a symbol, and those that a price trades through: `specs/Looked`.
+ghost use Rattle.std.specs.Prelude.{◌≡◌, IfOk, OnErr, OnOk};
+ghost use Rattle.std.specs.Result.{result_err};
+ghost use Rattle.nms_board.specs.Shown.{rows_held};
+ghost use Rattle.nms_calls.specs.Looked.{market_side_said, side_looked_at, through_fault};
+ghost use Rattle.nms_calls.specs.Opened.{error_of, sym_fault};
+ghost use Rattle.nms_calls.specs.RowNumbers.{AreRanked, AreThrough, IsView};
+
+use crate::MOST_MILLIONTHS;
+use crate::call_fault::CallFault;
+use crate::change_reading::sym_of;
+use crate::open_board::OpenBoard;
+use crate::row_calls::market_side_of;
+use crate::row_numbers::{NmsRows, NmsThrough, NmsView, market_number};
+use crate::side_writing::{put_rows, put_side, through_at};
+use nms_nbbo::market_between;
+use nms_quote::Side;
+
+impl OpenBoard {
+    /// Writes the rows of a side in rank order, with their total size.
+    pub fn rows(&self, sym: u16, side: u8, out: &mut NmsRows) -> Result<(), CallFault>
+        ensures answer { result_err result ≡ error_of (side_looked_at self.now sym (market_side_said side)) }
+        ensures rows { OnOk result (IfOk (side_looked_at self.now sym (market_side_said side)) (λ side. AreRanked side (rows_held self.now.board sym side) out.new)) }
+        ensures unwritten { OnErr result (out.new ≡ out.old) }
+    {
+        let Some(side) = market_side_of(side) else {
+            return Err(CallFault::Range);
+        };
+        let sym = sym_of(self.setup.roster(), sym)?;
+        put_side(&self.board, side, sym, out);
+        Ok(())
+    }
+
+    /// Writes both sides of a symbol, with the state of its market.
+    pub fn view(&self, sym: u16, out: &mut NmsView) -> Result<(), CallFault>
+        ensures answer { result_err result ≡ sym_fault self.now sym }
+        ensures view { OnOk result (IsView self.now.board sym out.new) }
+        ensures unwritten { OnErr result (out.new ≡ out.old) }
+    {
+        let sym = sym_of(self.setup.roster(), sym)?;
+        let bid = self.board.ranked(Side::Bid, sym, 0);
+        let offer = self.board.ranked(Side::Offer, sym, 0);
+        out.version = self.board.applied();
+        out.market = market_number(market_between(bid, offer));
+        out.spare = 0;
+        put_side(&self.board, Side::Bid, sym, &mut out.bid);
+        put_side(&self.board, Side::Offer, sym, &mut out.offer);
+        Ok(())
+    }
+
+    /// Writes the protected quotations that a price in 1/1,000,000 dollar trades through.
+    pub fn through(&self, sym: u16, millionths: u64, out: &mut NmsThrough) -> Result<(), CallFault>
+        ensures answer { result_err result ≡ through_fault self.now sym millionths }
+        ensures through { OnOk result (AreThrough self.now.board sym millionths out.new) }
+        ensures unwritten { OnErr result (out.new ≡ out.old) }
+    {
+        if millionths < 1 || millionths > MOST_MILLIONTHS {
+            return Err(CallFault::Range);
+        }
+        let sym = sym_of(self.setup.roster(), sym)?;
+        let view = self.board.view(sym);
+        let bids = through_at(Side::Bid, millionths, view.rows(Side::Bid));
+        let offers = through_at(Side::Offer, millionths, view.rows(Side::Offer));
+        out.version = self.board.applied();
+        out.bids = bids.len() as u32;
+        out.offers = offers.len() as u32;
+        put_rows(bids.as_slice(), &mut out.bid);
+        put_rows(offers.as_slice(), &mut out.offer);
+        Ok(())
+    }
+}

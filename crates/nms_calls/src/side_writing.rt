@@ -1,0 +1,93 @@
+//! The rows of a side written as arrays: `specs/RowNumbers`.
+ghost use Rattle.std.specs.Prelude.{◌≡◌, ◌<◌, ◌≤◌, length, slice_get};
+ghost use Rattle.nms_board.specs.Shown.{rows_held};
+ghost use Rattle.nms_board.specs.declared.row.Row.{Row};
+ghost use Rattle.nms_calls.specs.RowNumbers.{AreRanked, AreRowsAt, row_numbers, through_at, is_through_at, is_beyond, with_row};
+
+use crate::row_numbers::{NmsRow, NmsRows};
+use arrayvec::ArrayVec;
+use nms_board::{Boards, Row};
+use nms_quote::{Side, Sym};
+use nms_units::Price;
+
+/// Writes the rows of a side in rank order, with their total size.
+pub(crate) fn put_side(board: &Boards, side: Side, sym: Sym, out: &mut NmsRows)
+    requires { sym < length board.now.sizes.lots }
+    ensures { AreRanked side (rows_held board.now sym side) out.new }
+{
+    // The prover has to see that there are at most 32 participants, so that no more rows stand there.
+    let _parts = board.parts();
+    let mut count = 0;
+    for place in 0..32 {
+        let row = board.ranked(side, sym, place);
+        if row.is_some() {
+            count += 1;
+        }
+        put_at(out, usize::from(place), &NmsRow::of(&row));
+    }
+    out.total = board.total(side, sym);
+    out.count = count;
+    out.spare = 0;
+}
+
+/// Writes the numbers of a row at a place.
+fn put_at(out: &mut NmsRows, place: usize, row: &NmsRow)
+    requires { place < 32 }
+    ensures { out.new ≡ with_row out.old place row.now }
+{
+    out.price[place] = row.price;
+    out.receipt[place] = row.receipt;
+    out.size[place] = row.size;
+    out.part[place] = row.part;
+    out.is_protected[place] = row.is_protected;
+}
+
+/// Writes rows to the first places, and none to the others.
+pub(crate) fn put_rows(rows: &[Row], places: &mut [NmsRow; 32])
+    ensures { AreRowsAt places.new rows.now }
+{
+    for place in 0..32 {
+        places[place] = row_at(rows, place);
+    }
+}
+
+/// The numbers of the row at a place, all 0 where there is none.
+fn row_at(rows: &[Row], place: usize) -> NmsRow
+    ensures { result ≡ row_numbers (slice_get rows.now place) }
+{
+    match rows.get(place) {
+        Some(row) => NmsRow::some(row),
+        None => NmsRow::none(),
+    }
+}
+
+/// The protected rows that a price in 1/1,000,000 dollar trades through.
+pub(crate) fn through_at(side: Side, millionths: u64, rows: &[Row]) -> ArrayVec<Row, 32>
+    requires { length rows.now ≤ 32 }
+    ensures { result.items ≡ through_at side millionths rows.now }
+{
+    let mut through = ArrayVec::new_in(());
+    for row in rows {
+        if is_through(side, millionths, row) {
+            through.push(*row);
+        }
+    }
+    through
+}
+
+/// Whether a row is protected and beyond a price in 1/1,000,000 dollar.
+fn is_through(side: Side, millionths: u64, row: &Row) -> bool
+    ensures { result ≡ is_through_at side millionths row.now }
+{
+    row.protected && is_beyond(side, millionths, row.price)
+}
+
+/// Whether a price is above another in 1/1,000,000 dollar for a bid, below it for an offer.
+fn is_beyond(side: Side, millionths: u64, price: Price) -> bool
+    ensures { result ≡ is_beyond side millionths price }
+{
+    match side {
+        Side::Bid => millionths < price.get() * 100,
+        Side::Offer => price.get() * 100 < millionths,
+    }
+}
