@@ -13,7 +13,7 @@
  *
  * MEMORY
  *   nms_open takes memory, and nms_close gives it back. nms_setup_place takes memory and gives it back before it returns.
- *   No other call takes any. The caller's structs may lie anywhere: on the stack, in an array, in shared memory.
+ *   nms_read_plan takes memory and gives it back, too. No other call takes any. The caller's structs may lie anywhere: on the stack, in an array, in shared memory.
  *
  * THREADS
  *   A board is for one call at a time. Give each thread a board of its own, or call under a lock of your own. A board may
@@ -54,7 +54,8 @@ extern "C" {
 #define NMS_CODE_TEXT_ROOM 128 /* the text of a code, or the library's version */
 #define NMS_PLAN_TEXT_ROOM 8192 /* the text of a plan with its certificate */
 
-/* The answer of a call. Of several faults of the numbers of one call, the least code is answered. */
+/* The answer of a call. Of several faults of one struct's numbers the least code is answered. A call that takes an order
+ * and a plan looks at the order first. */
 enum nms_code {
     NMS_OK = 0,
     /* why a text is no setup, as nms_tool names it: C1 to C9 */
@@ -380,11 +381,21 @@ static inline uint32_t nms_apply_all(nms_board *board, const nms_change *changes
 }
 
 /* Applies the change that one record says, as "Q,NYSE,ABC,A,10.01,300,10.03,200": a line of a file of changes, with or
- * without its end of line. Records of kinds Q, S, X and R are read, of any participant.
- * Codes: NMS_L1 to NMS_L8, NMS_L14, NMS_FULL, NMS_CLOSED; the board is as it was then. */
+ * without its end of line. Records of kinds Q, S, X and R are read, of any participant. Its fields are what stands between
+ * the commas: none of them needs a quote, and no quote is read. nms_raw_apply_text takes no end of line.
+ * Codes: NMS_L1 to NMS_L8, NMS_L14, NMS_RANGE (more than 255 bytes), NMS_FULL, NMS_CLOSED; the board is as it was then. */
 static inline uint32_t nms_apply_text(nms_board *board, const char *record, size_t record_bytes)
 {
-    return board && record ? nms_raw_apply_text(board, (const uint8_t *)record, record_bytes) : (uint32_t)NMS_NULL;
+    if (!board || !record) {
+        return NMS_NULL;
+    }
+    if (record_bytes > 0 && record[record_bytes - 1] == '\n') {
+        record_bytes--;
+        if (record_bytes > 0 && record[record_bytes - 1] == '\r') {
+            record_bytes--;
+        }
+    }
+    return nms_raw_apply_text(board, (const uint8_t *)record, record_bytes);
 }
 
 /* Writes the best bid, the best offer and the state of the market of a symbol. Codes: NMS_NO_SYM, NMS_CLOSED. */
@@ -452,7 +463,8 @@ static inline uint32_t nms_plan_text(nms_board *board, const nms_order *order, c
 }
 
 /* Reads a plan, its order and its certificate from that text. What it reads need not be lawful: nms_confirm judges that.
- * Codes: NMS_L11_BAD_PLAN_TEXT, NMS_CLOSED. */
+ * Codes: NMS_L11_BAD_PLAN_TEXT, NMS_RANGE (a marginal beyond 10^18 nanodollars), NMS_NO_MEMORY, NMS_CLOSED. Takes memory
+ * and gives it back. */
 static inline uint32_t nms_read_plan(nms_board *board, const char *text, size_t text_bytes, nms_order *order, nms_plan *plan)
 {
     return board && text && order && plan ? nms_raw_read_plan(board, (const uint8_t *)text, text_bytes, order, plan) : (uint32_t)NMS_NULL;

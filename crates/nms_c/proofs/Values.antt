@@ -110,7 +110,6 @@ module _ {M : Type 1} {𝓤 : Ura M} {𝓛 : Logic 𝓤} {K : Type 0} {Γ : List
       (subst (λ (ps : List Val). vs ≡ vstruct (of_list (vint w64 d.mark ∷ (ps ++ (vss.1.1.0 ++ [])))) ∷ []) ep
       (subst (λ (us : List Val). vs ≡ vstruct (of_list (us ++ (vss.1.0 ++ (vss.1.1.0 ++ [])))) ∷ []) eu ev)))) fm fits))))))))
 
-
   pub held_in : K → (b o : ℕ) (h : Val) (a : Z-row.Denot) (x : K-row.Denot)
       → Step K 𝓛 (‵ (Held.own_val (record { mark = open_mark; at = block_ptr b o; alloc = a; value = Some x }) (three open_mark (vptr b o) h ∷ [])) ∷ Γ) G (‵ (box_owns (tok a) K-row (block_ptr b o) x) ∷ ‵ (Z-row.own_val a (h ∷ [])) ∷ Γ) G
   held_in t b o h a x = step (λ s. let v : Val = three open_mark (vptr b o) h in

@@ -61,5 +61,5 @@ stopped-at opened now changes i taken d found within reached refused =
     let before : Progress = record { opened = now; applied = taken; fault = None } in
     let stopped : Progress = record { opened = now; applied = taken; fault = Some found } in
     let step : next (fold next (from_start opened) (take i changes)) n ≡ stopped =
-        ap (λ (p : Progress). next p n) (sym reached) ∙ ap (tried before n) refused in
+    ap (λ (p : Progress). next p n) (sym reached) ∙ ap (tried before n) refused in
     fold_stuck next stopped (λ x. refl) (from_start opened) changes i d within step

@@ -59,6 +59,6 @@ length-filter_map f (x ∷ xs) =
 pub rows-few : (board : Board) (sym : ℕ) (side : Side) → board.sizes.parts ≤ 32 → length (rows_held board sym side) ≤ 32
 rows-few board sym side narrow =
     let few : length (rows_held board sym side) ≤ length (range_with_len 0 board.sizes.parts) =
-        length-filter_map (row_held board sym side) (range_with_len 0 board.sizes.parts) in
+    length-filter_map (row_held board sym side) (range_with_len 0 board.sizes.parts) in
     let places : length (range_with_len 0 board.sizes.parts) ≡ board.sizes.parts = length-range_with_len 0 board.sizes.parts in
     omega (arith, few, places, narrow)

@@ -18,7 +18,8 @@ pub(crate) fn order_of(roster: &Roster, numbers: &NmsOrder) -> Result<Order, Cal
     let (Some(side), Some(manual)) = (side_of(numbers.side), flag_of(numbers.manual)) else {
         return Err(CallFault::Range);
     };
-    let (Some(shares), Some(limit)) = (Shares::new(numbers.shares), Price::new(numbers.limit)) else {
+    let (Some(shares), Some(limit)) = (Shares::new(numbers.shares), Price::new(numbers.limit))
+    else {
         return Err(CallFault::Range);
     };
     if shares.get() == 0 {

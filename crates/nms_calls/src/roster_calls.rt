@@ -92,9 +92,5 @@ impl OpenBoard {
 fn room_left(most: u64, applied: u64) -> u64
     ensures { result ≡ most - applied }
 {
-    if applied < most {
-        most - applied
-    } else {
-        0
-    }
+    if applied < most { most - applied } else { 0 }
 }

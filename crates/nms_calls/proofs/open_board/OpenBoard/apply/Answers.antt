@@ -13,8 +13,8 @@ returns-clause-left c =
     let board : Board = c.apply.new.self in
     let n = c.args.numbers.now in let change = c.in_ok-change.change in
     let said : change_said (sizes_on opened) n ≡ Ok change =
-        ap (λ (roster : Listing). change_said (sizes_of roster) n) (sym c.roster.ensures) ∙ sym c.in_ok-change.ensures.change in
+    ap (λ (roster : Listing). change_said (sizes_of roster) n) (sym c.roster.ensures) ∙ sym c.in_ok-change.ensures.change in
     let room : opened.board.applied < opened.settings.tape_limit =
-        omega (arith, c.if-applied-tape_limit.false, c.applied.ensures.count, c.tape_limit.ensures.value) in
+    omega (arith, c.if-applied-tape_limit.false, c.applied.ensures.count, c.tape_limit.ensures.value) in
     subst (λ (o : Opened). record { settings = opened.settings; board = board } ≡ apply_left o n) c.self.view_is
-        (applied-left opened n change board said room c.apply.ensures.after)
+    (applied-left opened n change board said room c.apply.ensures.after)
