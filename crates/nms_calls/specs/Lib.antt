@@ -1,4 +1,5 @@
 pub mod ChangeSaid
+pub mod CodeTexts
 pub mod Codes
 pub mod DoubtNumbers
 pub mod Looked
@@ -7,5 +8,6 @@ pub mod Opened
 pub mod OrderSaid
 pub mod PlanNumbers
 pub mod PlanSaid
+pub mod RecordSaid
 pub mod RowNumbers
 pub mod Written

@@ -21,8 +21,14 @@ pub enum CallFault {
     Full,
     /// 14: no row stands at that place of the rank order.
     NoRow,
+    /// 15: the board is not open.
+    Closed,
     /// 16: the plan is not confirmed.
     Doubted,
+    /// 17: the board is open already.
+    OpenAlready,
+    /// 18: a null pointer, which the header finds.
+    Null,
     /// 19: the caller's buffer is too small.
     NoRoom,
     /// 101 to 110, and 114: the record is refused.
@@ -44,7 +50,10 @@ impl CallFault {
             CallFault::NoSymbol => 12,
             CallFault::Full => 13,
             CallFault::NoRow => 14,
+            CallFault::Closed => 15,
             CallFault::Doubted => 16,
+            CallFault::OpenAlready => 17,
+            CallFault::Null => 18,
             CallFault::NoRoom => 19,
             CallFault::Line(fault) => line_code(fault),
             CallFault::PlanText => 111,

@@ -4,11 +4,14 @@
 
 /// The most that a price in 1/1,000,000 dollar may be: 9,999,999.999999 dollars.
 pub const MOST_MILLIONTHS: u64 = 9_999_999_999_999;
+/// The most bytes that the text of one record may have.
+pub const MOST_RECORD: usize = 255;
 
 mod call_fault;
 mod change_calls;
 mod change_numbers;
 mod change_reading;
+mod code_texts;
 mod doubt_numbers;
 mod open_board;
 mod order_numbers;
@@ -21,10 +24,12 @@ mod row_calls;
 mod row_numbers;
 mod side_calls;
 mod side_writing;
+mod text_calls;
 mod text_writing;
 
 pub use call_fault::{CallFault, answer};
 pub use change_numbers::NmsChange;
+pub use code_texts::{put_code, put_version};
 pub use doubt_numbers::NmsDoubt;
 pub use open_board::OpenBoard;
 pub use order_numbers::NmsOrder;

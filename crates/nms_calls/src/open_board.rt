@@ -1,15 +1,14 @@
 //! What stands behind an open handle, and the calls on it: `specs/Opened`.
-ghost use Rattle.std.specs.Prelude.{◌≡◌, ◌≢◌, ◌++◌, ◌∷◌, ◌<◌, [], length, IfOk, IfErr, OnOk, OnErr, Ok, Err};
+ghost use Rattle.std.specs.Prelude.{◌≡◌, ◌≢◌, ◌++◌, ◌∷◌, [], IfOk, IfErr, OnOk, OnErr, Ok, true};
 ghost use Rattle.std.specs.Result.{result_err};
-ghost use Rattle.nms_quote.specs.Roster.{sizes_of};
+ghost use Rattle.nms_quote.specs.Roster.{holds};
 ghost use Rattle.nms_quote.specs.Tape.{Tape};
-ghost use Rattle.nms_board.specs.Cells.{StandsFor, opening};
-ghost use Rattle.nms_fees.specs.Setup.{reading};
-ghost use Rattle.nms_calls.specs.ChangeSaid.{change_said};
+ghost use Rattle.nms_board.specs.Cells.{StandsFor};
 ghost use Rattle.nms_calls.specs.OrderSaid.{order_said};
 ghost use Rattle.nms_calls.specs.PlanNumbers.{IsBestPlan};
 ghost use Rattle.nms_calls.specs.RowNumbers.{AreBest};
 
+use crate::MOST_RECORD;
 use crate::call_fault::CallFault;
 use crate::change_numbers::NmsChange;
 use crate::change_reading::{change_of, sym_of};
@@ -23,13 +22,17 @@ use crate::row_numbers::{NmsBest, NmsRow, market_number};
 use nms_board::Boards;
 use nms_cert::confirm;
 use nms_fees::{Setup, SetupFault, read_setup};
+use nms_lines::ByteRecord;
 use nms_nbbo::{best_on, market_between};
-use nms_quote::{Side, SideQuote};
+use nms_quote::{Change, Side, SideQuote};
 use nms_sweep::{Planner, an_accepted_plan_is_within_bounds};
 use nms_units::Lot;
 use std::alloc::Global;
 use std::marker::Model;
 use std::str;
+
+/// The room of the text of a plan, which is shorter.
+const MOST_PLAN_TEXT: usize = 8192;
 
 /// A board with its setup, and all the room that its calls need: none of them takes memory.
 #[derive(Drop)]
@@ -37,6 +40,10 @@ pub struct OpenBoard {
     pub(crate) setup: Setup,
     pub(crate) board: Boards,
     planner: Planner,
+    /// The fields of the record that is read.
+    pub(crate) row: ByteRecord,
+    /// The text of the plan that is written.
+    pub(crate) text: Vec<u8>,
 }
 
 impl Model for OpenBoard {
@@ -50,7 +57,7 @@ impl Model for OpenBoard {
 }
 
 impl OpenBoard {
-    ghost use Rattle.nms_calls.specs.Opened.{Grew, IsNew, IsRefused, apply_fault, apply_left, confirm_fault, doubt_written, finding, order_fault, sizes_on, sym_fault};
+    ghost use Rattle.nms_calls.specs.Opened.{Grew, IsNew, IsRefused, apply_fault, apply_left, confirm_fault, doubt_written, finding, left_on, order_fault, room_fault, sizes_on, sym_fault};
 
     /// A board with nothing on it, of the setup that a text is. A text that is not UTF-8 is no TOML document. `NoMemory`
     /// may come in place of any other answer.
@@ -65,10 +72,18 @@ impl OpenBoard {
         let Ok(board) = Boards::new(alloc, setup.roster()) else {
             return Err(SetupFault::NoMemory);
         };
+        let (Ok(row), Ok(text)) = (
+            ByteRecord::with_capacity(alloc, MOST_RECORD, MOST_RECORD + 1),
+            Vec::with_capacity(alloc, MOST_PLAN_TEXT),
+        ) else {
+            return Err(SetupFault::NoMemory);
+        };
         Ok(OpenBoard {
             setup,
             board,
             planner: Planner::new(),
+            row,
+            text,
         })
     }
 
@@ -81,6 +96,18 @@ impl OpenBoard {
         ensures stands { OnOk result (Grew numbers.now self.old self.new) }
     {
         let change = change_of(self.setup.roster(), numbers)?;
+        self.apply_change(change)
+    }
+
+    /// Applies a change of the setup's roster.
+    #[inline(always)]
+    pub(crate) fn apply_change(&mut self, change: Change) -> Result<(), CallFault>
+        requires { holds (sizes_on self.old) change ≡ true }
+        ensures answer { result_err result ≡ room_fault self.old (Ok change) }
+        ensures left { self.new ≡ left_on self.old (Ok change) }
+        ensures unchanged { OnErr result (self.new ≡ self.old) }
+        ensures stands { (tape : Tape) → StandsFor self.old.board tape → OnOk result (StandsFor self.new.board (tape ++ change ∷ [])) }
+    {
         if self.board.applied() >= self.setup.tape_limit() {
             return Err(CallFault::Full);
         }
