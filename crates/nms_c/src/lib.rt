@@ -10,3 +10,4 @@ mod naming;
 mod opening;
 mod planning;
 mod taking;
+mod texting;

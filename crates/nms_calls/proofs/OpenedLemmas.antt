@@ -16,9 +16,10 @@ use Rattle.nms_rules.specs.Faultless.{given_by}
 use Rattle.nms_rules.specs.Usable.{usable}
 use Rattle.nms_sweep.specs.Planned.{Planned}
 use Rattle.nms_calls.specs.ChangeSaid.{change_said}
-use Rattle.nms_calls.specs.Opened.{Opened, Progress, all_applied, apply_fault, apply_left, from_start, next, tried, has_room, left_on, sizes_on, with_change}
+use Rattle.nms_calls.specs.Opened.{Opened, Progress, all_applied, apply_fault, apply_left, from_start, next, tried, has_room, left_on, made_for, made_said, sizes_on, with_change, with_order}
 use Rattle.nms_calls.specs.OrderSaid.{order_said}
 use Rattle.nms_calls.specs.PlanNumbers.{AreNumbersOf, IsBestPlan}
+use Rattle.nms_calls.specs.PlanSaid.{plan_said}
 use Rattle.nms_calls.specs.declared.call_fault.CallFault.{CallFault}
 use Rattle.nms_calls.specs.declared.change_numbers.NmsChange.{NmsChange}
 use Rattle.nms_calls.specs.declared.order_numbers.NmsOrder.{NmsOrder}
@@ -63,3 +64,8 @@ stopped-at opened now changes i taken d found within reached refused =
     let step : next (fold next (from_start opened) (take i changes)) n ≡ stopped =
     ap (λ (p : Progress). next p n) (sym reached) ∙ ap (tried before n) refused in
     fold_stuck next stopped (λ x. refl) (from_start opened) changes i d within step
+
+-- the plan that numbers say for the order that numbers say
+pub made-when : (opened : Opened) (n : NmsOrder) (m : NmsPlan) (order : Terms) (made : Planned) → order_said (sizes_on opened) n ≡ Ok order
+    → plan_said (length opened.settings.roster.parts) order m ≡ Ok made → made_said opened n m ≡ Ok (order, made)
+made-when opened n m order made said is = ap (made_for opened m) said ∙ ap (with_order order) is

@@ -1,5 +1,5 @@
 -- What the text of one record says, and the text of a plan. This product's own rule.
-use Rattle.std.specs.Prelude.{◌≡◌, ◌==◌, ℕ, Bool, nat_le, not, List, length, Option, Some, Result, Ok, Err, if◌then◌else◌}
+use Rattle.std.specs.Prelude.{◌≡◌, ◌≢◌, ◌==◌, ℕ, Bool, false, nat_le, not, List, length, IfSome, Option, Some, None, Result, Ok, Err, if◌then◌else◌}
 use Rattle.std.specs.List.{list_all, slice_split}
 use Rattle.nms_quote.specs.Roster.{Listing}
 use Rattle.nms_quote.specs.Terms.{Terms}
@@ -13,6 +13,7 @@ use Rattle.nms_lines.specs.Layout.{Record}
 use Rattle.nms_lines.specs.Lines.{reading}
 use Rattle.nms_lines.specs.PlanReading.{plan_in, said_by}
 use Rattle.nms_lines.specs.PlanText.{plan_text}
+use Rattle.nms_lines.specs.Records.{AreAllRecords}
 use Rattle.nms_lines.specs.declared.line.Line.{Line}
 use Rattle.nms_lines.specs.declared.line.Line.TheVariants as line
 use Rattle.nms_lines.specs.declared.line.Reading.TheVariants as from
@@ -97,3 +98,11 @@ pub record IsRead (roster : Listing) (records : List Record) (order : NmsOrder) 
   pub said : plan_in roster records ≡ Some (said_by plan certificate)
   pub order_of : order ≡ order_numbers plan.order
   pub numbers : AreNumbersOf plan certificate out
+
+-- what came of reading a plan from a text: at no fault its numbers, else why it is none, and nothing written
+pub record PlanRead (roster : Listing) (text : List ℕ) (told : Option CallFault) (old_order order : NmsOrder) (old out : NmsPlan) : Type 0 where
+  pub read : told ≡ None → (records : List Record) → AreAllRecords (Some text) records → IsRead roster records order out
+  pub refused : told ≡ Some fault.PlanText → (records : List Record) → AreAllRecords (Some text) records → plan_in roster records ≡ None
+  pub wide : told ≡ Some fault.Range → (records : List Record) → AreAllRecords (Some text) records
+      → IfSome (plan_in roster records) (λ said. are_narrow said.cuts ≡ false)
+  pub unwritten : told ≢ None → (order ≡ old_order) × (out ≡ old)

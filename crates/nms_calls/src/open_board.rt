@@ -96,6 +96,8 @@ impl OpenBoard {
         ensures stands { OnOk result (Grew numbers.now self.old self.new) }
     {
         let change = change_of(self.setup.roster(), numbers)?;
+        // Moving a change takes a mention of the types in it: the prover has to have seen them.
+        let _seen: (Option<SideQuote>, Option<Lot>) = (None, None);
         self.apply_change(change)
     }
 

@@ -8,7 +8,7 @@ ghost use Rattle.nms_lines.specs.PlanReading.{plan_in};
 ghost use Rattle.nms_lines.specs.PlanText.{plan_text};
 ghost use Rattle.nms_lines.specs.Records.{AreAllRecords};
 ghost use Rattle.nms_calls.specs.Opened.{made_said, sizes_on};
-ghost use Rattle.nms_calls.specs.RecordSaid.{IsRead, are_narrow, change_of_line, fields_in, order_numbers, plan_text_fault, record_fault, record_left, record_said, side_number};
+ghost use Rattle.nms_calls.specs.RecordSaid.{PlanRead, are_narrow, change_of_line, fields_in, order_numbers, plan_text_fault, record_fault, record_left, record_said, side_number};
 ghost use Rattle.nms_calls.specs.Written.{IsWritten};
 
 use crate::MOST_RECORD;
@@ -25,7 +25,8 @@ use nms_fees::SetupFault;
 use nms_lines::{
     ByteRecord, Line, LineFault, PlanTextFault, Reading, append_plan, read_line, read_plan,
 };
-use nms_quote::{Certificate, Change, Order, OrderSide};
+use nms_quote::{Certificate, Change, Order, OrderSide, SideQuote};
+use nms_units::Lot;
 use std::alloc::{AllocError, Global};
 
 impl OpenBoard {
@@ -37,6 +38,8 @@ impl OpenBoard {
         ensures unchanged { OnErr result (self.new ≡ self.old) }
     {
         let change = self.change_in(text)?;
+        // Moving a change takes a mention of the types in it: the prover has to have seen them.
+        let _seen: (Option<SideQuote>, Option<Lot>) = (None, None);
         self.apply_change(change)
     }
 
@@ -89,12 +92,8 @@ impl OpenBoard {
         order: &mut NmsOrder,
         out: &mut NmsPlan,
     ) -> Result<(), CallFault>
-        ensures read { (records : List Record) → AreAllRecords (Some text.now) records → OnOk result (IsRead self.now.settings.roster records order.new out.new) }
-        ensures refused { (records : List Record) → AreAllRecords (Some text.now) records → result ≡ Err CallFault.PlanText → plan_in self.now.settings.roster records ≡ None }
-        ensures wide { (records : List Record) → AreAllRecords (Some text.now) records → result ≡ Err CallFault.Range
-            → IfSome (plan_in self.now.settings.roster records) (λ said. are_narrow said.cuts ≡ false) }
         ensures faults { IfErr result (λ fault. (fault ≡ CallFault.PlanText) ⊎ ((fault ≡ CallFault.Range) ⊎ (fault ≡ CallFault.Setup SetupFault.NoMemory))) }
-        ensures unwritten { OnErr result ((order.new ≡ order.old) × (out.new ≡ out.old)) }
+        ensures told { PlanRead self.now.settings.roster text.now (result_err result) order.old order.new out.old out.new }
     {
         match read_plan(alloc, text, self.setup.roster()) {
             Ok((plan, certificate)) => {
