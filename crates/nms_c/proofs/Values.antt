@@ -53,19 +53,32 @@ module _ (R Z : RattleType) (L : Laws Z) (g : Ghosts Z.Denot) where
 
   module _ {M : Type 1} {𝓤 : Ura M} {𝓛 : Logic 𝓤} {K : Type 0} {Γ : List (Item 𝓤)} {G : Goal 𝓤 𝓛.H} where
     pub loose_out : K → (d : Loose.Denot) (vs : List Val)
-        → ((b o : ℕ) (h : Val) → d.at ≡ block_ptr b o → vs ≡ both (vptr b o) h ∷ [] → Good (layout Z) h → Seq K 𝓛 (‵ (box_owns (g.dealloc_token d.alloc) R (block_ptr b o) d.value) ∷ ‵ (Z.own_val d.alloc (h ∷ [])) ∷ Γ) G)
+        → ((b o : ℕ) (h : Val) → d.at ≡ block_ptr b o → vs ≡ both (vptr b o) h ∷ [] → Good (layout Z) h → Seq K 𝓛 (‵ (box_owns
+        (g.dealloc_token d.alloc) R (block_ptr b o) d.value) ∷ ‵ (Z.own_val d.alloc (h ∷ [])) ∷ Γ) G)
         → Seq K 𝓛 (‵ (Loose.own_val d vs) ∷ Γ) G
     loose_out t d vs k =
-        fsplit t $ fpick t (λ vss. fsplit t $ feq_l t (λ ev. fsplit t $ feq_l t (λ ep. fsplit t $ handle_tells al t d.alloc vss.1.0 (λ h ea fits. move t (1 ∷ []) $ drop t $ move t (1 ∷ []) $
-        in_a_block t d.at (λ p. box_owns (g.dealloc_token d.alloc) R p d.value) (fst∗ 𝓤 (never 𝓤) (sem 𝓛 (g.dealloc_token d.alloc (bare (lone R.mir)) null_ptr))) (λ b o e. k b o h e
+        fsplit t $ fpick t (λ vss. fsplit t $ feq_l t (λ ev. fsplit t $ feq_l t (λ ep. fsplit t $ handle_tells al t d.alloc vss.1.0 (λ h
+        ea fits. move t (1 ∷ []) $ drop t $ move t (1 ∷ []) $
+        in_a_block t d.at (λ p. box_owns (g.dealloc_token d.alloc) R p d.value) (fst∗ 𝓤 (never 𝓤) (sem 𝓛 (g.dealloc_token d.alloc (bare
+        (lone R.mir)) null_ptr))) (λ b o e. k b o h e
         (subst (λ (p : Ptr). vs ≡ vstruct (of_list (ptr_val p ∷ h ∷ [])) ∷ []) e
-        (subst (λ (ws : List Val). vs ≡ vstruct (of_list (ptr_val d.at ∷ (ws ++ []))) ∷ []) ea (subst (λ (ps : List Val). vs ≡ vstruct (of_list (ps ++ (vss.1.0 ++ []))) ∷ []) ep ev))) fits)))))
+        (subst (λ (ws : List Val). vs ≡ vstruct (of_list (ptr_val d.at ∷ (ws ++ []))) ∷ []) ea (subst (λ (ps : List Val). vs ≡ vstruct
+        (of_list (ps ++ (vss.1.0 ++ []))) ∷ []) ep ev))) fits)))))
 
     pub loose_in : K → (b o : ℕ) (h : Val) (a : Z.Denot) (x : R.Denot)
-        → Step K 𝓛 (‵ (Loose.own_val (record { at = block_ptr b o; alloc = a; value = x }) (both (vptr b o) h ∷ [])) ∷ Γ) G (‵ (box_owns (g.dealloc_token a) R (block_ptr b o) x) ∷ ‵ (Z.own_val a (h ∷ [])) ∷ Γ) G
+        → Step K 𝓛 (‵ (Loose.own_val (record { at = block_ptr b o; alloc = a; value = x }) (both (vptr b o) h ∷ [])) ∷ Γ) G (‵ (box_owns
+        (g.dealloc_token a) R (block_ptr b o) x) ∷ ‵ (Z.own_val a (h ∷ [])) ∷ Γ) G
     loose_in t b o h a x = step (λ s. let v : Val = both (vptr b o) h in
-        nothing t $ move t (2 ∷ 0 ∷ []) $ fjoin t $ feq_i t (List Val) (vptr b o ∷ []) (vptr b o ∷ []) refl $ fjoin t $ feq_i t (List Val) (v ∷ []) (v ∷ []) refl $ fjoin t $
-        fpack t (Valss (RawPtr ∷ Z ∷ [])) (within (shape (loose.the_type R Z g)) (block_ptr b o, (a, tt)) (v ∷ [])) (vptr b o ∷ [], (h ∷ [], tt)) $ fjoin t $ s)
+        nothing t $ move t (2 ∷ 0 ∷ []) $ fjoin t $ feq_i t (List Val) (vptr b o ∷ []) (vptr b o ∷ []) refl $ fjoin t $ feq_i t (List
+        Val) (v ∷ []) (v ∷ []) refl $ fjoin t $
+        fpack t (Valss (RawPtr ∷ Z ∷ [])) (within (shape (loose.the_type R Z g)) (block_ptr b o, (a, tt)) (v ∷ [])) (
+          vptr b o ∷ [],
+          (
+            h ∷
+                [],
+            tt,
+          ),
+        ) $ fjoin t $ s)
 
 -- the handle that C keeps: the same two fields, where the pointer's type says less
 
@@ -99,34 +112,46 @@ module _ {M : Type 1} {𝓤 : Ura M} {𝓛 : Logic 𝓤} {K : Type 0} {Γ : List
 
 module _ {M : Type 1} {𝓤 : Ura M} {𝓛 : Logic 𝓤} {K : Type 0} {Γ : List (Item 𝓤)} {G : Goal 𝓤 𝓛.H} where
   pub held_out : K → (d : Held.Denot) (vs : List Val) → d.mark ≡ open_mark
-      → ((b o : ℕ) (h : Val) (x : K-row.Denot) → d.value ≡ Some x → d.at ≡ block_ptr b o → vs ≡ three d.mark (vptr b o) h ∷ [] → d.mark < 2 ^ 64 → Good (layout Z-row) h → Seq K 𝓛 (‵ (box_owns (tok d.alloc) K-row (block_ptr b o) x) ∷ ‵ (Z-row.own_val d.alloc (h ∷ [])) ∷ Γ) G)
+      → ((b o : ℕ) (h : Val) (x : K-row.Denot) → d.value ≡ Some x → d.at ≡ block_ptr b o → vs ≡ three d.mark (vptr b o) h ∷ [] → d.mark <
+      2 ^ 64 → Good (layout Z-row) h → Seq K 𝓛 (‵ (box_owns (tok d.alloc) K-row (block_ptr b o) x) ∷ ‵ (Z-row.own_val d.alloc (h ∷ [])) ∷
+      Γ) G)
       → Seq K 𝓛 (‵ (Held.own_val d vs) ∷ Γ) G
   held_out t d vs em k =
-      fsplit t $ fpick t (λ vss. fsplit t $ feq_l t (λ ev. fsplit t $ fsplit t $ feq_l t (λ eu. flt_l t (λ fm. fsplit t $ feq_l t (λ ep. fsplit t $ handle_tells (al K-row Z-row Z-laws global_impl.ghosts) t d.alloc vss.1.1.0 (λ h ea fits. move t (1 ∷ []) $ drop t $ move t (1 ∷ []) $
+      fsplit t $ fpick t (λ vss. fsplit t $ feq_l t (λ ev. fsplit t $ fsplit t $ feq_l t (λ eu. flt_l t (λ fm. fsplit t $ feq_l t (λ ep.
+      fsplit t $ handle_tells (al K-row Z-row Z-laws global_impl.ghosts) t d.alloc vss.1.1.0 (λ h ea fits. move t (1 ∷ []) $ drop t $
+      move t (1 ∷ []) $
       held_case t d.mark d.at d.alloc d.value em (λ x ex.
-      in_a_block t d.at (λ p. box_owns (tok d.alloc) K-row p x) (fst∗ 𝓤 (never 𝓤) (sem 𝓛 (tok d.alloc (bare (lone K-row.mir)) null_ptr))) (λ b o e. k b o h x ex e
+      in_a_block t d.at (λ p. box_owns (tok d.alloc) K-row p x) (fst∗ 𝓤 (never 𝓤) (sem 𝓛 (tok d.alloc (bare (lone K-row.mir)) null_ptr)))
+      (λ b o e. k b o h x ex e
       (subst (λ (p : Ptr). vs ≡ vstruct (of_list (vint w64 d.mark ∷ ptr_val p ∷ h ∷ [])) ∷ []) e
       (subst (λ (ws : List Val). vs ≡ vstruct (of_list (vint w64 d.mark ∷ ptr_val d.at ∷ (ws ++ []))) ∷ []) ea
       (subst (λ (ps : List Val). vs ≡ vstruct (of_list (vint w64 d.mark ∷ (ps ++ (vss.1.1.0 ++ [])))) ∷ []) ep
       (subst (λ (us : List Val). vs ≡ vstruct (of_list (us ++ (vss.1.0 ++ (vss.1.1.0 ++ [])))) ∷ []) eu ev)))) fm fits))))))))
 
   pub held_in : K → (b o : ℕ) (h : Val) (a : Z-row.Denot) (x : K-row.Denot)
-      → Step K 𝓛 (‵ (Held.own_val (record { mark = open_mark; at = block_ptr b o; alloc = a; value = Some x }) (three open_mark (vptr b o) h ∷ [])) ∷ Γ) G (‵ (box_owns (tok a) K-row (block_ptr b o) x) ∷ ‵ (Z-row.own_val a (h ∷ [])) ∷ Γ) G
+      → Step K 𝓛 (‵ (Held.own_val (record { mark = open_mark; at = block_ptr b o; alloc = a; value = Some x }) (three open_mark (vptr b
+      o) h ∷ [])) ∷ Γ) G (‵ (box_owns (tok a) K-row (block_ptr b o) x) ∷ ‵ (Z-row.own_val a (h ∷ [])) ∷ Γ) G
   held_in t b o h a x = step (λ s. let v : Val = three open_mark (vptr b o) h in
       fpack t (open_mark ≡ open_mark) (λ _. box_owns (tok a) K-row (block_ptr b o) x) refl $
       nothing t $ move t (2 ∷ 0 ∷ []) $ fjoin t $ feq_i t (List Val) (vptr b o ∷ []) (vptr b o ∷ []) refl $ fjoin t $
-      flt_i t open_mark (2 ^ 64) (lit< tt) $ feq_i t (List Val) (vint w64 open_mark ∷ []) (vint w64 open_mark ∷ []) refl $ fjoin t $ fjoin t $
+      flt_i t open_mark (2 ^ 64) (lit< tt) $ feq_i t (List Val) (vint w64 open_mark ∷ []) (vint w64 open_mark ∷ []) refl $ fjoin t $
+      fjoin t $
       feq_i t (List Val) (v ∷ []) (v ∷ []) refl $ fjoin t $
-      fpack t (Valss (u64 ∷ RawPtr ∷ (global.the_field).row ∷ [])) (within (shape handle.the_type) (intos (handle.the_type).parts (open_mark, (block_ptr b o, (a, tt)))) (v ∷ [])) (vint w64 open_mark ∷ [], (vptr b o ∷ [], (h ∷ [], tt))) $ fjoin t $ s)
+      fpack t (Valss (u64 ∷ RawPtr ∷ (global.the_field).row ∷ [])) (within (shape handle.the_type) (intos (handle.the_type).parts
+      (open_mark, (block_ptr b o, (a, tt)))) (v ∷ [])) (vint w64 open_mark ∷ [], (vptr b o ∷ [], (h ∷ [], tt))) $ fjoin t $ s)
 
   pub shut_in : K → (h : Val) (a : Z-row.Denot)
-      → Step K 𝓛 (‵ (Held.own_val (record { mark = 0; at = null_ptr; alloc = a; value = None }) (three 0 (vint w64 0) h ∷ [])) ∷ Γ) G (‵ (Z-row.own_val a (h ∷ [])) ∷ Γ) G
+      → Step K 𝓛 (‵ (Held.own_val (record { mark = 0; at = null_ptr; alloc = a; value = None }) (three 0 (vint w64 0) h ∷ [])) ∷ Γ) G (‵
+      (Z-row.own_val a (h ∷ [])) ∷ Γ) G
   shut_in t h a = step (λ s. let v : Val = three 0 (vint w64 0) h in
       nothing t $ fpack t (0 ≢ open_mark) (λ _. ftrue) (omega arith) $
       nothing t $ move t (2 ∷ 0 ∷ []) $ fjoin t $ feq_i t (List Val) (vint w64 0 ∷ []) (vint w64 0 ∷ []) refl $ fjoin t $
       flt_i t 0 (2 ^ 64) (lit< tt) $ feq_i t (List Val) (vint w64 0 ∷ []) (vint w64 0 ∷ []) refl $ fjoin t $ fjoin t $
       feq_i t (List Val) (v ∷ []) (v ∷ []) refl $ fjoin t $
-      fpack t (Valss (u64 ∷ RawPtr ∷ (global.the_field).row ∷ [])) (within (shape handle.the_type) (intos (handle.the_type).parts (0, (null_ptr, (a, tt)))) (v ∷ [])) (vint w64 0 ∷ [], (vint w64 0 ∷ [], (h ∷ [], tt))) $ fjoin t $ s)
+      fpack t (Valss (u64 ∷ RawPtr ∷ (global.the_field).row ∷ [])) (within (shape handle.the_type) (intos (handle.the_type).parts (
+        0,
+        (null_ptr, (a, tt)),
+      )) (v ∷ [])) (vint w64 0 ∷ [], (vint w64 0 ∷ [], (h ∷ [], tt))) $ fjoin t $ s)
 
 pub shut_good : (h : Val) → Good (layout Z-row) h → T (has_ty (layout Z-row) h && true) × WT (three 0 (vint w64 0) h)
 shut_good h fits = (and_tt (has_ty (layout Z-row) h) fits.0, (record { fits = lit< tt }, (record { fits = lit< tt }, (fits.1, tt))))

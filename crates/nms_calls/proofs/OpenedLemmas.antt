@@ -1,5 +1,6 @@
 -- What is left by a change, and what a plan's numbers are of.
-use Rattle.std.proofs.Common.{◌≡◌, ◌∙◌, ◌<◌, ℕ, None, Some, fold, take, get_or, length, refl, Bool, true, List, Result, Ok, sym, ap, subst, if◌then◌else◌}
+use Rattle.std.proofs.Common.{◌≡◌, ◌∙◌, ◌<◌, ℕ, None, Some, fold, take, get_or, length, refl, Bool, true, List, Result, Ok, sym, ap}
+use Rattle.std.proofs.Common.{subst, if◌then◌else◌}
 use Rattle.std.proofs.lemmas.Bool.{lt-ltb}
 use Rattle.std.proofs.lemmas.List.Folds.{fold_stuck}
 use Rattle.std.specs.Result.{IfOk}
@@ -16,7 +17,8 @@ use Rattle.nms_rules.specs.Faultless.{given_by}
 use Rattle.nms_rules.specs.Usable.{usable}
 use Rattle.nms_sweep.specs.Planned.{Planned}
 use Rattle.nms_calls.specs.ChangeSaid.{change_said}
-use Rattle.nms_calls.specs.Opened.{Opened, Progress, all_applied, apply_fault, apply_left, from_start, next, tried, has_room, left_on, made_for, made_said, sizes_on, with_change, with_order}
+use Rattle.nms_calls.specs.Opened.{Opened, Progress, all_applied, apply_fault, apply_left, from_start, next, tried, has_room, left_on}
+use Rattle.nms_calls.specs.Opened.{made_for, made_said, sizes_on, with_change, with_order}
 use Rattle.nms_calls.specs.OrderSaid.{order_said}
 use Rattle.nms_calls.specs.PlanNumbers.{AreNumbersOf, IsBestPlan}
 use Rattle.nms_calls.specs.PlanSaid.{plan_said}
@@ -36,7 +38,8 @@ applied-left opened n change board said room is =
     ap made is ∙ sym (ap (left_on opened) said ∙ ap chosen roomy)
 
 -- numbers of a plan that is accepted for the order that numbers say are those of the best plan
-pub best-when : (opened : Opened) (n : NmsOrder) (order : Terms) (fees : Charges) (made : Planned) (plan : Plan) (cuts : List Cut) (out : NmsPlan)
+pub best-when : (opened : Opened) (n : NmsOrder) (order : Terms) (fees : Charges) (made : Planned) (plan : Plan) (cuts : List Cut) (out :
+    NmsPlan)
     → order_said (sizes_on opened) n ≡ Ok order → fees ≡ opened.settings.fees → plan ≡ made.plan → cuts ≡ made.cuts
     → AreNumbersOf plan cuts out
     → IsAccepted (seen_on opened.board order.sym) order fees made.plan made.cuts
@@ -46,9 +49,11 @@ best-when opened n order fees made plan cuts out said of_fees of_plan of_cuts nu
     let best : IsBestPlan opened.board opened.settings.fees order out = record {
       plan = made.plan;
       certificate = made.cuts;
-      numbers = subst (λ (p : Plan). AreNumbersOf p made.cuts out) of_plan (subst (λ (cs : List Cut). AreNumbersOf plan cs out) of_cuts numbers);
+      numbers = subst (λ (p : Plan). AreNumbersOf p made.cuts out) of_plan (subst (λ (cs : List Cut). AreNumbersOf plan cs out) of_cuts
+          numbers);
       accepted = subst (λ (f : Charges). IsAccepted (seen_on opened.board order.sym) order f made.plan made.cuts) of_fees accepted;
-      optimal = subst (λ (f : Charges). IsOptimal (usable (seen_on opened.board order.sym) order f) order.shares (given_by made.plan.legs.items)) of_fees optimal;
+      optimal = subst (λ (f : Charges). IsOptimal (usable (seen_on opened.board order.sym) order f) order.shares (given_by
+          made.plan.legs.items)) of_fees optimal;
     } in
     subst (λ (r : Result Terms CallFault). IfOk r (λ order. IsBestPlan opened.board opened.settings.fees order out)) (sym said) best
 

@@ -1,5 +1,6 @@
 -- Places of an array that are written one after another, and the two halves of an amount.
-use Rattle.std.proofs.Common.{◌≡◌, ◌<◌, ◌+◌, ◌^◌, ℕ, zero, suc, ℤ, pos, negsuc, List, [], ◌∷◌, Some, length, slice_get, slice_set, ap, arith, unsigned_abs}
+use Rattle.std.proofs.Common.{◌≡◌, ◌<◌, ◌+◌, ◌^◌, ℕ, zero, suc, ℤ, pos, negsuc, List, [], ◌∷◌, Some, length, slice_get, slice_set, ap}
+use Rattle.std.proofs.Common.{arith, unsigned_abs}
 use Rattle.std.proofs.lemmas.Int.{ints}
 use Rattle.std.specs.Int.{int_div_euclid, int_rem_euclid}
 use Rattle.nms_calls.specs.PlanNumbers.{cost_said}

@@ -36,11 +36,16 @@ rows-one_more out k row f wide within before is i below =
     let price : ℕ → ℕ = λ j. (f j).price in let receipt : ℕ → ℕ = λ j. (f j).receipt in let size : ℕ → ℕ = λ j. (f j).size in
     let part : ℕ → ℕ = λ j. (f j).part in let flag : ℕ → ℕ = λ j. (f j).is_protected in
     record {
-      price = filled-one_more out.price k row.price price (omega (arith, wide.prices)) (λ j h. (before j h).price) (ap (λ (r : NmsRow). r.price) is) i below;
-      receipt = filled-one_more out.receipt k row.receipt receipt (omega (arith, wide.receipts)) (λ j h. (before j h).receipt) (ap (λ (r : NmsRow). r.receipt) is) i below;
-      size = filled-one_more out.size k row.size size (omega (arith, wide.sizes)) (λ j h. (before j h).size) (ap (λ (r : NmsRow). r.size) is) i below;
-      part = filled-one_more out.part k row.part part (omega (arith, wide.parts)) (λ j h. (before j h).part) (ap (λ (r : NmsRow). r.part) is) i below;
-      is_protected = filled-one_more out.is_protected k row.is_protected flag (omega (arith, wide.flags)) (λ j h. (before j h).is_protected) (ap (λ (r : NmsRow). r.is_protected) is) i below;
+      price = filled-one_more out.price k row.price price (omega (arith, wide.prices)) (λ j h. (before j h).price) (ap (λ (r : NmsRow).
+          r.price) is) i below;
+      receipt = filled-one_more out.receipt k row.receipt receipt (omega (arith, wide.receipts)) (λ j h. (before j h).receipt) (ap (λ (r
+          : NmsRow). r.receipt) is) i below;
+      size = filled-one_more out.size k row.size size (omega (arith, wide.sizes)) (λ j h. (before j h).size) (ap (λ (r : NmsRow). r.size)
+          is) i below;
+      part = filled-one_more out.part k row.part part (omega (arith, wide.parts)) (λ j h. (before j h).part) (ap (λ (r : NmsRow). r.part)
+          is) i below;
+      is_protected = filled-one_more out.is_protected k row.is_protected flag (omega (arith, wide.flags)) (λ j h. (before j
+          h).is_protected) (ap (λ (r : NmsRow). r.is_protected) is) i below;
     }
 
 -- no more rows stand on a side than there are participants

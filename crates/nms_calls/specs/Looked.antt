@@ -40,7 +40,8 @@ abbrev pub cost_at : Opened → ℕ → ℕ → Option OrderSide → Result ℤ 
 cost_at opened part price None = Err fault.Range
 cost_at opened part price (Some side) =
     if nat_le 1 price && nat_le price MOST_PRICE
-    then (if nat_lt part (length opened.settings.roster.parts) then Ok (unit_cost_of opened.settings.fees part side price) else Err fault.NoParticipant)
+    then (if nat_lt part (length opened.settings.roster.parts) then Ok (unit_cost_of opened.settings.fees part side price) else Err
+    fault.NoParticipant)
     else Err fault.Range
 
 abbrev pub cost_on : Opened → ℕ → ℕ → ℕ → Result ℤ CallFault

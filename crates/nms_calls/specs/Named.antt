@@ -23,7 +23,8 @@ absent found (Some place) = None
 -- why a name is not written
 abbrev pub part_name_fault : Opened → ℕ → List ℕ → Option CallFault
 part_name_fault opened part out =
-    if nat_lt part (length opened.settings.roster.parts) then text_fault (part_text opened.settings.roster part) out else Some fault.NoParticipant
+    if nat_lt part (length opened.settings.roster.parts) then text_fault (part_text opened.settings.roster part) out else Some
+    fault.NoParticipant
 
 abbrev pub sym_name_fault : Opened → ℕ → List ℕ → Option CallFault
 sym_name_fault opened sym out =

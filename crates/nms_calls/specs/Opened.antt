@@ -1,5 +1,6 @@
 -- What stands behind an open handle, and what a call answers there. This product's own rule.
-use Rattle.std.specs.Prelude.{◌≡◌, ◌⊎◌, ◌+◌, fold, ◌++◌, ◌∷◌, [], ℕ, IfOk, Bool, nat_lt, length, List, Option, Some, None, Result, Ok, Err, if◌then◌else◌}
+use Rattle.std.specs.Prelude.{◌≡◌, ◌⊎◌, ◌+◌, fold, ◌++◌, ◌∷◌, [], ℕ, IfOk, Bool, nat_lt, length, List, Option, Some, None, Result, Ok}
+use Rattle.std.specs.Prelude.{Err, if◌then◌else◌}
 use Rattle.std.specs.Str.{IsUtf8}
 use Rattle.nms_quote.specs.Roster.{Sizes, sizes_of}
 use Rattle.nms_quote.specs.Tape.{Tape}

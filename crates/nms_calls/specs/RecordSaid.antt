@@ -1,5 +1,6 @@
 -- What the text of one record says, and the text of a plan. This product's own rule.
-use Rattle.std.specs.Prelude.{◌≡◌, ◌≢◌, ◌==◌, ℕ, Bool, false, nat_le, not, List, length, IfSome, Option, Some, None, Result, Ok, Err, if◌then◌else◌}
+use Rattle.std.specs.Prelude.{◌≡◌, ◌≢◌, ◌==◌, ℕ, Bool, false, nat_le, not, List, length, IfSome, Option, Some, None, Result, Ok, Err}
+use Rattle.std.specs.Prelude.{if◌then◌else◌}
 use Rattle.std.specs.List.{list_all, slice_split}
 use Rattle.nms_quote.specs.Roster.{Listing}
 use Rattle.nms_quote.specs.Terms.{Terms}
@@ -100,7 +101,8 @@ pub record IsRead (roster : Listing) (records : List Record) (order : NmsOrder) 
   pub numbers : AreNumbersOf plan certificate out
 
 -- what came of reading a plan from a text: at no fault its numbers, else why it is none, and nothing written
-pub record PlanRead (roster : Listing) (text : List ℕ) (told : Option CallFault) (old_order order : NmsOrder) (old out : NmsPlan) : Type 0 where
+pub record PlanRead (roster : Listing) (text : List ℕ) (told : Option CallFault) (old_order order : NmsOrder) (old out : NmsPlan) : Type
+    0 where
   pub read : told ≡ None → (records : List Record) → AreAllRecords (Some text) records → IsRead roster records order out
   pub refused : told ≡ Some fault.PlanText → (records : List Record) → AreAllRecords (Some text) records → plan_in roster records ≡ None
   pub wide : told ≡ Some fault.Range → (records : List Record) → AreAllRecords (Some text) records

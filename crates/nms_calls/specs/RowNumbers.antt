@@ -91,7 +91,8 @@ pub record IsView (board : Board) (sym : ℕ) (out : NmsView) : Type 0 where
   pub version : out.version ≡ board.applied
   pub bids : AreRanked Bid (rows_held board sym Bid) out.bid
   pub offers : AreRanked Offer (rows_held board sym Offer) out.offer
-  pub market : out.market ≡ market_number (market_of (ranked_at Bid (rows_held board sym Bid) 0) (ranked_at Offer (rows_held board sym Offer) 0))
+  pub market : out.market ≡ market_number (market_of (ranked_at Bid (rows_held board sym Bid) 0) (ranked_at Offer (rows_held board sym
+      Offer) 0))
 
 -- a price in 1/1,000,000 dollar is traded through by a protected bid above it, and by a protected offer below it
 abbrev pub is_beyond : Side → ℕ → ℕ → Bool

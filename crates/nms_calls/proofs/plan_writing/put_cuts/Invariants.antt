@@ -4,4 +4,5 @@ use Rattle.nms_calls.specs.PlanNumbers.{cut_at}
 use Rattle.nms_calls.proofs.plan_writing.put_cuts.Given as goal
 
 abbrev pub invariant-loop-place : goal.invariant-loop-place
-invariant-loop-place l = (length l.places ≡ 32) × ((place : ℕ) → place < l.place → slice_get l.places place ≡ Some (cut_at (slice_get l.cuts place)))
+invariant-loop-place l = (length l.places ≡ 32) × ((place : ℕ) → place < l.place → slice_get l.places place ≡ Some (cut_at (slice_get
+    l.cuts place)))

@@ -14,7 +14,8 @@ returns c =
       total_of = c.total-out.ensures.total;
       count_of = omega (arith, few, c.loop-place.invariant.1, c.loop-place-test.false);
       places = λ place within.
-          let at : IsRowAt c.loop-place.out place (row_numbers (ranked_at c.args.side (rows_held c.args.board.now c.args.sym c.args.side) place)) =
+          let at : IsRowAt c.loop-place.out place (row_numbers (ranked_at c.args.side (rows_held c.args.board.now c.args.sym c.args.side)
+          place)) =
           c.loop-place.invariant.2 place (omega (arith, within, c.loop-place-test.false)) in
           record { price = at.price; receipt = at.receipt; size = at.size; part = at.part; is_protected = at.is_protected };
     }

@@ -7,7 +7,19 @@ use Rattle.nms_calls.proofs.open_board.OpenBoard.apply_all.Goals as goal
 
 -- the change that stands for one past the last
 abbrev none : NmsChange
-none = record { bid_price = 0; offer_price = 0; bid_shares = 0; offer_shares = 0; sym = 0; lot = 0; part = 0; kind = 0; state = 0; spare = 0 }
+none = record {
+  bid_price = 0;
+  offer_price = 0;
+  bid_shares = 0;
+  offer_shares = 0;
+  sym = 0;
+  lot = 0;
+  part = 0;
+  kind = 0;
+  state = 0;
+  spare
+      = 0;
+}
 
 pub returns-in-Err-clause-answer : goal.returns-in-Err-clause-answer
 returns-in-Err-clause-answer c = ap (λ (p : Progress). p.fault)
