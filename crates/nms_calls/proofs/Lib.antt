@@ -1,3 +1,4 @@
+pub mod ChangeLemmas
 pub mod OpenedLemmas
 pub mod PlaceLemmas
 pub mod SideLemmas

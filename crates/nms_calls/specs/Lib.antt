@@ -1,3 +1,4 @@
+pub mod ChangeNumbers
 pub mod ChangeSaid
 pub mod CodeTexts
 pub mod Codes

@@ -1,4 +1,6 @@
 //! The numbers of a change as they cross.
+ghost use Rattle.std.specs.Prelude.{◌≡◌};
+ghost use Rattle.nms_calls.specs.ChangeNumbers.{no_change};
 
 /// A change of the board. The fields that its kind does not use are not looked at.
 #[repr(C)]
@@ -24,4 +26,24 @@ pub struct NmsChange {
     pub state: u8,
     /// Not looked at.
     pub spare: u8,
+}
+
+impl NmsChange {
+    /// The numbers that stand for no change.
+    pub(crate) fn none() -> Self
+        ensures { result ≡ no_change }
+    {
+        NmsChange {
+            bid_price: 0,
+            offer_price: 0,
+            bid_shares: 0,
+            offer_shares: 0,
+            sym: 0,
+            lot: 0,
+            part: 0,
+            kind: 0,
+            state: 0,
+            spare: 0,
+        }
+    }
 }

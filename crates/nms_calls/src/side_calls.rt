@@ -1,7 +1,8 @@
-//! All rows of a side or of a symbol, and those that a price trades through: `specs/Looked`.
+//! All rows of a side or of a symbol, those that a price trades through, and a symbol's opening changes: `specs/Looked`.
 ghost use Rattle.std.specs.Prelude.{◌≡◌, IfOk, OnErr, OnOk};
 ghost use Rattle.std.specs.Result.{result_err};
 ghost use Rattle.nms_board.specs.Shown.{rows_held};
+ghost use Rattle.nms_calls.specs.ChangeNumbers.{IsOpening};
 ghost use Rattle.nms_calls.specs.Looked.{market_side_said, side_looked_at, through_fault};
 ghost use Rattle.nms_calls.specs.Opened.{error_of, sym_fault};
 ghost use Rattle.nms_calls.specs.RowNumbers.{AreRanked, AreThrough, IsView};
@@ -9,7 +10,9 @@ ghost use Rattle.nms_calls.specs.RowNumbers.{AreRanked, AreThrough, IsView};
 use crate::MOST_MILLIONTHS;
 use crate::call_fault::CallFault;
 use crate::change_reading::sym_of;
+use crate::change_writing::put_opening;
 use crate::open_board::OpenBoard;
+use crate::opening_numbers::NmsOpening;
 use crate::row_calls::market_side_of;
 use crate::row_numbers::{NmsRows, NmsThrough, NmsView, market_number};
 use crate::side_writing::{put_rows, put_side, through_at};
@@ -66,6 +69,17 @@ impl OpenBoard {
         out.offers = offers.len() as u32;
         put_rows(bids.as_slice(), &mut out.bid);
         put_rows(offers.as_slice(), &mut out.offer);
+        Ok(())
+    }
+
+    /// Writes the opening changes of a symbol: a new board of the same setup that takes them shows alike for the symbol.
+    pub fn opening(&self, sym: u16, out: &mut NmsOpening) -> Result<(), CallFault>
+        ensures answer { result_err result ≡ sym_fault self.now sym }
+        ensures opening { OnOk result (IsOpening self.now.board sym out.new) }
+        ensures unwritten { OnErr result (out.new ≡ out.old) }
+    {
+        let sym = sym_of(self.setup.roster(), sym)?;
+        put_opening(&self.board, sym, out);
         Ok(())
     }
 }
