@@ -1,16 +1,17 @@
 //! Looks at a symbol of a board.
 ghost use Rattle.std.specs.Prelude.{◌≡◌, ◌≢◌, IfOk};
 ghost use Rattle.nms_board.specs.Shown.{rows_held};
+ghost use Rattle.nms_calls.specs.ChangeNumbers.{IsOpening};
 ghost use Rattle.nms_calls.specs.Codes.{answer_of};
 ghost use Rattle.nms_calls.specs.Looked.{cost_on, market_side_said, ranked_said, side_looked_at, through_fault};
-ghost use Rattle.nms_calls.specs.Opened.{error_of, sym_fault};
+ghost use Rattle.nms_calls.specs.Opened.{error_of, sizes_on, sym_fault};
 ghost use Rattle.nms_calls.specs.RowNumbers.{AreBest, AreRanked, AreThrough, IsView, some_row};
 ghost use Rattle.nms_c.specs.Behind.{Behind};
 ghost use Rattle.nms_c.specs.Held.{open_mark};
 
 use crate::handle::NmsBoard;
 use crate::taking::{CLOSED, give, take};
-use nms_calls::{NmsBest, NmsRow, NmsRows, NmsThrough, NmsView, answer};
+use nms_calls::{NmsBest, NmsOpening, NmsRow, NmsRows, NmsThrough, NmsView, answer};
 use std::alloc::Global;
 
 /// Writes the best bid, the best offer and the state of the market of a symbol.
@@ -154,6 +155,29 @@ pub extern "C" fn nms_raw_unit_cost(
         return CLOSED;
     };
     let code = answer(kept.unit_cost(part, side, price, out));
+    give(board, kept);
+    code
+}
+
+/// Writes the opening changes of a symbol.
+#[unsafe(no_mangle)]
+pub extern "C" fn nms_raw_opening_of(
+    alloc: Global,
+    board: &mut NmsBoard,
+    sym: u16,
+    out: &mut NmsOpening,
+) -> u32
+    ensures closed { board.old.mark ≢ open_mark → (result ≡ 15) × (board.new ≡ board.old) }
+    ensures open { board.old.mark ≡ open_mark → board.new.mark ≡ open_mark }
+    ensures answer { board.old.mark ≡ open_mark → Behind board.old.value (λ opened. result ≡ answer_of (sym_fault opened sym)) }
+    ensures opening { result ≡ 0 → Behind board.old.value (λ opened. IsOpening (sizes_on opened) opened.board sym out.new) }
+    ensures same { board.new.value ≡ board.old.value }
+    ensures unwritten { result ≢ 0 → out.new ≡ out.old }
+{
+    let Some(kept) = take(alloc, board) else {
+        return CLOSED;
+    };
+    let code = answer(kept.opening(sym, out));
     give(board, kept);
     code
 }

@@ -73,11 +73,11 @@ AreChangesAt places changes = (place : ℕ) → place < MOST_OPENING → slice_g
 abbrev pub IsSaid : Change → Type 0
 IsSaid change = (sizes : Sizes) → holds sizes change ≡ true → change_said sizes (change_numbers change) ≡ Ok change
 
--- opening changes of a symbol: the first places have them, and each says its change
-pub record IsOpening (board : Board) (sym : ℕ) (out : NmsOpening) : Type 0 where
+-- opening changes of a symbol: the first places have them, and on a roster of those sizes each says its change
+pub record IsOpening (sizes : Sizes) (board : Board) (sym : ℕ) (out : NmsOpening) : Type 0 where
   pub changes : List Change
   pub opens : OpensSymbol board sym changes
   pub count_of : out.count ≡ length changes
   pub spare_of : out.spare ≡ 0
   pub places : AreChangesAt out.change changes
-  pub said : All (λ change. change_said board.sizes (change_numbers change) ≡ Ok change) changes
+  pub said : All (λ change. change_said sizes (change_numbers change) ≡ Ok change) changes

@@ -13,7 +13,7 @@ use nms_quote::{Change, QState, SideQuote, Sym};
 /// Writes the opening changes of a symbol.
 pub(crate) fn put_opening(board: &Boards, sym: Sym, out: &mut NmsOpening)
     requires { sym < length board.now.sizes.lots }
-    ensures { IsOpening board.now sym out.new }
+    ensures { IsOpening board.now.sizes board.now sym out.new }
 {
     let opening = opening_of(board, sym);
     let changes = opening.as_slice();

@@ -4,7 +4,7 @@ ghost use Rattle.std.specs.Result.{result_err};
 ghost use Rattle.nms_board.specs.Shown.{rows_held};
 ghost use Rattle.nms_calls.specs.ChangeNumbers.{IsOpening};
 ghost use Rattle.nms_calls.specs.Looked.{market_side_said, side_looked_at, through_fault};
-ghost use Rattle.nms_calls.specs.Opened.{error_of, sym_fault};
+ghost use Rattle.nms_calls.specs.Opened.{error_of, sizes_on, sym_fault};
 ghost use Rattle.nms_calls.specs.RowNumbers.{AreRanked, AreThrough, IsView};
 
 use crate::MOST_MILLIONTHS;
@@ -75,7 +75,7 @@ impl OpenBoard {
     /// Writes the opening changes of a symbol: a new board of the same setup that takes them shows alike for the symbol.
     pub fn opening(&self, sym: u16, out: &mut NmsOpening) -> Result<(), CallFault>
         ensures answer { result_err result ≡ sym_fault self.now sym }
-        ensures opening { OnOk result (IsOpening self.now.board sym out.new) }
+        ensures opening { OnOk result (IsOpening (sizes_on self.now) self.now.board sym out.new) }
         ensures unwritten { OnErr result (out.new ≡ out.old) }
     {
         let sym = sym_of(self.setup.roster(), sym)?;

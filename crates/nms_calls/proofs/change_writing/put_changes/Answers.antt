@@ -1,5 +1,5 @@
 -- `put_changes`: one more place is written at each turn, and its change is said.
-use Rattle.std.proofs.Common.{◌≡◌, ℕ, ◌<◌, ◌+◌, ◌∙◌, IfSome, length, slice_get, arith}
+use Rattle.std.proofs.Common.{ℕ, ◌<◌, ◌∙◌, IfSome, length, slice_get, arith}
 use Rattle.std.proofs.lemmas.List.{length-set}
 use Rattle.nms_calls.specs.ChangeNumbers.{IsSaid, change_at}
 use Rattle.nms_calls.specs.declared.change_numbers.NmsChange.{NmsChange}
