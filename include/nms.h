@@ -12,8 +12,8 @@
  *   1/1,000,000 dollar. Shares are 1 to 999,999,999. Money is in nanodollars (10^-9 dollar).
  *
  * MEMORY
- *   nms_open takes memory, and nms_close gives it back. nms_setup_place takes memory and gives it back before it returns.
- *   nms_read_plan takes memory and gives it back, too. No other call takes any. The caller's structs may lie anywhere: on the stack, in an array, in shared memory.
+ *   nms_open takes memory, and nms_close gives it back. nms_read_plan takes memory and gives it back before it returns. No
+ *   other call takes any. The caller's structs may lie anywhere: on the stack, in an array, in shared memory.
  *
  * THREADS
  *   A board is for one call at a time. Give each thread a board of its own, or call under a lock of your own. A board may
@@ -100,8 +100,6 @@ enum nms_state { NMS_AUTOMATED = 0, NMS_MANUAL = 1, NMS_HALTED = 2 };
 enum nms_kind { NMS_QUOTE = 0, NMS_STATE = 1, NMS_WITHDRAW = 2, NMS_LOT = 3 };
 enum nms_market { NMS_EMPTY = 0, NMS_ONE_SIDED = 1, NMS_NORMAL = 2, NMS_LOCKED = 3, NMS_CROSSED = 4 };
 enum nms_cut_kind { NMS_TOO_MUCH = 0, NMS_TOO_LITTLE = 1, NMS_MARGINAL = 2 };
-enum nms_table { NMS_TABLE_TOP = 0, NMS_TABLE_PARTICIPANT = 1, NMS_TABLE_SYMBOL = 2 };
-enum nms_spot { NMS_SPOT_TEXT = 0, NMS_SPOT_ELEMENT = 1, NMS_SPOT_KEY = 2, NMS_SPOT_OTHER_KEY = 3, NMS_SPOT_NAME = 4 };
 
 /* A board. Set it to NMS_BOARD_CLOSED (all zero) before nms_open. Its fields are the library's, and it is never copied. */
 typedef struct nms_board {
@@ -224,17 +222,6 @@ typedef struct nms_opening {
     nms_change change[NMS_MOST_OPENING];
 } nms_opening;
 
-/* The place of a setup's first fault of the least code. */
-typedef struct nms_place {
-    uint64_t line, column; /* of C1: where the parser stopped, from 1 on, the column in bytes. Else 0 */
-    uint64_t element;      /* table participant or symbol: how many elements stand before it in its array. Else 0 */
-    uint64_t first;        /* spot NMS_SPOT_NAME: the element that has the name already. Else 0 */
-    uint32_t code;         /* NMS_OK, or 1 to 8 */
-    uint32_t table, spot;  /* enum nms_table, enum nms_spot */
-    uint32_t key_bytes;    /* length of key */
-    char key[16];          /* spot NMS_SPOT_KEY and NMS_SPOT_NAME: the key, with a closing zero. Else empty */
-} nms_place;
-
 /* ---- sizes, compared with the library by the gate ---- */
 #ifdef __cplusplus
 #define NMS_HOLDS(fact, text) static_assert(fact, text)
@@ -268,7 +255,6 @@ NMS_HOLDS(offsetof(nms_plan, filled) == 24 && offsetof(nms_plan, legs) == 28, "n
 NMS_HOLDS(offsetof(nms_plan, cuts) == 32 && offsetof(nms_plan, leg) == 40 && offsetof(nms_plan, cut) == 552, "nms_plan");
 NMS_HOLDS(sizeof(nms_doubt) == 16 && sizeof(nms_counts) == 24 && offsetof(nms_counts, parts) == 16, "nms_counts");
 NMS_HOLDS(sizeof(nms_opening) == 2088 && offsetof(nms_opening, change) == 8, "nms_opening");
-NMS_HOLDS(sizeof(nms_place) == 64 && offsetof(nms_place, code) == 32 && offsetof(nms_place, key) == 48, "nms_place");
 
 /* ---- the functions of the library ---- */
 uint32_t nms_abi(void); /* NMS_ABI of the header that the library was made with */
@@ -276,7 +262,6 @@ uint32_t nms_raw_version(uint8_t *out, size_t room, size_t *bytes);
 uint32_t nms_raw_code_text(uint32_t code, uint8_t *out, size_t room, size_t *bytes);
 uint32_t nms_raw_open(const uint8_t *setup, size_t setup_bytes, nms_board *board);
 uint32_t nms_raw_close(nms_board *board);
-uint32_t nms_raw_setup_place(const uint8_t *setup, size_t setup_bytes, nms_place *place);
 uint32_t nms_raw_counts_of(nms_board *board, nms_counts *counts);
 uint32_t nms_raw_find_part(nms_board *board, const uint8_t *name, size_t name_bytes, uint8_t *part);
 uint32_t nms_raw_find_sym(nms_board *board, const uint8_t *name, size_t name_bytes, uint16_t *sym);
@@ -324,13 +309,6 @@ static inline uint32_t nms_open(const char *setup, size_t setup_bytes, nms_board
 static inline uint32_t nms_close(nms_board *board)
 {
     return board ? nms_raw_close(board) : (uint32_t)NMS_NULL;
-}
-
-/* Says where the text of a setup has its first fault of the least code: place->code is NMS_OK if it has none. Needs no
- * board. Codes: NMS_NO_MEMORY. Takes memory and gives it back. */
-static inline uint32_t nms_setup_place(const char *setup, size_t setup_bytes, nms_place *place)
-{
-    return setup && place ? nms_raw_setup_place((const uint8_t *)setup, setup_bytes, place) : (uint32_t)NMS_NULL;
 }
 
 /* Writes how many changes were applied, how many may still be, and how many participants and symbols there are.

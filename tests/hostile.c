@@ -1,7 +1,7 @@
 /* A hostile caller: calls each function of nms.h with each bad number, size, name, kind and state of the handle, with the
  * bytes of each text cut and altered, with random bytes as every struct, with a full tape, and with each request for memory
  * refused in turn. Each call has to answer its code, and a refused one has to leave the board and the caller's structs as
- * they were. An allocator that counts shows that no call takes memory but nms_open and nms_setup_place, and that they give
+ * they were. An allocator that counts shows that no call takes memory but nms_open and nms_read_plan, and that they give
  * all of it back.
  *
  * What a call is given ends at a page that can't be touched, so a byte too many ends the program. Link it with
@@ -260,8 +260,6 @@ static void nulls(nms_board *board)
         nms_open(NULL, 0, board),
         nms_open(setup, setup_bytes, NULL),
         nms_close(NULL),
-        nms_setup_place(NULL, 0, (nms_place *)text),
-        nms_setup_place(setup, setup_bytes, NULL),
         nms_counts_of(NULL, (nms_counts *)text),
         nms_counts_of(board, NULL),
         nms_find_part(NULL, "N", 1, (uint8_t *)text),
@@ -735,7 +733,6 @@ static void full(void)
 
 static void setups(void)
 {
-    nms_place *place;
     /* Cut at each byte, each byte altered in four ways, and random bytes. */
     static const unsigned char others[] = { 0, '"', '9', 0xFF };
     for (size_t size = 0; size <= setup_bytes; ++size)
@@ -752,9 +749,6 @@ static void setups(void)
             }
             code = nms_open(text, bytes, board);
             equals(code <= NMS_C8_TOO_MANY, 1, "a setup with a byte altered");
-            place = filled(2, sizeof *place, 0x5A);
-            equals(nms_setup_place(text, bytes, place), NMS_OK, "the place of a fault");
-            equals(place->code, code, "the code of a fault's place");
             if (code == NMS_OK)
                 equals(nms_close(board), NMS_OK, "a close");
             equals(is_filled(board, sizeof *board, 0), 1, "the handle of a setup that is refused");
@@ -768,17 +762,12 @@ static void setups(void)
 static void memory(void)
 {
     const long held = blocks;
-    unsigned long of_open, of_place, from = requests;
+    unsigned long of_open, from = requests;
     nms_board board = NMS_BOARD_CLOSED;
-    nms_place place;
     equals(nms_open(setup, setup_bytes, &board), NMS_OK, "an open");
     of_open = requests - from;
     equals(nms_close(&board), NMS_OK, "a close");
     equals((unsigned long)blocks, (unsigned long)held, "blocks of memory after a close");
-    from = requests;
-    equals(nms_setup_place(setup, setup_bytes, &place), NMS_OK, "the place of no fault");
-    of_place = requests - from;
-    equals((unsigned long)blocks, (unsigned long)held, "blocks of memory after a place");
     for (unsigned long at = 1; at <= of_open; ++at) {
         memset(&board, 0, sizeof board);
         refuse_at = requests + at;
@@ -788,15 +777,7 @@ static void memory(void)
         equals(is_filled(&board, sizeof board, 0), 1, "the handle after that open");
         every_call_is_closed(&board, "a handle after that open");
     }
-    for (unsigned long at = 1; at <= of_place; ++at) {
-        nms_place *out = filled(2, sizeof *out, 0x5A);
-        refuse_at = requests + at;
-        equals(nms_setup_place(setup, setup_bytes, out), NMS_NO_MEMORY, "a place with a request for memory refused");
-        refuse_at = 0;
-        equals((unsigned long)blocks, (unsigned long)held, "blocks of memory after that place");
-        equals(is_filled(out, sizeof *out, 0x5A), 1, "what that place wrote");
-    }
-    printf("an open asks for memory %lu times, the place of a fault %lu times\n", of_open, of_place);
+    printf("an open asks for memory %lu times\n", of_open);
 }
 
 /* ---- random bytes ---- */

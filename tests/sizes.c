@@ -126,7 +126,6 @@ int main(int count, char **words)
     WRITES(nms_through, nms_traded_through(&board, 1, 10090000, out));
     WRITES(nms_counts, nms_counts_of(&board, out));
     WRITES(nms_opening, nms_opening_of(&board, 1, out));
-    WRITES(nms_place, nms_setup_place("tape_limit = 1", 14, out));
     WRITES(uint8_t, nms_find_part(&board, "Y", 1, out));
     WRITES(uint16_t, nms_find_sym(&board, "PNY", 3, out));
     WRITES(int64_t, nms_unit_cost(&board, 2, NMS_BUY, 100000, out));
@@ -159,8 +158,6 @@ int main(int count, char **words)
                   reopened.offer.size[place] == view.offer.size[place] && reopened.offer.part[place] == view.offer.part[place] &&
                   reopened.offer.is_protected[place] == view.offer.is_protected[place], "it has the same rows in the same order");
     nms_close(&again);
-    nms_place where;
-    holds(nms_setup_place("tape_limit = 1", 14, &where) == NMS_OK && where.code == NMS_C2_MISSING, "nms_place: code");
 
     /* nms_order as it is read, and nms_plan as it is written and read: the text says every field. */
     nms_order order = { .limit = 100812, .shares = 1617, .self_help = 1u << 1, .sym = 1, .side = NMS_BUY, .manual = 1 };
