@@ -17,7 +17,7 @@ import sys
 import tempfile
 
 TOP = os.path.dirname(os.path.dirname(os.path.realpath(__file__)))
-# Bytes that the archive may have.
+# Bytes that the shared object may have.
 MOST_BYTES = 300_000
 # Seconds that a program may take.
 MOST = 300
@@ -119,8 +119,8 @@ class Library:
 
     def link(self):
         """What the archive gives and needs."""
-        size = os.path.getsize(self.archive)
-        check(f"the archive has less than {MOST_BYTES} bytes", size < MOST_BYTES, size)
+        size = os.path.getsize(self.shared) if os.path.exists(self.shared) else 0
+        check(f"the shared object has less than {MOST_BYTES} bytes", 0 < size < MOST_BYTES, size)
         with open(f"{TOP}/include/nms.h", encoding="utf-8") as file:
             declared = set(re.findall(r"^uint32_t (nms_\w+)\(", file.read(), re.M))
         nm = tool("nm", "llvm-nm")
