@@ -43,7 +43,7 @@ void *__real_calloc(size_t count, size_t size);
 void __real_free(void *at);
 
 /* Requests so far, blocks that were not given back yet, and the request that is refused (0: none). */
-static unsigned long requests, refuse_at;
+static unsigned long requests, refuse_at, of_readings;
 static long blocks;
 
 static int is_refused(void)
@@ -558,6 +558,23 @@ static void looks(nms_board *board)
     equals(state_of(board), before, "the board after looks");
 }
 
+/* The requests for memory so far, but for those of readings of plans. */
+static unsigned long asked(void)
+{
+    return requests - of_readings;
+}
+
+/* Reads a plan, which takes memory and has to give it all back. */
+static uint32_t read_plan(nms_board *board, const char *text, size_t bytes, nms_order *order, nms_plan *plan)
+{
+    const unsigned long from = requests;
+    const long held = blocks;
+    const uint32_t code = nms_read_plan(board, text, bytes, order, plan);
+    of_readings += requests - from;
+    equals((unsigned long)blocks, (unsigned long)held, "blocks of memory after the reading of a plan");
+    return code;
+}
+
 /* ---- plans that nobody made ---- */
 
 static void plans(nms_board *board)
@@ -623,7 +640,7 @@ static void plans(nms_board *board)
     for (size_t size = 0; size < bytes; ++size) {
         nms_order *out_order = filled(2, sizeof *out_order, 0x5A);
         at = filled(1, sizeof *at, 0x5A);
-        code = nms_read_plan(board, copied(3, whole, size), size, out_order, at);
+        code = read_plan(board, copied(3, whole, size), size, out_order, at);
         equals(code, size == bytes - 1 ? NMS_OK : NMS_L11_BAD_PLAN_TEXT, "a text of a plan that is cut");
         if (code != NMS_OK)
             equals(is_filled(out_order, sizeof *out_order, 0x5A) && is_filled(at, sizeof *at, 0x5A), 1, "what a cut text wrote");
@@ -635,7 +652,7 @@ static void plans(nms_board *board)
             char *text = copied(3, whole, bytes);
             text[place] = (char)others[other];
             at = filled(1, sizeof *at, 0x5A);
-            code = nms_read_plan(board, text, bytes, out_order, at);
+            code = read_plan(board, text, bytes, out_order, at);
             equals(code == NMS_OK || code == NMS_L11_BAD_PLAN_TEXT, 1, "a text of a plan with a byte altered");
             if (code == NMS_OK) {
                 nms_doubt why;
@@ -762,7 +779,7 @@ static void setups(void)
 static void memory(void)
 {
     const long held = blocks;
-    unsigned long of_open, from = requests;
+    unsigned long of_open, of_reading, from = requests;
     nms_board board = NMS_BOARD_CLOSED;
     equals(nms_open(setup, setup_bytes, &board), NMS_OK, "an open");
     of_open = requests - from;
@@ -777,7 +794,28 @@ static void memory(void)
         equals(is_filled(&board, sizeof board, 0), 1, "the handle after that open");
         every_call_is_closed(&board, "a handle after that open");
     }
-    printf("an open asks for memory %lu times\n", of_open);
+    equals(nms_open(setup, setup_bytes, &board), NMS_OK, "an open");
+    nms_order order = { .limit = 100000, .shares = 1 };
+    nms_plan plan;
+    char text[NMS_PLAN_TEXT_ROOM];
+    size_t bytes;
+    equals(nms_plan_order(&board, &order, &plan), NMS_OK, "a plan");
+    equals(nms_plan_text(&board, &order, &plan, text, sizeof text, &bytes), NMS_OK, "the text of a plan");
+    from = requests;
+    equals(nms_read_plan(&board, text, bytes, &order, &plan), NMS_OK, "the reading of a plan");
+    of_reading = requests - from;
+    for (unsigned long at = 1; at <= of_reading; ++at) {
+        nms_order *read_order = filled(2, sizeof *read_order, 0x5A);
+        nms_plan *read = filled(1, sizeof *read, 0x5A);
+        const long before = blocks;
+        refuse_at = requests + at;
+        equals(nms_read_plan(&board, text, bytes, read_order, read), NMS_NO_MEMORY, "a reading with a request for memory refused");
+        refuse_at = 0;
+        equals((unsigned long)blocks, (unsigned long)before, "blocks of memory after that reading");
+        equals(is_filled(read_order, sizeof *read_order, 0x5A) && is_filled(read, sizeof *read, 0x5A), 1, "what that reading wrote");
+    }
+    equals(nms_close(&board), NMS_OK, "a close");
+    printf("an open asks for memory %lu times, the reading of a plan %lu times\n", of_open, of_reading);
 }
 
 /* ---- random bytes ---- */
@@ -813,7 +851,7 @@ static void random_bytes(unsigned long rounds)
         char *text;
         uint32_t code;
         size_t bytes;
-        const unsigned long from = requests;
+        const unsigned long from = asked();
         const uint16_t sym = (uint16_t)(draw() % 9 ? draw() & 1 : draw());
         const uint8_t side = (uint8_t)(draw() % 9 ? draw() & 1 : draw());
         scatter(change, sizeof *change);
@@ -852,7 +890,7 @@ static void random_bytes(unsigned long rounds)
             text = filled(3, NMS_PLAN_TEXT_ROOM, 0x5A);
             equals(nms_plan_text(&board, order, plan, text, NMS_PLAN_TEXT_ROOM, &bytes), NMS_OK, "the text of a random plan");
             text = copied(3, text, bytes);
-            equals(nms_read_plan(&board, text, bytes, order, plan), NMS_OK, "the reading of a random plan");
+            equals(read_plan(&board, text, bytes, order, plan), NMS_OK, "the reading of a random plan");
             unconfirmed += nms_confirm(&board, order, plan, doubt) != NMS_OK;
         }
         scatter(plan, draw() % sizeof *plan);
@@ -871,8 +909,8 @@ static void random_bytes(unsigned long rounds)
         text = filled(3, bytes, 0);
         scatter(text, bytes);
         nms_apply_text(&board, text, bytes);
-        nms_read_plan(&board, text, bytes, order, plan);
-        equals(requests, from, "requests for memory of calls on an open board");
+        read_plan(&board, text, bytes, order, plan);
+        equals(asked(), from, "requests for memory of calls on an open board");
         nms_counts_of(&board, &counts);
         if (counts.room < 2) {
             nms_close(&board);
@@ -901,17 +939,17 @@ int main(int count, char **words)
 
     states();
     open_board(&board);
-    from = requests;
+    from = asked();
     nulls(&board);
     changes(&board);
-    equals(requests, from, "requests for memory of calls on an open board");
+    equals(asked(), from, "requests for memory of calls on an open board");
     equals(nms_close(&board), NMS_OK, "a close");
     open_board(&board);
-    from = requests;
+    from = asked();
     orders(&board);
     looks(&board);
     plans(&board);
-    equals(requests, from, "requests for memory of calls on an open board");
+    equals(asked(), from, "requests for memory of calls on an open board");
     records(&board);
     equals(nms_close(&board), NMS_OK, "a close");
     full();
