@@ -170,11 +170,12 @@ class Toolchain:
         subprocess.run([f"{tools}/llvm-ar", "x", f"{self.folder}/c/liblibc_c.a"], cwd=room, check=True)
         objects = sorted(it for it in os.listdir(room) if it.endswith(".o"))
         subprocess.run([f"{tools}/llvm-ar", "rcs", f"{made}.new", *objects], cwd=room, check=True)
-        # It gives its callers the functions of nms.h, and needs the C library alone.
+        # It gives its callers the functions of nms.h, and needs the C library alone when it is loaded.
         with open(f"{room}/exports", "w", encoding="ascii") as file:
             file.write("{ global: nms_*; local: *; };\n")
         words = ["-shared", "-soname", "libnms.so", "-z", "defs", "--version-script", "exports", "--whole-archive", f"{made}.new"]
-        words += ["--no-whole-archive", f"{self.folder}/toolchain/lib/libc.so.6", "-o", "libnms.so"]
+        # A division of 128 bits stands in the compiler's own library, which every linker of C adds by itself.
+        words += ["--no-whole-archive", *(f"{self.folder}/toolchain/lib/{it}" for it in ("libgcc.a", "libc.so.6")), "-o", "libnms.so"]
         with contextlib.suppress(FileNotFoundError):
             os.remove(shared)
         try:

@@ -134,6 +134,8 @@ class Library:
             own = {it for it in has if not it.startswith("rattle_")}
             check(f"{os.path.basename(file)} has the functions of nms.h, and no others", own == declared, sorted(own ^ declared))
             wanted = {"malloc", "realloc", "free", "memcpy", "memmove", "memset", "memcmp", "bcmp"}
+            # A division of 128 bits, which every linker of C has from its compiler.
+            wanted |= {"__udivti3"} if file == self.archive else set()
             check(f"{os.path.basename(file)} needs the C library alone", needs <= wanted, sorted(needs - wanted))
 
     def header(self):
