@@ -20,7 +20,7 @@ TOP = os.path.dirname(os.path.dirname(os.path.realpath(__file__)))
 # Bytes that the shared object may have.
 MOST_BYTES = 300_000
 # Seconds that a program may take.
-MOST = 300
+MOST = 3600
 # What counts requests for memory stands before the C library's own functions.
 WRAP = "-Wl," + ",".join(f"--wrap={it}" for it in ("malloc", "realloc", "calloc", "free"))
 WARNINGS = ["-Wall", "-Wextra", "-Werror"]
