@@ -683,13 +683,18 @@ static void records(nms_board *board)
         equals(nms_apply_text(board, copied(0, bad[at].text, bytes), bytes), bad[at].code, bad[at].text);
         equals(state_of(board), before, bad[at].text);
     }
+    /* The most bytes that a record may have, and one more. */
     static char longest[200000];
-    memset(longest, ',', sizeof longest);
-    longest[0] = 'Q';
-    equals(nms_apply_text(board, copied(0, longest, sizeof longest), sizeof longest), NMS_L2_FIELD_COUNT, "a record of commas");
     memset(longest, 'N', sizeof longest);
     memcpy(longest, "X,", 2);
-    equals(nms_apply_text(board, copied(0, longest, sizeof longest), sizeof longest), NMS_L3_UNKNOWN_PARTICIPANT, "a record of 200,000 bytes");
+    equals(nms_apply_text(board, copied(0, longest, 255), 255), NMS_L3_UNKNOWN_PARTICIPANT, "a record of 255 bytes");
+    equals(nms_apply_text(board, copied(0, longest, 256), 256), NMS_RANGE, "a record of 256 bytes");
+    memset(longest, ',', sizeof longest);
+    longest[0] = 'Q';
+    equals(nms_apply_text(board, copied(0, longest, sizeof longest), sizeof longest), NMS_RANGE, "a record of commas");
+    memset(longest, 'N', sizeof longest);
+    memcpy(longest, "X,", 2);
+    equals(nms_apply_text(board, copied(0, longest, sizeof longest), sizeof longest), NMS_RANGE, "a record of 200,000 bytes");
     equals(state_of(board), before, "the board after long records");
 
     /* A record, cut at each byte and with each byte made each other byte: applied, or refused with nothing altered. */

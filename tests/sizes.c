@@ -146,7 +146,7 @@ int main(int count, char **words)
     holds(nms_counts_of(&board, &counts) == NMS_OK && counts.applied == 3 && counts.room == 997 && counts.parts == 4 && counts.syms == 2,
           "nms_counts");
     nms_opening opening;
-    holds(nms_opening_of(&board, 1, &opening) == NMS_OK && opening.count == 5, "nms_opening: a lot and four sides");
+    holds(nms_opening_of(&board, 1, &opening) == NMS_OK && opening.count == 3, "nms_opening: a lot and two quotations");
     nms_board again = NMS_BOARD_CLOSED;
     holds(nms_open(setup, bytes, &again) == NMS_OK && nms_apply_all(&again, opening.change, opening.count, &applied) == NMS_OK,
           "the changes of an opening are applied");
