@@ -12,8 +12,8 @@
  *   1/1,000,000 dollar. Shares are 1 to 999,999,999. Money is in nanodollars (10^-9 dollar).
  *
  * MEMORY
- *   nms_open takes memory, and nms_close gives it back. nms_read_plan takes memory and gives it back before it returns. No
- *   other call takes any. The caller's structs may lie anywhere: on the stack, in an array, in shared memory.
+ *   nms_open takes memory, and nms_close gives it back. nms_read_plan and nms_setup_place take memory and give it back
+ *   before they return. No other call takes any. The caller's structs may lie anywhere: on the stack, in an array, in shared memory.
  *
  * THREADS
  *   A board is for one call at a time. Give each thread a board of its own, or call under a lock of your own. A board may
@@ -99,6 +99,14 @@ enum nms_order_side { NMS_BUY = 0, NMS_SELL = 1 };
 enum nms_state { NMS_AUTOMATED = 0, NMS_MANUAL = 1, NMS_HALTED = 2 };
 enum nms_kind { NMS_QUOTE = 0, NMS_STATE = 1, NMS_WITHDRAW = 2, NMS_LOT = 3 };
 enum nms_market { NMS_EMPTY = 0, NMS_ONE_SIDED = 1, NMS_NORMAL = 2, NMS_LOCKED = 3, NMS_CROSSED = 4 };
+enum nms_table { NMS_NO_DOCUMENT = 0, NMS_TOP = 1, NMS_PARTICIPANT = 2, NMS_SYMBOL = 3 };
+/* What is wrong in a table of a setup: a key that is missing or has a wrong value (1 to 12), a key that may not stand
+ * there, the name of an earlier element, an element that is no table. 0 if the text is no document. */
+enum nms_spot {
+    NMS_TAPE_LIMIT = 1, NMS_QUEUE = 2, NMS_DESKS = 3, NMS_CAPS = 4, NMS_FEEDS = 5, NMS_PARTICIPANTS = 6, NMS_SYMBOLS = 7,
+    NMS_NAME = 8, NMS_FEED = 9, NMS_FEE = 10, NMS_RATE = 11, NMS_ROUND_LOT = 12, NMS_OTHER_KEY = 13, NMS_NAME_TWICE = 14,
+    NMS_NO_TABLE = 15
+};
 enum nms_cut_kind { NMS_TOO_MUCH = 0, NMS_TOO_LITTLE = 1, NMS_MARGINAL = 2 };
 
 /* A board. Set it to NMS_BOARD_CLOSED (all zero) before nms_open. Its fields are the library's, and it is never copied. */
@@ -209,6 +217,17 @@ typedef struct nms_doubt {
     uint32_t cut;    /* where doubt is 7, the first cut whose bound fails, from 0 on; else 0 */
 } nms_doubt;
 
+/* Where a text is no setup, and why. All 0 if it is a setup. */
+typedef struct nms_place {
+    uint32_t code;    /* 1 to 8: C1 to C8 */
+    uint32_t table;   /* enum nms_table */
+    uint32_t spot;    /* enum nms_spot */
+    uint32_t spare;   /* 0 */
+    uint64_t element; /* if table is NMS_PARTICIPANT or NMS_SYMBOL, the element's place in its array, from 0 on; else 0 */
+    uint64_t twin;    /* if spot is NMS_NAME_TWICE, the place of the earlier element that has the name; else 0 */
+    uint64_t start, end; /* if table is NMS_NO_DOCUMENT, the bytes at which reading stopped: from start up to end; else 0 */
+} nms_place;
+
 /* What a board holds. */
 typedef struct nms_counts {
     uint64_t applied; /* changes applied */
@@ -254,6 +273,8 @@ NMS_HOLDS(sizeof(nms_plan) == 1320 && offsetof(nms_plan, cost_low) == 8 && offse
 NMS_HOLDS(offsetof(nms_plan, filled) == 24 && offsetof(nms_plan, legs) == 28, "nms_plan");
 NMS_HOLDS(offsetof(nms_plan, cuts) == 32 && offsetof(nms_plan, leg) == 40 && offsetof(nms_plan, cut) == 552, "nms_plan");
 NMS_HOLDS(sizeof(nms_doubt) == 16 && sizeof(nms_counts) == 24 && offsetof(nms_counts, parts) == 16, "nms_counts");
+NMS_HOLDS(sizeof(nms_place) == 48 && offsetof(nms_place, spot) == 8 && offsetof(nms_place, element) == 16, "nms_place");
+NMS_HOLDS(offsetof(nms_place, twin) == 24 && offsetof(nms_place, start) == 32 && offsetof(nms_place, end) == 40, "nms_place");
 NMS_HOLDS(sizeof(nms_opening) == 2088 && offsetof(nms_opening, change) == 8, "nms_opening");
 
 /* ---- the functions of the library ---- */
@@ -261,6 +282,7 @@ uint32_t nms_abi(void); /* NMS_ABI of the header that the library was made with 
 uint32_t nms_raw_version(uint8_t *out, size_t room, size_t *bytes);
 uint32_t nms_raw_code_text(uint32_t code, uint8_t *out, size_t room, size_t *bytes);
 uint32_t nms_raw_open(const uint8_t *setup, size_t setup_bytes, nms_board *board);
+uint32_t nms_raw_setup_place(const uint8_t *setup, size_t setup_bytes, nms_place *place);
 uint32_t nms_raw_close(nms_board *board);
 uint32_t nms_raw_counts_of(nms_board *board, nms_counts *counts);
 uint32_t nms_raw_find_part(nms_board *board, const uint8_t *name, size_t name_bytes, uint8_t *part);
@@ -303,6 +325,13 @@ static inline uint32_t nms_code_text(uint32_t code, char *out, size_t room, size
 static inline uint32_t nms_open(const char *setup, size_t setup_bytes, nms_board *board)
 {
     return setup && board ? nms_raw_open((const uint8_t *)setup, setup_bytes, board) : (uint32_t)NMS_NULL;
+}
+
+/* Writes where a text is no setup, and why: the code that nms_open answers, and the first place that has it. All 0 if the
+ * text is a setup. Codes: NMS_NO_MEMORY. Takes memory and gives it back. */
+static inline uint32_t nms_setup_place(const char *setup, size_t setup_bytes, nms_place *place)
+{
+    return setup && place ? nms_raw_setup_place((const uint8_t *)setup, setup_bytes, place) : (uint32_t)NMS_NULL;
 }
 
 /* Closes a board and gives its memory back. It may be opened again. Codes: NMS_CLOSED. */

@@ -1,8 +1,8 @@
 /* A hostile caller: calls each function of nms.h with each bad number, size, name, kind and state of the handle, with the
  * bytes of each text cut and altered, with random bytes as every struct, with a full tape, and with each request for memory
  * refused in turn. Each call has to answer its code, and a refused one has to leave the board and the caller's structs as
- * they were. An allocator that counts shows that no call takes memory but nms_open and nms_read_plan, and that they give
- * all of it back.
+ * they were. An allocator that counts shows that no call takes memory but nms_open, nms_setup_place and nms_read_plan, and
+ * that they give all of it back.
  *
  * What a call is given ends at a page that can't be touched, so a byte too many ends the program. Link it with
  * -Wl,--wrap=malloc,--wrap=realloc,--wrap=calloc,--wrap=free; tests/library.py runs it under the address and
@@ -259,6 +259,8 @@ static void nulls(nms_board *board)
         nms_code_text(0, text, 9, NULL),
         nms_open(NULL, 0, board),
         nms_open(setup, setup_bytes, NULL),
+        nms_setup_place(NULL, 0, (nms_place *)out),
+        nms_setup_place(setup, setup_bytes, NULL),
         nms_close(NULL),
         nms_counts_of(NULL, (nms_counts *)text),
         nms_counts_of(board, NULL),
@@ -753,6 +755,26 @@ static void full(void)
 
 /* ---- setups, and memory ---- */
 
+/* Where a text is no setup: the code is that of nms_open, and every number is within its range. */
+static void place_gives(const char *text, size_t bytes, uint32_t code)
+{
+    nms_place *place = filled(1, sizeof *place, 0x5A);
+    const long held = blocks;
+    equals(nms_setup_place(text, bytes, place), NMS_OK, "the place of a setup's fault");
+    equals((unsigned long)blocks, (unsigned long)held, "blocks of memory after it");
+    equals(place->code, code, "the code of a place beside that of nms_open");
+    if (code == NMS_OK)
+        equals(is_filled(place, sizeof *place, 0), 1, "the place of no fault");
+    else if (place->table == NMS_NO_DOCUMENT)
+        equals(code == NMS_C1_NOT_TOML && place->spot == 0 && place->element == 0 && place->twin == 0 && place->start <= place->end &&
+                   place->end <= bytes, 1, "the place of a text that is no document");
+    else
+        equals(place->table <= NMS_SYMBOL && place->spot >= NMS_TAPE_LIMIT && place->spot <= NMS_NO_TABLE && place->start == 0 &&
+                   place->end == 0 && (place->table != NMS_TOP || place->element == 0) && (place->twin == 0 || place->twin < place->element),
+               1, "the numbers of a place");
+    equals(place->spare, 0, "the spare number of a place");
+}
+
 static void setups(void)
 {
     /* Cut at each byte, each byte altered in four ways, and random bytes. */
@@ -775,6 +797,7 @@ static void setups(void)
                 equals(nms_close(board), NMS_OK, "a close");
             equals(is_filled(board, sizeof *board, 0), 1, "the handle of a setup that is refused");
             equals((unsigned long)blocks, (unsigned long)held, "blocks of memory after a setup");
+            place_gives(text, bytes, code);
         }
     equals(nms_open("", 0, &(nms_board)NMS_BOARD_CLOSED), NMS_C2_MISSING, "an empty setup");
     equals(nms_open("\xff\xfe", 2, &(nms_board)NMS_BOARD_CLOSED), NMS_C1_NOT_TOML, "a setup that is not UTF-8");
@@ -784,7 +807,7 @@ static void setups(void)
 static void memory(void)
 {
     const long held = blocks;
-    unsigned long of_open, of_reading, from = requests;
+    unsigned long of_open, of_place, of_reading, from = requests;
     nms_board board = NMS_BOARD_CLOSED;
     equals(nms_open(setup, setup_bytes, &board), NMS_OK, "an open");
     of_open = requests - from;
@@ -799,6 +822,21 @@ static void memory(void)
         equals(is_filled(&board, sizeof board, 0), 1, "the handle after that open");
         every_call_is_closed(&board, "a handle after that open");
     }
+    /* The place of a fault, which takes memory too. */
+    setup[0] ^= 1;
+    const uint32_t code = nms_open(setup, setup_bytes, &board);
+    from = requests;
+    place_gives(setup, setup_bytes, code);
+    of_place = requests - from;
+    for (unsigned long at = 1; at <= of_place; ++at) {
+        nms_place *place = filled(1, sizeof *place, 0x5A);
+        refuse_at = requests + at;
+        equals(nms_setup_place(setup, setup_bytes, place), NMS_NO_MEMORY, "a place with a request for memory refused");
+        refuse_at = 0;
+        equals((unsigned long)blocks, (unsigned long)held, "blocks of memory after that place");
+        equals(is_filled(place, sizeof *place, 0x5A), 1, "what that place wrote");
+    }
+    setup[0] ^= 1;
     equals(nms_open(setup, setup_bytes, &board), NMS_OK, "an open");
     nms_order order = { .limit = 100000, .shares = 1 };
     nms_plan plan;
@@ -820,7 +858,7 @@ static void memory(void)
         equals(is_filled(read_order, sizeof *read_order, 0x5A) && is_filled(read, sizeof *read, 0x5A), 1, "what that reading wrote");
     }
     equals(nms_close(&board), NMS_OK, "a close");
-    printf("an open asks for memory %lu times, the reading of a plan %lu times\n", of_open, of_reading);
+    printf("an open asks for memory %lu times, a setup's place %lu times, the reading of a plan %lu times\n", of_open, of_place, of_reading);
 }
 
 /* ---- random bytes ---- */

@@ -89,6 +89,23 @@ int main(int count, char **words)
     holds(nms_abi() == NMS_ABI, "the library is of this header's layout");
     holds(nms_open(setup, bytes, &board) == NMS_OK, "the setup opens");
 
+    /* nms_place: an element of an array of tables, a name that stands twice, and a text that is no document. */
+    {
+        const char twice[] = "tape_limit = 9\nqueue = 9\ndesks = 1\n[[participant]]\nname = \"N\"\nfeed = \"A\"\nfee = 1\nrate = 1\n"
+                             "[[participant]]\nname = \"P\"\nfeed = \"A\"\nfee = 1\nrate = 1\n"
+                             "[[participant]]\nname = \"P\"\nfeed = \"A\"\nfee = 1\nrate = 1\n[[symbol]]\nname = \"ABC\"\nlot = 100\n";
+        const char torn[] = "tape_limit = 9\nqueue 9\n";
+        nms_place place;
+        WRITES(nms_place, nms_setup_place(twice, sizeof twice - 1, out));
+        WRITES(nms_place, nms_setup_place(setup, bytes, out));
+        holds(nms_setup_place(twice, sizeof twice - 1, &place) == NMS_OK && place.code == NMS_C4_BAD_NAME && place.table == NMS_PARTICIPANT &&
+                  place.element == 2 && place.spot == NMS_NAME_TWICE && place.twin == 1 && place.start == 0 && place.end == 0 &&
+                  place.spare == 0, "nms_place: code, table, element, spot, twin");
+        holds(nms_setup_place(torn, sizeof torn - 1, &place) == NMS_OK && place.code == NMS_C1_NOT_TOML && place.table == NMS_NO_DOCUMENT &&
+                  place.start >= 15 && place.start <= place.end && place.end <= sizeof torn - 1 && place.element == 0 && place.twin == 0,
+              "nms_place: start, end");
+    }
+
     /* nms_board: a handle moves whole, and the bytes after it are not the library's. */
     {
         room one;

@@ -15,7 +15,7 @@ import os
 from ctypes import POINTER, Structure, byref, c_char, c_int64, c_size_t, c_uint8, c_uint16, c_uint32, c_uint64, c_void_p
 from typing import Dict, List, NamedTuple, Optional, Tuple
 
-__all__ = ["Board", "Doubt", "Market", "NmsError", "OrderSide", "Plan", "Row", "Best", "Leg", "Order"]
+__all__ = ["Board", "Doubt", "Market", "NmsError", "OrderSide", "Place", "Plan", "Row", "Best", "Leg", "Order", "setup_place"]
 
 _HERE = os.path.dirname(os.path.realpath(__file__))
 _BUILT = os.path.join(_HERE, "..", "..", "crates", "nms_c", "out", "libnms.so")
@@ -60,17 +60,24 @@ class _Doubt(Structure):
     _fields_ = [("doubt", c_uint32), ("breach", c_uint32), ("part", c_uint32), ("cut", c_uint32)]
 
 
+class _Place(Structure):
+    _fields_ = [("code", c_uint32), ("table", c_uint32), ("spot", c_uint32), ("spare", c_uint32), ("element", c_uint64),
+                ("twin", c_uint64), ("start", c_uint64), ("end", c_uint64)]
+
+
 class _Counts(Structure):
     _fields_ = [("applied", c_uint64), ("room", c_uint64), ("parts", c_uint32), ("syms", c_uint32)]
 
 
-_SIZES = {_Board: 16, _Row: 24, _Best: 64, _Order: 24, _Leg: 16, _Cut: 24, _Plan: 1320, _Doubt: 16, _Counts: 24}
+_SIZES = {_Board: 16, _Row: 24, _Best: 64, _Order: 24, _Leg: 16, _Cut: 24, _Plan: 1320, _Doubt: 16, _Place: 48,
+          _Counts: 24}
 
 # The arguments of each function that is used here. Every one returns a code.
 _CALLS = {
     "nms_abi": [],
     "nms_raw_code_text": [c_uint32, POINTER(c_char), c_size_t, POINTER(c_size_t)],
     "nms_raw_open": [POINTER(c_char), c_size_t, POINTER(_Board)],
+    "nms_raw_setup_place": [POINTER(c_char), c_size_t, POINTER(_Place)],
     "nms_raw_close": [POINTER(_Board)],
     "nms_raw_counts_of": [POINTER(_Board), POINTER(_Counts)],
     "nms_raw_find_part": [POINTER(_Board), POINTER(c_char), c_size_t, POINTER(c_uint8)],
@@ -165,6 +172,34 @@ class Doubt(NamedTuple):
     """Why a plan is not confirmed: 1 to 7 for K1 to K7, and of K1 the breach, 1 to 12 for P1 to P12."""
     doubt: int
     breach: int
+
+
+_TABLES = ("no document", "top", "participant", "symbol")
+_SPOTS = ("", "tape_limit", "queue", "desks", "caps", "feeds", "participant", "symbol", "name", "feed", "fee", "rate", "lot",
+          "a key that may not stand here", "a name that stands twice", "no table")
+
+
+class Place(NamedTuple):
+    """Where a text is no setup, and why. `code`: 1 to 8 for C1 to C8. `table`: "top", or the array whose element it is.
+    `element`: its place there, from 0 on. `spot`: the key that is missing or has a wrong value, or what else is wrong. `twin`:
+    the place of the earlier element that has the name. `start`, `end`: the bytes at which reading a text stopped that is no
+    document."""
+    code: int
+    table: str
+    element: int
+    spot: str
+    twin: int
+    start: int
+    end: int
+
+
+def setup_place(setup: bytes) -> Optional[Place]:
+    """Where a text is no setup: the first place of the code that `Board` raises. None if it is a setup."""
+    it = _Place()
+    _must(_LIBRARY.nms_raw_setup_place(setup, len(setup), byref(it)))
+    if it.code == _OK:
+        return None
+    return Place(it.code, _TABLES[it.table], it.element, _SPOTS[it.spot], it.twin, it.start, it.end)
 
 
 class Plan:

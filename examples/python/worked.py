@@ -71,3 +71,10 @@ for what, call in {
         print(f"{what}: code {error.code}")
 print("applied:", board.applied() - before, "more")
 board.close()
+
+# %% A setup that is refused: where it is wrong.
+with open(sys.argv[1], "rb") as file:
+    setup = file.read()
+print("\nthe setup:", nms.setup_place(setup))
+for wrong in (setup.replace(b'name = "PNY"', b'name = "ABC"'), setup.replace(b"queue", b"que"), b"tape_limit = 1\nqueue 2\n"):
+    print(nms.setup_place(wrong))

@@ -1,14 +1,15 @@
-//! Versions, and a board from its opening to its close.
-ghost use Rattle.std.specs.Prelude.{◌≡◌, ◌≢◌, IfErr, IfOk};
+//! Versions, and a board from its opening to its close; where a text is no setup.
+ghost use Rattle.std.specs.Prelude.{◌≡◌, ◌≢◌, ◌⊎◌, IfErr, IfOk};
 ghost use Rattle.nms_fees.specs.declared.setup_fault.SetupFault.{SetupFault as Fault};
 ghost use Rattle.nms_calls.specs.Codes.{setup_code};
 ghost use Rattle.nms_calls.specs.Opened.{IsNew, IsRefused};
+ghost use Rattle.nms_calls.specs.SetupPlaces.{IsPlaceOf};
 ghost use Rattle.nms_c.specs.Behind.{Behind};
 ghost use Rattle.nms_c.specs.Held.{open_mark};
 
 use crate::handle::{NmsBoard, OPEN};
 use crate::taking::{CLOSED, OPEN_ALREADY, give, take};
-use nms_calls::{CallFault, OpenBoard, answer};
+use nms_calls::{CallFault, NmsPlace, OpenBoard, answer, put_setup_place};
 use nms_fees::SetupFault;
 use std::alloc::Global;
 
@@ -40,6 +41,16 @@ pub extern "C" fn nms_raw_open(alloc: Global, setup: &[u8], board: &mut NmsBoard
         }
         Err(fault) => answer(Err(CallFault::Setup(fault))),
     }
+}
+
+/// Writes where a text is no setup, and why.
+#[unsafe(no_mangle)]
+pub extern "C" fn nms_raw_setup_place(alloc: Global, setup: &[u8], place: &mut NmsPlace) -> u32
+    ensures answer { (result ≡ 0) ⊎ (result ≡ 9) }
+    ensures placed { result ≡ 0 → IsPlaceOf setup.now place.new }
+    ensures unwritten { result ≢ 0 → place.new ≡ place.old }
+{
+    answer(put_setup_place(alloc, setup, place))
 }
 
 /// A new board on the heap.

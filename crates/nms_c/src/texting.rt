@@ -37,17 +37,17 @@ pub extern "C" fn nms_raw_code_text(code: u32, out: &mut [u8], bytes: &mut usize
 
 /// Applies the change that a record says.
 #[unsafe(no_mangle)]
-pub extern "C" fn nms_raw_apply_text(alloc: Global, board: &mut NmsBoard, record: &[u8]) -> u32
+pub extern "C" fn nms_raw_apply_text(alloc: Global, board: &mut NmsBoard, text: &[u8]) -> u32
     ensures closed { board.old.mark ≢ open_mark → (result ≡ 15) × (board.new ≡ board.old) }
     ensures open { board.old.mark ≡ open_mark → board.new.mark ≡ open_mark }
-    ensures answer { board.old.mark ≡ open_mark → result ≢ 9 → Behind board.old.value (λ opened. result ≡ answer_of (record_fault opened record.now)) }
-    ensures left { result ≡ 0 → Behind board.old.value (λ opened. board.new.value ≡ Some (record_left opened record.now)) }
+    ensures answer { board.old.mark ≡ open_mark → result ≢ 9 → Behind board.old.value (λ opened. result ≡ answer_of (record_fault opened text.now)) }
+    ensures left { result ≡ 0 → Behind board.old.value (λ opened. board.new.value ≡ Some (record_left opened text.now)) }
     ensures unchanged { result ≢ 0 → board.new.value ≡ board.old.value }
 {
     let Some(mut kept) = take(alloc, board) else {
         return CLOSED;
     };
-    let code = answer(kept.apply_record(record));
+    let code = answer(kept.apply_record(text));
     give(board, kept);
     code
 }

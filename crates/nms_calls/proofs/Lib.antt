@@ -1,4 +1,5 @@
 pub mod ChangeLemmas
 pub mod OpenedLemmas
 pub mod PlaceLemmas
+pub mod SetupPlaceLemmas
 pub mod SideLemmas

@@ -11,4 +11,5 @@ pub mod PlanNumbers
 pub mod PlanSaid
 pub mod RecordSaid
 pub mod RowNumbers
+pub mod SetupPlaces
 pub mod Written

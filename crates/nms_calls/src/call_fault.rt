@@ -62,7 +62,7 @@ impl CallFault {
 }
 
 /// The number of a setup's fault, C1 to C9.
-fn setup_code(fault: SetupFault) -> u32
+pub(crate) fn setup_code(fault: SetupFault) -> u32
     ensures code { result ≡ setup_code fault }
     ensures low { 1 ≤ result }
 {

@@ -1,8 +1,8 @@
 //! A plan and its certificate written as numbers: `specs/PlanNumbers`.
-ghost use Rattle.std.specs.Prelude.{◌≡◌, ◌≤◌, ◌≤ℤ◌, ◌^◌, pos, neg_ℤ, All, slice_get, unsigned_abs};
+ghost use Rattle.std.specs.Prelude.{◌≡◌, ◌≤◌, ◌≤ℤ◌, ◌^◌, pos, neg_ℤ, All, unsigned_abs};
 ghost use Rattle.std.specs.Int.{int_div_euclid, int_rem_euclid};
 ghost use Rattle.nms_sweep.specs.Choice.{IsInRange};
-ghost use Rattle.nms_calls.specs.PlanNumbers.{AreCuts, AreLegs, AreNumbersOf, cut_at, cut_numbers, leg_at, leg_numbers};
+ghost use Rattle.nms_calls.specs.PlanNumbers.{AreCuts, AreLegs, AreNumbersOf, cut_numbers, leg_numbers};
 
 use crate::plan_numbers::{NmsCut, NmsLeg, NmsPlan};
 use nms_quote::{Certificate, Cut, CutKind, Leg, Plan};
@@ -29,8 +29,13 @@ pub(crate) fn put_plan(plan: &Plan, certificate: &Certificate, out: &mut NmsPlan
 fn put_legs(legs: &[Leg], places: &mut [NmsLeg; 32])
     ensures { AreLegs places.new legs.now }
 {
-    for place in 0..32 {
-        places[place] = leg_at(legs, place);
+    let count = legs.len().min(32);
+    for place in 0..count {
+        places[place] = leg_numbers(&legs[place]);
+    }
+    // The free places in a loop of their own: it becomes one fill of memory.
+    for place in count..32 {
+        places[place] = NmsLeg::NONE;
     }
 }
 
@@ -39,29 +44,12 @@ fn put_cuts(cuts: &[Cut], places: &mut [NmsCut; 32])
     requires { All (λ cut. IsInRange cut.kind) cuts.now }
     ensures { AreCuts places.new cuts.now }
 {
-    for place in 0..32 {
-        places[place] = cut_at(cuts, place);
+    let count = cuts.len().min(32);
+    for place in 0..count {
+        places[place] = cut_numbers(&cuts[place]);
     }
-}
-
-/// The numbers of the leg at a place, all 0 where there is none.
-fn leg_at(legs: &[Leg], place: usize) -> NmsLeg
-    ensures { result ≡ leg_at (slice_get legs.now place) }
-{
-    match legs.get(place) {
-        Some(leg) => leg_numbers(leg),
-        None => NmsLeg::NONE,
-    }
-}
-
-/// The numbers of the cut at a place, all 0 where there is none.
-fn cut_at(cuts: &[Cut], place: usize) -> NmsCut
-    requires { All (λ cut. IsInRange cut.kind) cuts.now }
-    ensures { result ≡ cut_at (slice_get cuts.now place) }
-{
-    match cuts.get(place) {
-        Some(cut) => cut_numbers(cut),
-        None => NmsCut::NONE,
+    for place in count..32 {
+        places[place] = NmsCut::NONE;
     }
 }
 

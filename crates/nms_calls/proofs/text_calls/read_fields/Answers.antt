@@ -1,5 +1,5 @@
 -- `read_fields`: the fields are those that the text is split into.
-use Rattle.std.proofs.Common.{rules, tests, of_calls, ◌≡◌, ◌==◌, ◌++◌, ◌∷◌, [], ◌∙◌, map, sym, ap}
+use Rattle.std.proofs.Common.{rules, tests, of_calls, ◌==◌, ◌++◌, ◌∷◌, [], ◌∙◌, sym, ap}
 use Rattle.std.proofs.lemmas.List.{map-append}
 use Rattle.std.proofs.lemmas.Iterator.Consumers.{YieldsList-end}
 use Rattle.std.proofs.lemmas.Iterator.Splits.{YieldsList-from_slice_split}

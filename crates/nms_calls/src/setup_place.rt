@@ -1,0 +1,201 @@
+//! Where a text is no setup, and why: `specs/SetupPlaces`.
+ghost use Rattle.std.specs.Prelude.{◌≡◌, IfErr, OnErr, OnOk};
+ghost use Rattle.nms_calls.specs.SetupPlaces.{IsPlaceOf, element_of, key_number, least, lesser, no_document, no_place, place_of, placed, spot_number, table_number, twin_of};
+
+use crate::call_fault::{CallFault, setup_code};
+use nms_fees::SetupFault;
+use nms_setup_places::{Examined, Finding, KnownKey, SetupTable, Spot, examine};
+use std::alloc::Global;
+use std::str;
+
+/// Where a text is no setup, and why. All 0 if it is one.
+#[repr(C)]
+#[derive(Clone, Copy)]
+pub struct NmsPlace {
+    /// 1 to 8 for C1 to C8.
+    pub code: u32,
+    /// 0 if the text is no document; 1 for the document itself, 2 for an element of `participant`, 3 for one of `symbol`.
+    pub table: u32,
+    /// 1 to 12 for a key, which is missing or has a wrong value; 13 for a key that may not stand there; 14 for a name that
+    /// an earlier element has; 15 for an element that is no table. 0 if the text is no document.
+    pub spot: u32,
+    /// 0.
+    pub spare: u32,
+    /// The element's place in its array, from 0 on; else 0.
+    pub element: u64,
+    /// The place of the earlier element that has the name if the spot is 14, else 0.
+    pub twin: u64,
+    /// If the text is no document, how many bytes stand before the place where reading stopped, else 0.
+    pub start: u64,
+    /// How many bytes stand before the end of what was not expected, else 0.
+    pub end: u64,
+}
+
+/// Writes where a text is no setup, and why: of its faults of least number the first. A text that is not UTF-8 is no
+/// document from its first byte to its last. It takes memory and gives it back; `NoMemory` if there is too little.
+pub fn put_setup_place(alloc: Global, text: &[u8], out: &mut NmsPlace) -> Result<(), CallFault>
+    ensures placed { OnOk result (IsPlaceOf text.now out.new) }
+    ensures refused { IfErr result (λ fault. fault ≡ CallFault.Setup SetupFault.NoMemory) }
+    ensures unwritten { OnErr result (out.new ≡ out.old) }
+{
+    let Ok(text) = str::from_utf8(text) else {
+        *out = NmsPlace::no_document(0, text.len());
+        return Ok(());
+    };
+    match examine(alloc, text) {
+        Ok(Examined::NoToml(place)) => {
+            *out = NmsPlace::no_document(place.start, place.end);
+            Ok(())
+        }
+        Ok(Examined::Document(_, found)) => {
+            *out = placed(least(found.as_slice()));
+            Ok(())
+        }
+        Err(_) => Err(CallFault::Setup(SetupFault::NoMemory)),
+    }
+}
+
+/// Of the faults of least number the first.
+fn least(found: &[Finding]) -> Option<Finding>
+    ensures { result ≡ least found.now }
+{
+    let mut first = None;
+    for later in 0..found.len() {
+        let place = found.len() - 1 - later;
+        first = Some(lesser(found[place], first));
+    }
+    first
+}
+
+/// A fault, unless a later one has a lesser number.
+fn lesser(found: Finding, later: Option<Finding>) -> Finding
+    ensures { result ≡ lesser found later }
+{
+    match later {
+        Some(later) if setup_code(later.fault) < setup_code(found.fault) => later,
+        Some(_) | None => found,
+    }
+}
+
+/// The place of a fault, and all 0 if there is none.
+fn placed(found: Option<Finding>) -> NmsPlace
+    ensures { result ≡ placed found }
+{
+    match found {
+        Some(found) => NmsPlace::of(found),
+        None => NmsPlace::none(),
+    }
+}
+
+impl NmsPlace {
+    /// No fault.
+    fn none() -> Self
+        ensures { result ≡ no_place }
+    {
+        NmsPlace {
+            code: 0,
+            table: 0,
+            spot: 0,
+            spare: 0,
+            element: 0,
+            twin: 0,
+            start: 0,
+            end: 0,
+        }
+    }
+
+    /// No document: reading stopped between two places.
+    fn no_document(start: usize, end: usize) -> Self
+        ensures { result ≡ no_document start end }
+    {
+        NmsPlace {
+            code: 1,
+            table: 0,
+            spot: 0,
+            spare: 0,
+            element: 0,
+            twin: 0,
+            start: start as u64,
+            end: end as u64,
+        }
+    }
+
+    /// The place of a fault.
+    fn of(found: Finding) -> Self
+        ensures { result ≡ place_of found }
+    {
+        NmsPlace {
+            code: setup_code(found.fault),
+            table: table_number(found.table),
+            spot: spot_number(found.spot),
+            spare: 0,
+            element: element_of(found.table),
+            twin: twin_of(found.spot),
+            start: 0,
+            end: 0,
+        }
+    }
+}
+
+/// The number of a table.
+fn table_number(table: SetupTable) -> u32
+    ensures { result ≡ table_number table }
+{
+    match table {
+        SetupTable::Top => 1,
+        SetupTable::Participant(_) => 2,
+        SetupTable::Symbol(_) => 3,
+    }
+}
+
+/// An element's place in its array.
+fn element_of(table: SetupTable) -> u64
+    ensures { result ≡ element_of table }
+{
+    match table {
+        SetupTable::Top => 0,
+        SetupTable::Participant(place) | SetupTable::Symbol(place) => place as u64,
+    }
+}
+
+/// The number of what is wrong there.
+fn spot_number(spot: Spot) -> u32
+    ensures { result ≡ spot_number spot }
+{
+    match spot {
+        Spot::Key(key) => key_number(key),
+        Spot::OtherKeys => 13,
+        Spot::NameOf(_) => 14,
+        Spot::Element => 15,
+    }
+}
+
+/// The place of the earlier element that has the name.
+fn twin_of(spot: Spot) -> u64
+    ensures { result ≡ twin_of spot }
+{
+    match spot {
+        Spot::NameOf(first) => first as u64,
+        Spot::Key(_) | Spot::OtherKeys | Spot::Element => 0,
+    }
+}
+
+/// The number of a key.
+fn key_number(key: KnownKey) -> u32
+    ensures { result ≡ key_number key }
+{
+    match key {
+        KnownKey::TapeLimit => 1,
+        KnownKey::Queue => 2,
+        KnownKey::Desks => 3,
+        KnownKey::Caps => 4,
+        KnownKey::Feeds => 5,
+        KnownKey::Participant => 6,
+        KnownKey::Symbol => 7,
+        KnownKey::Name => 8,
+        KnownKey::Feed => 9,
+        KnownKey::Fee => 10,
+        KnownKey::Rate => 11,
+        KnownKey::Lot => 12,
+    }
+}
