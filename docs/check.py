@@ -14,8 +14,8 @@ import subprocess
 import sys
 
 TOP = os.path.dirname(os.path.dirname(os.path.realpath(__file__)))
-# Lines of the front page, and words of a sentence there.
-MOST_LINES, MOST_WORDS = 155, 30
+# Lines and words of the front page, and words of a sentence there.
+MOST_LINES, MOST_FRONT, MOST_WORDS = 130, 1500, 25
 # Columns of a definition or a proof.
 MOST_COLUMNS = 140
 SPAN = re.compile(r"`([^`]+)`")
@@ -333,21 +333,6 @@ def check_calls():
                 check(clause in having | public | TESTS, page, f"{', '.join(names)}: no clause and no test `{clause}`")
 
 
-def check_table():
-    """The table of README.md has each crate of the product, with functions and clauses that are there."""
-    page, told = "README.md", set()
-    for row in rows(prose(page)):
-        names = [it for it in SPAN.findall(row[CELLS][0]) if it in TREE] if "Contract" in row else []
-        told.update(names)
-        for name in names:
-            for function, clauses in re.findall(r"`([\w:]+)`(?: \(([^)]*)\))?", re.sub(r"\(`[^)]*\)", lambda it: it[0], row["Contract"])):
-                if f"(`{function}`" not in row["Contract"] and f", `{function}`)" not in row["Contract"] \
-                        and not re.search(rf"\([^)]*`{function}`[^)]*\)", row["Contract"]):
-                    has_clauses(page, TREE[name], [function], SPAN.findall(clauses), f"private `{function}`" in row["Contract"])
-    for name in CRATES:
-        check(name in told or name in ("nms_bench", "nms_examples", "nms_tests"), page, f"`{name}` is not in the table")
-
-
 # The words.
 
 def check_words():
@@ -419,6 +404,8 @@ def check_front():
     page = "README.md"
     lines = read(page).count("\n")
     check(lines <= MOST_LINES, page, f"{lines} lines, and at most {MOST_LINES} are wanted")
+    words = len(read(page).split())
+    check(words <= MOST_FRONT, page, f"{words} words, and at most {MOST_FRONT} are wanted")
     for sentence in sentences(prose(page)):
         count = len(re.findall(r"[\w`][\w`.,:/()'-]*", sentence))
         check(count <= MOST_WORDS, page, f"a sentence of {count} words: {sentence[:60]}..")
@@ -479,7 +466,7 @@ def check_cases():
 
 
 def main():
-    for part in (check_names, check_codes, check_statuses, check_links, check_claims, check_calls, check_table, check_words, check_imports,
+    for part in (check_names, check_codes, check_statuses, check_links, check_claims, check_calls, check_words, check_imports,
                  check_proofs, check_front, check_twice, check_kit, check_cases):
         part()
     print(f"{COUNT['passed']} passed, {COUNT['failed']} failed")
