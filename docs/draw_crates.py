@@ -1,0 +1,116 @@
+#!/usr/bin/env python3
+"""Draws the crates of crates.txt as docs/crates.svg: the product, the reviewer's program and the gate apart.
+
+    docs/draw_crates.py            writes the picture anew
+    docs/draw_crates.py --check    status 1 if it differs
+
+A line goes down from a crate to each crate that it stands on. A line is left out if a longer way shows it already. A crate
+stands above all that it stands on.
+"""
+import os
+import re
+import sys
+
+TOP = os.path.dirname(os.path.dirname(os.path.realpath(__file__)))
+FILE = os.path.join(TOP, "docs", "crates.svg")
+# The groups from left to right: the programs that each stands below, its colour and its name.
+GROUPS = ((("nms_tool", "nms_c", "nms_engine"), "#dbe9f6", "the product: nms_tool, and nms_c for other languages"),
+          (("nms_review",), "#e3f1dc", "the reviewer's program"),
+          (("nms_examples", "nms_bench", "nms_tests"), "#f3e6d8", "the gate"))
+WIDE, HIGH, GAP, RISE, EDGE = 118, 24, 10, 78, 20
+
+
+def stands_on():
+    """Each crate with the crates of this repository that crates.txt names for it."""
+    with open(os.path.join(TOP, "crates.txt"), encoding="utf-8") as it:
+        lines = dict(re.findall(r"^(nms_\w+)[^:\n]*:(.*)$", it.read(), re.M))
+    return {name: [it for it in text.split() if it in lines] for name, text in lines.items()}
+
+
+def below(on, name, seen=None):
+    """All that a crate stands on."""
+    seen = set() if seen is None else seen
+    for it in on[name]:
+        if it not in seen:
+            seen.add(it)
+            below(on, it, seen)
+    return seen
+
+
+def reduced(on):
+    """What each crate stands on, but what it stands on by another of these."""
+    return {name: [it for it in its if not any(it in below(on, other) for other in its)] for name, its in on.items()}
+
+
+def levels(on):
+    """How many crates stand below each, one on the other."""
+    found = {}
+    for name in on:
+        found[name] = 1 + max((found[it] for it in on[name]), default=-1)
+    return found
+
+
+def group_of(on):
+    """The group of each crate: the first that has it, or a program above it."""
+    return {name: next(at for at, (tops, _, _) in enumerate(GROUPS) if any(name == it or name in below(on, it) for it in tops)) for name in on}
+
+
+def placed(on):
+    """The middle of each crate's box, and the left end and the width of each group."""
+    fewer, level, group = reduced(on), levels(on), group_of(on)
+    highest, where, left, ends = max(level.values()), {}, EDGE, []
+    for at in range(len(GROUPS)):
+        rows = [[it for it in on if group[it] == at and level[it] == height] for height in range(highest + 1)]
+        width = max(map(len, rows)) * (WIDE + GAP) - GAP
+        width = max(width, 8 * len(GROUPS[at][2]) * 3 // 4)
+        for height, row in enumerate(rows):
+            def middle(name):
+                xs = [where[it][0] for it in fewer[name] if it in where]
+                return sum(xs) / len(xs) if xs else left + width / 2
+            row.sort(key=lambda it: (middle(it), it))
+            start = left + (width - len(row) * (WIDE + GAP) + GAP) / 2 + WIDE / 2
+            for place, name in enumerate(row):
+                # Every second box stands a little lower, so that lines pass between.
+                where[name] = (start + place * (WIDE + GAP), EDGE + 30 + (highest - height) * RISE + 22 * (place % 2))
+        ends.append((left, width))
+        left += width + 2 * EDGE
+    return where, ends, highest
+
+
+def drawn():
+    """The text of the picture."""
+    on = stands_on()
+    where, ends, highest = placed(on)
+    group, fewer = group_of(on), reduced(on)
+    wide, high = round(ends[-1][0] + ends[-1][1] + EDGE), EDGE + 30 + highest * RISE + 70
+    text = [f'<svg xmlns="http://www.w3.org/2000/svg" viewBox="0 0 {wide} {high}" font-family="sans-serif" font-size="12">',
+            "<title>The crates, each above those that it stands on</title>", f'<rect width="{wide}" height="{high}" fill="#fff"/>']
+    for (left, width), (_, colour, title) in zip(ends, GROUPS):
+        text.append(f'<rect x="{left - 12:.0f}" y="8" width="{width + 24:.0f}" height="{high - 16}" rx="8" fill="{colour}" opacity="0.45"/>')
+        text.append(f'<text x="{left:.0f}" y="26" font-weight="bold">{title}</text>')
+    for name, its in fewer.items():
+        x, y = where[name]
+        for it in its:
+            to_x, to_y = where[it]
+            text.append(f'<path d="M{x:.0f} {y + HIGH / 2:.0f}L{to_x:.0f} {to_y - HIGH / 2:.0f}" stroke="#667" stroke-width="0.8" opacity="0.6"/>')
+    for name, (x, y) in where.items():
+        text.append(f'<rect x="{x - WIDE / 2:.0f}" y="{y - HIGH / 2:.0f}" width="{WIDE}" height="{HIGH}" rx="4" fill="{GROUPS[group[name]][1]}" stroke="#445"/>')
+        text.append(f'<text x="{x:.0f}" y="{y + 4:.0f}" text-anchor="middle">{name}</text>')
+    return "\n".join([*text, "</svg>", ""])
+
+
+def main(words):
+    there = ""
+    if os.path.exists(FILE):
+        with open(FILE, encoding="utf-8") as it:
+            there = it.read()
+    if words == ["--check"]:
+        print("docs/crates.svg is as crates.txt has it" if there == drawn() else "docs/crates.svg differs")
+        return 0 if there == drawn() else 1
+    with open(FILE, "w", encoding="utf-8") as it:
+        it.write(drawn())
+    return 0
+
+
+if __name__ == "__main__":
+    sys.exit(main(sys.argv[1:]))
