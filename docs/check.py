@@ -22,6 +22,9 @@ TOP = os.path.dirname(os.path.dirname(os.path.realpath(__file__)))
 MOST_LINES, MOST_FRONT, MOST_WORDS = 130, 1500, 25
 # Columns of a definition or a proof.
 MOST_COLUMNS = 140
+# The picture in README.md is what the program draws in this case.
+DRAWINGS = "examples/review/drawing.cases"
+DAY = "command a day with a locked and two crossed stretches, and a plan where it was made"
 SPAN = re.compile(r"`([^`]+)`")
 CELLS = 0
 CODE = re.compile(r"\b([A-Z])(\d{1,2})\b")
@@ -254,8 +257,14 @@ def check_links():
 
 # What is made of the sources.
 
+def drawn_day():
+    """What `nms_review draw` prints in the case of which docs/day.svg is the picture; the gate runs that case."""
+    case = read(DRAWINGS).split(f"== {DAY}\n")[1]
+    return re.search(r"^-- gives\n\d+\n(.*?)^-- errors$", case, re.M | re.S)[1]
+
+
 def check_made():
-    """The parts of pages that docs/claims.py writes, and the picture of docs/draw_crates.py, are as the sources have them."""
+    """The parts of pages that docs/claims.py writes, and both pictures, are as the sources have them."""
     for page in claims.PAGES:
         there, wanted = read(page).split("\n"), claims.made(page).split("\n")
         differing = next((old for old, new in itertools.zip_longest(there, wanted) if old != new), "")
@@ -266,6 +275,7 @@ def check_made():
     for name in sorted(wanted):
         check(name in claims.named("docs/CLAIMS.md"), "docs/CLAIMS.md", f"it has no part on `{name}`")
     check(read("docs/crates.svg") == draw_crates.drawn(), "docs/crates.svg", "docs/draw_crates.py draws another picture")
+    check(read("docs/day.svg") == drawn_day(), "docs/day.svg", f"the case `{DAY}` of {DRAWINGS} has another picture")
     page = "docs/ARCHITECTURE.md"
     listed = SPAN.findall("\n".join(row[CELLS][0] for row in rows(prose(page)) if "Never knows" in row))
     for name in CRATES:
