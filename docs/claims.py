@@ -87,8 +87,6 @@ class Crate:
         self.name, self.types, self.functions, self.enums = name, {}, [], {}
         root = next(it for it in (f"crates/{name}/src/lib.rt", f"crates/{name}/src/main.rt") if os.path.exists(os.path.join(TOP, it)))
         text = read(root)
-        heads = [it[3:].strip() for it in re.findall(r"^//!.*", text, re.M)]
-        self.says = first_sentence(heads[:heads.index("")] if "" in heads else heads)
         mods = set(re.findall(r"^(?:pub )?mod (\w+);", text, re.M))
         passed = re.findall(r"pub use (\w+)(?:::\w+)*::(?:\{([^}]*)\}|(\w+));", text)
         self.offered = {it.strip() for mod, many, one in passed if mod in mods for it in (many or one).split(",")}
@@ -182,12 +180,10 @@ def claims_of(crate):
         else:
             says = re.sub(r"^A law: (\w)", lambda found: found[1].upper(), it.says)
             made.append(f"|{'law ' if is_law else ''}`{it.name}`|{says}|{it.promised()}|{fault}|")
-    text = f"{crate.says}\n"
-    if made:
-        text += "\n" + "\n".join(["|Call|Says|Clauses|Fault|", "|---|---|---|---|", *made]) + "\n"
+    pieces = ["\n".join(["|Call|Says|Clauses|Fault|", "|---|---|---|---|", *made])] if made else []
     for head, names in (("One clause each", plain), ("No clause", bare), ("Edits", [f"`{it}`" for it in edits_of(crate.name)])):
-        text += f"\n{head}: {', '.join(names)}.\n" if names else ""
-    return text
+        pieces += [f"{head}: {', '.join(names)}."] if names else []
+    return "\n\n".join(pieces) + "\n"
 
 
 def words():
