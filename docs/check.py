@@ -22,6 +22,9 @@ TOP = os.path.dirname(os.path.dirname(os.path.realpath(__file__)))
 MOST_LINES, MOST_FRONT, MOST_WORDS = 130, 1500, 25
 # Columns of a definition or a proof.
 MOST_COLUMNS = 140
+# The limits in README.md: the constant of the sources, and what it counts.
+LIMITS = (("MOST_RECORDS", "records of a script"), ("MOST_CHANGES", "changes of a tape"), ("MOST_SYMBOLS", "symbols"),
+          ("MOST_PARTICIPANTS", "participants"), ("MOST_FEEDS", "feeds"), ("MOST_DESKS", "desks"), ("MOST_QUEUE", "changes in the queue"))
 # The picture in README.md is what the program draws in this case.
 DRAWINGS = "examples/review/drawing.cases"
 DAY = "command a day with a locked and two crossed stretches, and a plan where it was made"
@@ -347,9 +350,14 @@ def check_twice():
     for fast in re.findall(number, sections("README.md", 2)["Speed"]):
         check(fast in read("docs/PERFORMANCE.md"), "README.md", f"{fast} does not stand in docs/PERFORMANCE.md")
     limits = next(row[CELLS][1] for row in rows(prose("README.md")) if row[CELLS][0] == "Limits")
-    for most in re.findall(r"\d[\d,]*", limits):
+    constants = dict(re.findall(r"pub const (MOST_\w+): \w+ = ([\d_]+);", "\n".join(it.src for it in TREE.values())))
+    told = [f"{int(constants[name].replace('_', '')):,} {noun}" for name, noun in LIMITS]
+    for limit in told:
+        check(limit in limits, "README.md", f"the sources have the limit `{limit}`")
+        most = limit.split()[0]
         there = re.search(rf"(?<![\d,]){most}(?![\d,]| CFR)", read("docs/FORMATS.md") + read("docs/ERRORS.md"))
         check(bool(there), "README.md", f"the limit {most} stands in no other page")
+    check(len(re.findall(r"\d[\d,]*", limits)) == len(told), "README.md", "it has a limit that the sources do not have")
     page = "docs/CERTIFICATE.md"
     for names, crate, count in re.findall(r"\(([^()]*) in `specs/` of `(nms_\w+)`, (\d+) lines with their heads", prose(page)):
         lines = sum(read(f"crates/{crate}/specs/{it}.antt").count("\n") for it in SPAN.findall(names))
@@ -379,6 +387,22 @@ def check_kit():
     check(len(named) == 1, page, f"it names the toolchain {len(named)} times, and one is wanted")
     for kit in kit_there():
         check(kit in named, page, f"it names {named}, and `rt version` prints {kit}")
+
+
+def check_plain():
+    """The pages have none of the words of docs/words_to_avoid.txt. The headline and what is made of the sources are left out."""
+    lines = [it for it in read("docs/words_to_avoid.txt").split("\n") if it and not it.startswith("#")]
+    allowed = [it[1:].strip() for it in lines if it.startswith("+")]
+    listed = [it.split(": ", 1) for it in lines if not it.startswith("+")]
+    for page in PAGES:
+        text = re.sub(r"^> .*$", "", claims.PART.sub("", prose(page)), flags=re.M)
+        for right in allowed:
+            text = text.replace(right, "")
+        for word, better in listed:
+            for found in re.finditer(rf"\b{re.escape(word)}\b", text, re.I):
+                line = text[text.rfind("\n", 0, found.start()) + 1:].split("\n")[0]
+                check(False, page, f"`{found[0]}`, better `{better}`: {line[:60]}..")
+        check(True, page, "")
 
 
 def check_cases():
