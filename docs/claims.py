@@ -72,7 +72,7 @@ def header_at(lines, at):
     """The text of a function from its name to its body."""
     indent, found = re.match(r"\s*", lines[at])[0], []
     for line in lines[at:]:
-        if re.fullmatch(rf"{indent}\{{.*|\s*|{indent}\}}", line):
+        if re.match(rf"{indent}(\{{|\}}|///|#\[)", line) or found and re.match(rf"{indent}(pub |fn |ghost )", line):
             break
         found.append(line)
         if len(found) == 1 and re.search(r"[{};]\s*$", line):
