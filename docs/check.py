@@ -19,7 +19,7 @@ import draw_crates
 
 TOP = os.path.dirname(os.path.dirname(os.path.realpath(__file__)))
 # Lines and words of the front page, and words of a sentence there.
-MOST_LINES, MOST_FRONT, MOST_WORDS = 130, 1500, 25
+MOST_LINES, MOST_FRONT, MOST_WORDS = 130, 1600, 25
 # Columns of a definition or a proof.
 MOST_COLUMNS = 140
 # The limits in README.md: the constant of the sources, and what it counts.
