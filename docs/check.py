@@ -415,7 +415,7 @@ def check_cases():
 
 def main():
     for part in (check_names, check_codes, check_statuses, check_links, check_made, check_imports, check_proofs, check_front, check_twice,
-                 check_kit, check_cases):
+                 check_kit, check_plain, check_cases):
         part()
     print(f"{COUNT['passed']} passed, {COUNT['failed']} failed")
     return 1 if COUNT["failed"] else 0
