@@ -53,8 +53,10 @@ def levels(on):
 
 
 def group_of(on):
-    """The group of each crate: the first that has it, or a program above it."""
-    return {name: next(at for at, (tops, _, _) in enumerate(GROUPS) if any(name == it or name in below(on, it) for it in tops)) for name in on}
+    """The group of each crate: the first that has it, or a program above it; else the product's."""
+    def has(tops, name):
+        return any(name == it or name in below(on, it) for it in tops if it in on)
+    return {name: next((at for at, (tops, _, _) in enumerate(GROUPS) if has(tops, name)), 0) for name in on}
 
 
 def placed(on):
