@@ -3,7 +3,7 @@
 
     docs/check.py
 
-It reads the pages (README.md, docs/, examples/README.md), the help and the sources; it proves and builds nothing. Each
+It reads the pages (README.md, CHANGELOG.md, docs/, examples/README.md), the help and the sources; it proves and builds nothing. Each
 part below says what it looks at. It writes a line for each difference, and last `N passed, M failed`; status 1 where one
 failed.
 """
@@ -51,7 +51,7 @@ def files_of():
 
 FILES = files_of()
 FOLDERS = {os.path.dirname(it) for it in FILES} | {os.path.dirname(os.path.dirname(it)) for it in FILES}
-PAGES = sorted(it for it in FILES if it == "README.md" or re.fullmatch(r"(docs|examples)/\w+\.md", it))
+PAGES = sorted(it for it in FILES if it in ("README.md", "CHANGELOG.md") or re.fullmatch(r"(docs|examples)/\w+\.md", it))
 CRATES = [re.split(r"[ :]", line)[0] for line in read("crates.txt").split("\n") if re.match(r"nms_\w+", line)]
 PORTED = set(re.findall(r"[a-z]\w+", re.sub(r"#.*|\w+=\S+", "", read("crates.txt"))))
 
@@ -214,6 +214,20 @@ def check_codes():
         check(code in CODES, "the help", f"no code {code}")
     for code, names in told:
         check(bool(set(names) & CODES.get(code, set())), "docs/ERRORS.md", f"{code} is {sorted(CODES.get(code, []))}, and not {names}")
+    check_remedies()
+
+
+def check_remedies():
+    """The remedies that `explain` prints are those of ERRORS.md: each is part of the row of its code or of its fault."""
+    page, said = "docs/ERRORS.md", {}
+    for row in rows(prose("docs/ERRORS.md")):
+        for key in [row[CELLS][0], *SPAN.findall(row[CELLS][1])]:
+            said[key] = said.get(key, "") + re.sub(r"\[([^]]*)\]\([^)]*\)", r"\1", row[CELLS][-1])
+    records = re.findall(r'"([A-Z]\d+)"[^=]*=>\s*"([^"]+)"', read("crates/nms_explain/src/remedies.rt"))
+    setups = read("crates/nms_explain_setup/src/remedies.rt").split("fn remedy_of")[1]
+    for key, remedy in [*records, *re.findall(r'SetupFault::(\w+) =>\s*{?\s*"([^"]+)"', setups)]:
+        there = remedy.replace("`", "").lower() in said.get(key, "").replace("`", "").lower()
+        check(there or key == "NoMemory", page, f"{key}: `explain` prints: {remedy}")
 
 
 def codes_in(text):
