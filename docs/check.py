@@ -3,21 +3,31 @@
 
     docs/check.py
 
-It reads the pages (README.md, docs/, examples/README.md), the help and the sources; it proves and builds nothing. Each
+It reads the pages (README.md, CHANGELOG.md, docs/, examples/README.md), the help and the sources; it proves and builds nothing. Each
 part below says what it looks at. It writes a line for each difference, and last `N passed, M failed`; status 1 where one
 failed.
 """
+import itertools
 import os
 import re
 import shutil
 import subprocess
 import sys
 
+import claims
+import draw_crates
+
 TOP = os.path.dirname(os.path.dirname(os.path.realpath(__file__)))
-# Lines of the front page, and words of a sentence there.
-MOST_LINES, MOST_WORDS = 155, 30
+# Lines and words of the front page, and words of a sentence there.
+MOST_LINES, MOST_FRONT, MOST_WORDS = 130, 1600, 25
 # Columns of a definition or a proof.
 MOST_COLUMNS = 140
+# The limits in README.md: the constant of the sources, and what it counts.
+LIMITS = (("MOST_RECORDS", "records of a script"), ("MOST_CHANGES", "changes of a tape"), ("MOST_SYMBOLS", "symbols"),
+          ("MOST_PARTICIPANTS", "participants"), ("MOST_FEEDS", "feeds"), ("MOST_DESKS", "desks"), ("MOST_QUEUE", "changes in the queue"))
+# The picture in README.md is what the program draws in this case.
+DRAWINGS = "examples/review/drawing.cases"
+DAY = "command a day with a locked and two crossed stretches, and a plan where it was made"
 SPAN = re.compile(r"`([^`]+)`")
 CELLS = 0
 CODE = re.compile(r"\b([A-Z])(\d{1,2})\b")
@@ -41,7 +51,7 @@ def files_of():
 
 FILES = files_of()
 FOLDERS = {os.path.dirname(it) for it in FILES} | {os.path.dirname(os.path.dirname(it)) for it in FILES}
-PAGES = sorted(it for it in FILES if it == "README.md" or re.fullmatch(r"(docs|examples)/\w+\.md", it))
+PAGES = sorted(it for it in FILES if it in ("README.md", "CHANGELOG.md") or re.fullmatch(r"(docs|examples)/\w+\.md", it))
 CRATES = [re.split(r"[ :]", line)[0] for line in read("crates.txt").split("\n") if re.match(r"nms_\w+", line)]
 PORTED = set(re.findall(r"[a-z]\w+", re.sub(r"#.*|\w+=\S+", "", read("crates.txt"))))
 
@@ -52,45 +62,18 @@ def source(file):
 
 
 class Crate:
-    """What a crate declares."""
+    """The words of a crate's sources, definitions and proofs, and its edits."""
 
     def __init__(self, name):
         mine = sorted(it for it in FILES if it.startswith(f"crates/{name}/"))
         self.name = name
-        self.files = {it[len(f"crates/{name}/"):] for it in mine}
         self.src = "\n".join(source(it) for it in mine if it.endswith(".rt") and "/src/" in it)
-        self.specs = "\n".join(source(it) for it in mine if it.endswith(".antt") and "/specs/" in it)
-        proofs = "\n".join(source(it) for it in mine if "/proofs/" in it)
-        self.words = set(re.findall(r"\w+", f"{self.src} {self.specs} {proofs} {' '.join(self.files)}"))
+        others = "\n".join(source(it) for it in mine if "/specs/" in it or "/proofs/" in it)
+        self.words = set(re.findall(r"\w+", f"{self.src} {others} {' '.join(mine)}"))
         self.edits = {os.path.basename(it)[:-5] for it in mine if it.endswith(".edit")}
-        self.clauses, self.tests = {}, set()
-        for piece in re.split(r"\bfn (?=\w)", self.src)[1:]:
-            clauses = re.findall(r"\bensures\s+(?:\*\s*)?(\w*)", piece)
-            self.clauses.setdefault(re.match(r"\w+", piece)[0], set()).update(clauses)
-        self.tests = set(re.findall(r"#\[test\]\s*(?:#\[[^\n]*\]\s*)*(?:pub(?:\([^)]*\))? )?fn (\w+)", self.src))
-        if any(it.startswith("src/trials/") for it in self.files):
-            self.tests |= set(self.clauses)
-        self.fields = set(re.findall(r"\b(\w+) :", self.specs))
-        root = self.root()
-        passed_on = " ".join(re.findall(r"pub use ([^;]*);", root))
-        exported = re.findall(r"#\[unsafe\(no_mangle\)\]\s+pub extern \"C\" fn (\w+)", self.src)
-        self.public = set(re.findall(r"^ +pub fn (\w+)", self.src, re.M)) | set(re.findall(r"\w+", passed_on)) | set(exported)
-
-    def root(self):
-        root = "src/lib.rt" if "src/lib.rt" in self.files else "src/main.rt"
-        return source(f"crates/{self.name}/{root}") if root in self.files else ""
-
-    def public_types(self):
-        """The types that its root passes on from its own files."""
-        root = self.root()
-        mods = set(re.findall(r"^mod (\w+);", root, re.M))
-        found = re.findall(r"pub use (\w+)::(?:\{([^}]*)\}|(\w+));", root)
-        names = [it.strip() for mod, many, one in found if mod in mods for it in (many or one).split(",")]
-        return [it for it in names if re.match(r"[A-Z]", it) and not it.isupper() and not re.fullmatch(r"[A-Z_\d]+", it)]
 
 
 TREE = {name: Crate(name) for name in CRATES}
-TESTS = set().union(*(it.tests for it in TREE.values()))
 SCRIPTS = [it for it in FILES if re.search(r"\.(py|sh|toml|edit|c|cpp|hpp|h|rs)$|^gate$|^nms_(tool|review|lib)$|^bench/latency$|^build/|^crates\.txt$|Cargo|peer/", it)]
 TITLES = "\n".join(re.findall(r"^(?:==|--) .*", "\n".join(read(it) for it in sorted(FILES) if it.endswith(".cases")), re.M))
 WORDS = set().union(*(it.words for it in TREE.values()), re.findall(r"\w+", TITLES),
@@ -151,12 +134,6 @@ def sections(page, level):
     """The parts of a page under its headings of a level."""
     pieces = re.split(rf"^{'#' * level} (.*)$", prose(page), flags=re.M)
     return dict(zip(pieces[1::2], pieces[2::2]))
-
-
-def below(name):
-    """A crate, and all that it stands on."""
-    line = re.search(rf"^{name}\b[^:]*: (.*)$", read("crates.txt"), re.M)[1]
-    return {name}.union(*(below(it) for it in line.split() if it in CRATES))
 
 
 # What a page names in backquotes.
@@ -237,6 +214,20 @@ def check_codes():
         check(code in CODES, "the help", f"no code {code}")
     for code, names in told:
         check(bool(set(names) & CODES.get(code, set())), "docs/ERRORS.md", f"{code} is {sorted(CODES.get(code, []))}, and not {names}")
+    check_remedies()
+
+
+def check_remedies():
+    """The remedies that `explain` prints are those of ERRORS.md: each is part of the row of its code or of its fault."""
+    page, said = "docs/ERRORS.md", {}
+    for row in rows(prose("docs/ERRORS.md")):
+        for key in [row[CELLS][0], *SPAN.findall(row[CELLS][1])]:
+            said[key] = said.get(key, "") + re.sub(r"\[([^]]*)\]\([^)]*\)", r"\1", row[CELLS][-1])
+    records = re.findall(r'"([A-Z]\d+)"[^=]*=>\s*"([^"]+)"', read("crates/nms_explain/src/remedies.rt"))
+    setups = read("crates/nms_explain_setup/src/remedies.rt").split("fn remedy_of")[1]
+    for key, remedy in [*records, *re.findall(r'SetupFault::(\w+) =>\s*{?\s*"([^"]+)"', setups)]:
+        there = remedy.replace("`", "").lower() in said.get(key, "").replace("`", "").lower()
+        check(there or key == "NoMemory", page, f"{key}: `explain` prints: {remedy}")
 
 
 def codes_in(text):
@@ -281,96 +272,31 @@ def check_links():
                 check(place in map(anchor, headings), page, f"no heading behind the link to {target}")
 
 
-# Contracts.
+# What is made of the sources.
 
-def has_clauses(page, crate, functions, clauses, private=False):
-    """Whether functions are of a crate, or of one that it stands on, public or called private, and clauses or fields theirs."""
-    having = set()
-    for function in functions:
-        name, kin = function.split("::")[-1], [TREE[it] for it in below(crate.name)]
-        check(any(function.split("::")[0] in it.words for it in kin), page, f"{crate.name} has no `{function}`")
-        check(any(name in it.clauses for it in kin) or not name.islower(), page, f"{crate.name} has no function `{function}`")
-        is_public = private or not name.islower() or any(name in it.public for it in kin)
-        check(is_public, page, f"{crate.name}: `{function}` is private, and the page does not say so")
-        having = having.union(*(it.clauses.get(name, ()) for it in kin), {"output"} if "Display" in functions else ())
-    for clause in clauses:
-        check(clause in having or clause in crate.fields or is_path(clause) or re.search(rf"\b{clause}\b", crate.specs), page,
-              f"{crate.name}: {', '.join(functions)}: no clause `{clause}`")
+def drawn_day():
+    """What `nms_review draw` prints in the case of which docs/day.svg is the picture; the gate runs that case."""
+    case = read(DRAWINGS).split(f"== {DAY}\n")[1]
+    return re.search(r"^-- gives\n\d+\n(.*?)^-- errors$", case, re.M | re.S)[1]
 
 
-def check_claims():
-    """In CLAIMS.md each function and clause, edit and test is there, and in the crate under whose heading it stands."""
-    page, same = "docs/CLAIMS.md", []
-    for name, text in sections(page, 2).items():
-        for row in rows(text) if name in TREE else ():
-            for part in re.split(r";|, with |, on which |,? over (?:those|the) | by the ", row.get("Carried by", "")):
-                before, _, after = re.sub(r"::", "\0", part).partition(":")
-                functions, clauses = (SPAN.findall(it.replace("\0", "::")) for it in (before, after))
-                functions = [it for it in functions if not is_path(it)]
-                same = functions or same
-                if not re.search(r"\(`\w+`|of `|inherits", before):
-                    has_clauses(page, TREE[name], functions or same, clauses, "private" in before or not functions)
-            for edit in SPAN.findall(row.get("Edits", "")):
-                check(any(edit in TREE[it].edits for it in below(name)), page, f"{name} has no edit `{edit}`")
-            for column in ("Tests", "Cases and tests"):
-                for test in SPAN.findall(row.get(column, "")):
-                    is_there = test in TESTS or is_path(test) and has_path(page, test) or test in CRATES or test in TITLES.split()
-                    check(is_there, page, f"no test and no file of cases `{test}`")
-
-
-def check_calls():
-    """In "Every call" of CLAIMS.md each function is public, and each clause that a row names is a clause of its functions."""
-    page = "docs/CLAIMS.md"
-    public = set().union(*(it.public for it in TREE.values()))
-    for row in rows(sections(page, 2)["Every call"]):
-        names = [it.split("::")[-1] for it in SPAN.findall(row[CELLS][0]) if it not in TREE]
-        names = [it for it in names if it[0].islower()]
-        having = {"output"}.union(*(it.clauses.get(name, ()) for it in TREE.values() for name in names))
-        for name in names:
-            check(name in public, page, f"`{name}` is no public call, and has a row among them")
-        for clause in SPAN.findall(row["Where"]):
-            if re.fullmatch(r"[a-z_]+", clause):
-                check(clause in having | public | TESTS, page, f"{', '.join(names)}: no clause and no test `{clause}`")
-
-
-def check_table():
-    """The table of README.md has each crate of the product, with functions and clauses that are there."""
-    page, told = "README.md", set()
-    for row in rows(prose(page)):
-        names = [it for it in SPAN.findall(row[CELLS][0]) if it in TREE] if "Contract" in row else []
-        told.update(names)
-        for name in names:
-            for function, clauses in re.findall(r"`([\w:]+)`(?: \(([^)]*)\))?", re.sub(r"\(`[^)]*\)", lambda it: it[0], row["Contract"])):
-                if f"(`{function}`" not in row["Contract"] and f", `{function}`)" not in row["Contract"] \
-                        and not re.search(rf"\([^)]*`{function}`[^)]*\)", row["Contract"]):
-                    has_clauses(page, TREE[name], [function], SPAN.findall(clauses), f"private `{function}`" in row["Contract"])
+def check_made():
+    """The parts of pages that docs/claims.py writes, and both pictures, are as the sources have them."""
+    for page in claims.PAGES:
+        there, wanted = read(page).split("\n"), claims.made(page).split("\n")
+        differing = next((old for old, new in itertools.zip_longest(there, wanted) if old != new), "")
+        check(there == wanted, page, f"docs/claims.py writes it otherwise, from this line on: {differing!r}")
+        for name in claims.named(page):
+            check(name in claims.parts(), page, f"docs/claims.py makes no part `{name}`")
+    wanted = {name for name, it in claims.tree().items() if it.functions and name not in ("nms_examples", "nms_bench", "nms_tests")}
+    for name in sorted(wanted):
+        check(name in claims.named("docs/CLAIMS.md"), "docs/CLAIMS.md", f"it has no part on `{name}`")
+    check(read("docs/crates.svg") == draw_crates.drawn(), "docs/crates.svg", "docs/draw_crates.py draws another picture")
+    check(read("docs/day.svg") == drawn_day(), "docs/day.svg", f"the case `{DAY}` of {DRAWINGS} has another picture")
+    page = "docs/ARCHITECTURE.md"
+    listed = SPAN.findall("\n".join(row[CELLS][0] for row in rows(prose(page)) if "Never knows" in row))
     for name in CRATES:
-        check(name in told or name in ("nms_bench", "nms_examples", "nms_tests"), page, f"`{name}` is not in the table")
-
-
-# The words.
-
-def check_words():
-    """In ARCHITECTURE.md each crate has its rows; of the words each type, file and definition is there, and each public type."""
-    page, crate, told = "docs/ARCHITECTURE.md", None, {}
-    parts = sections(page, 2)
-    for row in rows(parts["The words"]):
-        first = row[CELLS][0].strip("*`")
-        if first in TREE and not any(row[CELLS][1:]):
-            crate = TREE[first]
-            continue
-        check(crate is not None, page, f"no crate stands over `{first}`")
-        kinds, specs = row[CELLS][1], row[CELLS][3]
-        for span in SPAN.findall(kinds):
-            told.setdefault(crate.name, set()).add(span)
-            check(f"src/{span}" in crate.files if span.endswith(".rt") else span in crate.words, page, f"{crate.name} has no `{span}`")
-        for span in SPAN.findall(specs):
-            check(f"specs/{span}.antt" in crate.files, page, f"{crate.name} has no specs/{span}.antt")
-    for crate in TREE.values():
-        for kind in crate.public_types():
-            check(kind in told.get(crate.name, ()), page, f"the words have no row for `{kind}` of {crate.name}")
-        check(f"**`{crate.name}`.**" in parts["The crates"], page, f"no paragraph on {crate.name}")
-        check(f"| `{crate.name}` |" in read(page), page, f"no row for {crate.name}")
+        check(listed.count(name) == 1, page, f"`{name}` has {listed.count(name)} rows among the crates")
 
 
 # Proofs.
@@ -419,6 +345,8 @@ def check_front():
     page = "README.md"
     lines = read(page).count("\n")
     check(lines <= MOST_LINES, page, f"{lines} lines, and at most {MOST_LINES} are wanted")
+    words = len(read(page).split())
+    check(words <= MOST_FRONT, page, f"{words} words, and at most {MOST_FRONT} are wanted")
     for sentence in sentences(prose(page)):
         count = len(re.findall(r"[\w`][\w`.,:/()'-]*", sentence))
         check(count <= MOST_WORDS, page, f"a sentence of {count} words: {sentence[:60]}..")
@@ -436,9 +364,14 @@ def check_twice():
     for fast in re.findall(number, sections("README.md", 2)["Speed"]):
         check(fast in read("docs/PERFORMANCE.md"), "README.md", f"{fast} does not stand in docs/PERFORMANCE.md")
     limits = next(row[CELLS][1] for row in rows(prose("README.md")) if row[CELLS][0] == "Limits")
-    for most in re.findall(r"\d[\d,]*", limits):
+    constants = dict(re.findall(r"pub const (MOST_\w+): \w+ = ([\d_]+);", "\n".join(it.src for it in TREE.values())))
+    told = [f"{int(constants[name].replace('_', '')):,} {noun}" for name, noun in LIMITS]
+    for limit in told:
+        check(limit in limits, "README.md", f"the sources have the limit `{limit}`")
+        most = limit.split()[0]
         there = re.search(rf"(?<![\d,]){most}(?![\d,]| CFR)", read("docs/FORMATS.md") + read("docs/ERRORS.md"))
         check(bool(there), "README.md", f"the limit {most} stands in no other page")
+    check(len(re.findall(r"\d[\d,]*", limits)) == len(told), "README.md", "it has a limit that the sources do not have")
     page = "docs/CERTIFICATE.md"
     for names, crate, count in re.findall(r"\(([^()]*) in `specs/` of `(nms_\w+)`, (\d+) lines with their heads", prose(page)):
         lines = sum(read(f"crates/{crate}/specs/{it}.antt").count("\n") for it in SPAN.findall(names))
@@ -470,6 +403,22 @@ def check_kit():
         check(kit in named, page, f"it names {named}, and `rt version` prints {kit}")
 
 
+def check_plain():
+    """The pages have none of the words of docs/words_to_avoid.txt. The headline and what is made of the sources are left out."""
+    lines = [it for it in read("docs/words_to_avoid.txt").split("\n") if it and not it.startswith("#")]
+    allowed = [it[1:].strip() for it in lines if it.startswith("+")]
+    listed = [it.split(": ", 1) for it in lines if not it.startswith("+")]
+    for page in PAGES:
+        text = re.sub(r"^> .*$", "", claims.PART.sub("", prose(page)), flags=re.M)
+        for right in allowed:
+            text = text.replace(right, "")
+        for word, better in listed:
+            for found in re.finditer(rf"\b{re.escape(word)}\b", text, re.I):
+                line = text[text.rfind("\n", 0, found.start()) + 1:].split("\n")[0]
+                check(False, page, f"`{found[0]}`, better `{better}`: {line[:60]}..")
+        check(True, page, "")
+
+
 def check_cases():
     """examples/README.md lists each file of cases."""
     page = "examples/README.md"
@@ -479,8 +428,8 @@ def check_cases():
 
 
 def main():
-    for part in (check_names, check_codes, check_statuses, check_links, check_claims, check_calls, check_table, check_words, check_imports,
-                 check_proofs, check_front, check_twice, check_kit, check_cases):
+    for part in (check_names, check_codes, check_statuses, check_links, check_made, check_imports, check_proofs, check_front, check_twice,
+                 check_kit, check_plain, check_cases):
         part()
     print(f"{COUNT['passed']} passed, {COUNT['failed']} failed")
     return 1 if COUNT["failed"] else 0

@@ -1,0 +1,228 @@
+#!/usr/bin/env python3
+"""Writes the parts of the pages that the sources say already, and finds those that differ.
+
+    docs/claims.py            writes them anew
+    docs/claims.py --check    prints the pages that differ; status 1 if one does
+
+A part stands between the lines `<!-- made: NAME -->` and `<!-- end -->` of a page. In docs/CLAIMS.md a part is a crate's public
+functions: the first sentence of the comment, the names of the clauses, and the fault. In docs/ARCHITECTURE.md
+it is the words: each public type with its file and the first sentence of its comment.
+"""
+import functools
+import os
+import re
+import sys
+
+TOP = os.path.dirname(os.path.dirname(os.path.realpath(__file__)))
+PART = re.compile(r"(<!-- made: (\w+) -->\n).*?(<!-- end -->)", re.S)
+PAGES = ("docs/ARCHITECTURE.md", "docs/CLAIMS.md")
+
+
+def read(file):
+    with open(os.path.join(TOP, file), encoding="utf-8") as it:
+        return it.read()
+
+
+def crates():
+    """The crates of crates.txt, lowest first, each with what stands right of its colon."""
+    return dict(re.findall(r"^(nms_\w+)[^:\n]*:(.*)$", read("crates.txt"), re.M))
+
+
+def sources(crate):
+    """The sources of a crate, but its tests and trials."""
+    found, folder = [], f"crates/{crate}/src"
+    for where, below, names in os.walk(os.path.join(TOP, folder)):
+        below[:] = sorted(it for it in below if it not in ("trials", "tests"))
+        found += [os.path.relpath(os.path.join(where, it), TOP) for it in sorted(names) if it.endswith(".rt")]
+    return found
+
+
+def first_sentence(comment):
+    """The first sentence of a comment, as the row of a table can have it."""
+    text = " ".join(comment).strip()
+    paragraph = re.split(r" {2,}| \n", text)[0]
+    return re.match(r"(?:.*?[.?!:])(?=\s+[A-Z`]|$)|.*", paragraph)[0].rstrip(":").strip().replace("|", "\\|")
+
+
+class Item:
+    """A public type or function: its name with its type, file, comment and clauses, and what it returns."""
+
+    def __init__(self, name, file, comment, header=""):
+        self.name, self.file, self.says = name, file, first_sentence(comment)
+        self.clauses = re.findall(r"^\s*ensures\s+(?:\*\s*)?(\w*)", header, re.M)
+        returned = re.search(r"->\s*(.*?)(?=\n\s*(?:requires|ensures)|\s*\{|$)", header, re.S)
+        self.returned = returned[1] if returned else ""
+        self.comment = comment
+
+    def promised(self):
+        return ", ".join(f"`{it}`" if it else "its clause" for it in dict.fromkeys(self.clauses))
+
+
+def comment_over(lines, at):
+    """The comment over a line, whose attributes may stand between; a blank comment line ends a paragraph."""
+    found = []
+    while at and re.match(r"\s*(///|#\[)", lines[at - 1]):
+        at -= 1
+        if "///" in lines[at]:
+            found.insert(0, lines[at].strip()[3:].strip())
+    return found[:found.index("")] if "" in found else found
+
+
+def header_at(lines, at):
+    """The text of a function from its name to its body."""
+    indent, found = re.match(r"\s*", lines[at])[0], []
+    for line in lines[at:]:
+        if re.match(rf"{indent}(\{{|\}}|///|#\[)", line) or found and re.match(rf"{indent}(pub |fn |ghost )", line):
+            break
+        found.append(line)
+        if len(found) == 1 and re.search(r"[{};]\s*$", line):
+            break
+    return "\n".join(found)
+
+
+class Crate:
+    """The public types and functions of a crate, in the order of its files."""
+
+    def __init__(self, name):
+        self.name, self.types, self.functions, self.enums = name, {}, [], {}
+        root = next(it for it in (f"crates/{name}/src/lib.rt", f"crates/{name}/src/main.rt") if os.path.exists(os.path.join(TOP, it)))
+        text = read(root)
+        mods = set(re.findall(r"^(?:pub )?mod (\w+);", text, re.M))
+        passed = re.findall(r"pub use (\w+)(?:::\w+)*::(?:\{([^}]*)\}|(\w+));", text)
+        self.offered = {it.strip() for mod, many, one in passed if mod in mods for it in (many or one).split(",")}
+        for file in sources(name):
+            self.read_file(file)
+
+    def read_file(self, file):
+        lines, inside = read(file).split("\n"), None
+        short = file.split("/src/")[1]
+        for at, line in enumerate(lines):
+            if line.startswith("impl"):
+                found = re.match(r"impl(?:<.*?>)? (?:(\w+)(?:<.*?>)? for )?(\w+)", line)
+                inside = found[2] if found and not found[1] else None
+            elif line == "}":
+                inside = None
+            kind = re.match(r"pub (?:struct|enum) (\w+)", line)
+            if kind and kind[1] in self.offered:
+                self.types[kind[1]] = Item(kind[1], short, comment_over(lines, at))
+                self.enums[kind[1]] = "\n".join([*(f"/// {it}" for it in comment_over(lines, at)), *lines[at:at + 1 if line.endswith(";") else lines.index("}", at)]])
+            function = re.match(r"( *)pub fn (\w+)", line)
+            if function and (inside in self.offered if function[1] else function[2] in self.offered):
+                name = f"{inside}::{function[2]}" if function[1] else function[2]
+                self.functions.append(Item(name, short, comment_over(lines, at), header_at(lines, at)))
+
+
+@functools.cache
+def tree():
+    return {it: Crate(it) for it in crates()}
+
+
+def codes_of(kind, seen=()):
+    """The codes that the comments of a fault's variants name, and those of the faults that the variants carry."""
+    found = set()
+    for text in (it.enums[kind] for it in tree().values() if kind in it.enums):
+        named = " ".join(re.findall(r"///.*|^[^/]*#\[error.*", text, re.M))
+        for letter, first, last in re.findall(r"\b([A-Z])(\d{1,2})(?: to [A-Z](\d+))?(?=[:,; ])", named):
+            found.update(f"{letter}{at}" for at in range(int(first), int(last or first) + 1))
+        for carried in set(re.findall(r"\b(\w+Fault)\b", text)) - {kind, *seen}:
+            found.update(codes_of(carried, (*seen, kind)))
+    return sorted(found, key=lambda it: (it[0], int(it[1:])))
+
+
+def shortened(codes):
+    """Codes, with those that follow each other as `X1-X3`."""
+    runs = []
+    for code in codes:
+        letter, number = code[0], int(code[1:])
+        if runs and runs[-1][0] == letter and runs[-1][2] == number - 1:
+            runs[-1][2] = number
+        else:
+            runs.append([letter, number, number])
+    return ", ".join(f"{letter}{first}" if first == last else f"{letter}{first}-{letter}{last}" for letter, first, last in runs)
+
+
+def fault_column(function):
+    """The fault that a function may return, if it has codes."""
+    kinds = re.findall(r"\b[A-Z]\w+\b", function.returned)
+    return ", ".join(f"`{it}`" for it in kinds if is_fault(it))
+
+
+def is_fault(kind):
+    """Whether a type is why a call refuses, and has codes."""
+    return (kind.endswith("Fault") or kind in ("Breach", "Doubt", "Full", "NotEmpty", "NoReading", "Unsettled")) and bool(codes_of(kind))
+
+
+def faults():
+    """The part of CLAIMS.md on the codes of each fault."""
+    kinds = dict.fromkeys(it for crate in tree().values() for it in crate.enums if is_fault(it))
+    return "\n".join(["|Fault|Codes|", "|---|---|", *(f"|`{it}`|{shortened(codes_of(it))}|" for it in kinds)]) + "\n"
+
+
+def edits_of(crate):
+    folder = os.path.join(TOP, "crates", crate, "must-fail")
+    return sorted(it[:-5] for it in os.listdir(folder) if it.endswith(".edit")) if os.path.isdir(folder) else []
+
+
+def claims_of(crate):
+    """The part of CLAIMS.md on a crate."""
+    made, plain, bare = [], [], []
+    for it in crate.functions:
+        fault = fault_column(it)
+        is_law = it.file.endswith("laws.rt") or it.says.startswith("A law")
+        if it.clauses == [""] and it.name.endswith(("::code", "::status")):
+            continue
+        if it.name == "worked_examples":
+            continue
+        if not it.clauses:
+            bare.append(f"`{it.name}`")
+        elif it.clauses == [""] and not is_law and not fault and "CFR" not in it.says:
+            plain.append(f"`{it.name}`")
+        else:
+            says = re.sub(r"^A law: (\w)", lambda found: found[1].upper(), it.says)
+            made.append(f"|{'law ' if is_law else ''}`{it.name}`|{says}|{it.promised()}|{fault}|")
+    pieces = ["\n".join(["|Call|Says|Clauses|Fault|", "|---|---|---|---|", *made])] if made else []
+    for head, names in (("One clause each", plain), ("No clause", bare), ("Edits", [f"`{it}`" for it in edits_of(crate.name)])):
+        pieces += [f"{head}: {', '.join(names)}."] if names else []
+    return "\n\n".join(pieces) + "\n"
+
+
+def words():
+    """The part of ARCHITECTURE.md on the public types, but for faults."""
+    text = "|Type|File in `src/`|What it is|\n|---|---|---|\n"
+    for crate in tree().values():
+        shown = [it for it in crate.types.values() if not is_fault(it.name)]
+        text += f"|**`{crate.name}`**|||\n" if shown else ""
+        text += "".join(f"|`{it.name}`|`{it.file}`|{it.says}|\n" for it in shown)
+    return text
+
+
+@functools.cache
+def parts():
+    """Each part by its name."""
+    return {"words": words(), "faults": faults(), **{it.name: claims_of(it) for it in tree().values()}}
+
+
+def made(page):
+    """A page with its parts written anew."""
+    there = parts()
+    return PART.sub(lambda it: it[1] + there.get(it[2], it[0]) + it[3], read(page))
+
+
+def named(page):
+    """The parts that a page has."""
+    return [it[1] for it in PART.findall(read(page))]
+
+
+def main(words_of_call):
+    differing = [it for it in PAGES if made(it) != read(it)]
+    for page in differing:
+        if words_of_call != ["--check"]:
+            text = made(page)
+            with open(os.path.join(TOP, page), "w", encoding="utf-8") as it:
+                it.write(text)
+        print(f"{page} {'differs' if words_of_call == ['--check'] else 'is written'}")
+    return 1 if differing and words_of_call == ["--check"] else 0
+
+
+if __name__ == "__main__":
+    sys.exit(main(sys.argv[1:]))
