@@ -47,6 +47,7 @@ pub fn answer_request(
 /// What a request says: an `N`, `E` or `O` record of a script. Any other record is of no kind that a client may send.
 fn read_request(row: &ByteRecord, setup: &Setup) -> Result<Line, LineFault>
     ensures said { result ≡ request_reading setup.now (fields_of row.now) }
+    ensures look { IfOk result (λ line. is_look line ≡ true) }
     ensures there { IfOk result (IsThere (sizes_of setup.now.roster) setup.now.desks) }
 {
     let desks = setup.desks();

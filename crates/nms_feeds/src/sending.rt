@@ -1,13 +1,11 @@
 //! The sending of a feed's stream (specs/Streams).
-ghost use Rattle.std.specs.Prelude.{◌≡◌, ℕ, ◌+◌, ◌<◌, ◌++◌, ◌∷◌, List, [], length, map, Option, option_map, Ok, Err, Some, IfErr, IfOk, OnErr, OnOk, true, false};
-ghost use Rattle.nms_lines.specs.Layout.{Record};
-ghost use Rattle.nms_lines.specs.Records.{ReadsFrom};
+ghost use Rattle.std.specs.Prelude.{◌≡◌, ℕ, ◌+◌, ◌<◌, ◌∷◌, List, [], Option, option_map, Ok, Err, IfErr, IfOk, OnErr, OnOk, true};
 ghost use Rattle.csv.specs.Records.{fields_of};
-ghost use Rattle.nms_quote.specs.declared.change.Change.{Change};
+ghost use Rattle.nms_lines.specs.Records.{ReadsFrom};
 ghost use Rattle.nms_lines.specs.declared.line.Line.TheVariants as line;
 ghost use Rattle.nms_feed.specs.declared.TheConstants.{MOST_SENT};
 ghost use Rattle.nms_whole.specs.Lines.{whole_lines};
-ghost use Rattle.nms_feeds.specs.Streams.{HasBegun, HasRead, IsCounted, IsRefusedAt, change_said, feed_reading};
+ghost use Rattle.nms_feeds.specs.Streams.{HasBegun, HasRead, IsCounted, IsOwn, IsRefusal, IsRefusedAt, IsSentOf, feed_reading};
 
 use crate::feed_counts::FeedCounts;
 use crate::feed_fault::FeedFault;
@@ -53,14 +51,39 @@ pub fn send_stream<W: Wait, R: Read + Drop, O: FeedWatch>(
 {
     let mut reader = open_records(alloc, WholeLines::new(source));
     let mut row = ByteRecord::new(alloc);
-    for _ in 0..MOST_SENT {
-        match read_next(&mut reader, &mut row) {
+    send_rows(rt, setup, strict, &mut reader, &mut row, watch, counts, sender)
+}
+
+/// Sends the changes that a reader's records say, each read into the row.
+fn send_rows<W: Wait, S: Read, O: FeedWatch>(
+    rt: &W,
+    setup: &Setup,
+    strict: bool,
+    reader: &mut Reader<S>,
+    row: &mut ByteRecord,
+    watch: &O,
+    counts: &mut FeedCounts,
+    sender: &mut Sender,
+) -> Result<(), FeedFault>
+    requires counted { IsCounted sender.old.sent counts.old }
+    ensures same { (sender.new.lane ≡ sender.old.lane) × (sender.new.feed ≡ sender.old.feed) }
+    ensures counted { IsCounted sender.new.sent counts.new }
+    ensures read { (bytes : Option (List ℕ)) → ReadsFrom S.remaining reader.old bytes [] → OnOk result (HasRead setup.now.roster sender.old.feed bytes sender.old.sent sender.new.sent counts.old counts.new) }
+    ensures begun { (bytes : Option (List ℕ)) → ReadsFrom S.remaining reader.old bytes [] → OnErr result (HasBegun setup.now.roster sender.old.feed bytes sender.old.sent sender.new.sent counts.old counts.new) }
+    ensures strict { strict ≡ true → counts.new.refused ≡ counts.old.refused }
+    ensures refused { (bytes : Option (List ℕ)) → ReadsFrom S.remaining reader.old bytes [] → IfErr result (IsRefusedAt setup.now.roster sender.old.feed bytes counts.old strict) }
+{
+    for _ in 0..u64::MAX {
+        match read_next(reader, row) {
             Ok(true) => {}
             Ok(false) => return Ok(()),
             Err(RecordFault::Failed) => return Err(FeedFault::Failed),
             Err(RecordFault::NoMemory) => return Err(FeedFault::NoMemory),
         }
-        send_record(rt, setup, strict, &row, watch, counts, sender)?;
+        if counts.records == MOST_SENT {
+            return Err(FeedFault::TooLong);
+        }
+        send_record(rt, setup, strict, row, watch, counts, sender)?;
     }
     Err(FeedFault::TooLong)
 }
@@ -77,6 +100,12 @@ fn send_record<W: Wait, O: FeedWatch>(
 ) -> Result<(), FeedFault>
     requires counted { IsCounted sender.old.sent counts.old }
     requires room { counts.old.records < MOST_SENT }
+    ensures same { (sender.new.lane ≡ sender.old.lane) × (sender.new.feed ≡ sender.old.feed) }
+    ensures counted { IsCounted sender.new.sent counts.new }
+    ensures sent { OnOk result (IsSentOf setup.now.roster sender.old.feed (fields_of row.now ∷ []) sender.old.sent sender.new.sent counts.old counts.new) }
+    ensures unsent { OnErr result ((sender.new ≡ sender.old) × (counts.new ≡ counts.old)) }
+    ensures strict { strict ≡ true → counts.new.refused ≡ counts.old.refused }
+    ensures refused { IfErr result (IsRefusal strict (counts.old.records + 1) (feed_reading setup.now.roster sender.old.feed (fields_of row.now))) }
 {
     let feed = sender.feed();
     let number = counts.records + 1;
@@ -89,8 +118,10 @@ fn send_record<W: Wait, O: FeedWatch>(
             watch.sent(feed);
             Ok(())
         }
-        Err(fault) if strict => Err(FeedFault::Refused { number, fault }),
         Err(fault) => {
+            if strict {
+                return Err(FeedFault::Refused { number, fault });
+            }
             counts.records = number;
             counts.refused += 1;
             watch.refused(feed, number, fault);
