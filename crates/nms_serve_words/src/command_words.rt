@@ -34,8 +34,8 @@ fn fault_of(alloc: Global, error: &Error) -> WordsFault {
 
 /// The request that the matches hold.
 fn request_in(alloc: Global, matches: &ArgMatches<'_>) -> Result<Request, WordsFault> {
-    let feeds = feeds_in(alloc, values(matches, "feed"))?;
-    let clients = clients_in(alloc, values(matches, "client"))?;
+    let feeds = feeds_in(alloc, matches.get_strs("feed").unwrap_or(&[]))?;
+    let clients = clients_in(alloc, matches.get_strs("client").unwrap_or(&[]))?;
     let tape = matches.get_str("tape").unwrap_or("");
     if has_path_twice(&clients, tape) {
         return Err(WordsFault::PathTwice);
@@ -47,11 +47,6 @@ fn request_in(alloc: Global, matches: &ArgMatches<'_>) -> Result<Request, WordsF
         tape: String::from_str(alloc, tape)?,
         strict: matches.get_str("strict") == Some("true"),
     })
-}
-
-/// The values of an option, in order; none if it was not given.
-fn values<'m, 'a>(matches: &'m ArgMatches<'a>, name: &str) -> &'m [&'a str] {
-    matches.get_strs(name).unwrap_or(&[])
 }
 
 /// The text of an option's value, if it has one.
@@ -74,7 +69,7 @@ fn feeds_in(alloc: Global, values: &[&str]) -> Result<Vec<FeedPath>, WordsFault>
         if has_place(&feeds, feed.place) {
             return Err(WordsFault::FeedTwice);
         }
-        feeds.push(feed)?;
+        push(&mut feeds, feed)?;
     }
     Ok(feeds)
 }
@@ -114,7 +109,8 @@ fn place_of(letter: &str) -> Option<u8> {
 fn clients_in(alloc: Global, values: &[&str]) -> Result<Vec<ClientPaths>, WordsFault> {
     let mut clients = Vec::new(alloc);
     for value in values {
-        clients.push(client_of(alloc, *value)?)?;
+        let client = client_of(alloc, *value)?;
+        push(&mut clients, client)?;
     }
     Ok(clients)
 }
@@ -149,4 +145,12 @@ fn is_given_before(clients: &[ClientPaths], place: usize, client: &ClientPaths) 
         .iter()
         .take(place)
         .any(|other| other.input == client.input || other.output == client.output)
+}
+
+/// Appends an item.
+fn push<T: Drop>(items: &mut Vec<T>, item: T) -> Result<(), WordsFault> {
+    match items.push(item) {
+        Ok(()) => Ok(()),
+        Err(_) => Err(WordsFault::NoMemory),
+    }
 }

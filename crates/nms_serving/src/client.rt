@@ -19,6 +19,7 @@ use std::thread;
 use std::thread::Threads;
 
 /// Where a client's requests come from and its answers go to.
+#[derive(Drop)]
 pub enum ClientStreams<'a> {
     /// Standard input and standard output.
     Standard,
@@ -73,30 +74,41 @@ fn answer_client<R: Threads + Wait + Sync>(
     match streams {
         ClientStreams::Standard => answer_from(means, number, desk, host.stdin(), host.stdout()),
         ClientStreams::Paths { input, output } => {
-            let (requests, answers) = open_both(means, input, output);
-            let Ok(requests) = requests else {
-                return Err(ServeFault::NotOpened(Stream::Requests(number)));
-            };
-            let Ok(answers) = answers else {
-                return Err(ServeFault::NotOpened(Stream::Answers(number)));
-            };
-            answer_from(means, number, desk, requests, answers)
+            let (requests, answers) = open_both(means, number, input, output);
+            answer_from(means, number, desk, requests?, answers?)
         }
     }
 }
 
-/// Opens a client's paths at the same time, so that the client may open them in any order.
+/// Opens a client's paths at the same time, so that the client may open them in any order. If one can't be opened the run
+/// ends at once, so that the other is waited for no longer.
 fn open_both<R: Threads + Wait + Sync>(
     means: &Means<'_, R>,
+    number: u8,
     input: &Door<'_>,
     output: &Door<'_>,
-) -> (io::Result<File>, io::Result<File>) {
+) -> (Result<File, ServeFault>, Result<File, ServeFault>) {
     let (host, run) = (means.host, means.run);
     thread::join(
         means.rt,
-        || input.open_to_read(host, run),
-        || output.open_to_write(host, run),
+        || opened(run, input.open_to_read(host, run), Stream::Requests(number)),
+        || opened(run, output.open_to_write(host, run), Stream::Answers(number)),
     )
+}
+
+/// A stream that was opened, or the fault that ends the run.
+fn opened(
+    run: &Run<'_>,
+    outcome: io::Result<File>,
+    stream: Stream,
+) -> Result<File, ServeFault> {
+    match outcome {
+        Ok(file) => Ok(file),
+        Err(_) => {
+            run.fail(ServeFault::NotOpened(stream));
+            Err(ServeFault::NotOpened(stream))
+        }
+    }
 }
 
 /// Answers the requests of a stream.

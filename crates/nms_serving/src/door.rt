@@ -6,6 +6,7 @@ use std::io::ErrorKind;
 use std::sync::atomic::{AtomicBool, Ordering};
 
 /// A path that a thread opens. To open a FIFO waits for its other end.
+#[derive(Drop)]
 pub struct Door<'a> {
     path: &'a str,
     is_opening: AtomicBool,

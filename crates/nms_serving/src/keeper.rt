@@ -124,8 +124,17 @@ impl<'a, X: Write, Y: Write> Keeper<'a, X, Y> {
         X: Drop,
         Y: Drop,
     {
-        let Keeper { publisher, .. } = self;
-        let _tape = publisher.close(rt);
+        let Keeper {
+            roster: _,
+            publisher,
+            tape: _tape,
+            lengths: _lengths,
+            text: _text,
+            waiting: _,
+            changes: _,
+            publishings: _,
+        } = self;
+        let _changes = publisher.close(rt);
     }
 }
 

@@ -7,6 +7,7 @@ use std::thread::Parker;
 
 /// What all threads of a run share: the setup, how many streams are left, the first fault, and the bell that wakes the
 /// taker. No proof rests on it.
+#[derive(Drop)]
 pub struct Run<'a> {
     pub(crate) setup: &'a Setup,
     /// Whether a refused record of a feed ends the run.

@@ -20,6 +20,7 @@ use std::thread;
 use std::thread::{JoinHandle, Scope, Threads};
 
 /// What every thread of a run works with.
+#[derive(Drop)]
 pub struct Means<'a, R> {
     pub rt: &'a R,
     pub host: &'a HostRuntime,

@@ -12,6 +12,7 @@ const MOST_REPORTS: u64 = 10;
 
 /// Wakes the taker for each change of a feed that was sent, and reports refused records on standard error, at most 10 in a
 /// second of the clock. No proof rests on it.
+#[derive(Drop)]
 pub(crate) struct Watcher<'a> {
     host: &'a HostRuntime,
     run: &'a Run<'a>,
