@@ -1,11 +1,11 @@
 -- What is passed on if only the good bytes of a line are held is what is passed on of the lines.
-use Rattle.std.proofs.Common.{ℕ, ◌≡◌, ◌≢◌, ◌+◌, ◌<◌, ◌≤◌, ◌++◌, ◌⊎◌, inl, inr, Bool, true, false, cond, not, ◌==◌, ◌&&◌, ◌||◌, List, [], ◌∷◌, length, refl, ap, sym}
+use Rattle.std.proofs.Common.{ℕ, ◌≡◌, ◌≢◌, ◌-◌, ◌++◌, ◌⊎◌, suc, Option, Some, None, inl, inr, Bool, true, false, cond, not, ◌==◌, ◌&&◌, ◌||◌, List, [], ◌∷◌, length, refl, ap, sym}
 use Rattle.std.proofs.Common.{subst, ◌∙◌, arith, append_assoc, length-append}
-use Rattle.std.specs.Prelude.{nat_le}
+use Rattle.std.specs.Prelude.{nat_le, slice_get}
 use Rattle.std.proofs.lemmas.List.{append-nil}
 use Rattle.std.proofs.lemmas.Bool.Decides.{nat_tests}
 use Rattle.nms_whole.specs.Going.{at_end, at_feed, ends_in_return, given_after, spoils}
-use Rattle.nms_whole.specs.Lines.{has_byte, is_fit, passed, refused_line, returns_within, torn, whole_after, whole_lines}
+use Rattle.nms_whole.specs.Lines.{has_byte, is_fit, passed, returns_within, torn, whole_after, whole_lines}
 use Rattle.nms_whole.specs.declared.TheConstants.{MOST_LINE}
 
 -- ---- tests
@@ -62,6 +62,19 @@ returns_among (x ∷ []) y ys = refl
 returns_among (x ∷ next ∷ xs) y ys = ap (λ (b : Bool). (x == 13) || b) (returns_among (next ∷ xs) y ys)
     ∙ or_assoc (x == 13) (returns_within (next ∷ xs)) (ends_in_return (next ∷ xs) || returns_within (y ∷ ys))
 
+-- whether a byte that may be there is a carriage return
+abbrev is_return : Option ℕ → Bool
+is_return None = false
+is_return (Some byte) = byte == 13
+
+-- the last byte
+pub last_return : (line : List ℕ) (last : Option ℕ) → last ≡ slice_get line (length line - 1) → ends_in_return line ≡ is_return last
+last_return [] last is = rw is refl
+last_return (byte ∷ []) last is = rw is refl
+last_return (first ∷ next ∷ rest) last is =
+    let place : length (first ∷ next ∷ rest) - 1 ≡ suc (length (next ∷ rest) - 1) = omega arith in
+    last_return (next ∷ rest) last (is ∙ ap (λ (k : ℕ). slice_get (first ∷ next ∷ rest) k) place)
+
 -- a line that fits goes on by a byte that does not spoil it
 fits_more : (line : List ℕ) (byte : ℕ) → is_fit line ≡ true → spoils line byte ≡ false → is_fit (line ++ byte ∷ []) ≡ true
 fits_more line byte fit good =
@@ -96,7 +109,7 @@ spoilt line byte more bad = elim (one_of (byte == 34) (nat_le MOST_LINE (length 
 -- ---- the line in hand
 
 -- the bytes of the line that were begun are held, and it fits; or it fits in no way that it goes on
-StandsFor : List ℕ → List ℕ → Bool → Type 0
+abbrev StandsFor : List ℕ → List ℕ → Bool → Type 0
 StandsFor begun line false = (line ≡ begun) × (is_fit begun ≡ true)
 StandsFor begun line true = ((more : List ℕ) → is_fit (begun ++ more) ≡ false) × (begun ≢ [])
 
@@ -116,32 +129,41 @@ no_end : (begun : List ℕ) (byte : ℕ) → (begun ++ byte ∷ []) ≢ []
 no_end [] byte e = absurd (cc)
 no_end (first ∷ rest) byte e = absurd (cc)
 
+-- one byte of the line, with what is known of the bytes after it
+within : (begun line : List ℕ) (byte : ℕ) (bytes : List ℕ) (bad spoilt_now : Bool)
+    → ((b l : List ℕ) (is_bad : Bool) → StandsFor b l is_bad → given_after l is_bad bytes ≡ whole_after b bytes)
+    → StandsFor begun line bad → spoils line byte ≡ spoilt_now
+    → cond (bad || spoilt_now) (given_after [] true bytes) (given_after (line ++ byte ∷ []) false bytes)
+    ≡ whole_after (begun ++ byte ∷ []) bytes
+within begun line byte bytes true spoilt_now rest had is = rest (begun ++ byte ∷ []) [] true (
+  (λ more. subst (λ (l : List ℕ). is_fit l ≡ false) (sym (append_assoc begun (byte ∷ []) more)) (had.0 (byte ∷ more))),
+  no_end begun byte,
+)
+within begun line byte bytes false true rest had is =
+    let here : spoils begun byte ≡ true = subst (λ (l : List ℕ). spoils l byte ≡ true) had.0 is in
+    rest (begun ++ byte ∷ []) [] true (
+      (λ more. subst (λ (l : List ℕ). is_fit l ≡ false) (sym (append_assoc begun (byte ∷ []) more)) (spoilt begun byte more here)),
+      no_end begun byte,
+    )
+within begun line byte bytes false false rest had is =
+    let here : spoils begun byte ≡ false = subst (λ (l : List ℕ). spoils l byte ≡ false) had.0 is in
+    rest (begun ++ byte ∷ []) (line ++ byte ∷ []) false
+    (ap (λ (l : List ℕ). l ++ byte ∷ []) had.0, fits_more begun byte had.1 here)
+
+step : (begun line : List ℕ) (byte : ℕ) (bytes : List ℕ) (bad is_feed : Bool)
+    → ((b l : List ℕ) (is_bad : Bool) → StandsFor b l is_bad → given_after l is_bad bytes ≡ whole_after b bytes)
+    → StandsFor begun line bad
+    → cond is_feed (at_feed line bad ++ given_after [] false bytes)
+    (cond (bad || spoils line byte) (given_after [] true bytes) (given_after (line ++ byte ∷ []) false bytes))
+    ≡ cond is_feed (passed begun ++ whole_after [] bytes) (whole_after (begun ++ byte ∷ []) bytes)
+step begun line byte bytes bad true rest stands = rw (feeds_same begun line bad stands, rest [] [] false (refl, refl)) refl
+step begun line byte bytes bad false rest stands = within begun line byte bytes bad (spoils line byte) rest stands refl
+
 -- the bytes to come make the same of both
 goes_on : (begun line : List ℕ) (bad : Bool) (bytes : List ℕ) → StandsFor begun line bad → given_after line bad bytes ≡ whole_after begun bytes
 goes_on begun line bad [] stands = ends_same begun line bad stands
-goes_on begun line bad (byte ∷ bytes) stands = by (byte == 10)
-  where
-    -- a byte of the line itself
-    within : (is_bad : Bool) → StandsFor begun line is_bad → (spoilt_now : Bool) → spoils line byte ≡ spoilt_now
-        → cond (is_bad || spoilt_now) (given_after [] true bytes) (given_after (line ++ byte ∷ []) false bytes)
-        ≡ whole_after (begun ++ byte ∷ []) bytes
-    within true had spoilt_now is =
-        goes_on (begun ++ byte ∷ []) [] true bytes
-        ((λ more. subst (λ (l : List ℕ). is_fit l ≡ false) (sym (append_assoc begun (byte ∷ []) more)) (had.0 (byte ∷ more))), no_end begun byte)
-    within false had true is =
-        let here : spoils begun byte ≡ true = subst (λ (l : List ℕ). spoils l byte ≡ true) had.0 is in
-        goes_on (begun ++ byte ∷ []) [] true bytes
-        ((λ more. subst (λ (l : List ℕ). is_fit l ≡ false) (sym (append_assoc begun (byte ∷ []) more)) (spoilt begun byte more here)), no_end begun byte)
-    within false had false is =
-        let here : spoils begun byte ≡ false = subst (λ (l : List ℕ). spoils l byte ≡ false) had.0 is in
-        goes_on (begun ++ byte ∷ []) (line ++ byte ∷ []) false bytes
-        (ap (λ (l : List ℕ). l ++ byte ∷ []) had.0, fits_more begun byte had.1 here)
-
-    by : (is_feed : Bool) → cond is_feed (at_feed line bad ++ given_after [] false bytes)
-        (cond (bad || spoils line byte) (given_after [] true bytes) (given_after (line ++ byte ∷ []) false bytes))
-        ≡ cond is_feed (passed begun ++ whole_after [] bytes) (whole_after (begun ++ byte ∷ []) bytes)
-    by true = rw (feeds_same begun line bad stands, goes_on [] [] false bytes (refl, refl)) refl
-    by false = within bad stands (spoils line byte) refl
+goes_on begun line bad (byte ∷ bytes) stands =
+    step begun line byte bytes bad (byte == 10) (λ b l is_bad had. goes_on b l is_bad bytes had) stands
 
 -- from the beginning of a stream
 pub whole_from : (bytes : List ℕ) → given_after [] false bytes ≡ whole_lines bytes

@@ -1,5 +1,5 @@
 -- What known bytes become from one read to the next.
-use Rattle.std.proofs.Common.{ℕ, ◌≡◌, ◌++◌, List, [], Bool, false, Option, Some, None, refl, ap, sym, ◌∙◌, append_assoc}
+use Rattle.std.proofs.Common.{ℕ, ◌≡◌, ◌++◌, List, [], false, Option, Some, None, refl, ap, sym, ◌∙◌, append_assoc}
 use Rattle.std.specs.Prelude.{option_map}
 use Rattle.std.specs.Io.KnownBytes.{Consumes, IsAtEnd, Keeps}
 use Rattle.nms_whole.specs.Going.{given_after}

@@ -1,5 +1,5 @@
 -- What a reader of whole lines has in hand, and what it has still to give. This product's own rule.
-use Rattle.std.specs.Prelude.{ℕ, ◌+◌, ◌==◌, ◌||◌, Bool, true, false, List, [], ◌∷◌, ◌++◌, drop, length, Option, option_map, if◌then◌else◌}
+use Rattle.std.specs.Prelude.{ℕ, ◌+◌, List, ◌++◌, drop, length, Option, option_map, if◌then◌else◌}
 use Rattle.nms_whole.specs.Going.{given_after}
 use Rattle.nms_whole.specs.declared.held.Held.{Held}
 use Rattle.nms_whole.specs.declared.whole_lines.WholeLines.{WholeLines}

@@ -1,5 +1,5 @@
 -- The lines of a stream, and what of them is passed on to whoever reads its records. This product's own rule.
-use Rattle.std.specs.Prelude.{ℕ, ◌==◌, ◌&&◌, ◌||◌, not, Bool, true, false, List, [], ◌∷◌, ◌++◌, length, nat_le, if◌then◌else◌}
+use Rattle.std.specs.Prelude.{ℕ, ◌==◌, ◌&&◌, ◌||◌, not, Bool, false, List, [], ◌∷◌, ◌++◌, length, nat_le, if◌then◌else◌}
 use Rattle.nms_whole.specs.declared.TheConstants.{MOST_LINE}
 
 -- whether a byte stands among these

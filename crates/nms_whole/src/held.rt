@@ -1,6 +1,6 @@
 //! What a reader of whole lines has in hand (specs/Held).
-ghost use Rattle.std.specs.Prelude.{◌≡◌, ◌+◌, ◌≤◌, ◌∷◌, ◌++◌, List, ℕ, [], length, min, take, true, false};
-ghost use Rattle.nms_whole.specs.Going.{at_end, given_after, spoils};
+ghost use Rattle.std.specs.Prelude.{◌≡◌, ◌+◌, ◌<◌, ◌≤◌, ◌∷◌, ◌++◌, List, ℕ, [], length, min, take, true, false};
+ghost use Rattle.nms_whole.specs.Going.{ends_in_return, given_after, spoils};
 ghost use Rattle.nms_whole.specs.Lines.{refused_line};
 ghost use Rattle.nms_whole.specs.declared.TheConstants.{MOST_READ, ROOM};
 
@@ -18,6 +18,7 @@ pub(crate) struct Held {
     /// The line that was begun can't be passed on.
     is_bad: bool,
     ghost within: { given ≤ length ready.items },
+    ghost short: { length line.items ≤ 4096 },
     ghost forgotten: { is_bad ≡ true → line.items ≡ [] },
 }
 
@@ -39,6 +40,7 @@ impl Held {
     /// Whether nothing is ready.
     pub(crate) fn is_empty(&self) -> bool
         ensures empty { result ≡ true → ready_of self.now ≡ [] }
+        ensures some { result ≡ false → 0 < length (ready_of self.now) }
     {
         self.given == self.ready.len()
     }
@@ -89,7 +91,7 @@ impl Held {
     fn is_spoilt_by(&self, byte: u8) -> bool
         ensures { result ≡ spoils self.now.line.items byte }
     {
-        byte == b'"' || self.line.is_full() || self.line.as_slice().last() == Some(&b'\r')
+        byte == b'"' || self.line.is_full() || ends_in_return(self.line.as_slice())
     }
 
     /// The line that was begun has ended, by its line feed.
@@ -110,7 +112,7 @@ impl Held {
     /// The stream has ended: a line that was begun was torn.
     pub(crate) fn end(&mut self)
         requires empty { ready_of self.old ≡ [] }
-        ensures { still self.new [] ≡ still self.old [] }
+        ensures same { still self.new [] ≡ still self.old [] }
         ensures ended { still self.new [] ≡ ready_of self.new }
     {
         if self.is_bad || !self.line.is_empty() {
@@ -120,6 +122,16 @@ impl Held {
             self.line.clear();
             refuse(&mut self.ready);
         }
+    }
+}
+
+/// Whether the last byte of a line is a carriage return.
+fn ends_in_return(line: &[u8]) -> bool
+    ensures { result ≡ ends_in_return line.now }
+{
+    match line.last() {
+        Some(byte) => *byte == b'\r',
+        None => false,
     }
 }
 
