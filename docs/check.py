@@ -15,7 +15,7 @@ import sys
 
 TOP = os.path.dirname(os.path.dirname(os.path.realpath(__file__)))
 # Lines of the front page, and words of a sentence there.
-MOST_LINES, MOST_WORDS = 155, 30
+MOST_LINES, MOST_WORDS = 160, 30
 # Columns of a definition or a proof.
 MOST_COLUMNS = 140
 SPAN = re.compile(r"`([^`]+)`")
@@ -91,7 +91,7 @@ class Crate:
 
 TREE = {name: Crate(name) for name in CRATES}
 TESTS = set().union(*(it.tests for it in TREE.values()))
-SCRIPTS = [it for it in FILES if re.search(r"\.(py|sh|toml|edit|c|cpp|hpp|h|rs)$|^gate$|^nms_(tool|review|lib)$|^bench/latency$|^build/|^crates\.txt$|Cargo|peer/", it)]
+SCRIPTS = [it for it in FILES if re.search(r"\.(py|sh|toml|edit|c|cpp|hpp|h|rs)$|^gate$|^nms_(tool|review|serve|lib)$|^bench/latency$|^build/|^crates\.txt$|Cargo|peer/", it)]
 TITLES = "\n".join(re.findall(r"^(?:==|--) .*", "\n".join(read(it) for it in sorted(FILES) if it.endswith(".cases")), re.M))
 WORDS = set().union(*(it.words for it in TREE.values()), re.findall(r"\w+", TITLES),
                     *(re.findall(r"\w+", read(it)) for it in SCRIPTS if it != "docs/check.py"))

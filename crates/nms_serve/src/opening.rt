@@ -128,8 +128,7 @@ fn open_empty(host: &HostRuntime, path: &str, stream: Stream) -> Result<File, Pr
 
 /// Whether the feeds are those of the setup: each one of them, and no other. No two are the same.
 fn are_all_feeds(setup: &Setup, feeds: &[FeedPath]) -> bool {
-    feeds.len() == usize::from(setup.feeds())
-        && feeds.iter().all(|feed| feed.place < setup.feeds())
+    feeds.len() == usize::from(setup.feeds()) && feeds.iter().all(|feed| feed.place < setup.feeds())
 }
 
 /// A door for each feed of the setup, in order.

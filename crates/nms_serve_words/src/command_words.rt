@@ -141,10 +141,8 @@ fn has_path_twice(clients: &[ClientPaths], tape: &str) -> bool {
 
 /// Whether a client before the place has the client's input or output.
 fn is_given_before(clients: &[ClientPaths], place: usize, client: &ClientPaths) -> bool {
-    clients
-        .iter()
-        .take(place)
-        .any(|other| other.input == client.input || other.output == client.output)
+    clients.iter().take(place).any(|other| other.input == client.input
+        || other.output == client.output)
 }
 
 /// Appends an item.

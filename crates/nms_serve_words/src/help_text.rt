@@ -7,7 +7,8 @@ pub(crate) const ABOUT: &str =
     "Serves the quote board: reads feeds as they come, and answers requests as they come";
 
 /// The end of the help.
-pub(crate) const AFTER_HELP: &str = "A path may be a FIFO: it is read, or written, as its other end comes and goes.
+pub(crate) const AFTER_HELP: &str =
+    "A path may be a FIFO: it is read, or written, as its other end comes and goes.
 Without --client, requests come from standard input and answers go to standard
 output. Beside the tape's file, FILE.published has its length at each publishing.
 

@@ -11,12 +11,11 @@ use crate::stream::Stream;
 use nms_answers::{RequestCounts, answer_stream};
 use nms_versions::Desk;
 use std::fs::File;
-use std::io;
 use std::io::{Read, Write};
 use std::os::fd::AsRawFd;
 use std::sync::Wait;
-use std::thread;
 use std::thread::Threads;
+use std::{io, thread};
 
 /// Where a client's requests come from and its answers go to.
 #[derive(Drop)]
@@ -92,16 +91,16 @@ fn open_both<R: Threads + Wait + Sync>(
     thread::join(
         means.rt,
         || opened(run, input.open_to_read(host, run), Stream::Requests(number)),
-        || opened(run, output.open_to_write(host, run), Stream::Answers(number)),
+        || opened(
+            run,
+            output.open_to_write(host, run),
+            Stream::Answers(number),
+        ),
     )
 }
 
 /// A stream that was opened, or the fault that ends the run.
-fn opened(
-    run: &Run<'_>,
-    outcome: io::Result<File>,
-    stream: Stream,
-) -> Result<File, ServeFault> {
+fn opened(run: &Run<'_>, outcome: io::Result<File>, stream: Stream) -> Result<File, ServeFault> {
     match outcome {
         Ok(file) => Ok(file),
         Err(_) => {

@@ -32,12 +32,7 @@ impl<'a> Door<'a> {
     }
 
     /// Opens the path, unless a fault has ended the run.
-    fn open(
-        &self,
-        files: &HostRuntime,
-        run: &Run<'_>,
-        how: &OpenOptions,
-    ) -> io::Result<File> {
+    fn open(&self, files: &HostRuntime, run: &Run<'_>, how: &OpenOptions) -> io::Result<File> {
         // The flag is set before the run is looked at: so either the thread sees that the run has ended, or the one that
         // ended it sees that the thread waits here.
         self.is_opening.store(true, Ordering::SeqCst);

@@ -1,33 +1,37 @@
 //! The taker's side of the board: each batch of changes is on the tape's file before it is published.
-ghost use Rattle.std.specs.Prelude.{◌≡◌, ◌++◌, ◌∷◌, [], OnOk, OnErr};
+ghost use Rattle.std.specs.Prelude.{◌≡◌, ◌++◌, ◌∷◌, [], drop, length, OnErr, OnOk};
+ghost use Rattle.std.specs.Io.KnownBytes.{Appends};
+ghost use Rattle.nms_change_text.specs.ChangeText.{changes_text};
+ghost use Rattle.nms_versions.specs.Published.{changes, committed};
+ghost use Rattle.nms_versions.specs.Taped.{tape_of};
 
 use crate::MOST_BATCH;
 use crate::serve_fault::ServeFault;
 use crate::stream::Stream;
 use itoa::Buffer;
-use nms_change_text::append_change;
+use nms_change_text::append_changes;
 use nms_lines::write_text;
 use nms_quote::{Change, Roster};
 use nms_versions::{AppendFault, Publisher};
 use std::alloc::Global;
+use std::io;
 use std::io::Write;
 use std::sync::Wait;
 
 /// Takes changes in, writes each batch to the tape's file and then publishes it. It is not `Drop`: end it by `end`.
-pub struct Keeper<'a, X, Y> {
+pub struct Keeper<'a, X: Write, Y: Write> {
     roster: &'a Roster,
     publisher: Publisher,
     /// The file of the tape.
     tape: X,
     /// The file of the lengths that were published.
     lengths: Y,
-    /// The text of the changes that were taken in since the last publishing.
+    /// Room for the text of a batch.
     text: Vec<u8>,
-    /// How many changes those are.
-    waiting: u64,
-    /// How many changes were taken in, and how often they were published.
-    changes: u64,
+    /// How many changes were published.
+    published: u64,
     publishings: u64,
+    ghost counted: { published ≡ length (changes publisher.published) },
 }
 
 impl<'a, X: Write, Y: Write> Keeper<'a, X, Y> {
@@ -39,21 +43,22 @@ impl<'a, X: Write, Y: Write> Keeper<'a, X, Y> {
         tape: X,
         lengths: Y,
     ) -> Self {
+        let mut publisher = publisher;
+        let published = publisher.receipt().version();
         Keeper {
             roster,
             publisher,
             tape,
             lengths,
             text: Vec::new(alloc),
-            waiting: 0,
-            changes: 0,
+            published,
             publishings: 0,
         }
     }
 
     /// How many changes were taken in.
     pub fn changes(&self) -> u64 {
-        self.changes
+        self.publisher.tape().len() as u64
     }
 
     /// How often changes were published.
@@ -61,60 +66,72 @@ impl<'a, X: Write, Y: Write> Keeper<'a, X, Y> {
         self.publishings
     }
 
-    /// Whether a change waits to be published.
-    pub(crate) fn has_waiting(&self) -> bool {
-        self.waiting > 0
+    /// How many changes wait to be published.
+    pub(crate) fn waiting(&self) -> u64 {
+        self.changes().saturating_sub(self.published)
     }
 
     /// Takes a change in, and publishes after each 64.
     pub(crate) fn take_in<R: Wait>(&mut self, rt: &R, change: &Change) -> Result<(), ServeFault> {
-        self.append(change)?;
-        if self.waiting >= MOST_BATCH {
-            self.publish(rt)?;
+        match self.append(change) {
+            Ok(()) => {}
+            Err(fault) => return Err(fault),
         }
-        Ok(())
+        if self.waiting() < MOST_BATCH {
+            return Ok(());
+        }
+        self.publish(rt)
     }
 
-    /// Appends a change to the tape, and its record to the text of the batch.
-    fn append(&mut self, change: &Change) -> Result<(), ServeFault> {
+    /// Appends a change to the tape.
+    fn append(&mut self, change: &Change) -> Result<(), ServeFault>
+        ensures added { OnOk result (self.new.publisher ≡ record self.old.publisher { pending = self.old.publisher.pending ++ change.now ∷ [] }) }
+        ensures unchanged { OnErr result (self.new.publisher ≡ self.old.publisher) }
+    {
         if !self.publisher.holds(change) {
             return Err(ServeFault::TapeFull);
         }
-        let begun = self.text.len();
-        if append_change(&mut self.text, self.roster, change).is_err() {
-            return Err(ServeFault::NoMemory);
-        }
         match self.publisher.append(*change) {
-            Ok(()) => {
-                self.waiting = self.waiting.saturating_add(1);
-                self.changes = self.changes.saturating_add(1);
-                Ok(())
-            }
-            Err(fault) => {
-                self.text.truncate(begun);
-                match fault {
-                    AppendFault::NoMemory => Err(ServeFault::NoMemory),
-                    AppendFault::TapeFull => Err(ServeFault::TapeFull),
-                }
-            }
+            Ok(()) => Ok(()),
+            Err(AppendFault::NoMemory) => Err(ServeFault::NoMemory),
+            Err(AppendFault::TapeFull) => Err(ServeFault::TapeFull),
         }
     }
 
-    /// Writes the batch to the tape's file, and its length beside it, and publishes it.
-    pub(crate) fn publish<R: Wait>(&mut self, rt: &R) -> Result<(), ServeFault> {
-        if self.waiting == 0 {
-            return Ok(());
+    /// Writes what is waiting to the tape's file, and the tape's length to the file beside it, and then publishes it. If
+    /// either can't be written, nothing is published.
+    pub(crate) fn publish<R: Wait>(&mut self, rt: &R) -> Result<(), ServeFault>
+        ensures recorded { OnOk result (Appends (X.contents self.old.tape) (X.contents self.new.tape) (changes_text self.old.roster.now (drop self.old.published (tape_of self.old.publisher)))) }
+        ensures published { OnOk result (changes self.new.publisher.published ≡ tape_of self.old.publisher) }
+        ensures unpublished { OnErr result (self.new.publisher ≡ self.old.publisher) }
+    {
+        match self.record() {
+            Ok(()) => {}
+            Err(fault) => return Err(fault),
+        }
+        self.publisher.publish(rt);
+        self.published = self.publisher.receipt().version();
+        self.publishings = self.publishings.saturating_add(1);
+        Ok(())
+    }
+
+    /// Writes what is waiting to the tape's file, and the tape's length to the file beside it.
+    fn record(&mut self) -> Result<(), ServeFault>
+        ensures same { self.new.publisher ≡ self.old.publisher }
+        ensures recorded { OnOk result (Appends (X.contents self.old.tape) (X.contents self.new.tape) (changes_text self.old.roster.now (drop self.old.published (tape_of self.old.publisher)))) }
+    {
+        let tape = self.publisher.tape();
+        let batch = batch_of(tape, self.published);
+        self.text.clear();
+        if append_changes(&mut self.text, self.roster, batch).is_err() {
+            return Err(ServeFault::NoMemory);
         }
         if write_text(&mut self.tape, &self.text).is_err() {
             return Err(ServeFault::NotWritten(Stream::Tape));
         }
-        if write_length(&mut self.lengths, self.publisher.tape().len() as u64).is_err() {
+        if write_length(&mut self.lengths, tape.len() as u64).is_err() {
             return Err(ServeFault::NotWritten(Stream::Lengths));
         }
-        self.publisher.publish(rt);
-        self.text.clear();
-        self.waiting = 0;
-        self.publishings = self.publishings.saturating_add(1);
         Ok(())
     }
 
@@ -130,16 +147,23 @@ impl<'a, X: Write, Y: Write> Keeper<'a, X, Y> {
             tape: _tape,
             lengths: _lengths,
             text: _text,
-            waiting: _,
-            changes: _,
+            published: _,
             publishings: _,
         } = self;
         let _changes = publisher.close(rt);
     }
 }
 
+/// The changes of a tape after the first so many.
+fn batch_of(tape: &[Change], published: u64) -> &[Change]
+    ensures { result.now ≡ drop published tape.now }
+{
+    let from = tape.len().min(published as usize);
+    &tape[from..]
+}
+
 /// Writes a length, and the end of its line.
-fn write_length<Y: Write>(lengths: &mut Y, length: u64) -> std::io::Result<()> {
+fn write_length<Y: Write>(lengths: &mut Y, length: u64) -> io::Result<()> {
     let mut line = [b'\n'; 24];
     let mut digits = Buffer::new();
     let text = digits.format(length).as_bytes();

@@ -52,15 +52,12 @@ impl ServeFault {
         }
     }
 
-    /// The exit status of a program that it ends: 1 for a stream, 5 for memory, 6 for a record, 7 for the board.
+    /// The exit status of a program that it ends: 1 for a stream, 5 for memory, 6 for records, 7 for the board.
     pub fn status(self) -> u8 {
         match self {
-            ServeFault::NotOpened(_)
-            | ServeFault::NotRead(_)
-            | ServeFault::NotWritten(_)
-            | ServeFault::TooLong(_) => 1,
+            ServeFault::NotOpened(_) | ServeFault::NotRead(_) | ServeFault::NotWritten(_) => 1,
             ServeFault::NoMemory => 5,
-            ServeFault::Refused { .. } => 6,
+            ServeFault::TooLong(_) | ServeFault::Refused { .. } => 6,
             ServeFault::NotBegun | ServeFault::TapeFull | ServeFault::NoReading(_) => 7,
         }
     }

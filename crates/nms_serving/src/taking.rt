@@ -67,7 +67,7 @@ fn take_one<R: Wait, X: Write, Y: Write>(
 
 /// Publishes what is waiting, unless a fault has ended the run.
 fn publish<R: Wait, X: Write, Y: Write>(means: &Means<'_, R>, keeper: &mut Keeper<'_, X, Y>) {
-    if means.run.is_stopped() || !keeper.has_waiting() {
+    if means.run.is_stopped() || keeper.waiting() == 0 {
         return;
     }
     match keeper.publish(means.rt) {
