@@ -74,7 +74,7 @@ class Crate:
 
 
 TREE = {name: Crate(name) for name in CRATES}
-SCRIPTS = [it for it in FILES if re.search(r"\.(py|sh|toml|edit|c|cpp|hpp|h|rs)$|^gate$|^nms_(tool|review|lib)$|^bench/latency$|^build/|^crates\.txt$|Cargo|peer/", it)]
+SCRIPTS = [it for it in FILES if re.search(r"\.(py|sh|toml|edit|c|cpp|hpp|h|rs)$|^gate$|^nms_(tool|review|serve|lib)$|^bench/latency$|^build/|^crates\.txt$|Cargo|peer/", it)]
 TITLES = "\n".join(re.findall(r"^(?:==|--) .*", "\n".join(read(it) for it in sorted(FILES) if it.endswith(".cases")), re.M))
 WORDS = set().union(*(it.words for it in TREE.values()), re.findall(r"\w+", TITLES),
                     *(re.findall(r"\w+", read(it)) for it in SCRIPTS if it != "docs/check.py"))

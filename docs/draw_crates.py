@@ -14,7 +14,7 @@ import sys
 TOP = os.path.dirname(os.path.dirname(os.path.realpath(__file__)))
 FILE = os.path.join(TOP, "docs", "crates.svg")
 # The groups: the programs that each stands below, its colour and its name. The product stands under the others, which use it.
-GROUPS = ((("nms_tool", "nms_c", "nms_engine"), "#dbe9f6", "the product: nms_tool, and nms_c for other languages"),
+GROUPS = ((("nms_tool", "nms_serve", "nms_c", "nms_engine"), "#dbe9f6", "the product: nms_tool, nms_serve, and nms_c for other languages"),
           (("nms_review",), "#e3f1dc", "the reviewer's program"),
           (("nms_examples", "nms_bench", "nms_tests"), "#f3e6d8", "the gate"))
 WIDE, HIGH, GAP, RISE, EDGE = 134, 24, 8, 76, 20

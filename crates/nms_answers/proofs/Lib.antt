@@ -1,0 +1,4 @@
+mod AnswerFacts
+mod KnownFacts
+mod ProgressFacts
+mod RequestFacts

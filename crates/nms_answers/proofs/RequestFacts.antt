@@ -1,0 +1,110 @@
+-- What a request says, and what is answered to it.
+use Rattle.std.proofs.Common.{ℕ, ◌≡◌, ◌++◌, Bool, cond, true, false, List, [], ◌∷◌, Option, Some, None, Result, Ok, Err, refl, ap, sym, subst, ◌∙◌}
+use Rattle.std.specs.Option.{ok_or}
+use Rattle.std.specs.Prelude.{length, not}
+use Rattle.nms_quote.specs.Roster.{Listing}
+use Rattle.nms_fees.specs.Settings.{Settings}
+use Rattle.nms_lines.specs.Faults as line_faults
+use Rattle.nms_lines.specs.Faults.{◌>>=◌, refuse_if}
+use Rattle.nms_lines.specs.Fields.{desk_below, flag_in, price_in, self_help_in, shares_in, side_in, symbol_in}
+use Rattle.nms_lines.specs.Layout.{Record, field, is_count, kind_named}
+use Rattle.nms_lines.specs.Lines.{best_reading, kind_reading, reading, sweep_reading, through_reading}
+use Rattle.nms_lines.specs.Sources.{brought, desks_of}
+use Rattle.nms_lines.specs.Text.{text_of}
+use Rattle.nms_lines.specs.declared.line.Kind.{Kind}
+use Rattle.nms_lines.specs.declared.line.Kind.TheVariants as kind
+use Rattle.nms_lines.specs.declared.line.Line.{Line}
+use Rattle.nms_lines.specs.declared.line.Line.TheVariants as line
+use Rattle.nms_lines.specs.declared.line.Reading.{Reading}
+use Rattle.nms_lines.specs.declared.line.Reading.TheVariants as source
+use Rattle.nms_lines.specs.declared.line_fault.LineFault.{LineFault}
+use Rattle.nms_lines.specs.declared.line_fault.LineFault.TheVariants as fault
+use Rattle.nms_scripts.specs.Script.{script_reading}
+use Rattle.nms_text.specs.Answers.{refusal}
+use Rattle.nms_versions.specs.Taped.{Knowing}
+use Rattle.nms_answers.specs.Requests.{Answered, AnswersLine, is_asked, is_look, request_reading}
+use Rattle.nms_answers.specs.Told.{AppendsOn}
+
+-- ---- a request that was read asks for a look
+
+bound : {A B : Type 0} (read : Result A LineFault) (then : A → Result B LineFault) (x : B) → (read >>= then) ≡ Ok x
+    → (a : A) × (read ≡ Ok a) × (then a ≡ Ok x)
+bound (Ok a) then x is = (a, refl, is)
+bound (Err why) then x is = absurd (cc)
+
+looks_like : (one other : Line) → (let r : Result Line LineFault = Ok one in r) ≡ Ok other → is_look one ≡ true → is_look other ≡ true
+looks_like one other same look = let is : one ≡ other = cc in subst (λ (l : Line). is_look l ≡ true) is look
+
+best_looks : (roster : Listing) (from : Reading) (fields : Record) (said : Line) → best_reading roster from fields ≡ Ok said → is_look said ≡ true
+best_looks roster from fields said is =
+    let symbol = bound (symbol_in roster (field fields 2)) _ said is in
+    let desk = bound (desk_below (desks_of from) (field fields 1)) _ said symbol.2 in
+    looks_like _ said desk.2 refl
+
+through_looks : (roster : Listing) (from : Reading) (fields : Record) (said : Line) → through_reading roster from fields ≡ Ok said
+    → is_look said ≡ true
+through_looks roster from fields said is =
+    let symbol = bound (symbol_in roster (field fields 2)) _ said is in
+    let price = bound (price_in (field fields 3)) _ said symbol.2 in
+    let desk = bound (desk_below (desks_of from) (field fields 1)) _ said price.2 in
+    looks_like _ said desk.2 refl
+
+sweep_looks : (roster : Listing) (from : Reading) (fields : Record) (said : Line) → sweep_reading roster from fields ≡ Ok said → is_look said ≡ true
+sweep_looks roster from fields said is =
+    let self_help = bound (self_help_in roster fields) _ said is in
+    let symbol = bound (symbol_in roster (field fields 3)) _ said self_help.2 in
+    let side = bound (side_in (field fields 2)) _ said symbol.2 in
+    let manual = bound (flag_in fields) _ said side.2 in
+    let limit = bound (price_in (field fields 5)) _ said manual.2 in
+    let shares = bound (shares_in (field fields 4)) _ said limit.2 in
+    let desk = bound (desk_below (desks_of from) (field fields 1)) _ said shares.2 in
+    looks_like _ said desk.2 refl
+
+kind_looks : (roster : Listing) (from : Reading) (fields : Record) (k : Kind) (said : Line) → is_asked (Some k) ≡ true
+    → kind_reading roster from fields k ≡ Ok said → is_look said ≡ true
+kind_looks roster from fields kind.Quote said asked is = absurd (cc)
+kind_looks roster from fields kind.State said asked is = absurd (cc)
+kind_looks roster from fields kind.Withdraw said asked is = absurd (cc)
+kind_looks roster from fields kind.Lot said asked is = absurd (cc)
+kind_looks roster from fields kind.TakeOne said asked is = absurd (cc)
+kind_looks roster from fields kind.TakeAll said asked is = absurd (cc)
+kind_looks roster from fields kind.Publish said asked is = absurd (cc)
+kind_looks roster from fields kind.Tell said asked is = absurd (cc)
+kind_looks roster from fields kind.Best said asked is = best_looks roster from fields said is
+kind_looks roster from fields kind.Through said asked is = through_looks roster from fields said is
+kind_looks roster from fields kind.Sweep said asked is = sweep_looks roster from fields said is
+
+named_looks : (settings : Settings) (fields : Record) (named : Option Kind) (said : Line) → is_asked named ≡ true
+    → (ok_or (brought (source.Script settings.desks) named) fault.UnknownKind >>= (λ k.
+    refuse_if (not (is_count k (length fields))) fault.FieldCount >>= (λ counted.
+    kind_reading settings.roster (source.Script settings.desks) fields k))) ≡ Ok said
+    → is_look said ≡ true
+named_looks settings fields None said asked is = absurd (cc)
+named_looks settings fields (Some k) said asked is =
+    let counted = bound (refuse_if (not (is_count k (length fields))) fault.FieldCount) _ said is in
+    kind_looks settings.roster (source.Script settings.desks) fields k said asked counted.2
+
+pub request_looks : (settings : Settings) (fields : Record) (said : Line) → request_reading settings fields ≡ Ok said → is_look said ≡ true
+request_looks settings fields said is = by (is_asked (kind_named (field fields 0))) refl is
+  where
+    by : (asked : Bool) → is_asked (kind_named (field fields 0)) ≡ asked
+        → cond asked (script_reading settings fields) (Err fault.UnknownKind) ≡ Ok said → is_look said ≡ true
+    by true asked read = named_looks settings fields (kind_named (field fields 0)) said asked read
+    by false asked read = absurd (cc)
+
+-- ---- the answer
+
+-- a line was answered on one version
+pub answered_line : (settings : Settings) (number : ℕ) (fields : Record) (said : Line) (old new : Knowing) (before after : List ℕ)
+    → request_reading settings fields ≡ Ok said → AppendsOn (AnswersLine settings said) old new before after
+    → Answered settings number fields old new before after false
+answered_line settings number fields said old new before after is told =
+    (Some told.0, told.1, told.2, rw is told.3, told.4, refl)
+
+-- a request was refused
+pub answered_refused : (settings : Settings) (number : ℕ) (fields : Record) (why : LineFault) (old new : Knowing) (before after : List ℕ)
+    → request_reading settings fields ≡ Err why → new ≡ old
+    → after ≡ before ++ text_of (refusal number (line_faults.code_of why) ∷ [])
+    → Answered settings number fields old new before after true
+answered_refused settings number fields why old new before after is same text =
+    (None, refusal number (line_faults.code_of why) ∷ [], same, rw is refl, text, refl)

@@ -1,0 +1,8 @@
+pub use Rattle.nms_scripts.specs.Script as Script
+pub use Rattle.nms_versions.specs.Taped as Taped
+pub use Rattle.nms_whole.specs.Lines as WholeLines
+pub mod Faults
+pub mod Progress
+pub mod Requests
+pub mod Streams
+pub mod Told

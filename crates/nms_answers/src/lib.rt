@@ -1,0 +1,17 @@
+//! A client's requests, answered on what its desk sees: each answer is the script's, on one published version.
+#![tactic(auto)]
+
+mod answer_fault;
+mod answering;
+mod request;
+mod request_counts;
+mod request_stream;
+
+/// The most requests of a client's stream: 2^40. This product's own rule.
+pub const MOST_REQUESTS: u64 = 1 << 40;
+
+pub use answer_fault::AnswerFault;
+pub use answering::{answer_best, answer_order, answer_through};
+pub use request::answer_request;
+pub use request_counts::RequestCounts;
+pub use request_stream::answer_stream;

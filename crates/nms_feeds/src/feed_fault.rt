@@ -1,0 +1,42 @@
+//! Why a feed's stream was not read to its end.
+ghost use Rattle.std.specs.Prelude.{◌≡◌};
+ghost use Rattle.nms_feeds.specs.Streams.{code_of};
+
+use nms_lines::LineFault;
+use thiserror::Error;
+
+/// Why a feed's stream was not read to its end. What was sent before stands, and the stream gives nothing any more.
+#[derive(Clone, Copy, Debug, PartialEq, Eq, Error)]
+pub enum FeedFault {
+    /// E1: the stream could not be read.
+    #[error("E1: the feed could not be read")]
+    Failed,
+    /// E3: the feed has more than 2^40 records.
+    #[error("E3: the feed is too long")]
+    TooLong,
+    /// E4: out of memory.
+    #[error("E4: out of memory")]
+    NoMemory,
+    /// E5: a record was refused, and the caller asked to stop at the first one.
+    #[error("E5: {fault}")]
+    Refused {
+        /// The record's number in its feed, from 1.
+        number: u64,
+        /// Its fault.
+        fault: LineFault,
+    },
+}
+
+impl FeedFault {
+    /// The code of the fault, `E1`, `E3`, `E4` or `E5`.
+    pub fn code(self) -> &'static str
+        ensures { result.now ≡ code_of self }
+    {
+        match self {
+            FeedFault::Failed => "E1",
+            FeedFault::TooLong => "E3",
+            FeedFault::NoMemory => "E4",
+            FeedFault::Refused { .. } => "E5",
+        }
+    }
+}

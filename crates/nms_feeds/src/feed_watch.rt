@@ -1,0 +1,12 @@
+//! Who is told of what a feed does.
+use nms_lines::LineFault;
+use nms_quote::Feed;
+
+/// Who is told of what a feed does, while it is read. The threads of all feeds use it at once.
+pub trait FeedWatch: Sync {
+    /// A change of the feed was sent.
+    fn sent(&self, feed: Feed);
+
+    /// The record of this number of the feed, from 1, was refused and passed over.
+    fn refused(&self, feed: Feed, number: u64, fault: LineFault);
+}

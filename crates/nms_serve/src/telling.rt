@@ -1,0 +1,47 @@
+//! What the program reports of itself.
+use crate::program_fault::ProgramFault;
+use nms_serve_words::WordsFault;
+use nms_serving::{ClientEnd, FeedEnd, letter_of};
+use std::io;
+use std::io::Write;
+
+/// Reports a fault on standard error, and gives its exit status. What standard error does not take changes no status.
+pub(crate) fn tell_fault(host: &HostRuntime, fault: &ProgramFault) -> u8 {
+    let _ = match fault {
+        ProgramFault::Words(WordsFault::Parser { text, .. }) => eprint!(host; "{text}"),
+        _ => eprintln!(host; "nms_serve: {fault}"),
+    };
+    fault.status()
+}
+
+/// Writes the help, or the version, to standard output.
+pub(crate) fn tell_help(host: &HostRuntime, help: &str) -> u8 {
+    match io::writer(host).write_all(help.as_bytes()) {
+        Ok(()) => 0,
+        Err(_) => 1,
+    }
+}
+
+/// Reports what a feed came to.
+pub(crate) fn tell_feed(host: &HostRuntime, end: &FeedEnd) {
+    let (records, refused) = (end.counts.records, end.counts.refused);
+    let letter = letter_of(end.feed);
+    let _ = eprintln!(host; "nms_serve: feed {letter}: {records} records, {refused} refused");
+}
+
+/// Reports what a client came to.
+pub(crate) fn tell_client(host: &HostRuntime, end: &ClientEnd) {
+    let number = end.number;
+    let _ = match end.counts {
+        Some(counts) => {
+            let (requests, refused) = (counts.requests, counts.refused);
+            eprintln!(host; "nms_serve: client {number}: {requests} requests, {refused} refused")
+        }
+        None => eprintln!(host; "nms_serve: client {number}: not served to its end"),
+    };
+}
+
+/// Reports what the tape came to.
+pub(crate) fn tell_tape(host: &HostRuntime, changes: u64, publishings: u64) {
+    let _ = eprintln!(host; "nms_serve: {changes} changes, published {publishings} times");
+}

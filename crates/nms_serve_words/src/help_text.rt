@@ -1,0 +1,29 @@
+//! What the help says before and after the options.
+
+/// The version that `--version` prints.
+pub(crate) const VERSION: &str = "0.1.0";
+
+pub(crate) const ABOUT: &str =
+    "Serves the quote board: reads feeds as they come, and answers requests as they come";
+
+/// The end of the help.
+pub(crate) const AFTER_HELP: &str =
+    "A path may be a FIFO: it is read, or written, as its other end comes and goes.
+Without --client, requests come from standard input and answers go to standard
+output. Beside the tape's file, FILE.published has its length at each publishing.
+
+Requests, one a line, as in scripts:
+  N,DESK,SYM                                 the best bid and offer
+  E,DESK,SYM,PRICE                           what a trade at the price trades through
+  O,DESK,SIDE,SYM,SHARES,LIMIT[,FLAG[,NAMES]]  an order: its plan and certificate
+
+Exit statuses:
+  0  all streams ended, and no record was refused
+  1  a stream could not be opened, read or written
+  2  the words were refused
+  3  the setup was refused
+  5  out of memory
+  6  all streams ended, and a record was refused
+  7  a board could not begin, or its tape was full
+
+docs/SERVING.md of the repository says how to run it, and docs/ERRORS.md what each code means.";

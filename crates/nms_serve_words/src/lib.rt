@@ -1,0 +1,12 @@
+//! The words of the serving program's command line: what they ask for, or why they are refused.
+#![tactic(auto)]
+
+mod command_line;
+mod command_words;
+mod help_text;
+mod request;
+mod words_fault;
+
+pub use command_words::read_words;
+pub use request::{ClientPaths, FeedPath, Request};
+pub use words_fault::WordsFault;

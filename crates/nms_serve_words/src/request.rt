@@ -1,0 +1,35 @@
+//! What the words of the command line ask for.
+
+/// What the words of the command line ask for.
+#[derive(Drop)]
+pub struct Request {
+    /// The file that `--setup` names.
+    pub setup: Option<String>,
+    /// The feeds with their paths, as they were given: each letter at most once.
+    pub feeds: Vec<FeedPath>,
+    /// The clients with their paths, as they were given; none for standard input and output. No path is given to two
+    /// clients.
+    pub clients: Vec<ClientPaths>,
+    /// The file that `--tape` names.
+    pub tape: String,
+    /// Whether a refused record of a feed ends the run.
+    pub strict: bool,
+}
+
+/// A feed's stream.
+#[derive(Drop)]
+pub struct FeedPath {
+    /// The feed's place: 0 for `A` to 7 for `H`.
+    pub place: u8,
+    /// The path that the feed is read from.
+    pub path: String,
+}
+
+/// A client's streams.
+#[derive(Drop)]
+pub struct ClientPaths {
+    /// The path that requests are read from.
+    pub input: String,
+    /// The path that answers are written to.
+    pub output: String,
+}

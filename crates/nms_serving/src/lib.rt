@@ -1,0 +1,31 @@
+//! The board that runs: feeds and requests are read as they come, each in a thread of its own, and every batch of changes
+//! is on the tape's file before it is published.
+#![tactic(auto)]
+
+mod client;
+mod door;
+mod feeding;
+mod keeper;
+mod polled;
+mod report;
+mod run;
+mod serve_fault;
+mod serving;
+mod stream;
+mod taking;
+mod watcher;
+
+/// The most changes of a batch: the taker publishes after so many, or when none is waiting. This product's own rule.
+pub const MOST_BATCH: u64 = 64;
+
+pub use client::{ClientEnd, ClientStreams};
+pub use door::Door;
+pub use feeding::FeedEnd;
+pub use keeper::Keeper;
+pub use polled::Polled;
+pub use report::Refused;
+pub use run::Run;
+pub use serve_fault::ServeFault;
+pub use serving::{Ends, Means, Served, serve};
+pub use stream::{Stream, letter_of};
+pub use taking::Doors;

@@ -1,0 +1,110 @@
+//! Why a run ended early.
+use crate::stream::{Stream, letter_of};
+use nms_answers::AnswerFault;
+use nms_feeds::FeedFault;
+use nms_lines::LineFault;
+use nms_quote::Feed;
+use std::fmt;
+
+/// Why a run ended early. All its threads have ended. What stands on the tape's file is whole batches, in order; only the
+/// last write to a stream that fails may have left a first part.
+#[derive(Clone, Copy, Debug, PartialEq, Eq)]
+pub enum ServeFault {
+    /// E1: a stream could not be opened.
+    NotOpened(Stream),
+    /// E1: a stream could not be read.
+    NotRead(Stream),
+    /// E2: a stream could not be written: its disk was full, or its reader had left.
+    NotWritten(Stream),
+    /// E3: a stream has more than 2^40 records.
+    TooLong(Stream),
+    /// E4: out of memory.
+    NoMemory,
+    /// E5: a record of a feed was refused, and that was to end the run.
+    Refused {
+        /// The feed.
+        feed: Feed,
+        /// The record's number in its feed, from 1.
+        number: u64,
+        /// Its fault.
+        fault: LineFault,
+    },
+    /// E6: no board was opened, or a thread could not be started.
+    NotBegun,
+    /// E7: a change came when the tape had as many as it may.
+    TapeFull,
+    /// E8: a client's look gave no reading. Clients are counted from 1.
+    NoReading(u8),
+}
+
+impl ServeFault {
+    /// The code of the fault, `E1` to `E8`.
+    pub fn code(self) -> &'static str {
+        match self {
+            ServeFault::NotOpened(_) | ServeFault::NotRead(_) => "E1",
+            ServeFault::NotWritten(_) => "E2",
+            ServeFault::TooLong(_) => "E3",
+            ServeFault::NoMemory => "E4",
+            ServeFault::Refused { .. } => "E5",
+            ServeFault::NotBegun => "E6",
+            ServeFault::TapeFull => "E7",
+            ServeFault::NoReading(_) => "E8",
+        }
+    }
+
+    /// The exit status of a program that it ends: 1 for a stream, 5 for memory, 6 for records, 7 for the board.
+    pub fn status(self) -> u8 {
+        match self {
+            ServeFault::NotOpened(_) | ServeFault::NotRead(_) | ServeFault::NotWritten(_) => 1,
+            ServeFault::NoMemory => 5,
+            ServeFault::TooLong(_) | ServeFault::Refused { .. } => 6,
+            ServeFault::NotBegun | ServeFault::TapeFull | ServeFault::NoReading(_) => 7,
+        }
+    }
+
+    /// The fault of a feed that was not read to its end.
+    pub(crate) fn of_feed(feed: Feed, fault: FeedFault) -> Self {
+        match fault {
+            FeedFault::Failed => ServeFault::NotRead(Stream::Feed(feed)),
+            FeedFault::TooLong => ServeFault::TooLong(Stream::Feed(feed)),
+            FeedFault::NoMemory => ServeFault::NoMemory,
+            FeedFault::Refused { number, fault } => ServeFault::Refused {
+                feed,
+                number,
+                fault,
+            },
+        }
+    }
+
+    /// The fault of a client that was not served to its end.
+    pub(crate) fn of_client(client: u8, fault: AnswerFault) -> Self {
+        match fault {
+            AnswerFault::ReadFault => ServeFault::NotRead(Stream::Requests(client)),
+            AnswerFault::WriteFault => ServeFault::NotWritten(Stream::Answers(client)),
+            AnswerFault::TooLong => ServeFault::TooLong(Stream::Requests(client)),
+            AnswerFault::NoMemory => ServeFault::NoMemory,
+            AnswerFault::NoReading => ServeFault::NoReading(client),
+        }
+    }
+}
+
+impl fmt::Display for ServeFault {
+    fn fmt<W: fmt::Write>(&self, f: &mut fmt::Formatter<W>) -> fmt::Result {
+        f.write_str(self.code())?;
+        match self {
+            ServeFault::NotOpened(stream) => write!(f, ": {stream} could not be opened"),
+            ServeFault::NotRead(stream) => write!(f, ": {stream} could not be read"),
+            ServeFault::NotWritten(stream) => write!(f, ": {stream} could not be written"),
+            ServeFault::TooLong(stream) => write!(f, ": {stream} has too many records"),
+            ServeFault::NoMemory => f.write_str(": out of memory"),
+            ServeFault::Refused {
+                feed,
+                number,
+                fault,
+            } => write!(f, ": {}:{number}: {}", letter_of(*feed), fault.code()),
+            ServeFault::NotBegun => f.write_str(": the board could not begin"),
+            ServeFault::TapeFull => f.write_str(": the tape is full"),
+            ServeFault::NoReading(client) => write!(f, ": client {client} had no reading"),
+        }
+    }
+}

@@ -1,0 +1,44 @@
+//! The streams of a run, as faults name them.
+use nms_quote::Feed;
+use std::fmt;
+
+/// A stream of a run.
+#[derive(Clone, Copy, Debug, PartialEq, Eq)]
+pub enum Stream {
+    /// The stream of a feed.
+    Feed(Feed),
+    /// The requests of a client. Clients are counted from 1.
+    Requests(u8),
+    /// The answers to a client.
+    Answers(u8),
+    /// The file of the tape.
+    Tape,
+    /// The file of the lengths that were published.
+    Lengths,
+}
+
+impl fmt::Display for Stream {
+    fn fmt<W: fmt::Write>(&self, f: &mut fmt::Formatter<W>) -> fmt::Result {
+        match self {
+            Stream::Feed(feed) => write!(f, "feed {}", letter_of(*feed)),
+            Stream::Requests(client) => write!(f, "the requests of client {client}"),
+            Stream::Answers(client) => write!(f, "the answers to client {client}"),
+            Stream::Tape => f.write_str("the tape"),
+            Stream::Lengths => f.write_str("the file of published lengths"),
+        }
+    }
+}
+
+/// The letter of a feed.
+pub fn letter_of(feed: Feed) -> &'static str {
+    match feed {
+        Feed::A => "A",
+        Feed::B => "B",
+        Feed::C => "C",
+        Feed::D => "D",
+        Feed::E => "E",
+        Feed::F => "F",
+        Feed::G => "G",
+        Feed::H => "H",
+    }
+}

@@ -1,0 +1,2 @@
+mod LineFacts
+mod ReadFacts

@@ -1,0 +1,14 @@
+//! Whole lines of a stream, and nothing else: a reader that passes on only lines that ended.
+#![tactic(auto)]
+
+mod held;
+mod whole_lines;
+
+/// The most bytes of a line before its line feed. This product's own rule.
+pub const MOST_LINE: usize = 4_096;
+/// How many bytes are read of a stream at once. This product's own rule.
+const MOST_READ: usize = 4_096;
+/// Room for a line that was begun, for what is read at once, and for what stands for a refused line.
+const ROOM: usize = 8_256;
+
+pub use whole_lines::WholeLines;

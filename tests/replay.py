@@ -1,0 +1,608 @@
+#!/usr/bin/env python3
+"""Tests the serving program on streams, as a part of the gate: runs drawn at random over FIFOs, each replayed as the one
+script that it was; and each way in which a stream fails.
+
+    tests/replay.py PROGRAM TOOL [RUNS [SEED]]          PROGRAM is nms_serve, TOOL is nms_tool
+    tests/replay.py --check TOOL SETUP TAPE IN,OUT ..   replays one run that is over, from its files
+
+A run is right if the tape is a merge of the feeds' accepted records, each answer's version was published, no client's
+versions fall, and the answers are byte for byte what TOOL answers to the script that is built of the tape, the published
+lengths and the requests. Each run that is not is printed with its seed. The last line is `N passed, M failed`.
+"""
+import os
+import random
+import re
+import resource
+import shutil
+import signal
+import subprocess
+import sys
+import tempfile
+import threading
+import time
+import tomllib
+
+# The most bytes of a line, and the most changes of a batch.
+MOST_LINE, MOST_BATCH = 4096, 64
+# Seconds that a run may take.
+MOST = 120
+LETTERS = "ABCDEFGH"
+
+
+class Count:
+    passed = failed = 0
+
+
+def check(what, holds, shown=""):
+    """Counts a test, and prints what differs."""
+    if holds:
+        Count.passed += 1
+    else:
+        Count.failed += 1
+        print(f"DIFFERS: {what}: {shown}"[:1500], flush=True)
+    return holds
+
+
+# ---- the replay
+
+def records(text):
+    """The records of a stream of whole lines: `?` stands for each line that is not passed on."""
+    lines = text.split(b"\n")
+    last = lines.pop()
+    found = []
+    for line in lines:
+        bare = line.removesuffix(b"\r")
+        if len(line) > MOST_LINE or b'"' in line or b"\r" in bare:
+            found.append(b"?")
+        elif bare:
+            found.append(bare)
+    return found + [b"?"] * bool(last)
+
+
+def blocks(text):
+    """The answers of a stream, each with all its lines."""
+    lines = text.split(b"\n")
+    if lines.pop():
+        raise ValueError("the answers end within a line")
+    found, place = [], 0
+    while place < len(lines):
+        kind, *fields = lines[place].split(b",")
+        end = place + 1
+        if kind == b"THRU":
+            end += int(fields[-1])
+        elif kind == b"PLAN":
+            end = lines.index(b"END", place) + 1
+        elif kind not in (b"BEST", b"ERR"):
+            raise ValueError(f"{lines[place]} begins no answer")
+        if end > len(lines):
+            raise ValueError("the last answer is cut")
+        found.append(b"".join(line + b"\n" for line in lines[place:end]))
+        place = end
+    return found
+
+
+def version_of(block):
+    """The version that an answer names; None of a refusal."""
+    kind, *fields = block.split(b"\n")[0].split(b",")
+    places = {b"BEST": 2, b"THRU": 2, b"PLAN": 0}
+    return int(fields[places[kind]]) if kind in places else None
+
+
+def script_of(changes, published, asked, queue):
+    """The script of a run: its changes, a publishing where one was, or where the queue is full, and each request where its
+    version is published."""
+    lines, done, waiting = [], 0, sorted(asked)
+    points = sorted({*published, *(version for version, *_ in waiting)})
+    place = 0
+    for version in points:
+        while done < version:
+            more = changes[done : min(version, done + queue)]
+            lines += [*more, b"F"]
+            done += len(more)
+        while place < len(waiting) and waiting[place][0] == version:
+            lines.append(waiting[place][-1])
+            place += 1
+    return waiting, b"".join(line + b"\n" for line in lines)
+
+
+def expected(tool, setup, changes, published, clients):
+    """What TOOL answers: for each client a list of answers, from the versions that its answers name."""
+    with open(setup, "rb") as file:
+        queue = tomllib.load(file)["queue"]
+    asked, wanted = [], [[None] * len(asks) for asks, _ in clients]
+    for client, (asks, answers) in enumerate(clients):
+        version = 0
+        for place, (ask, answer) in enumerate(zip(asks, answers)):
+            version = version_of(answer) if version_of(answer) is not None else version
+            if ask.split(b",")[0] in (b"N", b"E", b"O"):
+                asked.append((version, client, place, ask))
+            else:
+                wanted[client][place] = b"ERR,%d,L1\n" % (place + 1)
+    order, script = script_of(changes, published, asked, queue)
+    words = [tool, "script", "--setup", setup]
+    ran = subprocess.run(words, input=script, stdout=subprocess.PIPE, check=False, timeout=3600)
+    if ran.returncode != 0:
+        raise ValueError(f"{tool} ended with {ran.returncode}")
+    text = b"".join(line + b"\n" for line in ran.stdout.split(b"\n")[:-1] if not line.startswith(b"PUB,"))
+    for (_, client, place, _), block in zip(order, blocks(text), strict=True):
+        wanted[client][place] = re.sub(rb"^ERR,\d+", b"ERR,%d" % (place + 1), block)
+    return wanted
+
+
+def replay(what, tool, setup, tape, streams):
+    """Checks a run that is over: its tape's file, and each client's requests and answers as bytes."""
+    with open(tape, "rb") as file:
+        changes = file.read().split(b"\n")
+    with open(f"{tape}.published", encoding="ascii") as file:
+        published = [int(line) for line in file.read().split()]
+    good = check(f"{what}: the tape ends with a line", changes.pop() == b"")
+    rising = all(low < high <= low + MOST_BATCH for low, high in zip([0, *published], published))
+    good &= check(f"{what}: the published lengths rise by 1 to {MOST_BATCH}", rising, published[:50])
+    good &= check(f"{what}: the whole tape was published", (published or [0])[-1] == len(changes), (published[-3:], len(changes)))
+    try:
+        clients = [(records(asks), blocks(answers)) for asks, answers in streams]
+    except ValueError as error:
+        return check(f"{what}: the answers are whole", False, error)
+    for number, (asks, answers) in enumerate(clients, 1):
+        good &= check(f"{what}: client {number} has an answer to each request", len(asks) == len(answers), (len(asks), len(answers)))
+        versions = [it for it in map(version_of, answers) if it is not None]
+        good &= check(f"{what}: the versions of client {number} do not fall", versions == sorted(versions))
+        stray = set(versions) - {0, *published}
+        good &= check(f"{what}: each version of client {number} was published", not stray, sorted(stray)[:9])
+    if not good:
+        return False
+    try:
+        wanted = expected(tool, setup, changes, published, clients)
+    except ValueError as error:
+        return check(f"{what}: it is a script", False, error)
+    for number, ((asks, answers), want) in enumerate(zip(clients, wanted), 1):
+        wrong = next(((ask, got, it) for ask, got, it in zip(asks, answers, want) if got != it), None)
+        good &= check(f"{what}: the answers of client {number} are the script's", wrong is None, wrong)
+    return good
+
+
+# ---- runs drawn at random
+
+class Drawn:
+    """A setup with its feeds' texts, what they say, and the clients' requests."""
+
+    def __init__(self, chance):
+        self.chance = chance
+        self.feeds = chance.choice([1, 2, 2, 3, 4, 8])
+        self.desks, self.queue = chance.choice([1, 2, 4, 16]), chance.choice([2, 16, 64, 1024])
+        self.parts = {f"P{letter}{place}": letter for letter in LETTERS[: self.feeds] for place in range(chance.choice([1, 2, 4]))}
+        self.syms = ["ABC", "BRK.A", "PNY", "XYZ"][: chance.choice([1, 2, 4])]
+        self.base = chance.choice([100_000, 9_999, 1_234_500])
+        self.texts, self.said, self.read, self.refused = {}, {}, {}, {}
+        for letter in LETTERS[: self.feeds]:
+            self.draw_feed(letter, chance.choice([0, 20, 400, 3000]))
+        self.clients = [self.draw_requests(chance.choice([0, 5, 200, 800])) for _ in range(min(self.desks, chance.choice([1, 1, 2, 3])))]
+
+    def setup(self):
+        fee = 'fee = {fee}, rate = {rate}'
+        rows = [f'{{name = "{name}", feed = "{feed}", {fee.format(fee=3_000_000 - 100_000 * i, rate=300 - i)}}}' for i, (name, feed) in enumerate(self.parts.items())]
+        syms = [f'{{name = "{name}", lot = 100}}' for name in self.syms]
+        head = f"tape_limit = 1000000\nqueue = {self.queue}\ndesks = {self.desks}\nfeeds = {self.feeds}\n"
+        return f"{head}participant = [{', '.join(rows)}]\nsymbol = [{', '.join(syms)}]\n"
+
+    def price(self):
+        return self.base + self.chance.randrange(-8, 9) * 100
+
+    def draw_change(self, letter):
+        """A change of a feed: as it is sent, and as it stands on the tape."""
+        chance = self.chance
+        part = chance.choice([name for name, feed in self.parts.items() if feed == letter])
+        sym, state = chance.choice(self.syms), chance.choice("AAAAMH")
+        kind = chance.choice("QQQQQQQSXR" if letter == "A" else "QQQQQQQSX")
+        if kind == "S":
+            return (f"S,{part},{sym},{state}",) * 2
+        if kind == "X":
+            return (f"X,{part}",) * 2
+        if kind == "R":
+            return (f"R,{sym},{(lot := chance.choice([1, 10, 40, 100]))}",) * 2
+        sent, stands = [], []
+        for price in (self.price(), self.price()):
+            shares = chance.choice([0, 1, 99, 100, 250, 1000, 999_999_999])
+            whole = f"{price // 10_000}.{price % 10_000:04}"
+            sent += [whole.rstrip("0").rstrip(".") if chance.random() < 0.5 else whole, str(shares)] if chance.random() < 0.9 else ["", ""]
+            stands += [whole, str(shares)] if sent[-1] not in ("", "0") else ["", ""]
+        head = f"Q,{part},{sym},{state},"
+        return head + ",".join(sent), head + ",".join(stands)
+
+    def draw_refused(self, letter):
+        """A line that is refused."""
+        part = next(name for name, feed in self.parts.items() if feed == letter)
+        other = next((name for name, feed in self.parts.items() if feed != letter), "NONE")
+        lines = ["Q,NONE,ABC,A,1,1,1,1", f"X,{other}", f'Q,{part},"ABC,A,1,1,1,1', f'"', f"S,{part},NONE,A", "F", f"Q,{part},ABC,A,1,,,"]
+        return self.chance.choice([*lines, "Q," + "9" * 5000, f"X,{part}\rX,{part}", f"X,{part},"])
+
+    def draw_feed(self, letter, count):
+        chance, lines, said, refused = self.chance, [], [], 0
+        for _ in range(count):
+            if chance.random() < 0.03:
+                lines.append(self.draw_refused(letter))
+                refused += 1
+            else:
+                sent, stands = self.draw_change(letter)
+                lines.append(sent + "\r" * (chance.random() < 0.05))
+                said.append(stands.encode())
+        text = "".join(f"{line}\n" for line in lines)
+        torn = chance.random() < 0.3
+        if torn:
+            text += self.draw_change(letter)[0]
+        self.texts[letter] = text.encode()
+        self.said[letter], self.read[letter], self.refused[letter] = said, len(lines) + torn, refused + torn
+
+    def draw_requests(self, count):
+        """The lines of a client."""
+        chance, lines = self.chance, []
+        for _ in range(count):
+            desk, sym = chance.randrange(self.desks), chance.choice(self.syms)
+            price = f"{self.price() / 10_000:.4f}"
+            order = f"O,{desk},{chance.choice('BS')},{sym},{chance.choice([1, 100, 700, 999_999_999])},{price}"
+            names = "+".join(chance.sample(list(self.parts), min(2, len(self.parts))))
+            odd = ["N,99,ABC", f"N,{desk},NONE", "?", "F", f"O,{desk},B,{sym},0,{price}", f'N,{desk},"{sym}', f"E,{desk},{sym},", f"X,{next(iter(self.parts))}"]
+            lines.append(chance.choice([f"N,{desk},{sym}"] * 6 + [f"E,{desk},{sym},{price}"] * 4 + [order] * 4 + [f"{order},M", f"{order},,{names}", chance.choice(odd)]))
+        return [f"{line}\n".encode() for line in lines]
+
+
+def send(chance, path, text, pace):
+    """Sends a text through a FIFO, in pieces of random sizes."""
+    with open(path, "wb", buffering=0) as file:
+        while text:
+            size = chance.choice([1, 7, 300, 4096, 65536])
+            file.write(text[:size])
+            text = text[size:]
+            time.sleep(chance.random() * pace)
+
+
+class Caller(threading.Thread):
+    """A client: it sends its lines, some of them only once the answer before is there, and keeps its answers."""
+
+    def __init__(self, seed, paths, lines, pace):
+        super().__init__(daemon=True)
+        self.chance, self.paths, self.lines, self.pace = random.Random(seed), paths, lines, pace
+        self.answers = b""
+        self.start()
+
+    def run(self):
+        if self.chance.random() < 0.5:
+            output, asks = open(self.paths[1], "rb", buffering=0), open(self.paths[0], "wb", buffering=0)
+        else:
+            asks, output = open(self.paths[0], "wb", buffering=0), open(self.paths[1], "rb", buffering=0)
+        reading = threading.Thread(target=self.read, args=[output], daemon=True)
+        reading.start()
+        for line in self.lines:
+            asks.write(line)
+            if self.pace and self.chance.random() < 0.5:
+                time.sleep(self.chance.random() * self.pace)
+        asks.close()
+        reading.join()
+
+    def read(self, output):
+        while more := output.read(65536):
+            self.answers += more
+
+
+class Room:
+    """A folder with the FIFOs of a run."""
+
+    def __init__(self, program, tool):
+        self.program, self.tool, self.folder = program, tool, tempfile.mkdtemp(prefix="nms_serve-")
+
+    def path(self, name):
+        return f"{self.folder}/{name}"
+
+    def write(self, name, text):
+        with open(self.path(name), "wb") as file:
+            file.write(text.encode() if isinstance(text, str) else text)
+        return self.path(name)
+
+    def fifo(self, name):
+        os.mkfifo(self.path(name))
+        return self.path(name)
+
+    def start(self, *words, stdin=subprocess.DEVNULL, stdout=subprocess.PIPE, **how):
+        return subprocess.Popen([self.program, *words], stdin=stdin, stdout=stdout, stderr=subprocess.PIPE, **how)
+
+    def drop(self):
+        shutil.rmtree(self.folder)
+
+
+def end_of(what, started, most=MOST):
+    """The status and the two streams of a run, which has to end by itself."""
+    try:
+        output, errors = started.communicate(timeout=most)
+        return started.returncode, output, errors.decode()
+    except subprocess.TimeoutExpired:
+        started.kill()
+        check(f"{what}: it ends", False, f"not done after {most} seconds")
+        output, errors = started.communicate()
+        return None, output, errors.decode()
+
+
+def is_merge(tape, said, feed_of):
+    """Whether the tape is a merge of what the feeds said."""
+    parts = {letter: [line for line in tape if feed_of(line) == letter] for letter in said}
+    return parts == said
+
+
+def run_at_random(seed, program, tool):
+    """A run over FIFOs, and its replay."""
+    chance, what = random.Random(seed), f"run {seed}"
+    drawn, room = Drawn(chance), Room(program, tool)
+    setup, tape = room.write("setup.toml", drawn.setup()), room.path("tape")
+    words, threads, pace = ["--setup", setup, "--tape", tape], [], chance.choice([0, 0.0005, 0.003])
+    for letter, text in drawn.texts.items():
+        words += ["--feed", f"{letter}={room.fifo(letter)}"]
+        threads.append(threading.Thread(target=send, args=(random.Random(chance.random()), room.path(letter), text, pace), daemon=True))
+    callers = []
+    for number, lines in enumerate(drawn.clients):
+        paths = room.fifo(f"in{number}"), room.fifo(f"out{number}")
+        words += ["--client", ",".join(paths)]
+        callers.append(Caller(chance.random(), paths, lines, pace))
+    started = room.start(*words)
+    for thread in threads:
+        thread.start()
+    status, _, errors = end_of(what, started)
+    refused = sum(drawn.refused.values())
+    good = check(f"{what}: its status", status == (6 if refused else 0), (status, errors))
+    for caller in callers:
+        caller.join(10)
+    with open(tape, "rb") as file:
+        changes = file.read().split(b"\n")[:-1]
+    kinds = {name.encode(): letter for name, letter in drawn.parts.items()}
+    good &= check(f"{what}: the tape is a merge of the feeds", is_merge(changes, drawn.said, lambda line: "A" if line.startswith(b"R") else kinds[line.split(b",")[1]]))
+    for letter in drawn.texts:
+        line = f"nms_serve: feed {letter}: {drawn.read[letter]} records, {drawn.refused[letter]} refused\n"
+        good &= check(f"{what}: the summary of feed {letter}", line in errors, (line, errors[-600:]))
+    good &= replay(what, tool, setup, tape, [(b"".join(caller.lines), caller.answers) for caller in callers])
+    if good:
+        room.drop()
+    else:
+        print(f"{what}: its files are left in {room.folder}", flush=True)
+
+
+# ---- streams that fail
+
+SETUP = """tape_limit = 1000000
+queue = 16
+desks = 2
+participant = [{name = "N", feed = "A", fee = 0, rate = 0}, {name = "Y", feed = "B", fee = 0, rate = 0}]
+symbol = [{name = "ABC", lot = 100}]
+"""
+GOOD = b"Q,N,ABC,A,9.99,100,10.01,100\n"
+OTHER = b"Q,N,ABC,A,9.98,100,10.02,200\n"
+
+
+class Failing:
+    """A room with the small setup, two feeds and a client."""
+
+    def __init__(self, program, tool, what, setup=SETUP):
+        self.room, self.what = Room(program, tool), what
+        self.setup, self.tape = self.room.write("setup.toml", setup), self.room.path("tape")
+
+    def __enter__(self):
+        return self
+
+    def __exit__(self, *_):
+        self.room.drop()
+
+    def words(self, feed_a, feed_b="/dev/null", *more):
+        return ["--setup", self.setup, "--tape", self.tape, "--feed", f"A={feed_a}", "--feed", f"B={feed_b}", *more]
+
+    def ends(self, started, status, said, most=20):
+        """Whether a run ends with this status, and its last line on standard error is as it has to be."""
+        got, _, errors = end_of(self.what, started, most)
+        last = errors.rstrip("\n").split("\n")[-1]
+        return check(self.what, (got, last) == (status, f"nms_serve: {said}"), (got, errors[-400:]))
+
+    def tape_is(self, wanted):
+        with open(self.tape, "rb") as file:
+            text = file.read()
+        check(f"{self.what}: the tape", text == wanted, text[-300:])
+
+
+def refused_words(program, tool):
+    """Words that are refused."""
+    usages = (
+        ("a feed of no letter", ["--feed", "K=/dev/null"], "--feed takes LETTER=PATH, with a letter from A to H"),
+        ("a feed twice", ["--feed", "A=/dev/null", "--feed", "A=/dev/zero"], "--feed names a feed twice"),
+        ("a feed without a path", ["--feed", "A="], "--feed takes LETTER=PATH, with a letter from A to H"),
+        ("a feed of the setup left out", ["--feed", "A=/dev/null"], "--feed has to name each feed of the setup, and no other"),
+        ("a feed that the setup has not", ["--feed", "A=/dev/null", "--feed", "C=/dev/null"], "--feed has to name each feed of the setup, and no other"),
+        ("two clients on one output", ["--feed", "A=a", "--feed", "B=b", "--client", "i,o", "--client", "j,o"], "a path is given to two clients, or to a client and --tape"),
+        ("two clients on one input", ["--feed", "A=a", "--feed", "B=b", "--client", "i,o", "--client", "i,p"], "a path is given to two clients, or to a client and --tape"),
+        ("answers to the tape", ["--feed", "A=a", "--feed", "B=b", "--client", "i,t"], "a path is given to two clients, or to a client and --tape"),
+        ("a client with one path", ["--feed", "A=a", "--feed", "B=b", "--client", "i"], "--client takes IN,OUT: two paths, with no comma in them"),
+        ("more clients than desks", ["--feed", "A=a", "--feed", "B=b", *(it for n in "123" for it in ("--client", f"i{n},o{n}"))], "more clients than the setup has desks"),
+    )
+    for what, words, said in usages:
+        with Failing(program, tool, what) as it:
+            it.ends(it.room.start("--setup", it.setup, "--tape", "t", *words, cwd=it.room.folder), 2, f"usage: {said}")
+    with Failing(program, tool, "a tape with something in it") as it:
+        it.room.write("tape", "Q\n")
+        it.ends(it.room.start(*it.words("/dev/null")), 2, "usage: there is something in the tape's file, or in FILE.published, already")
+        it.tape_is(b"Q\n")
+    with Failing(program, tool, "no setup") as it:
+        it.ends(it.room.start("--setup", it.room.path("none"), "--tape", it.tape, "--feed", "A=a"), 1, "E1: the setup could not be read")
+
+
+def failing_paths(program, tool):
+    """Paths that can't be opened, read or written, while other threads wait for the other ends of FIFOs."""
+    with Failing(program, tool, "a feed that is not there") as it:
+        fifos = [it.room.fifo(name) for name in ("b", "in", "out")]
+        more = ["--client", ",".join(fifos[1:])]
+        it.ends(it.room.start(*it.words(it.room.path("none"), fifos[0], *more)), 1, "E1: feed A could not be opened")
+    with Failing(program, tool, "a feed that is a folder") as it:
+        it.ends(it.room.start(*it.words(it.room.folder, it.room.fifo("b")), stdin=subprocess.PIPE), 1, "E1: feed A could not be read")
+    with Failing(program, tool, "a folder of answers that is not there") as it:
+        more = ["--client", f"{it.room.fifo('in')},{it.room.path('none/out')}"]
+        it.ends(it.room.start(*it.words(it.room.fifo("a"), it.room.fifo("b"), *more)), 1, "E1: the answers to client 1 could not be opened")
+    with Failing(program, tool, "a full disk for the tape") as it:
+        os.symlink("/dev/full", it.tape)
+        it.ends(it.room.start(*it.words(it.room.write("a", GOOD), it.room.fifo("b")), stdin=subprocess.PIPE), 1, "E2: the tape could not be written")
+    with Failing(program, tool, "a full disk for the lengths") as it:
+        os.symlink("/dev/full", f"{it.tape}.published")
+        it.ends(it.room.start(*it.words(it.room.write("a", GOOD), it.room.fifo("b")), stdin=subprocess.PIPE), 1, "E2: the file of published lengths could not be written")
+        it.tape_is(GOOD.replace(b"9.99", b"9.9900").replace(b"10.01", b"10.0100"))
+    with Failing(program, tool, "a full disk for the answers") as it:
+        more = ["--client", f"{it.room.write('in', 'N,0,ABC' + chr(10))},/dev/full"]
+        it.ends(it.room.start(*it.words(it.room.fifo("a"), it.room.fifo("b"), *more)), 1, "E2: the answers to client 1 could not be written")
+    with Failing(program, tool, "a reader of answers that left") as it:
+        reader, writer = os.pipe()
+        started = it.room.start(*it.words(it.room.fifo("a"), it.room.fifo("b")), stdin=subprocess.PIPE, stdout=writer)
+        os.close(writer)
+        os.close(reader)
+        started.stdin.write(b"N,0,ABC\n")
+        started.stdin.flush()
+        it.ends(started, 1, "E2: the answers to client 1 could not be written")
+    with Failing(program, tool, "a reader that reads no answers, and a fault elsewhere") as it:
+        reader, writer = os.pipe()
+        started = it.room.start(*it.words(fifo := it.room.fifo("a"), it.room.fifo("b"), "--strict"), stdin=subprocess.PIPE, stdout=writer)
+        os.close(writer)
+        started.stdin.write(b"N,0,ABC\n" * 4000)
+        started.stdin.flush()
+        with open(fifo, "wb", buffering=0) as feed:
+            feed.write(GOOD + b"F\n")
+            it.ends(started, 6, "E5: A:2: L1")
+        os.close(reader)
+
+
+def full_tape(program, tool):
+    with Failing(program, tool, "a tape that is full", SETUP.replace("1000000", "3")) as it:
+        feed = it.room.write("a", GOOD * 2 + OTHER * 5)
+        it.ends(it.room.start(*it.words(feed, it.room.fifo("b")), stdin=subprocess.PIPE), 7, "E7: the tape is full")
+
+
+def refused_records(program, tool):
+    """Refused records: passed over and counted, at most ten a second reported; with --strict the first ends the run."""
+    with Failing(program, tool, "many refused records") as it:
+        feed = it.room.write("a", (b"Q,NONE,ABC,A,1,1,1,1\n" + b'"\n' + GOOD) * 100_000)
+        started, began = it.room.start(*it.words(feed)), time.monotonic()
+        status, _, errors = end_of(it.what, started)
+        seconds, lines = time.monotonic() - began, errors.split("\n")
+        reports = [line for line in lines if re.fullmatch(r"nms_serve: A:\d+: L[13]", line)]
+        check(it.what, status == 6 and "nms_serve: feed A: 300000 records, 200000 refused" in lines, (status, errors[-300:]))
+        check(f"{it.what}: the first is reported", reports[:1] == ["nms_serve: A:1: L3"], reports[:3])
+        check(f"{it.what}: at most 10 a second", len(reports) <= 10 * (seconds + 2), (len(reports), seconds))
+    with Failing(program, tool, "a refused record of a strict run") as it:
+        feed = it.room.write("a", GOOD + b"Q,Y,ABC,A,1,1,1,1\n" + OTHER)
+        it.ends(it.room.start(*it.words(feed, it.room.fifo("b"), "--strict"), stdin=subprocess.PIPE), 6, "E5: A:2: L9")
+
+
+def ask(started, line):
+    started.stdin.write(line)
+    started.stdin.flush()
+    return started.stdout.readline()
+
+
+def seen(started, version, most=10):
+    """Whether a client sees a version in time."""
+    end = time.monotonic() + most
+    while time.monotonic() < end:
+        if ask(started, b"N,0,ABC\n").startswith(b"BEST,0,ABC,%d," % version):
+            return True
+    return False
+
+
+def torn_feeds(program, tool):
+    """A half line is no record; a stray quote and a line without an end silence no feed."""
+    with Failing(program, tool, "a feed that comes slowly") as it:
+        fifo = it.room.fifo("a")
+        started = it.room.start(*it.words(fifo), stdin=subprocess.PIPE)
+        with open(fifo, "wb", buffering=0) as feed:
+            feed.write(GOOD[:-1])
+            time.sleep(0.2)
+            check(f"{it.what}: a line without its line feed", ask(started, b"N,0,ABC\n").startswith(b"BEST,0,ABC,0,"))
+            feed.write(b"\n")
+            check(f"{it.what}: its line feed", seen(started, 1))
+            feed.write(b'Q,N,"ABC,A,9.99,100,10.01,100\n' + OTHER)
+            check(f"{it.what}: a line after a stray quote", seen(started, 2))
+            feed.write(b"Q" * 100_000 + b"\n" + GOOD)
+            check(f"{it.what}: a line after one too long", seen(started, 3))
+            feed.write(b"Q,N,ABC,A,9.99,3")
+        started.stdin.close()
+        got = started.wait(20), started.stderr.read().decode()
+        wanted = "nms_serve: A:2: L1\nnms_serve: A:4: L1\nnms_serve: A:6: L1\nnms_serve: feed A: 6 records, 3 refused\n"
+        check(it.what, got[0] == 6 and got[1].startswith(wanted), got)
+    with Failing(program, tool, "/dev/zero as a feed") as it:
+        started = it.room.start(*it.words("/dev/zero", fifo := it.room.fifo("b")), stdin=subprocess.PIPE)
+        with open(fifo, "wb", buffering=0) as feed:
+            feed.write(GOOD.replace(b"N", b"Y", 1))
+            check(f"{it.what}: the other feed is served", seen(started, 1))
+            time.sleep(0.5)
+            with open(f"/proc/{started.pid}/status", encoding="ascii") as file:
+                resident = int(re.search(r"VmRSS:\s+(\d+) kB", file.read())[1])
+            check(f"{it.what}: memory is bounded", resident < 60_000, resident)
+        started.kill()
+        started.communicate()
+
+
+def signals(program, tool):
+    """A signal at full speed leaves whole lines; a run that is stopped goes on."""
+    with Failing(program, tool, "STOP and CONT") as it:
+        feed = it.room.write("a", (GOOD + OTHER) * 50_000)
+        started = it.room.start(*it.words(feed))
+        for _ in range(5):
+            started.send_signal(signal.SIGSTOP)
+            time.sleep(0.02)
+            started.send_signal(signal.SIGCONT)
+            time.sleep(0.01)
+        status, _, errors = end_of(it.what, started)
+        check(it.what, status == 0 and "nms_serve: feed A: 100000 records, 0 refused\n" in errors, (status, errors))
+    for number in (signal.SIGTERM, signal.SIGINT, signal.SIGKILL):
+        for turn in range(7):
+            with Failing(program, tool, f"{number.name} at full speed") as it:
+                feed, asks = it.room.write("a", (GOOD + OTHER) * 400_000), it.room.write("in", b"N,0,ABC\nO,0,B,ABC,300,10.02\n" * 100_000)
+                started = it.room.start(*it.words(feed, "/dev/null", "--client", f"{asks},{it.room.path('out')}"))
+                time.sleep(0.02 + 0.015 * turn)
+                started.send_signal(number)
+                started.communicate()
+                ended = {0, -number}
+                check(f"{it.what}: its status", started.returncode in ended, started.returncode)
+                for name in ("tape", "tape.published", "out"):
+                    if os.path.exists(it.room.path(name)):
+                        with open(it.room.path(name), "rb") as file:
+                            text = file.read()
+                        check(f"{it.what}: {name} has whole lines", not text or text.endswith(b"\n"), text[-200:])
+
+
+def little_memory(program, tool):
+    """With less and less memory a run ends with a code of want of memory, or as ever; it never hangs."""
+    statuses = set()
+    for megabytes in (4, 6, 8, 10, 12, 16, 20, 24, 32, 48, 64, 96, 128, 256):
+        with Failing(program, tool, f"a run within {megabytes} MB") as it:
+            feed = it.room.write("a", (GOOD + OTHER) * 20_000)
+            limit = lambda: resource.setrlimit(resource.RLIMIT_AS, (megabytes << 20, megabytes << 20))
+            started = it.room.start(*it.words(feed, it.room.write("b", b"X,Y\n")), stdin=subprocess.PIPE, preexec_fn=limit)
+            status, _, errors = end_of(it.what, started)
+            last = errors.rstrip("\n").split("\n")[-1]
+            named = re.match(r"nms_serve: (G2|C9|E4|E6|E7)\b", last) and status in (3, 5, 7)
+            check(it.what, status in (0, 127, -11) or named, (status, errors[-300:]))
+            statuses.add(status)
+    check("a run with little memory is refused, and one with enough is not", 0 in statuses and len(statuses) > 1, statuses)
+
+
+def main():
+    if sys.argv[1] == "--check":
+        _, _, tool, setup, tape, *streams = sys.argv
+        texts = []
+        for pair in streams:
+            asks, answers = pair.split(",")
+            with open(asks, "rb") as one, open(answers, "rb") as other:
+                texts.append((one.read(), other.read()))
+        replay(tape, tool, setup, tape, texts)
+    else:
+        program, tool = map(os.path.abspath, sys.argv[1:3])
+        runs, seed = int((sys.argv[3:] or [20])[0]), int((sys.argv[4:] or [611])[0])
+        for part in (refused_words, failing_paths, full_tape, refused_records, torn_feeds, signals, little_memory):
+            part(program, tool)
+        for number in range(runs):
+            run_at_random(seed + number, program, tool)
+    print(f"{Count.passed} passed, {Count.failed} failed")
+    return 1 if Count.failed else 0
+
+
+if __name__ == "__main__":
+    sys.exit(main())
