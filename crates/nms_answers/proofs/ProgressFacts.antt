@@ -86,8 +86,8 @@ pub comes_on : {R : Type 0} (remaining : R → Option (List ℕ)) (settings : Se
     → ReadsFrom remaining next bytes (come.requests ++ fields ∷ []) → empty ≡ []
     → Answered settings (done + 1) fields now new empty text is_refused → shown ≡ text → Appends after last shown
     → HasCome remaining settings bytes next first new before last (done + 1) (refused + cond is_refused 1 0)
-comes_on remaining settings bytes reader next first now new before after last done refused fields empty text shown is_refused
-    come reads none
+comes_on remaining settings bytes reader next first now new before after last done refused fields empty text shown is_refused come reads
+    none
     answered same writes =
     let look = answered.0 in
     let told = answered.1 in

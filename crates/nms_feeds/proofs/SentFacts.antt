@@ -19,8 +19,8 @@ either_more : (said : Option Change) (changes later : List Change) → cons_opti
 either_more None changes later = refl
 either_more (Some change) changes later = refl
 
-said_more : (f : Record → Option Change) (records more : List Record)
-    → filter_map f (records ++ more) ≡ filter_map f records ++ filter_map f more
+said_more : (f : Record → Option Change) (records more : List Record) → filter_map f (records ++ more)
+    ≡ filter_map f records ++ filter_map f more
 said_more f [] more = refl
 said_more f (fields ∷ records) more = ap (cons_option (f fields)) (said_more f records more)
     ∙ either_more (f fields) (filter_map f records) (filter_map f more)
