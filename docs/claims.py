@@ -227,10 +227,10 @@ def in_short(sentence):
 
 
 def words():
-    """The part of ARCHITECTURE.md on the public types, but for faults."""
+    """The part of ARCHITECTURE.md on the public types, but for faults, the words of a call and the structs of include/nms.h."""
     text = "|Type|File in `src/`|What it is|\n|---|---|---|\n"
     for crate in tree().values():
-        shown = [it for it in crate.types.values() if not is_fault(it.name)]
+        shown = [it for it in crate.types.values() if not is_fault(it.name) and not it.name.startswith("Nms") and not crate.name.endswith("_words")]
         text += f"|**`{crate.name}`**|||\n" if shown else ""
         text += "".join(f"|`{it.name}`|`{it.file}`|{in_short(it.says)}|\n" for it in shown)
     return text
