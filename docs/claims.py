@@ -5,8 +5,9 @@
     docs/claims.py --check    prints the pages that differ; status 1 if one does
 
 A part stands between the lines `<!-- made: NAME -->` and `<!-- end -->` of a page. In docs/CLAIMS.md a part is a crate's public
-functions: the first sentence of the comment, the names of the clauses, and the fault. In docs/ARCHITECTURE.md
-it is the words: each public type with its file and the first sentence of its comment.
+functions: the first sentence of the comment without its CFR section (docs/RULES.md has them), the names of the clauses, and the
+fault. In docs/ARCHITECTURE.md it is the words: each public type with its file and the first sentence of its comment, up to the colon
+of a long one.
 """
 import functools
 import os
@@ -16,6 +17,10 @@ import sys
 TOP = os.path.dirname(os.path.dirname(os.path.realpath(__file__)))
 PART = re.compile(r"(<!-- made: (\w+) -->\n).*?(<!-- end -->)", re.S)
 PAGES = ("docs/ARCHITECTURE.md", "docs/CLAIMS.md")
+# Words of a sentence that stands whole among the words of ARCHITECTURE.md.
+MOST_WORDS = 18
+# The names of clauses that say a number and its bounds.
+NUMBERS = {"number", "value", "place", "count", "at", "low", "high", "within", "below"}
 
 
 def read(file):
@@ -44,18 +49,37 @@ def first_sentence(comment):
     return re.match(r"(?:.*?[.?!:])(?=\s+[A-Z`]|$)|.*", paragraph)[0].rstrip(":").strip().replace("|", "\\|")
 
 
+def without_sections(text):
+    """A sentence without the parenthesis that names its CFR section, which may have others in it."""
+    found = re.search(r" \((?:17 CFR|this product's own rule)", text)
+    if not found:
+        return text
+    depth, at = 0, found.start() + 1
+    for at in range(found.start() + 1, len(text)):
+        depth += {"(": 1, ")": -1}.get(text[at], 0)
+        if not depth:
+            break
+    return without_sections(text[:found.start()] + text[at + 1:])
+
+
 class Item:
     """A public type or function: its name with its type, file, comment and clauses, and what it returns."""
 
     def __init__(self, name, file, comment, header=""):
-        self.name, self.file, self.says = name, file, first_sentence(comment)
+        self.name, self.file = name, file
+        whole = first_sentence(comment)
+        self.says, self.has_section = without_sections(whole), "CFR" in whole
         self.clauses = re.findall(r"^\s*ensures\s+(?:\*\s*)?(\w*)", header, re.M)
         returned = re.search(r"->\s*(.*?)(?=\n\s*(?:requires|ensures)|\s*\{|$)", header, re.S)
         self.returned = returned[1] if returned else ""
         self.comment = comment
 
     def promised(self):
-        return ", ".join(f"`{it}`" if it else "its clause" for it in dict.fromkeys(self.clauses))
+        return ", ".join(f"`{it}`" for it in dict.fromkeys(self.clauses) if it)
+
+    def is_number(self):
+        """Whether it gives a number, and its clauses say that number and its bounds, and no more."""
+        return len(self.clauses) > 1 and set(self.clauses) <= NUMBERS and "Option" not in self.returned
 
 
 def comment_over(lines, at):
@@ -163,36 +187,52 @@ def edits_of(crate):
     return sorted(it[:-5] for it in os.listdir(folder) if it.endswith(".edit")) if os.path.isdir(folder) else []
 
 
+def table(head, made):
+    """A table by its head, if it has rows."""
+    return ["\n".join([head, re.sub(r"[^|]+", "---", head), *made])] if made else []
+
+
+def listed(head, names):
+    return [f"{head}: {', '.join(f'`{it}`' for it in names)}."] if names else []
+
+
 def claims_of(crate):
     """The part of CLAIMS.md on a crate."""
-    made, plain, bare = [], [], []
+    calls, laws, numbers, plain, bare = [], [], [], [], []
     for it in crate.functions:
         fault = fault_column(it)
         is_law = it.file.endswith("laws.rt") or it.says.startswith("A law")
-        if it.clauses == [""] and it.name.endswith(("::code", "::status")):
+        if it.name.endswith(("::code", "::status")) and it.clauses in ([], [""]) or it.name == "worked_examples":
             continue
-        if it.name == "worked_examples":
-            continue
-        if not it.clauses:
-            bare.append(f"`{it.name}`")
-        elif it.clauses == [""] and not is_law and not fault and "CFR" not in it.says:
-            plain.append(f"`{it.name}`")
-        else:
+        if is_law:
             says = re.sub(r"^A law: (\w)", lambda found: found[1].upper(), it.says)
-            made.append(f"|{'law ' if is_law else ''}`{it.name}`|{says}|{it.promised()}|{fault}|")
-    pieces = ["\n".join(["|Call|Says|Clauses|Fault|", "|---|---|---|---|", *made])] if made else []
-    for head, names in (("One clause each", plain), ("No clause", bare), ("Edits", [f"`{it}`" for it in edits_of(crate.name)])):
-        pieces += [f"{head}: {', '.join(names)}."] if names else []
+            laws.append(f"|`{it.name}`|{says}|{it.promised()}|")
+        elif not it.clauses:
+            bare.append(it.name)
+        elif it.is_number() and not fault:
+            numbers.append(it.name)
+        elif it.clauses == [""] and not fault and not it.has_section:
+            plain.append(it.name)
+        else:
+            calls.append(f"|`{it.name}`|{it.says}|{it.promised()}|{fault}|")
+    pieces = table("|Call|Says|Clauses|Fault|", calls) + table("|Law|Says|Clauses|", laws)
+    for head, names in (("A number and its bounds", numbers), ("One clause each", plain), ("No clause", bare), ("Edits", edits_of(crate.name))):
+        pieces += listed(head, names)
     return "\n\n".join(pieces) + "\n"
 
 
+def in_short(sentence):
+    """A sentence, up to its colon if it is long."""
+    return (sentence.split(": ")[0] if len(sentence.split()) > MOST_WORDS else sentence).rstrip(".")
+
+
 def words():
-    """The part of ARCHITECTURE.md on the public types, but for faults."""
+    """The part of ARCHITECTURE.md on the public types, but for faults, the words of a call and the structs of include/nms.h."""
     text = "|Type|File in `src/`|What it is|\n|---|---|---|\n"
     for crate in tree().values():
-        shown = [it for it in crate.types.values() if not is_fault(it.name)]
+        shown = [it for it in crate.types.values() if not is_fault(it.name) and not it.name.startswith("Nms") and not crate.name.endswith("_words")]
         text += f"|**`{crate.name}`**|||\n" if shown else ""
-        text += "".join(f"|`{it.name}`|`{it.file}`|{it.says}|\n" for it in shown)
+        text += "".join(f"|`{it.name}`|`{it.file}`|{in_short(it.says)}|\n" for it in shown)
     return text
 
 
