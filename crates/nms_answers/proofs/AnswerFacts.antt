@@ -3,7 +3,7 @@ use Rattle.std.proofs.Common.{ℕ, ◌≡◌, ◌<◌, ◌++◌, List, [], ◌�
 use Rattle.std.specs.Prelude.{All}
 use Rattle.std.specs.List.{filter}
 use Rattle.std.proofs.lemmas.List.Elements.{All-append, All-filter, All-map}
-use Rattle.nms_quote.specs.Roster.{Listing, Sizes, sizes_of}
+use Rattle.nms_quote.specs.Roster.{Sizes, sizes_of}
 use Rattle.nms_quote.specs.Tape.{Tape}
 use Rattle.nms_quote.specs.Terms.{Terms}
 use Rattle.nms_quote.specs.declared.certificate.Cut.{Cut}
@@ -15,7 +15,6 @@ use Rattle.nms_board.specs.declared.row.Row.{Row}
 use Rattle.nms_board.proofs.Offered.{view_parts}
 use Rattle.nms_nbbo.specs.Best.{IsBestOf}
 use Rattle.nms_fees.specs.Settings.{Settings}
-use Rattle.nms_lines.specs.Layout.{Record}
 use Rattle.nms_lines.specs.PlanText.{plan_records}
 use Rattle.nms_lines.specs.Text.{text_of}
 use Rattle.nms_rules.specs.Accepted.{IsAccepted}

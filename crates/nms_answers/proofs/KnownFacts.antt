@@ -1,5 +1,5 @@
 -- What a desk knows from one look to the next.
-use Rattle.std.proofs.Common.{ℕ, ◌≡◌, ◌++◌, List, [], ◌∷◌, refl, ap, sym, ◌∙◌, append_assoc}
+use Rattle.std.proofs.Common.{◌≡◌, ◌++◌, List, [], ◌∷◌, ap, sym, ◌∙◌, append_assoc}
 use Rattle.nms_quote.specs.Tape.{Tape}
 use Rattle.nms_versions.specs.Taped.{Knowing}
 use Rattle.nms_answers.specs.Told.{KeepsKnown, Looks}

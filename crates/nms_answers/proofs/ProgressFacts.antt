@@ -1,5 +1,5 @@
 -- How a client's stream comes from one request to the next.
-use Rattle.std.proofs.Common.{ℕ, ◌≡◌, ◌≢◌, ◌+◌, ◌++◌, Bool, cond, List, [], ◌∷◌, length, Option, Some, None, refl, ap, sym, subst, ◌∙◌}
+use Rattle.std.proofs.Common.{ℕ, ◌≡◌, ◌+◌, ◌++◌, Bool, cond, List, [], ◌∷◌, length, Option, refl, ap, sym, subst, ◌∙◌}
 use Rattle.std.proofs.Common.{arith, append_assoc, length-append}
 use Rattle.std.specs.Prelude.{count_by, is_none}
 use Rattle.std.specs.Io.KnownBytes.{Appends, append_known}
@@ -11,16 +11,17 @@ use Rattle.csv.specs.declared.reader.Reader.{Reader}
 use Rattle.nms_quote.specs.Tape.{Tape}
 use Rattle.nms_fees.specs.Settings.{Settings}
 use Rattle.nms_lines.specs.Layout.{Record}
-use Rattle.nms_lines.specs.Records.{AreAllRecords, BeginRecords, ReadsFrom}
+use Rattle.nms_lines.specs.Records.{AreAllRecords, ReadsFrom}
 use Rattle.nms_lines.specs.Text.{record_text, text_of}
 use Rattle.nms_lines.specs.Written.{AppendsPart}
 use Rattle.nms_lines.proofs.Offered.{appended, part_more}
 use Rattle.nms_text.proofs.Offered.{appends-none}
 use Rattle.nms_versions.specs.Taped.{Knowing}
-use Rattle.nms_answers.specs.Progress.{HasCome}
+use Rattle.nms_answers.specs.Progress.{HasCome, IsEnd}
 use Rattle.nms_answers.specs.Requests.{Answered, AnswersRequest, Sees}
 use Rattle.nms_answers.specs.Streams.{AnswersAll, AnswersFirst, AnswersFrom, AnswersInPart, AreAnswered, SeesAll, counts_of}
 use Rattle.nms_answers.specs.Told.{KeepsKnown}
+use Rattle.nms_answers.specs.declared.answer_fault.AnswerFault.{AnswerFault}
 use Rattle.nms_answers.specs.declared.request_counts.RequestCounts.{RequestCounts}
 use Rattle.nms_answers.proofs.KnownFacts.{keeps_itself}
 
@@ -107,14 +108,14 @@ comes_on remaining settings bytes reader next first now new before after last do
       counted = length-append come.requests (fields ∷ []) ∙ omega (arith, come.counted);
       looked = length-append so_far.looks (look ∷ []) ∙ omega (arith, come.looked);
       refusals = sum_by-append (λ (l : Option Tape). cond (is_none l) 1 0) so_far.looks (look ∷ [])
-          ∙ both come.refusals (once answered.5);
+          ∙ both come.refusals (once look answered.5);
     }
   where
     both : {a b c d : ℕ} → a ≡ b → c ≡ d → a + c ≡ b + d
     both e f = omega (arith, e, f)
 
-    once : {look : Option Tape} → is_refused ≡ is_none look → cond (is_none look) 1 0 + 0 ≡ cond is_refused 1 0
-    once e = rw e (omega arith)
+    once : (made : Option Tape) → is_refused ≡ is_none made → count_by is_none (made ∷ []) ≡ cond is_refused 1 0
+    once made e = rw e (omega arith)
 
 -- all requests were answered
 pub answers_all : (settings : Settings) (bytes : Option (List ℕ)) (first now : Knowing) (before after : Option (List ℕ)) (done refused : ℕ)
@@ -144,6 +145,25 @@ ends_before remaining settings bytes reader first now new before after done refu
   answered = come.answered;
   kept = kept;
 }
+
+-- the same, whatever fault it was: all that was to be written was
+pub ends_anyhow : {R : Type 0} (remaining : R → Option (List ℕ)) (settings : Settings) (bytes : Option (List ℕ)) (reader : Reader R)
+    (first now new : Knowing) (before after : Option (List ℕ)) (done refused : ℕ) (why : AnswerFault)
+    → HasCome remaining settings bytes reader first now before after done refused → KeepsKnown now new
+    → IsEnd settings bytes first new before after why
+ends_anyhow remaining settings bytes reader first now new before after done refused why come kept =
+    let ends = ends_before remaining settings bytes reader first now new before after done refused come kept in
+    let text = text_of come.answered.told in
+    record {
+      stopped = λ _. ends;
+      cut = λ _. record {
+        text = text;
+        whole = after;
+        leaves = ends;
+        meant = come.answered.written;
+        cut = record { part = text; rest = []; split = sym (append-nil text); written = come.answered.written };
+      };
+    }
 
 -- the writer failed within an answer
 pub breaks_off : {R : Type 0} (remaining : R → Option (List ℕ)) (settings : Settings) (bytes : Option (List ℕ)) (reader next : Reader R)

@@ -1,20 +1,19 @@
 -- What a request says, and what is answered to it.
-use Rattle.std.proofs.Common.{ℕ, ◌≡◌, ◌++◌, Bool, cond, true, false, List, [], ◌∷◌, Option, Some, None, Result, Ok, Err, refl, ap, sym, subst, ◌∙◌}
+use Rattle.std.proofs.Common.{ℕ, ◌≡◌, ◌++◌, true, false, List, [], ◌∷◌, Option, Some, None, Result, Ok, Err, refl, sym, subst}
 use Rattle.std.specs.Option.{ok_or}
-use Rattle.std.specs.Prelude.{length, not}
+use Rattle.std.specs.Prelude.{IfOk, length, not}
 use Rattle.nms_quote.specs.Roster.{Listing}
 use Rattle.nms_fees.specs.Settings.{Settings}
 use Rattle.nms_lines.specs.Faults as line_faults
 use Rattle.nms_lines.specs.Faults.{◌>>=◌, refuse_if}
 use Rattle.nms_lines.specs.Fields.{desk_below, flag_in, price_in, self_help_in, shares_in, side_in, symbol_in}
 use Rattle.nms_lines.specs.Layout.{Record, field, is_count, kind_named}
-use Rattle.nms_lines.specs.Lines.{best_reading, kind_reading, reading, sweep_reading, through_reading}
+use Rattle.nms_lines.specs.Lines.{best_reading, kind_reading, sweep_reading, through_reading}
 use Rattle.nms_lines.specs.Sources.{brought, desks_of}
 use Rattle.nms_lines.specs.Text.{text_of}
 use Rattle.nms_lines.specs.declared.line.Kind.{Kind}
 use Rattle.nms_lines.specs.declared.line.Kind.TheVariants as kind
 use Rattle.nms_lines.specs.declared.line.Line.{Line}
-use Rattle.nms_lines.specs.declared.line.Line.TheVariants as line
 use Rattle.nms_lines.specs.declared.line.Reading.{Reading}
 use Rattle.nms_lines.specs.declared.line.Reading.TheVariants as source
 use Rattle.nms_lines.specs.declared.line_fault.LineFault.{LineFault}
@@ -84,13 +83,11 @@ named_looks settings fields (Some k) said asked is =
     let counted = bound (refuse_if (not (is_count k (length fields))) fault.FieldCount) _ said is in
     kind_looks settings.roster (source.Script settings.desks) fields k said asked counted.2
 
-pub request_looks : (settings : Settings) (fields : Record) (said : Line) → request_reading settings fields ≡ Ok said → is_look said ≡ true
-request_looks settings fields said is = by (is_asked (kind_named (field fields 0))) refl is
-  where
-    by : (asked : Bool) → is_asked (kind_named (field fields 0)) ≡ asked
-        → cond asked (script_reading settings fields) (Err fault.UnknownKind) ≡ Ok said → is_look said ≡ true
-    by true asked read = named_looks settings fields (kind_named (field fields 0)) said asked read
-    by false asked read = absurd (cc)
+-- what was read of a request whose kind asks for a look
+pub looks_read : (settings : Settings) (fields : Record) (read : Result Line LineFault) → is_asked (kind_named (field fields 0)) ≡ true
+    → read ≡ script_reading settings fields → IfOk read (λ said. is_look said ≡ true)
+looks_read settings fields (Ok said) asked is = named_looks settings fields (kind_named (field fields 0)) said asked (sym is)
+looks_read settings fields (Err why) asked is = tt
 
 -- ---- the answer
 

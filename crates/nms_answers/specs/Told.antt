@@ -1,9 +1,9 @@
 -- What a desk is told of one version: what a script's desk is told of it. This product's own rule.
-use Rattle.std.specs.Prelude.{ℕ, ◌≡◌, ◌∷◌, ◌++◌, List, [], Option, Ok}
+use Rattle.std.specs.Prelude.{ℕ, ◌≡◌, ◌∷◌, ◌++◌, List, [], Ok}
 use Rattle.nms_quote.specs.Roster.{sizes_of}
 use Rattle.nms_quote.specs.Tape.{Tape}
 use Rattle.nms_quote.specs.Terms.{Terms}
-use Rattle.nms_board.specs.View.{Seen, view_of}
+use Rattle.nms_board.specs.View.{view_of}
 use Rattle.nms_fees.specs.Settings.{Settings}
 use Rattle.nms_lines.specs.Layout.{Record}
 use Rattle.nms_lines.specs.Text.{text_of}

@@ -41,7 +41,15 @@ pub fn answer_best(
     let view = look(desk, sym)?;
     let bid = best(&view, Side::Bid);
     let offer = best(&view, Side::Offer);
-    match tell_best(out, setup.roster(), number, sym, view.version(), &bid, &offer) {
+    match tell_best(
+        out,
+        setup.roster(),
+        number,
+        sym,
+        view.version(),
+        &bid,
+        &offer,
+    ) {
         Ok(()) => Ok(()),
         Err(_) => Err(AnswerFault::NoMemory),
     }
@@ -84,7 +92,15 @@ fn tell_through(
 {
     let quotations = traded_through(view, price);
     let count = quotations.len();
-    tell_through_head(out, roster, number, view.sym(), view.version(), price, count)?;
+    tell_through_head(
+        out,
+        roster,
+        number,
+        view.sym(),
+        view.version(),
+        price,
+        count,
+    )?;
     tell_through_rows(out, roster, quotations.as_slice())
 }
 
@@ -111,8 +127,9 @@ pub fn answer_order(
 
 /// Looks at what is published. `NoReading` leaves the desk as it was.
 fn look(desk: &mut Desk, sym: Sym) -> Result<View, AnswerFault>
-    ensures seen { IfOk result (λ view. (version : Tape) × (view ≡ view_of desk.old.sizes version sym) × Looks desk.old desk.new version) }
+    ensures seen { IfOk result (λ view. (version : Tape) × Looks desk.old desk.new version × (view ≡ view_of desk.old.sizes version sym)) }
     ensures unchanged { OnErr result (desk.new ≡ desk.old) }
+    ensures knows { KeepsKnown desk.old desk.new }
 {
     match desk.look(sym) {
         Ok(view) => Ok(view),

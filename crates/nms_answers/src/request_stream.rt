@@ -115,7 +115,10 @@ fn advance<R: Read, W: Write>(
         return Err(AnswerFault::TooLong);
     }
     text.clear();
-    let refused = answer_request(desk, setup, row, done + 1, text)?;
+    let refused = match answer_request(desk, setup, row, done + 1, text) {
+        Ok(refused) => refused,
+        Err(fault) => return Err(fault),
+    };
     match tell(answers, text) {
         Ok(()) => Ok(Progress::Answered { refused }),
         Err(_) => Err(AnswerFault::WriteFault),

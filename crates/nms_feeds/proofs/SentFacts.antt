@@ -1,5 +1,5 @@
 -- What was sent of records, one after another.
-use Rattle.std.proofs.Common.{ℕ, ◌≡◌, ◌+◌, ◌≤◌, ◌<◌, ◌++◌, Bool, true, List, [], ◌∷◌, Option, Some, None, Result, Ok, Err, refl, ap, sym, subst, ◌∙◌}
+use Rattle.std.proofs.Common.{ℕ, ◌≡◌, ◌+◌, ◌++◌, Bool, List, [], ◌∷◌, Option, Some, None, Ok, Err, refl, ap, sym, ◌∙◌}
 use Rattle.std.proofs.Common.{arith, append_assoc, length, length-append}
 use Rattle.std.specs.List.{AllByRecursion, cons_option, filter_map}
 use Rattle.std.proofs.lemmas.List.{append-nil}
@@ -8,21 +8,21 @@ use Rattle.nms_quote.specs.declared.change.Change.{Change}
 use Rattle.nms_quote.specs.declared.feed.Feed.{Feed}
 use Rattle.nms_lines.specs.Layout.{Record}
 use Rattle.nms_lines.specs.Records.{BeginRecords}
-use Rattle.nms_lines.specs.declared.line.Line.{Line}
 use Rattle.nms_lines.specs.declared.line.Line.TheVariants as line
 use Rattle.nms_lines.specs.declared.line_fault.LineFault.{LineFault}
 use Rattle.nms_feeds.specs.declared.feed_counts.FeedCounts.{FeedCounts}
 use Rattle.nms_feeds.specs.declared.feed_fault.FeedFault.{FeedFault}
 use Rattle.nms_feeds.specs.declared.feed_fault.FeedFault.TheVariants as fault
-use Rattle.nms_feeds.specs.Streams.{IsCounted, IsOwn, IsRefusal, IsRefusedAt, IsSentOf, change_read, change_said, changes_said, feed_reading}
+use Rattle.nms_feeds.specs.Streams.{IsOwn, IsRefusal, IsRefusedAt, IsSentOf, change_read, change_said, changes_said, feed_reading}
+
+either_more : (said : Option Change) (changes later : List Change) → cons_option said (changes ++ later) ≡ cons_option said changes ++ later
+either_more None changes later = refl
+either_more (Some change) changes later = refl
 
 said_more : (f : Record → Option Change) (records more : List Record) → filter_map f (records ++ more) ≡ filter_map f records ++ filter_map f more
 said_more f [] more = refl
-said_more f (fields ∷ records) more = by (f fields)
-  where
-    by : (said : Option Change) → cons_option said (filter_map f (records ++ more)) ≡ cons_option said (filter_map f records) ++ filter_map f more
-    by None = said_more f records more
-    by (Some change) = ap (λ (l : List Change). change ∷ l) (said_more f records more)
+said_more f (fields ∷ records) more = ap (cons_option (f fields)) (said_more f records more)
+    ∙ either_more (f fields) (filter_map f records) (filter_map f more)
 
 all_more : (P : Change → Type 0) (xs ys : List Change) → AllByRecursion P xs → AllByRecursion P ys → AllByRecursion P (xs ++ ys)
 all_more P [] ys one other = other

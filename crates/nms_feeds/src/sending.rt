@@ -12,7 +12,9 @@ use crate::feed_fault::FeedFault;
 use crate::feed_watch::FeedWatch;
 use nms_feed::{MOST_SENT, Sender};
 use nms_fees::Setup;
-use nms_lines::{ByteRecord, Line, LineFault, Reader, Reading, RecordFault, open_records, read_line, read_next};
+use nms_lines::{
+    ByteRecord, Line, LineFault, Reader, Reading, RecordFault, open_records, read_line, read_next,
+};
 use nms_quote::{Change, Feed, Roster, SideQuote};
 use nms_units::Lot;
 use nms_whole::WholeLines;
@@ -51,7 +53,16 @@ pub fn send_stream<W: Wait, R: Read + Drop, O: FeedWatch>(
 {
     let mut reader = open_records(alloc, WholeLines::new(source));
     let mut row = ByteRecord::new(alloc);
-    send_rows(rt, setup, strict, &mut reader, &mut row, watch, counts, sender)
+    send_rows(
+        rt,
+        setup,
+        strict,
+        &mut reader,
+        &mut row,
+        watch,
+        counts,
+        sender,
+    )
 }
 
 /// Sends the changes that a reader's records say, each read into the row.
@@ -83,7 +94,10 @@ fn send_rows<W: Wait, S: Read, O: FeedWatch>(
         if counts.records == MOST_SENT {
             return Err(FeedFault::TooLong);
         }
-        send_record(rt, setup, strict, row, watch, counts, sender)?;
+        match send_record(rt, setup, strict, row, watch, counts, sender) {
+            Ok(()) => {}
+            Err(fault) => return Err(fault),
+        }
     }
     Err(FeedFault::TooLong)
 }

@@ -1,5 +1,5 @@
 -- `answer_records`: what holds in each turn of its loop.
-use Rattle.std.proofs.Common.{ℕ, ◌≡◌, ◌≤◌, List, [], Option}
+use Rattle.std.proofs.Common.{ℕ, ◌≤◌, List, [], Option}
 use Rattle.nms_lines.specs.Records.{ReadsFrom}
 use Rattle.nms_answers.specs.Progress.{HasCome}
 use Rattle.nms_answers.specs.Told.{KeepsKnown}

@@ -1,5 +1,5 @@
 -- `send_rows`: what holds in each turn of its loop.
-use Rattle.std.proofs.Common.{ℕ, ◌≡◌, Bool, true, List, [], Option}
+use Rattle.std.proofs.Common.{ℕ, ◌≡◌, true, List, [], Option}
 use Rattle.nms_lines.specs.Layout.{Record}
 use Rattle.nms_lines.specs.Records.{ReadsFrom}
 use Rattle.nms_feeds.specs.Streams.{IsCounted, IsSentOf}
