@@ -4,7 +4,7 @@ use crate::telling::{tell_client, tell_feed, tell_tape};
 use nms_fees::Setup;
 use nms_serve_words::{ClientPaths, FeedPath, Request};
 use nms_serving::{
-    ClientStreams, Door, Doors, Means, Polled, Run, ServeFault, Served, Stream, serve,
+    ClientStreams, Door, Doors, Guarded, Means, Run, ServeFault, Served, Stream, serve,
 };
 use std::alloc::{AllocError, Global};
 use std::fs;
@@ -54,8 +54,8 @@ fn serve_streams<R: Threads + Wait + Sync>(
 ) -> Result<u8, ProgramFault> {
     let (tape, lengths) = open_files(means.host, means.alloc, path)?;
     let (tape, lengths) = (
-        Polled::new(tape, means.run),
-        Polled::new(lengths, means.run),
+        Guarded::new(tape, means.run),
+        Guarded::new(lengths, means.run),
     );
     let served = match serve(means, doors, tape, lengths) {
         Ok(served) => served,

@@ -5,8 +5,8 @@
 mod client;
 mod door;
 mod feeding;
+mod guarded;
 mod keeper;
-mod polled;
 mod report;
 mod run;
 mod serve_fault;
@@ -21,7 +21,7 @@ pub const MOST_BATCH: u64 = 64;
 pub use client::{ClientEnd, ClientStreams};
 pub use door::Door;
 pub use feeding::FeedEnd;
-pub use polled::Polled;
+pub use guarded::Guarded;
 pub use report::Refused;
 pub use run::Run;
 pub use serve_fault::ServeFault;

@@ -126,7 +126,7 @@ fn run_threads<'s, E, R: Threads + Wait + Sync, X: Write, Y: Write>(
     let mut clients = Vec::new(means.alloc);
     start_feeds(scope, means, doors.feeds, senders, &mut feeds);
     start_clients(scope, means, doors.clients, desks, &mut clients);
-    let _released = take_all(means, doors, keeper, &mut taker);
+    take_all(means, doors, keeper, &mut taker);
     Served {
         feeds: join_all(means, feeds),
         clients: join_all(means, clients),
