@@ -478,12 +478,12 @@ def full_tape(program, tool):
 def refused_records(program, tool):
     """Refused records: passed over and counted, at most ten a second reported; with --strict the first ends the run."""
     with Failing(program, tool, "many refused records") as it:
-        feed = it.room.write("a", (b"Q,NONE,ABC,A,1,1,1,1\n" + b'"\n' + GOOD) * 100_000)
+        feed = it.room.write("a", (b"Q,NONE,ABC,A,1,1,1,1\n" + b'"\n' + GOOD) * 20_000)
         started, began = it.room.start(*it.words(feed)), time.monotonic()
         status, _, errors = end_of(it.what, started)
         seconds, lines = time.monotonic() - began, errors.split("\n")
         reports = [line for line in lines if re.fullmatch(r"nms_serve: A:\d+: L[13]", line)]
-        check(it.what, status == 6 and "nms_serve: feed A: 300000 records, 200000 refused" in lines, (status, errors[-300:]))
+        check(it.what, status == 6 and "nms_serve: feed A: 60000 records, 40000 refused" in lines, (status, errors[-300:]))
         check(f"{it.what}: the first is reported", reports[:1] == ["nms_serve: A:1: L3"], reports[:3])
         check(f"{it.what}: at most 10 a second", len(reports) <= 10 * (seconds + 2), (len(reports), seconds))
     with Failing(program, tool, "a refused record of a strict run") as it:

@@ -1,13 +1,11 @@
 //! A request served: its files are opened, the board is opened, and the run is run.
 use crate::program_fault::ProgramFault;
 use crate::telling::{tell_client, tell_feed, tell_tape};
-use nms_feed::open_lane;
 use nms_fees::Setup;
 use nms_serve_words::{ClientPaths, FeedPath, Request};
 use nms_serving::{
-    ClientStreams, Door, Doors, Ends, Keeper, Means, Polled, Run, ServeFault, Served, Stream, serve,
+    ClientStreams, Door, Doors, Guarded, Means, Run, ServeFault, Served, Stream, serve,
 };
-use nms_versions::open_tape;
 use std::alloc::{AllocError, Global};
 use std::fs;
 use std::fs::{File, OpenOptions};
@@ -45,46 +43,32 @@ pub(crate) fn serve_request<R: Threads + Wait + Sync>(
         feeds: &feeds,
         clients: &clients,
     };
-    serve_streams(&means, &doors, setup, request.tape.as_str())
+    serve_streams(&means, &doors, request.tape.as_str())
 }
 
-/// Opens the files and the board, serves the streams, and reports what they came to.
+/// Opens the files, serves the streams, and reports what they came to.
 fn serve_streams<R: Threads + Wait + Sync>(
     means: &Means<'_, R>,
     doors: &Doors<'_>,
-    setup: &Setup,
     path: &str,
 ) -> Result<u8, ProgramFault> {
     let (tape, lengths) = open_files(means.host, means.alloc, path)?;
-    let Ok((senders, taker)) = open_lane(means.alloc, setup.queue(), setup.feeds()) else {
-        return Err(ProgramFault::Serving(ServeFault::NotBegun));
-    };
-    let Ok((publisher, desks)) = open_tape(means.alloc, means.rt, setup) else {
-        return Err(ProgramFault::Serving(ServeFault::NotBegun));
-    };
-    let mut keeper = Keeper::new(
-        means.alloc,
-        setup.roster(),
-        publisher,
-        Polled::new(tape, means.run),
-        Polled::new(lengths, means.run),
+    let (tape, lengths) = (
+        Guarded::new(tape, means.run),
+        Guarded::new(lengths, means.run),
     );
-    let ends = Ends {
-        senders,
-        taker,
-        desks,
+    let served = match serve(means, doors, tape, lengths) {
+        Ok(served) => served,
+        Err(fault) => return Err(ProgramFault::Serving(fault)),
     };
-    let served = serve(means, doors, &mut keeper, ends);
     tell_served(means.host, &served);
-    tell_tape(means.host, keeper.changes(), keeper.publishings());
-    keeper.end(means.rt);
     match means.run.fault() {
         Some(fault) => Err(ProgramFault::Serving(fault)),
         None => Ok(status_of(&served)),
     }
 }
 
-/// Reports what each feed and each client came to.
+/// Reports what each feed, each client and the tape came to.
 fn tell_served(host: &HostRuntime, served: &Served) {
     for end in &served.feeds {
         tell_feed(host, end);
@@ -92,6 +76,7 @@ fn tell_served(host: &HostRuntime, served: &Served) {
     for end in &served.clients {
         tell_client(host, end);
     }
+    tell_tape(host, served.changes, served.publishings);
 }
 
 /// The exit status of a run that came to its end.

@@ -3,7 +3,7 @@ ghost use Rattle.std.specs.Prelude.{◌≡◌};
 ghost use Rattle.nms_quote.specs.Roster.{sizes_of};
 
 use crate::door::Door;
-use crate::polled::Polled;
+use crate::guarded::Guarded;
 use crate::run::Run;
 use crate::serve_fault::ServeFault;
 use crate::serving::Means;
@@ -12,7 +12,6 @@ use nms_answers::{RequestCounts, answer_stream};
 use nms_versions::Desk;
 use std::fs::File;
 use std::io::{Read, Write};
-use std::os::fd::AsRawFd;
 use std::sync::Wait;
 use std::thread::Threads;
 use std::{io, thread};
@@ -111,7 +110,7 @@ fn opened(run: &Run<'_>, outcome: io::Result<File>, stream: Stream) -> Result<Fi
 }
 
 /// Answers the requests of a stream.
-fn answer_from<R, S: Read + AsRawFd + Drop, W: Write + AsRawFd + Drop>(
+fn answer_from<R, S: Read + Drop, W: Write + Drop>(
     means: &Means<'_, R>,
     number: u8,
     desk: &mut Desk,
@@ -121,12 +120,12 @@ fn answer_from<R, S: Read + AsRawFd + Drop, W: Write + AsRawFd + Drop>(
     requires sizes { desk.old.sizes ≡ sizes_of means.now.run.now.setup.now.roster }
 {
     let run = means.run;
-    let mut answers = Polled::new(answers, run);
+    let mut answers = Guarded::new(answers, run);
     match answer_stream(
         means.alloc,
         run.setup,
         desk,
-        Polled::new(requests, run),
+        Guarded::new(requests, run),
         &mut answers,
     ) {
         Ok(counts) => Ok(counts),

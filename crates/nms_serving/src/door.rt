@@ -1,24 +1,35 @@
-//! Paths that threads open, and how a thread ends that waits there for the other end of a FIFO.
+//! Paths that threads open, read and write, and how a thread ends that waits at a FIFO.
 use crate::run::Run;
+use std::alloc::Global;
 use std::fs::{File, OpenOptions};
-use std::io;
-use std::io::ErrorKind;
-use std::sync::atomic::{AtomicBool, Ordering};
+use std::io::{ErrorKind, Read, Write};
+use std::os::unix::fs::FileTypeExt;
+use std::thread::Threads;
+use std::time::Duration;
+use std::{fs, io, thread};
+
+/// How long a thread that wakes another keeps a FIFO open, in seconds: the process ends before.
+const KEPT: u64 = 86_400;
+
+/// Which end of a FIFO a thread of the run has.
+#[derive(Clone, Copy)]
+pub(crate) enum Side {
+    /// It reads.
+    Reads,
+    /// It writes.
+    Writes,
+}
 
 /// A path that a thread opens. To open a FIFO waits for its other end.
 #[derive(Drop)]
 pub struct Door<'a> {
     path: &'a str,
-    is_opening: AtomicBool,
 }
 
 impl<'a> Door<'a> {
-    /// Of a path that nobody opens yet.
+    /// Of a path.
     pub fn new(path: &'a str) -> Self {
-        Door {
-            path,
-            is_opening: AtomicBool::new(false),
-        }
+        Door { path }
     }
 
     /// Opens the path to read it.
@@ -33,28 +44,55 @@ impl<'a> Door<'a> {
 
     /// Opens the path, unless a fault has ended the run.
     fn open(&self, files: &HostRuntime, run: &Run<'_>, how: &OpenOptions) -> io::Result<File> {
-        // The flag is set before the run is looked at: so either the thread sees that the run has ended, or the one that
-        // ended it sees that the thread waits here.
-        self.is_opening.store(true, Ordering::SeqCst);
-        let opened = if run.is_stopped() {
-            Err(io::Error::from(ErrorKind::BrokenPipe))
-        } else {
-            how.open(files, self.path)
-        };
-        self.is_opening.store(false, Ordering::SeqCst);
-        opened
+        if run.is_stopped() {
+            return Err(io::Error::from(ErrorKind::BrokenPipe));
+        }
+        how.open(files, self.path)
     }
 
-    /// Lets a thread in that waits for the other end of a FIFO: opens both ends, which waits for nobody. The ends are to
-    /// be kept until that thread has ended.
-    pub(crate) fn release(&self, files: &HostRuntime) -> Option<File> {
-        if !self.is_opening.load(Ordering::SeqCst) {
-            return None;
+    /// Wakes the thread of the run that waits here at a FIFO, if one does. Another thread does that, which is left behind
+    /// when the process ends: it opens both ends of the FIFO and gives it a line feed, or takes what is in it.
+    pub(crate) fn wake<R: Threads>(&self, rt: &R, host: &HostRuntime, alloc: Global, side: Side) {
+        if !is_fifo(host, self.path) {
+            return;
         }
-        OpenOptions::new()
-            .read(true)
-            .write(true)
-            .open(files, self.path)
-            .ok()
+        let Ok(path) = String::from_str(alloc, self.path) else {
+            return;
+        };
+        let host = *host;
+        let _left = thread::spawn(rt, move || keep_open(&host, path.as_str(), side));
+    }
+}
+
+/// Whether there is a FIFO at a path, or a pipe without a name.
+fn is_fifo(host: &HostRuntime, path: &str) -> bool {
+    match fs::metadata(host, path) {
+        Ok(found) => found.file_type().is_fifo(),
+        Err(_) => false,
+    }
+}
+
+/// Opens both ends of a FIFO and keeps them open, so that no thread waits for the other end, for bytes or for room.
+fn keep_open(host: &HostRuntime, path: &str, side: Side) {
+    let Ok(mut file) = OpenOptions::new().read(true).write(true).open(host, path) else {
+        return;
+    };
+    match side {
+        Side::Reads => {
+            let _woken = file.write(b"\n");
+            thread::sleep(host, Duration::from_secs(KEPT));
+        }
+        Side::Writes => take_all_bytes(&mut file),
+    }
+}
+
+/// Takes the bytes of a FIFO for as long as it can be read.
+fn take_all_bytes(file: &mut File) {
+    let mut bytes = [0; 4096];
+    for _ in 0..u64::MAX {
+        match file.read(&mut bytes) {
+            Ok(count) if count > 0 => {}
+            _ => return,
+        }
     }
 }

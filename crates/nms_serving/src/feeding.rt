@@ -3,7 +3,7 @@ ghost use Rattle.std.specs.Prelude.{◌≡◌, []};
 ghost use Rattle.nms_feeds.specs.Streams.{IsCounted};
 
 use crate::door::Door;
-use crate::polled::Polled;
+use crate::guarded::Guarded;
 use crate::run::Run;
 use crate::serve_fault::ServeFault;
 use crate::serving::Means;
@@ -61,7 +61,7 @@ fn read_feed<R: Wait>(
         means.alloc,
         run.setup,
         run.strict,
-        Polled::new(file, run),
+        Guarded::new(file, run),
         &watcher,
         counts,
         sender,

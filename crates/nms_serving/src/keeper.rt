@@ -19,7 +19,7 @@ use std::io::Write;
 use std::sync::Wait;
 
 /// Takes changes in, writes each batch to the tape's file and then publishes it. It is not `Drop`: end it by `end`.
-pub struct Keeper<'a, X: Write, Y: Write> {
+pub(crate) struct Keeper<'a, X: Write, Y: Write> {
     roster: &'a Roster,
     publisher: Publisher,
     /// The file of the tape.
@@ -36,7 +36,7 @@ pub struct Keeper<'a, X: Write, Y: Write> {
 
 impl<'a, X: Write, Y: Write> Keeper<'a, X, Y> {
     /// Keeps a tape that was just opened.
-    pub fn new(
+    pub(crate) fn new(
         alloc: Global,
         roster: &'a Roster,
         publisher: Publisher,
@@ -57,12 +57,12 @@ impl<'a, X: Write, Y: Write> Keeper<'a, X, Y> {
     }
 
     /// How many changes were taken in.
-    pub fn changes(&self) -> u64 {
+    pub(crate) fn changes(&self) -> u64 {
         self.publisher.tape().len() as u64
     }
 
     /// How often changes were published.
-    pub fn publishings(&self) -> u64 {
+    pub(crate) fn publishings(&self) -> u64 {
         self.publishings
     }
 
@@ -136,7 +136,7 @@ impl<'a, X: Write, Y: Write> Keeper<'a, X, Y> {
     }
 
     /// Ends the publishing. Desks show nothing from then on.
-    pub fn end<R: Wait>(self, rt: &R)
+    pub(crate) fn end<R: Wait>(self, rt: &R)
     where
         X: Drop,
         Y: Drop,

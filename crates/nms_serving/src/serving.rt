@@ -11,8 +11,8 @@ use crate::keeper::Keeper;
 use crate::run::Run;
 use crate::serve_fault::ServeFault;
 use crate::taking::{Doors, take_all};
-use nms_feed::{Sender, Taker};
-use nms_versions::Desk;
+use nms_feed::{Sender, Taker, open_lane};
+use nms_versions::{Desk, open_tape};
 use std::alloc::Global;
 use std::io::Write;
 use std::sync::Wait;
@@ -30,13 +30,13 @@ pub struct Means<'a, R> {
 
 /// The ends of a board that was opened: what its threads send, take and look by.
 #[derive(Drop)]
-pub struct Ends {
+pub(crate) struct Ends {
     /// A sender for each feed, in order.
-    pub senders: Vec<Sender>,
+    senders: Vec<Sender>,
     /// The other end of the senders' lane.
-    pub taker: Taker,
+    taker: Taker,
     /// A desk for each client, or more.
-    pub desks: Vec<Desk>,
+    desks: Vec<Desk>,
 }
 
 /// What the threads of a run came to.
@@ -46,13 +46,44 @@ pub struct Served {
     pub feeds: Vec<FeedEnd>,
     /// The clients, in order.
     pub clients: Vec<ClientEnd>,
+    /// How many changes the tape has.
+    pub changes: u64,
+    /// How often changes were published.
+    pub publishings: u64,
 }
 
-/// Serves feeds and clients, each in a thread of its own, until all of them have ended or a fault ends the run
-/// (`Run::fault`). What the feeds send is taken and published meanwhile. All threads have ended when it returns.
+/// Opens a board, and serves feeds and clients, each in a thread of its own, until all of them have ended or a fault ends
+/// the run (`Run::fault`). What the feeds send is taken, written to the tape's file and published meanwhile. All threads
+/// have ended when it returns.
 ///
-/// There is a door for each sender's feed, in order, and a desk for each client.
-pub fn serve<R: Threads + Wait + Sync, X: Write, Y: Write>(
+/// There is a door for each feed of the setup, in order, and there are no more clients than desks. `NotBegun` if no board
+/// was opened.
+pub fn serve<R: Threads + Wait + Sync, X: Write + Drop, Y: Write + Drop>(
+    means: &Means<'_, R>,
+    doors: &Doors<'_>,
+    tape: X,
+    lengths: Y,
+) -> Result<Served, ServeFault> {
+    let setup = means.run.setup;
+    let Ok((senders, taker)) = open_lane(means.alloc, setup.queue(), setup.feeds()) else {
+        return Err(ServeFault::NotBegun);
+    };
+    let Ok((publisher, desks)) = open_tape(means.alloc, means.rt, setup) else {
+        return Err(ServeFault::NotBegun);
+    };
+    let mut keeper = Keeper::new(means.alloc, setup.roster(), publisher, tape, lengths);
+    let ends = Ends {
+        senders,
+        taker,
+        desks,
+    };
+    let served = serve_board(means, doors, &mut keeper, ends);
+    keeper.end(means.rt);
+    Ok(served)
+}
+
+/// Serves feeds and clients on a board that was just opened.
+fn serve_board<R: Threads + Wait + Sync, X: Write, Y: Write>(
     means: &Means<'_, R>,
     doors: &Doors<'_>,
     keeper: &mut Keeper<'_, X, Y>,
@@ -95,10 +126,12 @@ fn run_threads<'s, E, R: Threads + Wait + Sync, X: Write, Y: Write>(
     let mut clients = Vec::new(means.alloc);
     start_feeds(scope, means, doors.feeds, senders, &mut feeds);
     start_clients(scope, means, doors.clients, desks, &mut clients);
-    let _released = take_all(means, doors, keeper, &mut taker);
+    take_all(means, doors, keeper, &mut taker);
     Served {
         feeds: join_all(means, feeds),
         clients: join_all(means, clients),
+        changes: keeper.changes(),
+        publishings: keeper.publishings(),
     }
 }
 

@@ -1,12 +1,12 @@
 //! The taker's loop: it takes what the feeds send, and publishes it, until all streams have ended.
 use crate::client::ClientStreams;
-use crate::door::Door;
+use crate::door::{Door, Side};
 use crate::keeper::Keeper;
 use crate::serving::Means;
 use nms_feed::Taker;
-use std::fs::File;
 use std::io::Write;
 use std::sync::Wait;
+use std::thread::Threads;
 
 /// The paths that the threads of a run open.
 #[derive(Clone, Copy)]
@@ -19,28 +19,27 @@ pub struct Doors<'a> {
 
 /// Takes the changes that the feeds send, and publishes them after each 64 and when none is waiting, until all feeds and
 /// clients have ended. After a fault it takes them for nothing, so that no feed waits for room.
-pub(crate) fn take_all<R: Wait, X: Write, Y: Write>(
+pub(crate) fn take_all<R: Threads + Wait + Sync, X: Write, Y: Write>(
     means: &Means<'_, R>,
     doors: &Doors<'_>,
     keeper: &mut Keeper<'_, X, Y>,
     taker: &mut Taker,
-) -> Vec<File> {
+) {
     let run = means.run;
-    let mut released = Vec::new(means.alloc);
-    let mut is_released = false;
+    let mut are_woken = false;
     for _ in means.rt.forever() {
         // The run is looked at before the lane: what a stream sent before its end is still found.
         let is_over = run.is_over();
-        if run.is_stopped() && !is_released {
-            release_all(means, doors, &mut released);
-            is_released = true;
+        if run.is_stopped() && !are_woken {
+            wake_all(means, doors);
+            are_woken = true;
         }
         if take_one(means, keeper, taker) {
             continue;
         }
         publish(means, keeper);
         if is_over {
-            return released;
+            return;
         }
         run.sleep(means.rt);
     }
@@ -76,25 +75,26 @@ fn publish<R: Wait, X: Write, Y: Write>(means: &Means<'_, R>, keeper: &mut Keepe
     }
 }
 
-/// Lets in all threads that wait for the other end of a FIFO. They find that the run has ended.
-fn release_all<R>(means: &Means<'_, R>, doors: &Doors<'_>, released: &mut Vec<File>) {
+/// Wakes all threads that wait at a FIFO. They find that the run has ended.
+fn wake_all<R: Threads>(means: &Means<'_, R>, doors: &Doors<'_>) {
     for door in doors.feeds {
-        release(means, door, released);
+        wake(means, door, Side::Reads);
     }
     for client in doors.clients {
         match client {
-            ClientStreams::Standard => {}
+            ClientStreams::Standard => {
+                wake(means, &Door::new("/proc/self/fd/0"), Side::Reads);
+                wake(means, &Door::new("/proc/self/fd/1"), Side::Writes);
+            }
             ClientStreams::Paths { input, output } => {
-                release(means, input, released);
-                release(means, output, released);
+                wake(means, input, Side::Reads);
+                wake(means, output, Side::Writes);
             }
         }
     }
 }
 
-/// Lets a thread in that waits at a door.
-fn release<R>(means: &Means<'_, R>, door: &Door<'_>, released: &mut Vec<File>) {
-    if let Some(file) = door.release(means.host) {
-        let _kept = released.push(file);
-    }
+/// Wakes the thread that waits at a door.
+fn wake<R: Threads>(means: &Means<'_, R>, door: &Door<'_>, side: Side) {
+    door.wake(means.rt, means.host, means.alloc, side);
 }

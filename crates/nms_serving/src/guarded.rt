@@ -1,0 +1,42 @@
+//! Streams of a run, at which a thread ends when the run does.
+use crate::run::Run;
+use std::io;
+use std::io::{ErrorKind, Read, Write};
+
+/// A stream of a run. When a fault has ended the run, a reader is at its end, and a writer fails.
+#[derive(Drop)]
+pub struct Guarded<'a, F> {
+    stream: F,
+    run: &'a Run<'a>,
+}
+
+impl<'a, F> Guarded<'a, F> {
+    /// Over a stream of the run.
+    pub fn new(stream: F, run: &'a Run<'a>) -> Self {
+        Guarded { stream, run }
+    }
+}
+
+impl<F: Read> Read for Guarded<'_, F> {
+    fn read(&mut self, buf: &mut [u8]) -> io::Result<usize> {
+        if self.run.is_stopped() {
+            return Ok(0);
+        }
+        let read = self.stream.read(buf);
+        // What woke the thread is no part of the stream.
+        if self.run.is_stopped() { Ok(0) } else { read }
+    }
+}
+
+impl<F: Write> Write for Guarded<'_, F> {
+    fn write(&mut self, buf: &[u8]) -> io::Result<usize> {
+        if self.run.is_stopped() {
+            return Err(io::Error::from(ErrorKind::BrokenPipe));
+        }
+        self.stream.write(buf)
+    }
+
+    fn flush(&mut self) -> io::Result<()> {
+        self.stream.flush()
+    }
+}
