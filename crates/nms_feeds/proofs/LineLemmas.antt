@@ -1,5 +1,6 @@
 -- Each line of a stream is passed on and read by itself.
-use Rattle.std.proofs.Common.{ℕ, ◌≡◌, ◌≤◌, ◌++◌, Bool, true, false, cond, ◌==◌, ◌&&◌, ◌||◌, not, List, [], ◌∷◌, length, Option, Some, refl, ap, sym}
+use Rattle.std.proofs.Common.{ℕ, ◌≡◌, ◌≤◌, ◌++◌, Bool, true, false, cond, ◌==◌, ◌&&◌, ◌||◌, not, List, [], ◌∷◌, length, Option, Some}
+use Rattle.std.proofs.Common.{refl, ap, sym}
 use Rattle.std.proofs.Common.{subst, ◌∙◌, append_assoc, lit≤}
 use Rattle.std.specs.Prelude.{nat_le}
 use Rattle.std.proofs.lemmas.List.{append-nil}
@@ -25,7 +26,8 @@ whole_line : (begun line rest : List ℕ) → has_byte 10 line ≡ false
 whole_line begun [] rest none = ap (λ (l : List ℕ). passed l ++ whole_after [] rest) (sym (append-nil begun))
 whole_line begun (byte ∷ line) rest none =
     let two = neither (byte == 10) (has_byte 10 line) none in
-    ap (λ (b : Bool). cond b (passed begun ++ whole_after [] (line ++ 10 ∷ rest)) (whole_after (begun ++ byte ∷ []) (line ++ 10 ∷ rest))) two.0
+    ap (λ (b : Bool). cond b (passed begun ++ whole_after [] (line ++ 10 ∷ rest)) (whole_after (begun ++ byte ∷ []) (line ++ 10 ∷ rest)))
+        two.0
     ∙ whole_line (begun ++ byte ∷ []) line rest two.1
     ∙ ap (λ (l : List ℕ). passed l ++ whole_after [] rest) (append_assoc begun (byte ∷ []) line)
 
@@ -103,7 +105,8 @@ abbrev no_quote : ℕ → Bool → State × Action
 no_quote byte comma = cond comma (state.StartField, action.EndField) (no_comma (byte == 13) (byte == 10))
 
 within_field : (start : Bool) (byte : ℕ) → (byte == 34) ≡ false → step default_config (field_state start) byte ≡ no_quote byte (byte == 44)
-within_field true byte quote = ap (λ (q : Bool). let to : State × Action = cond q (state.InQuoted, action.Skip) (no_quote byte (byte == 44)) in to) quote
+within_field true byte quote = ap
+    (λ (q : Bool). let to : State × Action = cond q (state.InQuoted, action.Skip) (no_quote byte (byte == 44)) in to) quote
 within_field false byte quote = refl
 
 at_comma : (start : Bool) (byte : ℕ) → (byte == 34) ≡ false → (byte == 44) ≡ true
@@ -127,7 +130,8 @@ at_start byte return feed = cond (return || feed) (state.StartRecord, action.Ski
 -- a line ends its record, whatever the text after it is
 abbrev EndsRecord : Bool → Record → List ℕ → List ℕ → Type 0
 EndsRecord start fields field line = (whole : Record) × (return : Bool) × ((text : List ℕ)
-    → next_record default_config (field_state start) fields field (line ++ 10 ∷ text) ≡ Some (whole, state_after return, left_after return ++ text))
+    → next_record default_config (field_state start) fields field (line ++ 10 ∷ text)
+    ≡ Some (whole, state_after return, left_after return ++ text))
 
 ends_here : (start : Bool) (fields : Record) (field : List ℕ) → EndsRecord start fields field []
 unfolding next_record
@@ -207,7 +211,8 @@ after_end_of_line false text records are = are
 after_end_of_line true text records are = same_records state.AfterCr state.StartRecord (10 ∷ text) text records refl are
 
 -- nor is an empty line
-at_feed : (text : List ℕ) → next_record default_config state.StartRecord [] [] (10 ∷ text) ≡ next_record default_config state.StartRecord [] [] text
+at_feed : (text : List ℕ) → next_record default_config state.StartRecord [] [] (10 ∷ text)
+    ≡ next_record default_config state.StartRecord [] [] text
 unfolding next_record
 at_feed text = refl
 
@@ -216,7 +221,8 @@ at_blank : (byte : ℕ) (text : List ℕ) → (byte == 13) ≡ true
 at_blank byte text return =
     let skips : step default_config state.StartRecord byte ≡ (state.StartRecord, action.Skip) =
     ap (λ (r : Bool). at_start byte r (byte == 10)) return in
-    one_byte state.StartRecord [] [] byte (10 ∷ text) ∙ ap (λ (to : State × Action). after_step to [] [] byte (10 ∷ text)) skips ∙ at_feed text
+    one_byte state.StartRecord [] [] byte (10 ∷ text) ∙ ap (λ (to : State × Action). after_step to [] [] byte (10 ∷ text)) skips
+    ∙ at_feed text
 
 -- a byte that begins a record begins its first field
 at_first : (byte : ℕ) (rest : List ℕ) → (byte == 13) ≡ false → (byte == 10) ≡ false
@@ -229,7 +235,8 @@ at_first byte rest return feed =
 
 -- what a line adds to the records of the text after it
 abbrev Adds : List ℕ → List ℕ → List Record → Type 0
-Adds line text more = (one : List Record) × AreRecordsOf (line ++ 10 ∷ []) one × AreRecordsOf (line ++ 10 ∷ text) (one ++ more) × (length one ≤ 1)
+Adds line text more = (one : List Record) × AreRecordsOf (line ++ 10 ∷ []) one × AreRecordsOf (line ++ 10 ∷ text) (one ++ more)
+    × (length one ≤ 1)
 
 adds_record : (byte : ℕ) (line text : List ℕ) (more : List Record) → (byte == 13) ≡ false → (byte == 10) ≡ false
     → EndsRecord true [] [] (byte ∷ line) → AreRecordsOf text more → Adds (byte ∷ line) text more
@@ -271,7 +278,8 @@ read_alone line rest more none are =
     let shown = passed_plain line (is_fit line) refl none in
     let added = adds shown.0 (whole_lines rest) more shown.2 are in
     let all : whole_lines (line ++ 10 ∷ rest) ≡ shown.0 ++ 10 ∷ whole_lines rest =
-    whole_line [] line rest none ∙ ap (λ (t : List ℕ). t ++ whole_lines rest) shown.1 ∙ append_assoc shown.0 (10 ∷ []) (whole_lines rest) in (
+    whole_line [] line rest none ∙ ap (λ (t : List ℕ). t ++ whole_lines rest) shown.1
+    ∙ append_assoc shown.0 (10 ∷ []) (whole_lines rest) in (
       added.0,
       added.3,
       subst (λ (t : List ℕ). AreRecordsOf t added.0) (sym shown.1) added.1,
