@@ -19,7 +19,7 @@ use Rattle.nms_answers.specs.Told.{look_at}
 abbrev OneRequest : Settings → ℕ → Result Line LineFault → Option Tape → List Record → Type 0
 OneRequest settings number read look told = (events : List Event) × script.AnswersReading settings number read events told
     × ((looks : List (Option Tape)) (rest : List Event) → AreLooksAt settings looks rest
-        → AreLooksAt settings (look ∷ looks) (events ++ rest))
+    → AreLooksAt settings (look ∷ looks) (events ++ rest))
 
 read_as_script : (settings : Settings) (number : ℕ) (read : Result Line LineFault) (look : Option Tape) (told : List Record)
     → AnswersReading settings number read look told → OneRequest settings number read look told

@@ -27,7 +27,7 @@ whole_line begun [] rest none = ap (λ (l : List ℕ). passed l ++ whole_after [
 whole_line begun (byte ∷ line) rest none =
     let two = neither (byte == 10) (has_byte 10 line) none in
     ap (λ (b : Bool). cond b (passed begun ++ whole_after [] (line ++ 10 ∷ rest)) (whole_after (begun ++ byte ∷ []) (line ++ 10 ∷ rest)))
-        two.0
+    two.0
     ∙ whole_line (begun ++ byte ∷ []) line rest two.1
     ∙ ap (λ (l : List ℕ). passed l ++ whole_after [] rest) (append_assoc begun (byte ∷ []) line)
 

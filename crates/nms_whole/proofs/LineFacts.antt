@@ -97,7 +97,7 @@ spoilt line byte more bad = elim (one_of (byte == 34) (nat_le MOST_LINE (length 
       (returns_within (line ++ byte ∷ more)) found
   | inr (inl long) ↦
       let over : nat_le (length (line ++ byte ∷ more)) MOST_LINE ≡ false = grind (arith, nat_tests, length-append line (byte ∷ more), long)
-          in
+      in
       first_fails (nat_le (length (line ++ byte ∷ more)) MOST_LINE) (has_byte 34 (line ++ byte ∷ more))
       (returns_within (line ++ byte ∷ more)) over
   | inr (inr return) ↦
