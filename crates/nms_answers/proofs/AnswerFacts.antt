@@ -59,7 +59,8 @@ tells_best settings old new number symbol version view bid offer before after si
   text,
 )
 
-pub tells_through : (settings : Settings) (old new : Knowing) (number symbol price : ℕ) (version : Tape) (view : Seen) (before after : List ℕ)
+pub tells_through : (settings : Settings) (old new : Knowing) (number symbol price : ℕ) (version : Tape) (view : Seen)
+    (before after : List ℕ)
     → old.sizes ≡ sizes_of settings.roster → view ≡ view_of old.sizes version symbol → Looks old new version
     → after ≡ before ++ text_of (through_records settings.roster number view price (traded_through_at view price))
     → AppendsOn (TellsThrough settings number symbol price) old new before after

@@ -2,3 +2,4 @@ mod AnswerFacts
 mod KnownFacts
 mod ProgressFacts
 mod RequestFacts
+mod ScriptLemmas

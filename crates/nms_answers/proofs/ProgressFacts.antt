@@ -26,7 +26,8 @@ use Rattle.nms_answers.specs.declared.request_counts.RequestCounts.{RequestCount
 use Rattle.nms_answers.proofs.KnownFacts.{keeps_itself}
 
 -- one more request is answered
-answers_push : (settings : Settings) (number : ℕ) (requests : List Record) (fields : Record) (looks : List (Option Tape)) (look : Option Tape)
+answers_push : (settings : Settings) (number : ℕ) (requests : List Record) (fields : Record) (looks : List (Option Tape))
+    (look : Option Tape)
     (told more : List Record)
     → AnswersFrom settings number requests looks told → AnswersRequest settings (number + length requests) fields look more
     → AnswersFrom settings number (requests ++ fields ∷ []) (looks ++ look ∷ []) (told ++ more)
@@ -85,7 +86,8 @@ pub comes_on : {R : Type 0} (remaining : R → Option (List ℕ)) (settings : Se
     → ReadsFrom remaining next bytes (come.requests ++ fields ∷ []) → empty ≡ []
     → Answered settings (done + 1) fields now new empty text is_refused → shown ≡ text → Appends after last shown
     → HasCome remaining settings bytes next first new before last (done + 1) (refused + cond is_refused 1 0)
-comes_on remaining settings bytes reader next first now new before after last done refused fields empty text shown is_refused come reads none
+comes_on remaining settings bytes reader next first now new before after last done refused fields empty text shown is_refused come reads
+    none
     answered same writes =
     let look = answered.0 in
     let told = answered.1 in

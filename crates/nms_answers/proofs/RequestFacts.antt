@@ -34,7 +34,8 @@ bound (Err why) then x is = absurd (cc)
 looks_like : (one other : Line) → (let r : Result Line LineFault = Ok one in r) ≡ Ok other → is_look one ≡ true → is_look other ≡ true
 looks_like one other same look = let is : one ≡ other = cc in subst (λ (l : Line). is_look l ≡ true) is look
 
-best_looks : (roster : Listing) (from : Reading) (fields : Record) (said : Line) → best_reading roster from fields ≡ Ok said → is_look said ≡ true
+best_looks : (roster : Listing) (from : Reading) (fields : Record) (said : Line) → best_reading roster from fields ≡ Ok said
+    → is_look said ≡ true
 best_looks roster from fields said is =
     let symbol = bound (symbol_in roster (field fields 2)) _ said is in
     let desk = bound (desk_below (desks_of from) (field fields 1)) _ said symbol.2 in
@@ -48,7 +49,8 @@ through_looks roster from fields said is =
     let desk = bound (desk_below (desks_of from) (field fields 1)) _ said price.2 in
     looks_like _ said desk.2 refl
 
-sweep_looks : (roster : Listing) (from : Reading) (fields : Record) (said : Line) → sweep_reading roster from fields ≡ Ok said → is_look said ≡ true
+sweep_looks : (roster : Listing) (from : Reading) (fields : Record) (said : Line) → sweep_reading roster from fields ≡ Ok said
+    → is_look said ≡ true
 sweep_looks roster from fields said is =
     let self_help = bound (self_help_in roster fields) _ said is in
     let symbol = bound (symbol_in roster (field fields 3)) _ said self_help.2 in

@@ -22,8 +22,8 @@ pub record HasCome {R : Type 0} (remaining : R → Option (List ℕ)) (settings 
   pub refusals : count_by is_none answered.looks ≡ refused
 
 -- a fault ended the stream there, or the writer's failure within the last answer
-pub record IsEnd (settings : Settings) (bytes : Option (List ℕ)) (first now : Knowing) (before after : Option (List ℕ)) (why : AnswerFault) :
-    Type 0 where
+pub record IsEnd (settings : Settings) (bytes : Option (List ℕ)) (first now : Knowing) (before after : Option (List ℕ))
+    (why : AnswerFault) : Type 0 where
   pub stopped : why ≢ fault.WriteFault → AnswersFirst settings bytes first now before after
   pub cut : why ≡ fault.WriteFault → AnswersInPart settings bytes first now before after
 

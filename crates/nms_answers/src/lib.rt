@@ -3,6 +3,7 @@
 
 mod answer_fault;
 mod answering;
+mod laws;
 mod request;
 mod request_counts;
 mod request_stream;
@@ -12,6 +13,7 @@ pub const MOST_REQUESTS: u64 = 1 << 40;
 
 pub use answer_fault::AnswerFault;
 pub use answering::{answer_best, answer_order, answer_through};
+pub use laws::a_client_is_answered_as_a_script;
 pub use request::answer_request;
 pub use request_counts::RequestCounts;
 pub use request_stream::answer_stream;

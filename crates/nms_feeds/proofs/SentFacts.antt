@@ -19,7 +19,8 @@ either_more : (said : Option Change) (changes later : List Change) → cons_opti
 either_more None changes later = refl
 either_more (Some change) changes later = refl
 
-said_more : (f : Record → Option Change) (records more : List Record) → filter_map f (records ++ more) ≡ filter_map f records ++ filter_map f more
+said_more : (f : Record → Option Change) (records more : List Record) → filter_map f (records ++ more)
+    ≡ filter_map f records ++ filter_map f more
 said_more f [] more = refl
 said_more f (fields ∷ records) more = ap (cons_option (f fields)) (said_more f records more)
     ∙ either_more (f fields) (filter_map f records) (filter_map f more)
@@ -29,7 +30,8 @@ all_more P [] ys one other = other
 all_more P (x ∷ xs) ys one other = (one.0, all_more P xs ys one.1 other)
 
 -- nothing was read yet
-pub sent_none : (roster : Listing) (feed : Feed) (sent : List Change) (counts : FeedCounts) → IsSentOf roster feed [] sent sent counts counts
+pub sent_none : (roster : Listing) (feed : Feed) (sent : List Change) (counts : FeedCounts)
+    → IsSentOf roster feed [] sent sent counts counts
 sent_none roster feed sent counts = record { sent = sym (append-nil sent); own = tt; counted = omega arith }
 
 -- records, and then more of them
@@ -72,7 +74,8 @@ sent_no roster feed fields why old new before after says is counted =
     }
 
 -- a record that ends the reading, after these
-pub refused_at : (roster : Listing) (feed : Feed) (bytes : Option (List ℕ)) (records : List Record) (fields : Record) (first now : FeedCounts)
+pub refused_at : (roster : Listing) (feed : Feed) (bytes : Option (List ℕ)) (records : List Record) (fields : Record)
+    (first now : FeedCounts)
     (strict : Bool) (why : FeedFault)
     → now.records ≡ first.records + length records → BeginRecords bytes (records ++ fields ∷ [])
     → IsRefusal strict (now.records + 1) (feed_reading roster feed fields) why → IsRefusedAt roster feed bytes first strict why

@@ -48,19 +48,22 @@ pub record IsCounted (sent : List Change) (counts : FeedCounts) : Type 0 where
   pub within : counts.records ≤ MOST_SENT
 
 -- what was sent of these records: the changes that they say, in order, each of the feed, and each record was counted
-pub record IsSentOf (roster : Listing) (feed : Feed) (records : List Record) (old new : List Change) (before after : FeedCounts) : Type 0 where
+pub record IsSentOf (roster : Listing) (feed : Feed) (records : List Record) (old new : List Change) (before after : FeedCounts) :
+    Type 0 where
   pub sent : new ≡ old ++ changes_said roster feed records
   pub own : AllByRecursion (IsOwn roster feed) (changes_said roster feed records)
   pub counted : after.records ≡ before.records + length records
 
 -- all records of a text were read, and this was sent of them
-pub record HasRead (roster : Listing) (feed : Feed) (bytes : Option (List ℕ)) (old new : List Change) (before after : FeedCounts) : Type 0 where
+pub record HasRead (roster : Listing) (feed : Feed) (bytes : Option (List ℕ)) (old new : List Change) (before after : FeedCounts) :
+    Type 0 where
   pub records : List Record
   pub all : AreAllRecords bytes records
   pub sent : IsSentOf roster feed records old new before after
 
 -- a text begins with these records, and this was sent of them
-pub record HasBegun (roster : Listing) (feed : Feed) (bytes : Option (List ℕ)) (old new : List Change) (before after : FeedCounts) : Type 0 where
+pub record HasBegun (roster : Listing) (feed : Feed) (bytes : Option (List ℕ)) (old new : List Change) (before after : FeedCounts) :
+    Type 0 where
   pub records : List Record
   pub begin : BeginRecords bytes records
   pub sent : IsSentOf roster feed records old new before after

@@ -1,5 +1,6 @@
 -- What is passed on if only the good bytes of a line are held is what is passed on of the lines.
-use Rattle.std.proofs.Common.{ℕ, ◌≡◌, ◌≢◌, ◌-◌, ◌++◌, ◌⊎◌, suc, Option, Some, None, inl, inr, Bool, true, false, cond, not, ◌==◌, ◌&&◌, ◌||◌, List, [], ◌∷◌, length, refl, ap, sym}
+use Rattle.std.proofs.Common.{ℕ, ◌≡◌, ◌≢◌, ◌-◌, ◌++◌, ◌⊎◌, suc, Option, Some, None, inl, inr, Bool, true, false, cond, not, ◌==◌, ◌&&◌}
+use Rattle.std.proofs.Common.{◌||◌, List, [], ◌∷◌, length, refl, ap, sym}
 use Rattle.std.proofs.Common.{subst, ◌∙◌, arith, append_assoc, length-append}
 use Rattle.std.specs.Prelude.{nat_le, slice_get}
 use Rattle.std.proofs.lemmas.List.{append-nil}
@@ -95,7 +96,8 @@ spoilt line byte more bad = elim (one_of (byte == 34) (nat_le MOST_LINE (length 
       second_fails (nat_le (length (line ++ byte ∷ more)) MOST_LINE) (has_byte 34 (line ++ byte ∷ more))
       (returns_within (line ++ byte ∷ more)) found
   | inr (inl long) ↦
-      let over : nat_le (length (line ++ byte ∷ more)) MOST_LINE ≡ false = grind (arith, nat_tests, length-append line (byte ∷ more), long) in
+      let over : nat_le (length (line ++ byte ∷ more)) MOST_LINE ≡ false = grind (arith, nat_tests, length-append line (byte ∷ more), long)
+      in
       first_fails (nat_le (length (line ++ byte ∷ more)) MOST_LINE) (has_byte 34 (line ++ byte ∷ more))
       (returns_within (line ++ byte ∷ more)) over
   | inr (inr return) ↦
@@ -160,7 +162,8 @@ step begun line byte bytes bad true rest stands = rw (feeds_same begun line bad 
 step begun line byte bytes bad false rest stands = within begun line byte bytes bad (spoils line byte) rest stands refl
 
 -- the bytes to come make the same of both
-goes_on : (begun line : List ℕ) (bad : Bool) (bytes : List ℕ) → StandsFor begun line bad → given_after line bad bytes ≡ whole_after begun bytes
+goes_on : (begun line : List ℕ) (bad : Bool) (bytes : List ℕ) → StandsFor begun line bad → given_after line bad bytes
+    ≡ whole_after begun bytes
 goes_on begun line bad [] stands = ends_same begun line bad stands
 goes_on begun line bad (byte ∷ bytes) stands =
     step begun line byte bytes bad (byte == 10) (λ b l is_bad had. goes_on b l is_bad bytes had) stands

@@ -25,5 +25,6 @@ returns-in-Ok-clause-told c =
     let after = c.tell_through.new.out.items in
     tells_through c.args.setup.now c.args.desk.now c.look.new.desk c.args.number c.args.sym c.args.price seen.0 view before after
     c.requires.sizes seen.2 seen.1
-    (subst (λ (r : Listing). after ≡ before ++ text_of (through_records r c.args.number view c.args.price (traded_through_at view c.args.price)))
+    (subst (λ (r : Listing). after ≡ before ++ text_of
+    (through_records r c.args.number view c.args.price (traded_through_at view c.args.price)))
     c.roster.ensures c.in-Ok.ensures)

@@ -13,7 +13,8 @@ pub returns-clause-look : goal.returns-clause-look
 returns-clause-look c =
     let fields = fields_of c.args.row.now in
     let named : c.kind_named.result ≡ kind_named (field fields 0) = c.kind_named.ensures ∙ ap kind_named c.field.ensures in
-    let asked : is_asked (kind_named (field fields 0)) ≡ true = ap is_asked (sym named) ∙ sym c.is_asked.ensures ∙ c.if-not-is_asked.false in
+    let asked : is_asked (kind_named (field fields 0)) ≡ true = ap is_asked (sym named) ∙ sym c.is_asked.ensures ∙ c.if-not-is_asked.false
+    in
     looks_read c.args.setup.now fields c.read_line.result asked
     (c.read_line.ensures.line ∙ ap (λ (r : Listing). reading r (source.Script c.desks-desks.result) fields) c.roster.ensures
     ∙ ap (λ (d : ℕ). reading c.args.setup.now.roster (source.Script d) fields) c.desks-desks.ensures.value)

@@ -13,9 +13,11 @@ returns-clause-bytes c =
     let len : length copied ≡ n = omega (arith, c.copy_from_slice.ensures.len, length-take n c.args.buf.now, c.min-count.ensures) in
     let is_copied : copied ≡ take n ready =
     c.copy_from_slice.ensures.after
-    ∙ ap (λ (l : List ℕ). take n (take (length c.as_slice.result.now - c.args.self.now.given) (drop c.args.self.now.given l))) c.as_slice.ensures.value
+    ∙ ap (λ (l : List ℕ). take n (take (length c.as_slice.result.now - c.args.self.now.given) (drop c.args.self.now.given l)))
+    c.as_slice.ensures.value
     ∙ ap (take n) (take_all (length c.as_slice.result.now - c.args.self.now.given) ready
     (omega (arith, ap length c.as_slice.ensures.value, length-drop c.args.self.now.given c.args.self.now.ready.items))) in
     let front : take n (put_mid 0 n c.args.buf.now copied) ≡ take n ready = take_at copied _ n len ∙ is_copied in
-    let left : drop (c.args.self.now.given + n) c.args.self.now.ready.items ≡ drop n ready = sym (drop-drop n c.args.self.now.given c.args.self.now.ready.items) in
+    let left : drop (c.args.self.now.given + n) c.args.self.now.ready.items ≡ drop n ready = sym
+    (drop-drop n c.args.self.now.given c.args.self.now.ready.items) in
     sym (take-append-drop n ready) ∙ (rw (front, left) refl)

@@ -3,7 +3,8 @@ use Rattle.std.proofs.Common.{◌≡◌, length, [], ap, refl, sym, subst, arith
 use Rattle.std.specs.Io.KnownBytes.{IsAtEnd}
 use Rattle.nms_whole.specs.Held.{lines_left, ready_of}
 use Rattle.nms_whole.specs.declared.whole_lines.WholeLines.{WholeLines}
-use Rattle.nms_whole.proofs.whole_lines.WholeLines.fill.Goals.{then-not-is_empty-via-then-not-is_empty, then-not-is_empty-via-else-not-is_empty+in_ok-read_more+then-branch-eq0}
+use Rattle.nms_whole.proofs.whole_lines.WholeLines.fill.Goals.{then-not-is_empty-via-then-not-is_empty}
+use Rattle.nms_whole.proofs.whole_lines.WholeLines.fill.Goals.{then-not-is_empty-via-else-not-is_empty+in_ok-read_more+then-branch-eq0}
 use Rattle.nms_whole.proofs.whole_lines.WholeLines.fill.Goals as goal
 
 pub returns-then-not-is_empty-clause-end : goal.returns-then-not-is_empty-clause-end

@@ -1,0 +1,18 @@
+//! The laws above the lines of a stream: `specs/Laws`. The functions do nothing: their contracts are the laws.
+ghost use Rattle.nms_feeds.specs.Laws.{EachLineIsReadAlone, PassesLinesOn, RefusesOneRecord};
+
+/// The records of a feed's stream are those of its lines, each passed on and read by itself, and no line has more than
+/// one. So a stray quote, a glued or a torn line costs one record, and every line after it is read as if it stood alone.
+pub fn each_line_is_read_alone()
+    ensures { EachLineIsReadAlone }
+{}
+
+/// What stands for a line that is not passed on is one record, and every feed refuses it by `L1`.
+pub fn a_refused_line_is_one_refused_record()
+    ensures { RefusesOneRecord }
+{}
+
+/// A stream of lines that may be passed on is passed on as it stands.
+pub fn good_lines_are_passed_on()
+    ensures { PassesLinesOn }
+{}
