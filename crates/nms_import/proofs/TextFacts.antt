@@ -18,7 +18,8 @@ use Rattle.nms_import.specs.Imported.{accepted, entry_in, imported_changes, impo
 
 -- the entries of the rows and of one more
 entries_more : (columns : Columns) (mapping : Meanings) (roster : Listing) (rows : List Record) (row : Record)
-    → accepted columns mapping roster (rows ++ row ∷ []) ≡ accepted columns mapping roster rows ++ accepted columns mapping roster (row ∷ [])
+    → accepted columns mapping roster (rows ++ row ∷ [])
+    ≡ accepted columns mapping roster rows ++ accepted columns mapping roster (row ∷ [])
 entries_more columns mapping roster rows row = filter_map-append (λ r. entry_in (entry_of columns mapping roster r)) rows (row ∷ [])
 
 -- the text of the changes
@@ -53,7 +54,8 @@ pub changes_on : (columns : Columns) (mapping : Meanings) (roster : Listing) (ro
     → Appends old new (imported_changes columns mapping roster (rows ++ row ∷ []))
 changes_on columns mapping roster rows row old now new first next =
     subst (Appends old new) (changes_more columns mapping roster rows row)
-    (appends-more old now new (imported_changes columns mapping roster rows) (imported_changes columns mapping roster (row ∷ [])) first next)
+    (appends-more old now new (imported_changes columns mapping roster rows)
+    (imported_changes columns mapping roster (row ∷ [])) first next)
 
 pub times_on : (columns : Columns) (mapping : Meanings) (roster : Listing) (rows : List Record) (row : Record)
     (old now new : Option (List ℕ)) → Appends old now (imported_times columns mapping roster rows)
