@@ -1,0 +1,3 @@
+mod RowFacts
+mod TextFacts
+mod TimeFacts

@@ -1,0 +1,51 @@
+-- `import_rows`: all that it promises and the turns of its loop, by `changes_on`, `times_on` and `accepted_more`.
+use Rattle.std.proofs.Common.{◌≡◌, ◌+◌, ◌++◌, ◌∷◌, [], List, Bool, true, false, Ok, ap, arith, sym, subst, ◌∙◌, append_assoc, length-append}
+use Rattle.std.proofs.lemmas.List.{append-nil}
+use Rattle.csv.specs.Records.{fields_of}
+use Rattle.nms_lines.specs.Layout.{Record}
+use Rattle.nms_import.specs.Rows.{RowsFrom}
+use Rattle.nms_import.proofs.TextFacts.{accepted_more, changes_on, none_written, times_on}
+use Rattle.nms_import.proofs.importing.import_rows.Goals as goal
+
+pub loop-done-init : goal.loop-done-init
+loop-done-init g c = (
+  sym c.in-Some.ensures.rows,
+  λ config bytes seen reads. (
+    [],
+    subst (λ (rows : List Record). RowsFrom {R = g.row.R.Denot} config g.R.Read.remaining c.args.reader.now bytes rows)
+    (sym (append-nil seen)) reads,
+    none_written (g.C.Write.contents c.args.changes.now),
+    none_written (g.T.Write.contents c.args.times.now),
+    omega arith,
+    omega arith,
+  ),
+)
+
+pub returns-then-not-branch : goal.returns-then-not-branch
+returns-then-not-branch g c = record {
+  written = λ config bytes seen reads.
+      let had = c.loop-done.invariant.1 config bytes seen reads in
+      let none : c.in_ok-next_row.field-0 ≡ false = cc in
+      (had.0, c.in_ok-next_row.ensures.end config bytes (seen ++ had.0) had.1 (ap (λ (b : Bool). Ok b) none), had.2, had.3, had.4, had.5);
+}
+
+pub loop-done-preserved : goal.loop-done-preserved
+loop-done-preserved g c = (
+  c.in_ok-import_row.ensures.rows ∙ ap (λ n. n + 1) c.loop-done.invariant.0,
+  λ config bytes seen reads.
+      let had = c.loop-done.invariant.1 config bytes seen reads in
+      let is_found : c.in_ok-next_row.field-0 ≡ true = cc in
+      let row = fields_of c.next_row.new.row in
+      let found = c.in_ok-next_row.ensures.found config bytes (seen ++ had.0) had.1 (ap (λ (b : Bool). Ok b) is_found) in (
+        had.0 ++ row ∷ [],
+        subst (λ (rows : List Record). RowsFrom {R = g.row.R.Denot} config g.R.Read.remaining c.next_row.new.reader bytes rows)
+            (append_assoc seen had.0 (row ∷ [])) found,
+        changes_on c.args.columns.now c.args.meanings.now c.args.roster.now had.0 row (g.C.Write.contents c.args.changes.now)
+            (g.C.Write.contents c.loop-done.changes) (g.C.Write.contents c.import_row.new.changes) had.2 c.in_ok-import_row.ensures.changes,
+        times_on c.args.columns.now c.args.meanings.now c.args.roster.now had.0 row (g.T.Write.contents c.args.times.now)
+            (g.T.Write.contents c.loop-done.times) (g.T.Write.contents c.import_row.new.times) had.3 c.in_ok-import_row.ensures.times,
+        omega (arith, c.in_ok-import_row.ensures.rows, had.4, length-append had.0 (row ∷ [])),
+        omega (arith, c.in_ok-import_row.ensures.counted, had.5,
+        accepted_more c.args.columns.now c.args.meanings.now c.args.roster.now had.0 row),
+      ),
+)

@@ -1,0 +1,18 @@
+-- `import_rows`: what holds in each turn of its loop.
+use Rattle.std.proofs.Common.{ℕ, ◌≡◌, ◌+◌, ◌++◌, List, Option, length}
+use Rattle.std.specs.Io.KnownBytes.{Appends}
+use Rattle.csv.specs.declared.parser.Config.{Config}
+use Rattle.nms_lines.specs.Layout.{Record}
+use Rattle.nms_import.specs.Imported.{accepted, imported_changes, imported_times, rows_in}
+use Rattle.nms_import.specs.Rows.{RowsFrom}
+use Rattle.nms_import.proofs.importing.import_rows.Given as goal
+
+-- the rows read so far were written and counted
+abbrev pub invariant-loop-done : goal.invariant-loop-done
+invariant-loop-done g l = (rows_in l.tally ≡ l.done)
+    × ((config : Config) (bytes : Option (List ℕ)) (seen : List Record) → RowsFrom config g.R.Read.remaining l.fn.reader bytes seen
+    → (rows : List Record) × RowsFrom config g.R.Read.remaining l.reader bytes (seen ++ rows)
+    × Appends (g.C.Write.contents l.fn.changes) (g.C.Write.contents l.changes) (imported_changes l.columns l.meanings l.roster rows)
+    × Appends (g.T.Write.contents l.fn.times) (g.T.Write.contents l.times) (imported_times l.columns l.meanings l.roster rows)
+    × (rows_in l.tally ≡ rows_in l.fn.tally + length rows)
+    × (l.tally.changes ≡ l.fn.tally.changes + length (accepted l.columns l.meanings l.roster rows)))

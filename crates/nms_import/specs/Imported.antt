@@ -1,0 +1,53 @@
+-- What is written of the rows of a vendor's file. This product's own rule.
+use Rattle.std.specs.Prelude.{ℕ, ◌+◌, ◌/◌, List, [], ◌∷◌, ◌++◌, map, filter_map, flat_map, Option, Some, None, Result, Ok, Err}
+use Rattle.nms_units.specs.Money.{three_digits}
+use Rattle.nms_quote.specs.Roster.{Listing}
+use Rattle.nms_lines.specs.Layout.{Record}
+use Rattle.nms_change_text.specs.ChangeText.{changes_text}
+use Rattle.nms_import.specs.declared.cause.Cause.{Cause}
+use Rattle.nms_import.specs.declared.column.Columns.{Columns}
+use Rattle.nms_import.specs.declared.entry.Entry.{Entry}
+use Rattle.nms_import.specs.declared.meanings.Meanings.{Meanings}
+use Rattle.nms_import.specs.declared.tally.Tally.{Tally}
+use Rattle.nms_import.specs.Mapping.{entry_of}
+
+-- an entry, if there is one
+abbrev pub entry_in : Result Entry Cause → Option Entry
+entry_in (Ok entry) = Some entry
+entry_in (Err why) = None
+
+-- the entries of the rows that make one, in order
+abbrev pub accepted : Columns → Meanings → Listing → List Record → List Entry
+accepted columns mapping roster rows = filter_map (λ row. entry_in (entry_of columns mapping roster row)) rows
+
+-- the text of their changes
+abbrev pub imported_changes : Columns → Meanings → Listing → List Record → List ℕ
+imported_changes columns mapping roster rows = changes_text roster (map (λ entry. entry.change) (accepted columns mapping roster rows))
+
+-- a time as 15 digits, HHMMSSnnnnnnnnn, and a line feed: 16 bytes
+abbrev pub time_line : ℕ → List ℕ
+time_line t =
+    three_digits (t / 1000000000000) ++ three_digits (t / 1000000000) ++ three_digits (t / 1000000) ++ three_digits (t / 1000)
+    ++ three_digits t ++ 10 ∷ []
+
+-- times as text, a line each
+abbrev pub times_text : List ℕ → List ℕ
+times_text times = flat_map time_line times
+
+-- the text of their times
+abbrev pub imported_times : Columns → Meanings → Listing → List Record → List ℕ
+imported_times columns mapping roster rows = times_text (map (λ entry. entry.time) (accepted columns mapping roster rows))
+
+-- the rows that were refused, of all causes
+abbrev pub refused_in : Tally → ℕ
+refused_in tally =
+    tally.too_few_columns + tally.bad_time + tally.unknown_participant + tally.unknown_symbol + tally.unknown_condition
+    + tally.bad_price + tally.bad_size + tally.half_side
+
+-- the rows that were skipped, of all causes
+abbrev pub skipped_in : Tally → ℕ
+skipped_in tally = tally.trailer + tally.listed + tally.other_symbol
+
+-- all rows
+abbrev pub rows_in : Tally → ℕ
+rows_in tally = tally.changes + refused_in tally + skipped_in tally

@@ -1,0 +1,213 @@
+-- What a mapping makes of a row of a vendor's file: a change and its time, or the first cause why it makes none. This
+-- product's own rule.
+use Rattle.std.specs.Prelude.{ℕ, ◌*◌, ◌-◌, ◌/◌, ◌%◌, ◌^◌, ◌==◌, ◌&&◌, ◌||◌, Bool, true, false, List, [], ◌∷◌, length, map}
+use Rattle.std.specs.Prelude.{take, drop, position, slice_get}
+use Rattle.std.specs.Prelude.{nat_le, nat_lt, Option, Some, None, option_map, Result, Ok, Err, if◌then◌else◌}
+use Rattle.std.specs.List.{list_any}
+use Rattle.std.specs.Str.{bytes_eq}
+use Rattle.nms_units.specs.Digits.{number_in}
+use Rattle.nms_units.specs.Price.{both, price_number}
+use Rattle.nms_units.specs.declared.TheConstants.{MOST_PRICE, MOST_SHARES}
+use Rattle.nms_quote.specs.Content.{Content}
+use Rattle.nms_quote.specs.Roster.{Listing, place_in}
+use Rattle.nms_quote.specs.declared.change.Change.{Change}
+use Rattle.nms_quote.specs.declared.change.Change.TheVariants as change
+use Rattle.nms_quote.specs.declared.side_quote.QState.TheVariants.{Automated}
+use Rattle.nms_quote.specs.declared.side_quote.Side.{Side}
+use Rattle.nms_quote.specs.declared.side_quote.Side.TheVariants.{Bid, Offer}
+use Rattle.nms_lines.specs.Layout.{Record, field}
+use Rattle.nms_lines.specs.Sides.{is_empty}
+use Rattle.nms_import.specs.declared.cause.Cause.{Cause}
+use Rattle.nms_import.specs.declared.cause.Cause.TheVariants as cause
+use Rattle.nms_import.specs.declared.column.Column.{Column}
+use Rattle.nms_import.specs.declared.column.Column.TheVariants as column
+use Rattle.nms_import.specs.declared.column.Columns.{Columns}
+use Rattle.nms_import.specs.declared.entry.Entry.{Entry}
+use Rattle.nms_import.specs.declared.meanings.Meaning.{Meaning}
+use Rattle.nms_import.specs.declared.meanings.Meaning.TheVariants as meaning
+use Rattle.nms_import.specs.declared.meanings.Meanings.{Meanings}
+use Rattle.nms_import.specs.declared.meanings.PriceUnit.{PriceUnit}
+use Rattle.nms_import.specs.declared.meanings.PriceUnit.TheVariants as unit
+use Rattle.nms_import.specs.declared.meanings.Renamed.{Renamed}
+use Rattle.nms_import.specs.declared.meanings.Replaced.{Replaced}
+use Rattle.nms_import.specs.declared.meanings.Said.{Said}
+use Rattle.nms_import.specs.declared.meanings.Word.{Word}
+
+infixl 10 ◌>>=◌
+-- the first cause, from left to right
+abbrev pub ◌>>=◌ : {A B : Type 0} → Result A Cause → (A → Result B Cause) → Result B Cause
+(Ok x) >>= f = f x
+(Err e) >>= f = Err e
+
+-- the cause, if something holds
+abbrev pub stop_if : Bool → Cause → Result (Unit {0}) Cause
+stop_if true why = Err why
+stop_if false why = Ok tt
+
+-- what is there, or the cause why nothing is
+abbrev pub or_stop : {A : Type 0} → Option A → Cause → Result A Cause
+or_stop None why = Err why
+or_stop (Some x) why = Ok x
+
+-- the text of a column in a row: its field, or the text that the mapping fixes
+abbrev pub column_text : Column → Record → List ℕ
+column_text (column.At place) row = field row place
+column_text (column.Fixed text) row = text.items
+
+-- whether a text is one of the words
+abbrev pub is_listed : List Word → List ℕ → Bool
+is_listed words text = list_any (λ word. bytes_eq word.text.items text) words
+
+-- ---- prices and sizes
+
+-- hundred thousands, if there is no rest
+abbrev pub hundred_thousands : Option ℕ → Option ℕ
+hundred_thousands None = None
+hundred_thousands (Some n) = if n % 100000 == 0 then Some (n / 100000) else None
+
+-- a price in 1/10,000 dollar, zero among them: dollars with at most 4 decimals, or a whole number of the unit
+abbrev pub number_of : PriceUnit → List ℕ → Option ℕ
+number_of unit.Dollars text = price_number text
+number_of unit.TenThousandths text = number_in 11 text
+number_of unit.Nanodollars text = hundred_thousands (number_in 19 text)
+
+-- zero is no price
+abbrev pub price_within : Side → Option ℕ → Result (Option ℕ) Cause
+price_within side None = Err (cause.BadPrice side)
+price_within side (Some n) =
+    if n == 0 then Ok None else (if nat_le n MOST_PRICE then Ok (Some n) else Err (cause.BadPrice side))
+
+-- a price, or none: an empty field, a word for none, or zero
+abbrev pub price_of : Meanings → Side → List ℕ → Result (Option ℕ) Cause
+price_of mapping side text =
+    if is_empty text || is_listed mapping.no_price.items text then Ok None
+    else price_within side (number_of mapping.price_unit text)
+
+abbrev pub shares_within : Side → Option ℕ → Result ℕ Cause
+shares_within side None = Err (cause.BadSize side)
+shares_within side (Some n) = if nat_le n MOST_SHARES then Ok n else Err (cause.BadSize side)
+
+-- shares: the number times the shares of a unit; an empty field is 0
+abbrev pub shares_of : Meanings → Side → List ℕ → Result ℕ Cause
+shares_of mapping side text =
+    if is_empty text then Ok 0
+    else shares_within side (option_map (λ n. n * mapping.size_unit) (number_in 9 text))
+
+abbrev pub quoted : Side → Option ℕ → ℕ → Result (Option Content) Cause
+quoted side None shares = Err (cause.HalfSide side)
+quoted side (Some price) shares = Ok (Some (record { price = price; shares = shares }))
+
+-- no shares is no quotation; shares need a price
+abbrev pub side_from : Side → Option ℕ → ℕ → Result (Option Content) Cause
+side_from side price shares = if shares == 0 then Ok None else quoted side price shares
+
+-- a side: its price and its shares
+abbrev pub side_of : Meanings → Side → (price shares : List ℕ) → Result (Option Content) Cause
+side_of mapping side price shares = do
+  price ← price_of mapping side price
+  shares ← shares_of mapping side shares
+  side_from side price shares
+
+-- ---- times
+
+-- digits after the second, up to nine, as nanoseconds
+abbrev pub nanoseconds : List ℕ → Option ℕ
+nanoseconds text = if is_empty text then Some 0 else option_map (λ n. n * 10 ^ (9 - length text)) (number_in 9 text)
+
+-- six digits, before nine others
+abbrev pub seconds : List ℕ → Option ℕ
+seconds text = option_map (λ n. n * 1000000000) (number_in 6 text)
+
+-- HHMMSS and the digits after it as one number of 15 digits, HHMMSSnnnnnnnnn
+abbrev pub clock_number : List ℕ → Option ℕ
+clock_number text =
+    if nat_lt (length text) 6 then None
+    else both (seconds (take 6 text)) (nanoseconds (drop 6 text))
+
+-- hours below 24, minutes and seconds below 60
+abbrev pub is_clock : ℕ → Bool
+is_clock t = nat_lt (t / 10000000000000) 24 && nat_lt (t / 100000000000 % 100) 60 && nat_lt (t / 1000000000 % 100) 60
+
+abbrev pub clock_within : Option ℕ → Result ℕ Cause
+clock_within None = Err cause.BadTime
+clock_within (Some t) = if is_clock t then Ok t else Err cause.BadTime
+
+-- a time of day
+abbrev pub time_of : List ℕ → Result ℕ Cause
+time_of text = clock_within (clock_number text)
+
+-- ---- names
+
+-- the roster's name for the file's word, if the mapping lists it
+abbrev pub listed_name : List Renamed → Option ℕ → Option (List ℕ)
+listed_name names None = None
+listed_name names (Some place) = option_map (λ it. it.name.items) (slice_get names place)
+
+-- the name that the mapping lists; else the word itself, if the mapping says so
+abbrev pub name_or : Bool → List ℕ → Option (List ℕ) → Option (List ℕ)
+name_or same word (Some name) = Some name
+name_or same word None = if same then Some word else None
+
+abbrev pub name_of : Meanings → List ℕ → Option (List ℕ)
+name_of mapping word =
+    name_or mapping.same word (listed_name mapping.names.items (position (λ it. bytes_eq it.word.items word) mapping.names.items))
+
+abbrev pub place_named : Listing → Option (List ℕ) → Option ℕ
+place_named roster None = None
+place_named roster (Some name) = place_in roster.parts name
+
+-- the participant of a word: many words may be one participant
+abbrev pub participant_of : Meanings → Listing → List ℕ → Result ℕ Cause
+participant_of mapping roster word = or_stop (place_named roster (name_of mapping word)) cause.UnknownParticipant
+
+-- a byte, or what stands in its place in a name of the roster
+abbrev pub replaced : List Replaced → ℕ → ℕ
+replaced [] c = c
+replaced (it ∷ more) c = if c == it.from then it.to else replaced more c
+
+-- the symbol of a text
+abbrev pub symbol_in : Meanings → Listing → List ℕ → Option ℕ
+symbol_in mapping roster text = place_in roster.syms (map (replaced mapping.replaced.items) text)
+
+-- a symbol that is not on the roster is skipped or refused, as the mapping says
+abbrev pub no_symbol : Meanings → Cause
+no_symbol mapping = if mapping.skips_symbols then cause.OtherSymbol else cause.UnknownSymbol
+
+-- ---- conditions
+
+-- a word is one text and then another
+abbrev pub is_joined : (first second word : List ℕ) → Bool
+is_joined first second word =
+    nat_le (length first) (length word) && bytes_eq (take (length first) word) first && bytes_eq (drop (length first) word) second
+
+abbrev pub said_at : List Said → Option ℕ → Option Meaning
+said_at said None = None
+said_at said (Some place) = option_map (λ it. it.meaning) (slice_get said place)
+
+-- what the two texts of a condition mean together
+abbrev pub meaning_of : Meanings → (first second : List ℕ) → Result Meaning Cause
+meaning_of mapping first second =
+    or_stop (said_at mapping.said.items (position (λ it. is_joined first second it.word.items) mapping.said.items)) cause.UnknownCondition
+
+-- ---- rows
+
+-- both sides, as far as the condition has any
+abbrev pub change_of : Columns → Meanings → Record → (part sym : ℕ) → Meaning → Result Change Cause
+change_of columns mapping row part sym meaning.Nothing = Ok (change.Quote part sym Automated None None)
+change_of columns mapping row part sym (meaning.Quoted state) = do
+  bid ← side_of mapping Bid (column_text columns.bid row) (column_text columns.bid_size row)
+  offer ← side_of mapping Offer (column_text columns.offer row) (column_text columns.offer_size row)
+  Ok (change.Quote part sym state bid offer)
+
+-- a row: a change with its time, or the first cause why it is none
+abbrev pub entry_of : Columns → Meanings → Listing → Record → Result Entry Cause
+entry_of columns mapping roster row = do
+  inside ← stop_if (is_listed mapping.ends.items (field row 0)) cause.Trailer
+  whole ← stop_if (nat_lt (length row) columns.width) cause.TooFewColumns
+  wanted ← stop_if (is_listed mapping.skips.items (column_text columns.skip row)) cause.Listed
+  time ← time_of (column_text columns.time row)
+  part ← participant_of mapping roster (column_text columns.participant row)
+  sym ← or_stop (symbol_in mapping roster (column_text columns.symbol row)) (no_symbol mapping)
+  means ← meaning_of mapping (column_text columns.source row) (column_text columns.condition row)
+  said ← change_of columns mapping row part sym means
+  Ok (record { time = time; change = said })

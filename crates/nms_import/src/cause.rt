@@ -1,0 +1,46 @@
+//! Why a row makes no change.
+use nms_quote::Side;
+
+/// Why a row makes no change: the first that holds, in this order. The first eight refuse the row, the others skip it.
+#[derive(Clone, Copy, Debug, PartialEq, Eq)]
+pub enum Cause {
+    /// Fewer columns than the mapping names.
+    TooFewColumns,
+    /// The time is not of the mapping's form, or is no time of day.
+    BadTime,
+    /// The participant is not on the roster.
+    UnknownParticipant,
+    /// The symbol is not on the roster, and the mapping refuses such rows.
+    UnknownSymbol,
+    /// The mapping lists no such condition.
+    UnknownCondition,
+    /// The price of a side is not of the mapping's unit, or above 9,999,999.9999 dollars.
+    BadPrice(Side),
+    /// The size of a side is not 1 to 9 digits, or more than 999,999,999 shares.
+    BadSize(Side),
+    /// A side has shares and no price.
+    HalfSide(Side),
+    /// The mapping's last line of the file, as `END|20240102|..`.
+    Trailer,
+    /// The mapping lists its word among those to skip.
+    Listed,
+    /// The symbol is not on the roster, and the mapping skips such rows.
+    OtherSymbol,
+}
+
+impl Cause {
+    /// Whether the row is skipped, and not refused.
+    pub fn skips(self) -> bool {
+        match self {
+            Cause::TooFewColumns
+            | Cause::BadTime
+            | Cause::UnknownParticipant
+            | Cause::UnknownSymbol
+            | Cause::UnknownCondition
+            | Cause::BadPrice(_)
+            | Cause::BadSize(_)
+            | Cause::HalfSide(_) => false,
+            Cause::Trailer | Cause::Listed | Cause::OtherSymbol => true,
+        }
+    }
+}

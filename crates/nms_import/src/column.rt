@@ -1,0 +1,55 @@
+//! The columns of a file: `specs/Mapping`.
+ghost use Rattle.std.specs.Prelude.{◌≡◌};
+ghost use Rattle.csv.specs.Records.{fields_of};
+ghost use Rattle.nms_import.specs.Mapping.{column_text};
+
+use csv::ByteRecord;
+use nms_lines::field_at;
+
+/// Where a text of a row comes from.
+#[derive(Drop)]
+pub enum Column {
+    /// The field at a place, from 0.
+    At(usize),
+    /// The same text in every row.
+    Fixed(Vec<u8>),
+}
+
+/// The columns that a mapping reads, in one file.
+#[derive(Drop)]
+pub struct Columns {
+    /// How many columns a row needs: one more than the greatest place.
+    pub width: usize,
+    /// The time of day.
+    pub time: Column,
+    /// Who quotes.
+    pub participant: Column,
+    /// What is quoted.
+    pub symbol: Column,
+    /// The price of the bid.
+    pub bid: Column,
+    /// The size of the bid.
+    pub bid_size: Column,
+    /// The price of the offer.
+    pub offer: Column,
+    /// The size of the offer.
+    pub offer_size: Column,
+    /// The first text of the condition.
+    pub source: Column,
+    /// The second text of the condition.
+    pub condition: Column,
+    /// The text by which a row is skipped.
+    pub skip: Column,
+}
+
+impl Column {
+    /// The text of the column in a row, empty past the row's last field.
+    pub fn text<'a>(&'a self, row: &'a ByteRecord) -> &'a [u8]
+        ensures { result.now ≡ column_text self.now (fields_of row.now) }
+    {
+        match self {
+            Column::At(place) => field_at(row, *place),
+            Column::Fixed(text) => text.as_slice(),
+        }
+    }
+}

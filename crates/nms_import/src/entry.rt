@@ -1,0 +1,11 @@
+//! What an accepted row makes.
+use nms_quote::Change;
+
+/// What an accepted row makes: a change, and when it was.
+#[derive(Clone, Copy, Debug, PartialEq, Eq)]
+pub struct Entry {
+    /// The time of day as digits, `HHMMSSnnnnnnnnn`: 93000000000001 is a nanosecond after 09:30:00.
+    pub time: u64,
+    /// Both sides of a participant's quotation in a symbol, and their state.
+    pub change: Change,
+}

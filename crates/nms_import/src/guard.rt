@@ -1,0 +1,38 @@
+//! What an import is doubted for: `Guard`.
+use crate::noting::Notes;
+use crate::tally::Sums;
+
+/// Why what was written should not be used without a look: the first that holds.
+#[derive(Clone, Copy, Debug, PartialEq, Eq)]
+pub enum Guard {
+    /// I1: more than half of the rows were refused.
+    MostRefused,
+    /// I2: there are changes, and none shows a round lot on either side.
+    NoWholeLot,
+    /// I3: a time is before an earlier one, though the mapping says that none is.
+    TimesFall,
+}
+
+impl Guard {
+    /// What an import is doubted for, if for anything.
+    pub fn of(sums: &Sums, notes: &Notes) -> Option<Guard> {
+        if sums.refused > sums.rows / 2 {
+            Some(Guard::MostRefused)
+        } else if sums.changes > 0 && !notes.shows_lot() {
+            Some(Guard::NoWholeLot)
+        } else if notes.falls() {
+            Some(Guard::TimesFall)
+        } else {
+            None
+        }
+    }
+
+    /// Its code, `I1` to `I3`.
+    pub fn code(self) -> &'static str {
+        match self {
+            Guard::MostRefused => "I1",
+            Guard::NoWholeLot => "I2",
+            Guard::TimesFall => "I3",
+        }
+    }
+}

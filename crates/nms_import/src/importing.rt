@@ -1,0 +1,152 @@
+//! The rows of a file, imported one after another: `specs/Imported`.
+ghost use Rattle.std.specs.Prelude.{◌≡◌, ℕ, ◌++◌, ◌∷◌, ◌+◌, ◌<◌, ◌≤◌, [], List, Option, length, true, IfOk, OnOk};
+ghost use Rattle.std.specs.Io.KnownBytes.{Appends};
+ghost use Rattle.csv.specs.Records.{fields_of};
+ghost use Rattle.csv.specs.declared.parser.Config.{Config};
+ghost use Rattle.nms_quote.specs.Roster.{holds, sizes_of};
+ghost use Rattle.nms_lines.specs.Layout.{Record};
+ghost use Rattle.nms_lines.specs.Text.{text_of};
+ghost use Rattle.nms_change_text.specs.ChangeText.{change_record};
+ghost use Rattle.nms_import.specs.Imported.{accepted, imported_changes, imported_times, rows_in, times_text};
+ghost use Rattle.nms_import.specs.Rows.{AreAllRows, RowsFrom};
+
+use crate::column::Columns;
+use crate::entry::Entry;
+use crate::import_fault::ImportFault;
+use crate::meanings::Meanings;
+use crate::noting::Notes;
+use crate::row::read_row;
+use crate::rows::next_row;
+use crate::tally::{MOST_ROWS, Tally};
+use crate::telling::Told;
+use crate::time::append_time;
+use csv::{ByteRecord, Reader};
+use nms_change_text::append_change;
+use nms_lines::write_text;
+use nms_quote::Roster;
+use std::alloc::Global;
+use std::io::{Read, Write};
+
+/// Room that is kept from row to row.
+#[derive(Drop)]
+pub struct Work {
+    /// The row at hand.
+    pub row: ByteRecord,
+    scratch: Vec<u8>,
+    text: Vec<u8>,
+}
+
+impl Work {
+    /// Room for a row. It takes no memory before the first.
+    pub fn new(alloc: Global) -> Work {
+        Work {
+            row: ByteRecord::new(alloc),
+            scratch: Vec::new(alloc),
+            text: Vec::new(alloc),
+        }
+    }
+}
+
+/// Imports the rows that a reader still has: writes the changes of those that make one and their times, in order, and
+/// counts every outcome. The counts go on from those of earlier files.
+///
+/// After an error a first part of both texts was written. The writers are not flushed.
+pub fn import_rows<R: Read, C: Write, T: Write, E: Write>(
+    columns: &Columns,
+    meanings: &Meanings,
+    roster: &Roster,
+    work: &mut Work,
+    reader: &mut Reader<R>,
+    changes: &mut C,
+    times: &mut T,
+    notes: &mut Notes,
+    told: &mut Told<'_, E>,
+    tally: &mut Tally,
+) -> Result<(), ImportFault>
+    ensures written { (config : Config) (bytes : Option (List ℕ)) (seen : List Record) → RowsFrom config R.remaining reader.old bytes seen
+        → OnOk result ((rows : List Record) × AreAllRows config bytes (seen ++ rows)
+        × Appends (C.contents changes.old) (C.contents changes.new) (imported_changes columns.now meanings.now roster.now rows)
+        × Appends (T.contents times.old) (T.contents times.new) (imported_times columns.now meanings.now roster.now rows)
+        × (rows_in tally.new ≡ rows_in tally.old + length rows)
+        × (tally.new.changes ≡ tally.old.changes + length (accepted columns.now meanings.now roster.now rows))) }
+{
+    let Some(sums) = tally.sums() else {
+        return Err(ImportFault::TooLong);
+    };
+    for done in sums.rows..MOST_ROWS {
+        if !next_row(reader, &mut work.row)? {
+            return Ok(());
+        }
+        import_row(
+            columns, meanings, roster, work, changes, times, notes, told, tally,
+        )?;
+    }
+    Err(ImportFault::TooLong)
+}
+
+/// Imports the row at hand.
+fn import_row<C: Write, T: Write, E: Write>(
+    columns: &Columns,
+    meanings: &Meanings,
+    roster: &Roster,
+    work: &mut Work,
+    changes: &mut C,
+    times: &mut T,
+    notes: &mut Notes,
+    told: &mut Told<'_, E>,
+    tally: &mut Tally,
+) -> Result<(), ImportFault>
+    requires few { rows_in tally.old < 1000000000000 }
+    ensures changes { OnOk result (Appends (C.contents changes.old) (C.contents changes.new)
+        (imported_changes columns.now meanings.now roster.now (fields_of work.old.row ∷ []))) }
+    ensures times { OnOk result (Appends (T.contents times.old) (T.contents times.new)
+        (imported_times columns.now meanings.now roster.now (fields_of work.old.row ∷ []))) }
+    ensures rows { OnOk result (rows_in tally.new ≡ rows_in tally.old + 1) }
+    ensures counted { OnOk result (tally.new.changes
+        ≡ tally.old.changes + length (accepted columns.now meanings.now roster.now (fields_of work.old.row ∷ []))) }
+{
+    match read_row(columns, meanings, roster, &work.row, &mut work.scratch)? {
+        Ok(entry) => {
+            tally.count_change();
+            write_entry(roster, &entry, &mut work.text, changes, times)?;
+            if notes.note(roster, &entry)? {
+                told.tell_fall(columns, &work.row);
+            }
+            Ok(())
+        }
+        Err(cause) => {
+            tally.count_cause(cause);
+            told.tell(columns, &work.row, cause);
+            Ok(())
+        }
+    }
+}
+
+/// Writes the record of a change, and its time.
+fn write_entry<C: Write, T: Write>(
+    roster: &Roster,
+    entry: &Entry,
+    text: &mut Vec<u8>,
+    changes: &mut C,
+    times: &mut T,
+) -> Result<(), ImportFault>
+    ensures changes { OnOk result (Appends (C.contents changes.old) (C.contents changes.new) (text_of (change_record roster.now entry.now.change ∷ []))) }
+    ensures times { OnOk result (Appends (T.contents times.old) (T.contents times.new) (times_text (entry.now.time ∷ []))) }
+{
+    text.clear();
+    append_change(text, roster, &entry.change)?;
+    give(changes, text)?;
+    text.clear();
+    append_time(text, entry.time)?;
+    give(times, text)
+}
+
+/// Gives a writer a text.
+fn give<W: Write>(writer: &mut W, text: &[u8]) -> Result<(), ImportFault>
+    ensures { OnOk result (Appends (W.contents writer.old) (W.contents writer.new) text.now) }
+{
+    match write_text(writer, text) {
+        Ok(()) => Ok(()),
+        Err(_) => Err(ImportFault::WriteFault),
+    }
+}

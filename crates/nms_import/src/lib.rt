@@ -1,0 +1,39 @@
+//! Vendors' delimited files as changes, by a mapping: what each row makes, the texts that are written, and the counts of
+//! every outcome.
+#![tactic(auto)]
+
+mod cause;
+mod column;
+mod entry;
+mod guard;
+mod import_fault;
+mod importing;
+mod map_fault;
+mod map_table;
+mod mapping;
+mod mapping_reading;
+mod meanings;
+mod noting;
+mod number;
+mod row;
+mod rows;
+mod tally;
+mod telling;
+mod time;
+mod words;
+
+pub use cause::Cause;
+pub use column::{Column, Columns};
+pub use entry::Entry;
+pub use guard::Guard;
+pub use import_fault::ImportFault;
+pub use importing::{Work, import_rows};
+pub use map_fault::MapFault;
+pub use mapping::{FileForm, Mapping, Order, Source};
+pub use mapping_reading::read_mapping;
+pub use meanings::{Meaning, Meanings, PriceUnit, Renamed, Replaced, Said, Word};
+pub use noting::Notes;
+pub use row::read_row;
+pub use rows::{next_row, open_rows};
+pub use tally::{Sums, Tally};
+pub use telling::{Told, write_symbols, write_tally};

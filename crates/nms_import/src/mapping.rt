@@ -1,0 +1,147 @@
+//! A mapping: how a vendor's file is laid out, which columns are read, and what their texts mean.
+use crate::column::{Column, Columns};
+use crate::map_fault::MapFault;
+use crate::meanings::Meanings;
+use csv::ByteRecord;
+use std::alloc::{AllocError, Global};
+
+/// How a file is laid out.
+#[derive(Clone, Copy, Debug, PartialEq, Eq)]
+pub struct FileForm {
+    /// The byte between fields.
+    pub delimiter: u8,
+    /// Whether the first row names the columns.
+    pub header: bool,
+    /// Whether a double quote quotes; else it is a byte as any other.
+    pub quotes: bool,
+}
+
+/// What a mapping says of the order of a file's rows.
+#[derive(Clone, Copy, Debug, PartialEq, Eq)]
+pub enum Order {
+    /// No time is before that of an earlier row.
+    Given,
+    /// No time is before that of an earlier row of the same symbol.
+    Symbol,
+    /// Nothing: times may fall, and no version is found by its time.
+    Free,
+}
+
+/// What a mapping says of a column.
+#[derive(Drop)]
+pub enum Source {
+    /// Its number, from 1.
+    Number(usize),
+    /// Its name in the first row.
+    Named(Vec<u8>),
+    /// The same text in every row.
+    Fixed(Vec<u8>),
+}
+
+/// What a mapping says of the columns.
+#[derive(Drop)]
+pub struct Sources {
+    pub(crate) time: Source,
+    pub(crate) participant: Source,
+    pub(crate) symbol: Source,
+    pub(crate) bid: Source,
+    pub(crate) bid_size: Source,
+    pub(crate) offer: Source,
+    pub(crate) offer_size: Source,
+    pub(crate) source: Source,
+    pub(crate) condition: Source,
+    pub(crate) skip: Source,
+}
+
+/// A mapping.
+#[derive(Drop)]
+pub struct Mapping {
+    /// How a file is laid out.
+    pub file: FileForm,
+    /// The order of its rows.
+    pub order: Order,
+    /// What the texts mean.
+    pub meanings: Meanings,
+    pub(crate) sources: Sources,
+}
+
+/// What is expected of a column's name.
+const A_COLUMN: &str = "the name of a column of the file's first line, letter for letter";
+
+impl Mapping {
+    /// The columns of a file whose first row is `names`; `names` is empty if the file has no header.
+    ///
+    /// `NoColumn` is the first key of the table `column` whose name the row lacks.
+    pub fn columns(&self, alloc: Global, names: &ByteRecord) -> Result<Columns, MapFault> {
+        let all = &self.sources;
+        let mut columns = Columns {
+            width: 0,
+            time: place_of(alloc, &all.time, "time", names)?,
+            participant: place_of(alloc, &all.participant, "participant", names)?,
+            symbol: place_of(alloc, &all.symbol, "symbol", names)?,
+            bid: place_of(alloc, &all.bid, "bid", names)?,
+            bid_size: place_of(alloc, &all.bid_size, "bid_size", names)?,
+            offer: place_of(alloc, &all.offer, "offer", names)?,
+            offer_size: place_of(alloc, &all.offer_size, "offer_size", names)?,
+            source: place_of(alloc, &all.source, "condition", names)?,
+            condition: place_of(alloc, &all.condition, "condition", names)?,
+            skip: place_of(alloc, &all.skip, "skip", names)?,
+        };
+        columns.width = width_of(&columns);
+        Ok(columns)
+    }
+}
+
+/// Where a column stands.
+fn place_of(
+    alloc: Global,
+    source: &Source,
+    key: &'static str,
+    names: &ByteRecord,
+) -> Result<Column, MapFault> {
+    match source {
+        Source::Number(number) => Ok(Column::At(number.saturating_sub(1))),
+        Source::Fixed(text) => Ok(Column::Fixed(Vec::from_slice(alloc, text)?)),
+        Source::Named(name) => match named(names, name) {
+            Some(place) => Ok(Column::At(place)),
+            None => Err(no_column(alloc, key)),
+        },
+    }
+}
+
+/// The file has no column of the name at a key.
+fn no_column(alloc: Global, key: &str) -> MapFault {
+    MapFault::no_column(String::from_str(alloc, key), A_COLUMN)
+}
+
+/// The place of the first column of that name.
+fn named(names: &ByteRecord, name: &[u8]) -> Option<usize> {
+    for place in 0..names.len() {
+        if names.get(place) == Some(name) {
+            return Some(place);
+        }
+    }
+    None
+}
+
+/// How many columns a row needs.
+fn width_of(columns: &Columns) -> usize {
+    let mut width = 0;
+    for column in [
+        &columns.time,
+        &columns.participant,
+        &columns.symbol,
+        &columns.bid,
+        &columns.bid_size,
+        &columns.offer,
+        &columns.offer_size,
+        &columns.source,
+        &columns.condition,
+        &columns.skip,
+    ] {
+        if let Column::At(place) = column {
+            width = width.max(place.saturating_add(1));
+        }
+    }
+    width
+}

@@ -1,0 +1,311 @@
+//! A mapping from the text of its TOML document.
+use crate::map_fault::MapFault;
+use crate::map_table::{MapTable, keep};
+use crate::mapping::{FileForm, Mapping, Order, Sources};
+use crate::meanings::{Meaning, Meanings, PriceUnit, Renamed, Replaced, Said, Word};
+use nms_quote::QState;
+use nms_units::MOST_LOT;
+use std::alloc::Global;
+use toml::Table;
+
+/// The tables of a mapping.
+static TABLES: [&'static str; 9] = [
+    "file",
+    "column",
+    "price",
+    "size",
+    "time",
+    "participant",
+    "symbol",
+    "state",
+    "skip",
+];
+
+const A_TABLE: &str = "one of file, column, price, size, time, participant, symbol, state, skip";
+
+/// Reads a mapping. The first fault that is found is answered, table by table.
+pub fn read_mapping(alloc: Global, text: &str) -> Result<Mapping, MapFault> {
+    let document = match toml::table_from_str(alloc, text) {
+        Ok(document) => document,
+        Err(error) if error.is_memory() => return Err(MapFault::NoMemory),
+        Err(error) => {
+            let start = error.span().map_or(0, |span| span.start);
+            return Err(MapFault::NotToml {
+                line: line_at(text, start),
+            });
+        }
+    };
+    mapping_of(alloc, &document)
+}
+
+/// The line of a text on which a byte stands, from 1.
+fn line_at(text: &str, place: usize) -> u64 {
+    let mut line = 1u64;
+    for byte in text.as_bytes().iter().take(place) {
+        if *byte == b'\n' {
+            line = line.saturating_add(1);
+        }
+    }
+    line
+}
+
+/// The mapping of a document.
+fn mapping_of(alloc: Global, document: &Table) -> Result<Mapping, MapFault> {
+    for key in document.keys() {
+        if !TABLES.iter().any(|known| *known == key.as_str()) {
+            let key = String::from_str(alloc, key.as_str());
+            return Err(MapFault::unknown("", key, A_TABLE));
+        }
+    }
+    let (file, ends) = file_of(alloc, document)?;
+    let sources = sources_of(alloc, document, file.header)?;
+    let order = order_of(alloc, document)?;
+    let meanings = meanings_of(alloc, document, ends)?;
+    Ok(Mapping {
+        file,
+        order,
+        meanings,
+        sources,
+    })
+}
+
+/// The table `file`: the layout, and the words that a last line begins with.
+fn file_of(alloc: Global, document: &Table) -> Result<(FileForm, Vec<Word>), MapFault> {
+    let table = MapTable::of(
+        alloc,
+        document,
+        "file",
+        &["delimiter", "header", "end", "quotes"],
+        "one of delimiter, header, end, quotes",
+    )?;
+    let expected = "a text of one byte other than a quote and the end of a line, as \"|\"";
+    let delimiter = match table.text("delimiter", expected)? {
+        None => b',',
+        Some(text) => match text.as_bytes() {
+            [b'"' | b'\r' | b'\n'] => return Err(table.bad("delimiter", expected)),
+            [byte] => *byte,
+            _ => return Err(table.bad("delimiter", expected)),
+        },
+    };
+    let mut ends = Vec::new(alloc);
+    if let Some(text) = table.text("end", "a text, as \"END\"")? {
+        let text = Vec::from_slice(alloc, text.as_bytes())?;
+        keep(&mut ends, Word { text })?;
+    }
+    let file = FileForm {
+        delimiter,
+        header: table.flag("header")?,
+        quotes: table.flag("quotes")?,
+    };
+    Ok((file, ends))
+}
+
+/// The table `column`.
+fn sources_of(alloc: Global, document: &Table, header: bool) -> Result<Sources, MapFault> {
+    let table = MapTable::of(
+        alloc,
+        document,
+        "column",
+        &[
+            "time",
+            "participant",
+            "symbol",
+            "bid",
+            "bid_size",
+            "offer",
+            "offer_size",
+            "condition",
+            "skip",
+        ],
+        "one of time, participant, symbol, bid, bid_size, offer, offer_size, condition, skip",
+    )?;
+    let (source, condition) = table.pair("condition", header)?;
+    Ok(Sources {
+        time: table.needed("time", header)?,
+        participant: table.needed("participant", header)?,
+        symbol: table.needed("symbol", header)?,
+        bid: table.needed("bid", header)?,
+        bid_size: table.needed("bid_size", header)?,
+        offer: table.needed("offer", header)?,
+        offer_size: table.needed("offer_size", header)?,
+        source,
+        condition,
+        skip: match table.column("skip", header)? {
+            Some(source) => source,
+            None => table.nothing(),
+        },
+    })
+}
+
+/// The table `time`.
+fn order_of(alloc: Global, document: &Table) -> Result<Order, MapFault> {
+    let table = MapTable::of(
+        alloc,
+        document,
+        "time",
+        &["form", "order"],
+        "one of form, order",
+    )?;
+    let form = "\"HHMMSSn\": six digits and up to nine after them";
+    match table.text("form", form)? {
+        None | Some("HHMMSSn") => {}
+        Some(_) => return Err(table.bad("form", form)),
+    }
+    let expected = "\"given\", \"symbol\" or \"free\"";
+    match table.text("order", expected)? {
+        None | Some("given") => Ok(Order::Given),
+        Some("symbol") => Ok(Order::Symbol),
+        Some("free") => Ok(Order::Free),
+        Some(_) => Err(table.bad("order", expected)),
+    }
+}
+
+/// What the texts of a file mean.
+fn meanings_of(alloc: Global, document: &Table, ends: Vec<Word>) -> Result<Meanings, MapFault> {
+    let (price_unit, no_price) = prices_of(alloc, document)?;
+    let size_unit = size_of(alloc, document)?;
+    let (names, same) = names_of(alloc, document)?;
+    let (replaced, skips_symbols) = symbols_of(alloc, document)?;
+    let said = said_of(alloc, document)?;
+    let skip = MapTable::of(alloc, document, "skip", &["words"], "words")?;
+    Ok(Meanings {
+        price_unit,
+        no_price,
+        size_unit,
+        names,
+        same,
+        replaced,
+        skips_symbols,
+        said,
+        ends,
+        skips: skip.words("words")?,
+    })
+}
+
+/// The table `price`.
+fn prices_of(alloc: Global, document: &Table) -> Result<(PriceUnit, Vec<Word>), MapFault> {
+    let table = MapTable::of(
+        alloc,
+        document,
+        "price",
+        &["unit", "none"],
+        "one of unit, none",
+    )?;
+    let expected = "\"dollars\", \"1e-4\" or \"1e-9\"";
+    let unit = match table.text("unit", expected)? {
+        None | Some("dollars") => PriceUnit::Dollars,
+        Some("1e-4") => PriceUnit::TenThousandths,
+        Some("1e-9") => PriceUnit::Nanodollars,
+        Some(_) => return Err(table.bad("unit", expected)),
+    };
+    Ok((unit, table.words("none")?))
+}
+
+/// The table `size`: the shares of a unit. It has no default: a wrong one is wrong by a hundred, and looks right.
+fn size_of(alloc: Global, document: &Table) -> Result<u32, MapFault> {
+    let table = MapTable::of(
+        alloc,
+        document,
+        "size",
+        &["unit", "lot"],
+        "one of unit, lot",
+    )?;
+    let expected = "\"shares\", or \"lots\" beside lot = 100";
+    let lot = table.number("lot", i64::from(MOST_LOT), "a whole number from 1 to 1000")?;
+    match (table.text("unit", expected)?, lot) {
+        (Some("shares"), None) => Ok(1),
+        (Some("lots"), Some(lot)) => Ok(lot),
+        (Some(_), _) => Err(table.bad("unit", expected)),
+        (None, _) => Err(MapFault::missing("size", String::from_str(alloc, "unit"), expected)),
+    }
+}
+
+/// The table `participant`: the names that are listed, and whether any other word is its own name.
+fn names_of(alloc: Global, document: &Table) -> Result<(Vec<Renamed>, bool), MapFault> {
+    let table = MapTable::of(alloc, document, "participant", &[], "")?;
+    let expected = "the participant's name on the roster, as a text";
+    let mut names = Vec::new(alloc);
+    let Some(members) = table.members() else {
+        return Ok((names, true));
+    };
+    let mut same = false;
+    for key in members.keys() {
+        let word = key.as_str();
+        let Some(name) = table.text(word, expected)? else {
+            continue;
+        };
+        if word == "*" {
+            if name != "same" {
+                return Err(table.bad(word, "\"same\": any other word is its own name"));
+            }
+            same = true;
+            continue;
+        }
+        let word = Vec::from_slice(alloc, word.as_bytes())?;
+        let name = Vec::from_slice(alloc, name.as_bytes())?;
+        keep(&mut names, Renamed { word, name })?;
+    }
+    Ok((names, same))
+}
+
+/// The table `symbol`: what is replaced, and whether unknown symbols are skipped.
+fn symbols_of(alloc: Global, document: &Table) -> Result<(Vec<Replaced>, bool), MapFault> {
+    let table = MapTable::of(
+        alloc,
+        document,
+        "symbol",
+        &["replace", "unknown"],
+        "one of replace, unknown",
+    )?;
+    let words = table.words("replace")?;
+    let pairs = "an array of pairs of texts of one byte, as [\" \", \".\"]";
+    let mut replaced = Vec::new(alloc);
+    for pair in words.chunks(2) {
+        match pair {
+            [from, to] => match (from.text.as_slice(), to.text.as_slice()) {
+                ([from], [to]) => {
+                    let (from, to) = (*from, *to);
+                    keep(&mut replaced, Replaced { from, to })?;
+                }
+                _ => return Err(table.bad("replace", pairs)),
+            },
+            _ => return Err(table.bad("replace", pairs)),
+        }
+    }
+    let expected = "\"skip\" or \"refuse\"";
+    match table.text("unknown", expected)? {
+        None | Some("refuse") => Ok((replaced, false)),
+        Some("skip") => Ok((replaced, true)),
+        Some(_) => Err(table.bad("unknown", expected)),
+    }
+}
+
+/// The table `state`. Without it the empty condition alone is one, and it is automated.
+fn said_of(alloc: Global, document: &Table) -> Result<Vec<Said>, MapFault> {
+    let table = MapTable::of(
+        alloc,
+        document,
+        "state",
+        &["automated", "manual", "halted", "none"],
+        "one of automated, manual, halted, none",
+    )?;
+    let mut said = Vec::new(alloc);
+    if table.members().is_none() {
+        let word = Vec::new(alloc);
+        let meaning = Meaning::Quoted(QState::Automated);
+        keep(&mut said, Said { word, meaning })?;
+        return Ok(said);
+    }
+    for (key, meaning) in [
+        ("automated", Meaning::Quoted(QState::Automated)),
+        ("manual", Meaning::Quoted(QState::Manual)),
+        ("halted", Meaning::Quoted(QState::Halted)),
+        ("none", Meaning::Nothing),
+    ] {
+        for word in table.words(key)? {
+            let word = word.text;
+            keep(&mut said, Said { word, meaning })?;
+        }
+    }
+    Ok(said)
+}

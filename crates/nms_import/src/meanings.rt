@@ -1,0 +1,81 @@
+//! What the texts of a file mean: `specs/Mapping`.
+use nms_quote::QState;
+
+/// What a price counts.
+#[derive(Clone, Copy, Debug, PartialEq, Eq)]
+pub enum PriceUnit {
+    /// Dollars: 1 to 7 digits, and at most a point with 1 to 4 digits.
+    Dollars,
+    /// 1/10,000 dollar: 1 to 11 digits.
+    TenThousandths,
+    /// Nanodollars: 1 to 19 digits, a whole number of 1/10,000 dollar.
+    Nanodollars,
+}
+
+/// What the condition of a row means.
+#[derive(Clone, Copy, Debug, PartialEq, Eq)]
+pub enum Meaning {
+    /// The sides are quoted in this state.
+    Quoted(QState),
+    /// There is no quotation on either side.
+    Nothing,
+}
+
+/// A word of a list.
+#[derive(Drop)]
+pub struct Word {
+    /// Its bytes.
+    pub text: Vec<u8>,
+}
+
+/// A word of the file, and the participant's name on the roster.
+#[derive(Drop)]
+pub struct Renamed {
+    /// As the file has it.
+    pub word: Vec<u8>,
+    /// As the roster has it.
+    pub name: Vec<u8>,
+}
+
+/// A byte of the file's symbols, and what stands in its place on the roster.
+#[derive(Clone, Copy)]
+pub struct Replaced {
+    /// As the file has it.
+    pub from: u8,
+    /// As the roster has it.
+    pub to: u8,
+}
+
+/// A condition, and what it means.
+#[derive(Drop)]
+pub struct Said {
+    /// The two texts of the condition, one after the other.
+    pub word: Vec<u8>,
+    /// What it means.
+    pub meaning: Meaning,
+}
+
+/// What the texts of a file mean.
+#[derive(Drop)]
+pub struct Meanings {
+    /// What a price counts.
+    pub price_unit: PriceUnit,
+    /// The words that stand for no price.
+    pub no_price: Vec<Word>,
+    /// The shares of a unit of size: 1, or those of a lot.
+    pub size_unit: u32,
+    /// The participants that have another name on the roster.
+    pub names: Vec<Renamed>,
+    /// Whether any other participant has its own name.
+    pub same: bool,
+    /// What is replaced in symbols, the first that is found.
+    pub replaced: Vec<Replaced>,
+    /// Whether symbols that are not on the roster are skipped; else they are refused.
+    pub skips_symbols: bool,
+    /// The conditions.
+    pub said: Vec<Said>,
+    /// The words that a last line begins with.
+    pub ends: Vec<Word>,
+    /// The words by which a row is skipped.
+    pub skips: Vec<Word>,
+}

@@ -1,0 +1,87 @@
+//! Prices and sizes: `specs/Mapping`.
+ghost use Rattle.std.specs.Prelude.{◌≡◌, ◌<◌, ◌≤◌, ◌^◌, IfSome};
+ghost use Rattle.nms_units.specs.Price.{price_number};
+ghost use Rattle.nms_import.specs.Mapping.{number_of, price_of, shares_of, side_of};
+
+use crate::cause::Cause;
+use crate::meanings::{Meanings, PriceUnit};
+use crate::words::is_listed;
+use nms_quote::{Side, SideQuote};
+use nms_units::{MOST_SHARES, Price, Shares, UnitFault, parse_digits};
+
+/// What a side quotes, `None` if it has no shares.
+pub(crate) fn side_in(
+    meanings: &Meanings,
+    side: Side,
+    price: &[u8],
+    size: &[u8],
+) -> Result<Option<SideQuote>, Cause>
+    ensures { result ≡ side_of meanings.now side price.now size.now }
+{
+    let price = price_in(meanings, side, price)?;
+    let shares = shares_in(meanings, side, size)?;
+    if shares.get() == 0 {
+        return Ok(None);
+    }
+    match price {
+        Some(price) => Ok(SideQuote::new(price, shares)),
+        None => Err(Cause::HalfSide(side)),
+    }
+}
+
+/// A price, `None` for an empty field, a word for none, or zero.
+fn price_in(meanings: &Meanings, side: Side, text: &[u8]) -> Result<Option<Price>, Cause>
+    ensures { result ≡ price_of meanings.now side text.now }
+{
+    if text.is_empty() || is_listed(&meanings.no_price, text) {
+        return Ok(None);
+    }
+    match number_of(meanings.price_unit, text) {
+        Some(0) => Ok(None),
+        Some(number) => match Price::new(number) {
+            Some(price) => Ok(Some(price)),
+            None => Err(Cause::BadPrice(side)),
+        },
+        None => Err(Cause::BadPrice(side)),
+    }
+}
+
+/// The number that a price is, in 1/10,000 dollar, zero among them.
+fn number_of(unit: PriceUnit, text: &[u8]) -> Option<u64>
+    ensures { result ≡ number_of unit text.now }
+{
+    match unit {
+        PriceUnit::Dollars => dollars_in(text),
+        PriceUnit::TenThousandths => parse_digits(text, 11),
+        PriceUnit::Nanodollars => match parse_digits(text, 19) {
+            Some(number) if number % 100_000 == 0 => Some(number / 100_000),
+            Some(_) | None => None,
+        },
+    }
+}
+
+/// Dollars with at most 4 decimals, in 1/10,000 dollar.
+fn dollars_in(text: &[u8]) -> Option<u64>
+    ensures { result ≡ price_number text.now }
+{
+    match Price::parse(text) {
+        Ok(price) => Some(price.get()),
+        Err(UnitFault::ZeroPrice) => Some(0),
+        Err(UnitFault::BadPrice | UnitFault::BadShares | UnitFault::BadMoney) => None,
+    }
+}
+
+/// The shares of a size; an empty field is 0.
+fn shares_in(meanings: &Meanings, side: Side, text: &[u8]) -> Result<Shares, Cause>
+    ensures { result ≡ shares_of meanings.now side text.now }
+{
+    if text.is_empty() {
+        return Shares::new(0).ok_or(Cause::BadSize(side));
+    }
+    let number = parse_digits(text, 9).ok_or(Cause::BadSize(side))?;
+    let count = number * u64::from(meanings.size_unit);
+    if count > u64::from(MOST_SHARES) {
+        return Err(Cause::BadSize(side));
+    }
+    Shares::new(count as u32).ok_or(Cause::BadSize(side))
+}

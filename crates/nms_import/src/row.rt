@@ -1,0 +1,185 @@
+//! What a row makes: `specs/Mapping`.
+ghost use Rattle.std.specs.Prelude.{◌≡◌, ◌<◌, true, length, map, IfOk, IfSome, OnOk};
+ghost use Rattle.csv.specs.Records.{fields_of};
+ghost use Rattle.nms_quote.specs.Roster.{Sizes, holds, sizes_of};
+ghost use Rattle.nms_import.specs.Mapping.{change_of, column_text, entry_of, meaning_of, no_symbol, participant_of, replaced, symbol_in};
+
+use crate::cause::Cause;
+use crate::column::Columns;
+use crate::entry::Entry;
+use crate::meanings::{Meaning, Meanings, Replaced};
+use crate::number::side_in;
+use crate::time::time_in;
+use crate::words::{is_listed, name_of, place_said};
+use csv::ByteRecord;
+use nms_lines::field_at;
+use nms_quote::{Change, Part, QState, Roster, Side, SideQuote, Sym};
+use std::alloc::AllocError;
+
+/// What a row makes: a change with its time, or the first cause why it makes none. `scratch` is room that a caller keeps
+/// from row to row.
+pub fn read_row(
+    columns: &Columns,
+    meanings: &Meanings,
+    roster: &Roster,
+    row: &ByteRecord,
+    scratch: &mut Vec<u8>,
+) -> Result<Result<Entry, Cause>, AllocError>
+    ensures entry { IfOk result (λ outcome. outcome ≡ entry_of columns.now meanings.now roster.now (fields_of row.now)) }
+    ensures there { IfOk result (λ outcome. IfOk outcome (λ entry. holds (sizes_of roster.now) entry.change ≡ true)) }
+{
+    let sym = symbol_in(meanings, roster, columns.symbol.text(row), scratch)?;
+    Ok(entry_with(columns, meanings, roster, row, sym))
+}
+
+/// The symbol that a text names, after what the mapping replaces.
+fn symbol_in(
+    meanings: &Meanings,
+    roster: &Roster,
+    text: &[u8],
+    scratch: &mut Vec<u8>,
+) -> Result<Option<Sym>, AllocError>
+    ensures symbol { IfOk result (λ sym. sym ≡ symbol_in meanings.now roster.now text.now) }
+    ensures there { IfOk result (λ sym. IfSome sym (λ place. place < length roster.now.syms)) }
+{
+    replace(&meanings.replaced, text, scratch)?;
+    Ok(roster.find_sym(scratch))
+}
+
+/// A text with each byte that is replaced.
+fn replace(pairs: &[Replaced], text: &[u8], out: &mut Vec<u8>) -> Result<(), AllocError>
+    ensures { OnOk result (out.new.items ≡ map (replaced pairs.now) text.now) }
+{
+    out.clear();
+    for c in text {
+        out.push(replaced(pairs, *c))?;
+    }
+    Ok(())
+}
+
+/// What stands in a byte's place.
+fn replaced(pairs: &[Replaced], c: u8) -> u8
+    ensures { result ≡ replaced pairs.now c }
+{
+    for pair in pairs {
+        if c == pair.from {
+            return pair.to;
+        }
+    }
+    c
+}
+
+/// What a row makes whose symbol was looked for.
+fn entry_with(
+    columns: &Columns,
+    meanings: &Meanings,
+    roster: &Roster,
+    row: &ByteRecord,
+    sym: Option<Sym>,
+) -> Result<Entry, Cause>
+    requires there { IfSome sym (λ place. place < length roster.now.syms) }
+    ensures entry { sym ≡ symbol_in meanings.now roster.now (column_text columns.now.symbol (fields_of row.now))
+        → result ≡ entry_of columns.now meanings.now roster.now (fields_of row.now) }
+    ensures there { IfOk result (λ entry. holds (sizes_of roster.now) entry.change ≡ true) }
+{
+    if is_listed(&meanings.ends, field_at(row, 0)) {
+        return Err(Cause::Trailer);
+    }
+    if row.len() < columns.width {
+        return Err(Cause::TooFewColumns);
+    }
+    if is_listed(&meanings.skips, columns.skip.text(row)) {
+        return Err(Cause::Listed);
+    }
+    let time = time_in(columns.time.text(row))?;
+    let part = participant_in(meanings, roster, columns.participant.text(row))?;
+    let Some(sym) = sym else {
+        return Err(no_symbol(meanings));
+    };
+    let meaning = meaning_in(
+        meanings,
+        columns.source.text(row),
+        columns.condition.text(row),
+    )?;
+    let change = change_in(columns, meanings, row, part, sym, meaning)?;
+    Ok(Entry { time, change })
+}
+
+/// The participant that a word of the file names.
+fn participant_in(meanings: &Meanings, roster: &Roster, word: &[u8]) -> Result<Part, Cause>
+    ensures part { result ≡ participant_of meanings.now roster.now word.now }
+    ensures there { IfOk result (λ part. part < length roster.now.parts) }
+{
+    let Some(name) = name_of(meanings, word) else {
+        return Err(Cause::UnknownParticipant);
+    };
+    match roster.find_part(name) {
+        Some(part) => Ok(part),
+        None => Err(Cause::UnknownParticipant),
+    }
+}
+
+/// Why a row makes no change whose symbol is not on the roster.
+fn no_symbol(meanings: &Meanings) -> Cause
+    ensures { result ≡ no_symbol meanings.now }
+{
+    if meanings.skips_symbols {
+        Cause::OtherSymbol
+    } else {
+        Cause::UnknownSymbol
+    }
+}
+
+/// What the two texts of a condition mean.
+fn meaning_in(meanings: &Meanings, first: &[u8], second: &[u8]) -> Result<Meaning, Cause>
+    ensures { result ≡ meaning_of meanings.now first.now second.now }
+{
+    match place_said(&meanings.said, first, second) {
+        Some(place) => Ok(meanings.said[place].meaning),
+        None => Err(Cause::UnknownCondition),
+    }
+}
+
+/// The change of a row that has this meaning.
+fn change_in(
+    columns: &Columns,
+    meanings: &Meanings,
+    row: &ByteRecord,
+    part: Part,
+    sym: Sym,
+    meaning: Meaning,
+) -> Result<Change, Cause>
+    ensures change { result ≡ change_of columns.now meanings.now (fields_of row.now) part sym meaning }
+    ensures there { (sizes : Sizes) → part < sizes.parts → sym < length sizes.lots → IfOk result (λ change. holds sizes change ≡ true) }
+{
+    match meaning {
+        Meaning::Nothing => Ok(Change::Quote {
+            part,
+            sym,
+            state: QState::Automated,
+            bid: None,
+            offer: None,
+        }),
+        Meaning::Quoted(state) => {
+            let bid = side_in(
+                meanings,
+                Side::Bid,
+                columns.bid.text(row),
+                columns.bid_size.text(row),
+            )?;
+            let offer = side_in(
+                meanings,
+                Side::Offer,
+                columns.offer.text(row),
+                columns.offer_size.text(row),
+            )?;
+            Ok(Change::Quote {
+                part,
+                sym,
+                state,
+                bid,
+                offer,
+            })
+        }
+    }
+}

@@ -1,0 +1,132 @@
+//! How many rows had each outcome: `specs/Imported`.
+ghost use Rattle.std.specs.Prelude.{◌≡◌, ◌<◌, ◌+◌, IfSome};
+ghost use Rattle.nms_import.specs.Imported.{refused_in, rows_in, skipped_in};
+
+use crate::cause::Cause;
+
+/// The most rows of an import.
+pub const MOST_ROWS: u64 = 1_000_000_000_000;
+
+/// How many rows had each outcome.
+#[derive(Clone, Copy, Debug, PartialEq, Eq)]
+pub struct Tally {
+    /// Rows that made a change.
+    pub changes: u64,
+    /// Refused: fewer columns than the mapping names.
+    pub too_few_columns: u64,
+    /// Refused: no time of day.
+    pub bad_time: u64,
+    /// Refused: a participant that is not on the roster.
+    pub unknown_participant: u64,
+    /// Refused: a symbol that is not on the roster.
+    pub unknown_symbol: u64,
+    /// Refused: a condition that the mapping does not list.
+    pub unknown_condition: u64,
+    /// Refused: a price that is none.
+    pub bad_price: u64,
+    /// Refused: a size that is none.
+    pub bad_size: u64,
+    /// Refused: shares without a price.
+    pub half_side: u64,
+    /// Skipped: the last line of a file.
+    pub trailer: u64,
+    /// Skipped: a word that the mapping lists.
+    pub listed: u64,
+    /// Skipped: a symbol that is not on the roster.
+    pub other_symbol: u64,
+}
+
+/// The sums of the outcomes.
+#[derive(Clone, Copy, Debug, PartialEq, Eq)]
+pub struct Sums {
+    /// All rows.
+    pub rows: u64,
+    /// Those that made a change.
+    pub changes: u64,
+    /// Those that were refused.
+    pub refused: u64,
+    /// Those that were skipped.
+    pub skipped: u64,
+}
+
+impl Tally {
+    /// No rows.
+    pub fn none() -> Tally
+        ensures rows { rows_in result ≡ 0 }
+        ensures changes { result.changes ≡ 0 }
+    {
+        Tally {
+            changes: 0,
+            too_few_columns: 0,
+            bad_time: 0,
+            unknown_participant: 0,
+            unknown_symbol: 0,
+            unknown_condition: 0,
+            bad_price: 0,
+            bad_size: 0,
+            half_side: 0,
+            trailer: 0,
+            listed: 0,
+            other_symbol: 0,
+        }
+    }
+
+    /// Counts a row that made a change.
+    pub(crate) fn count_change(&mut self)
+        requires { rows_in self.old < 1000000000000 }
+        ensures rows { rows_in self.new ≡ rows_in self.old + 1 }
+        ensures changes { self.new.changes ≡ self.old.changes + 1 }
+    {
+        self.changes += 1;
+    }
+
+    /// Counts a row that made none.
+    pub(crate) fn count_cause(&mut self, cause: Cause)
+        requires { rows_in self.old < 1000000000000 }
+        ensures rows { rows_in self.new ≡ rows_in self.old + 1 }
+        ensures changes { self.new.changes ≡ self.old.changes }
+    {
+        match cause {
+            Cause::TooFewColumns => self.too_few_columns += 1,
+            Cause::BadTime => self.bad_time += 1,
+            Cause::UnknownParticipant => self.unknown_participant += 1,
+            Cause::UnknownSymbol => self.unknown_symbol += 1,
+            Cause::UnknownCondition => self.unknown_condition += 1,
+            Cause::BadPrice(_) => self.bad_price += 1,
+            Cause::BadSize(_) => self.bad_size += 1,
+            Cause::HalfSide(_) => self.half_side += 1,
+            Cause::Trailer => self.trailer += 1,
+            Cause::Listed => self.listed += 1,
+            Cause::OtherSymbol => self.other_symbol += 1,
+        }
+    }
+
+    /// The sums: all rows are those that made a change, those that were refused and those that were skipped. `None` comes
+    /// only of more than 2^64 - 1 rows.
+    pub fn sums(&self) -> Option<Sums>
+        ensures rows { IfSome result (λ sums. sums.rows ≡ rows_in self.now) }
+        ensures parts { IfSome result (λ sums. (sums.changes ≡ self.now.changes) × (sums.refused ≡ refused_in self.now) × (sums.skipped ≡ skipped_in self.now)) }
+        ensures whole { IfSome result (λ sums. sums.rows ≡ sums.changes + sums.refused + sums.skipped) }
+    {
+        let refused = self
+            .too_few_columns
+            .checked_add(self.bad_time)?
+            .checked_add(self.unknown_participant)?
+            .checked_add(self.unknown_symbol)?
+            .checked_add(self.unknown_condition)?
+            .checked_add(self.bad_price)?
+            .checked_add(self.bad_size)?
+            .checked_add(self.half_side)?;
+        let skipped = self
+            .trailer
+            .checked_add(self.listed)?
+            .checked_add(self.other_symbol)?;
+        let rows = self.changes.checked_add(refused)?.checked_add(skipped)?;
+        Some(Sums {
+            rows,
+            changes: self.changes,
+            refused,
+            skipped,
+        })
+    }
+}
