@@ -6,6 +6,7 @@ mod call;
 mod explaining;
 mod fault;
 mod files;
+mod importing;
 mod progress;
 mod screen;
 mod serving;

@@ -3,6 +3,7 @@ use crate::call::{ended, form_of, has_word, no_sym, sym_at, version_of};
 use crate::explaining::serve_explain;
 use crate::fault::{About, Fault};
 use crate::files::{open_word, read_file, setup_of, word_at};
+use crate::importing::serve_import;
 use crate::screen::Screen;
 use crate::source::Source;
 use nms_drawing::{draw_changes, show_version, stream_changes, write_opening};
@@ -53,6 +54,7 @@ where
         Sub::Check => serve_check(rt, screen, setup, request, answers),
         Sub::Why => serve_why(rt, screen, setup, request, answers),
         Sub::Draw => serve_draw(rt, screen, setup, request, answers),
+        Sub::Import => serve_import(rt, screen, setup, request, answers),
     }
 }
 

@@ -5,7 +5,7 @@ use nms_show::{Form, Item, ShowFault, write_line};
 use std::io::{ErrorKind, Write};
 
 /// What each code says, of those that end a request. Where a record stands, `explain` tells.
-static SENTENCES: [(&'static str, &'static str); 27] = [
+static SENTENCES: [(&'static str, &'static str); 30] = [
     ("E1", "it could not be read"),
     ("E2", "the output could not be written"),
     ("E3", "it has more than 10,000,000 records"),
@@ -27,6 +27,15 @@ static SENTENCES: [(&'static str, &'static str); 27] = [
     ("C9", "memory ran out for the setup"),
     ("F4", "it has more changes than the setup's tape_limit"),
     ("G2", "memory ran out for the words"),
+    (
+        "I1",
+        "more than half of the rows were refused: is it the mapping of these files?",
+    ),
+    (
+        "I2",
+        "no row shows a round lot on either side: are the sizes lots, and not shares?",
+    ),
+    ("I3", "times fall, though the mapping says that they do not"),
     (
         "L1",
         "the first refused record is of no kind that is read there",

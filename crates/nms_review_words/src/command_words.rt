@@ -65,6 +65,7 @@ fn request_in(alloc: Global, matches: &ArgMatches<'_>) -> Result<Request, AllocE
         setup: value_text(alloc, inner, "setup")?,
         feed: value_text(alloc, inner, "feed")?,
         plan: value_text(alloc, inner, "plan")?,
+        out: value_text(alloc, inner, "out")?,
         json: inner.get_str("json") == Some("true"),
     })
 }
@@ -77,14 +78,25 @@ fn own_words(
 ) -> Result<Vec<String>, AllocError> {
     let mut words = Vec::new(alloc);
     for word in command.words() {
-        if matches!(word.form, WordForm::Valued(_) | WordForm::Flag) {
+        if is_option_form(word.form) {
             continue;
         }
-        if let Some(value) = matches.get_str(word.name) {
-            words.push(String::from_str(alloc, value)?)?;
+        let Some(values) = matches.get_strs(word.name) else {
+            continue;
+        };
+        for value in values {
+            words.push(String::from_str(alloc, *value)?)?;
         }
     }
     Ok(words)
+}
+
+/// Whether what has this form is an option, and no word of the subcommand's own.
+fn is_option_form(form: WordForm) -> bool {
+    match form {
+        WordForm::Needed | WordForm::OfKinds | WordForm::Several | WordForm::Optional => false,
+        WordForm::Valued(_) | WordForm::NeededValue(_) | WordForm::Flag => true,
+    }
 }
 
 /// The text of an option's value, where it has one.

@@ -14,6 +14,8 @@ pub struct Request {
     pub feed: Option<String>,
     /// The file that `--plan` names.
     pub plan: Option<String>,
+    /// The name that `--out` gives to the files that are written.
+    pub out: Option<String>,
     /// Whether `--json` was given.
     pub json: bool,
 }

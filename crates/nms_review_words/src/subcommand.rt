@@ -20,6 +20,8 @@ pub enum Sub {
     Why,
     /// Draws a symbol's day. Its own words are `CHANGES` and `SYM`.
     Draw,
+    /// Makes changes of a vendor's files. Its own words are `MAP` and one or more of `FILE`.
+    Import,
 }
 
 /// What kind of file is explained.
@@ -54,10 +56,14 @@ pub(crate) enum WordForm {
     Needed,
     /// The kind of a file, which it needs.
     OfKinds,
+    /// The last of its own words, which may be repeated, and which it needs once.
+    Several,
     /// A word that may stand behind those.
     Optional,
     /// An option with a value, and what help calls the value.
     Valued(&'static str),
+    /// The same, which it needs.
+    NeededValue(&'static str),
     /// An option without one.
     Flag,
 }
@@ -188,9 +194,28 @@ static DRAW: [Word; 4] = [
     SETUP,
 ];
 
+static IMPORT: [Word; 4] = [
+    Word {
+        name: "MAP",
+        help: "The file of the mapping: how the vendor's files are laid out",
+        form: WordForm::Needed,
+    },
+    Word {
+        name: "FILE",
+        help: "The vendor's files, read in this order as one",
+        form: WordForm::Several,
+    },
+    Word {
+        name: "out",
+        help: "Writes NAME.changes, NAME.times and NAME.symbols",
+        form: WordForm::NeededValue("NAME"),
+    },
+    SETUP,
+];
+
 impl Sub {
     /// Each of them.
-    pub(crate) const ALL: [Sub; 8] = [
+    pub(crate) const ALL: [Sub; 9] = [
         Sub::Explain,
         Sub::Tape,
         Sub::At,
@@ -199,6 +224,7 @@ impl Sub {
         Sub::Check,
         Sub::Why,
         Sub::Draw,
+        Sub::Import,
     ];
 
     /// The word that asks for it.
@@ -212,6 +238,7 @@ impl Sub {
             Sub::Check => "check",
             Sub::Why => "why",
             Sub::Draw => "draw",
+            Sub::Import => "import",
         }
     }
 
@@ -229,6 +256,7 @@ impl Sub {
             Sub::Why =>
                 "Says why a plan is as it is: its rows, what it takes, and what each cut shows",
             Sub::Draw => "Draws a symbol's day as one SVG",
+            Sub::Import => "Makes a file of changes of a vendor's files, by a mapping",
         }
     }
 
@@ -243,6 +271,7 @@ impl Sub {
             Sub::Check => CHECK.as_slice(),
             Sub::Why => WHY.as_slice(),
             Sub::Draw => DRAW.as_slice(),
+            Sub::Import => IMPORT.as_slice(),
         }
     }
 

@@ -1,0 +1,272 @@
+//! The subcommand `import`: a vendor's files are opened one after another, and what they make is written to three files.
+use crate::answers::Answers;
+use crate::fault::{About, Fault};
+use crate::files::{open_word, read_file, word_at};
+use crate::screen::Screen;
+use crate::source::Source;
+use nms_fees::Setup;
+use nms_import::{
+    Guard, ImportFault, MapFault, Mapping, Notes, Tally, Told, Work, import_rows, next_row,
+    open_rows, read_mapping, write_symbols, write_tally,
+};
+use nms_review_words::Request;
+use nms_show::{Ending, Form, Item, write_line};
+use std::alloc::Global;
+use std::io::Write;
+use std::rt::Files;
+use std::time::Clock;
+use std::{fs, str};
+
+/// The place of the first file's word: the mapping stands before it.
+const FILES: usize = 1;
+
+/// Makes changes of a vendor's files. What is written is whole also where a guard speaks.
+pub(crate) fn serve_import<T, W: Write>(
+    rt: &T,
+    screen: Screen,
+    setup: &Setup,
+    request: &Request,
+    answers: &mut W,
+) -> Result<Ending, Fault>
+where
+    T: AllocGlobal + Clock + Eprint + Files,
+{
+    let text = read_file(rt, word_at(request, 0), About::Word(0))?;
+    match mapping_of(rt.alloc(), &text) {
+        Ok(mapping) => import_files(rt, screen, setup, request, &mapping, answers),
+        Err(fault) => tell_map_fault(rt, word_at(request, 0), &fault),
+    }
+}
+
+/// The mapping that a text says.
+fn mapping_of(alloc: Global, text: &[u8]) -> Result<Mapping, MapFault> {
+    match str::from_utf8(text) {
+        Ok(text) => read_mapping(alloc, text),
+        Err(_) => Err(MapFault::NotToml { line: 1 }),
+    }
+}
+
+/// The files that are written, and what is kept from one of the vendor's files to the next.
+#[derive(Drop)]
+struct Job<'a, F> {
+    changes: Answers<F>,
+    times: Answers<F>,
+    work: Work,
+    notes: Notes,
+    told: Told<'a, Vec<u8>>,
+    tally: Tally,
+}
+
+/// Makes changes of the files, and tells the counts.
+fn import_files<T, W: Write>(
+    rt: &T,
+    screen: Screen,
+    setup: &Setup,
+    request: &Request,
+    mapping: &Mapping,
+    answers: &mut W,
+) -> Result<Ending, Fault>
+where
+    T: AllocGlobal + Clock + Eprint + Files,
+{
+    let alloc = rt.alloc();
+    let mut job = Job {
+        changes: create(rt, request, ".changes")?,
+        times: create(rt, request, ".times")?,
+        work: Work::new(alloc),
+        notes: Notes::new(alloc, setup.roster(), mapping.order).map_err(|_| no_memory())?,
+        told: Told::new(Vec::new(alloc)),
+        tally: Tally::none(),
+    };
+    for place in FILES..request.words.len() {
+        if !import_file(rt, screen, setup, request, mapping, place, &mut job)? {
+            return Ok(Ending::SetupRefused);
+        }
+    }
+    finish(rt, setup, request, &mut job, answers)
+}
+
+/// Makes changes of one file. Returns whether it has the columns that the mapping names; else that is told.
+fn import_file<'a, T>(
+    rt: &T,
+    screen: Screen,
+    setup: &Setup,
+    request: &'a Request,
+    mapping: &Mapping,
+    place: usize,
+    job: &mut Job<'a, T::File>,
+) -> Result<bool, Fault>
+where
+    T: AllocGlobal + Clock + Eprint + Files,
+{
+    let alloc = rt.alloc();
+    let file = open_word(rt, request, place)?;
+    let source = Source::new(rt, screen, file);
+    let form = mapping.file;
+    let mut reader = open_rows(alloc, form.delimiter, form.quotes, source);
+    job.work.row.clear();
+    if form.header {
+        next_row(&mut reader, &mut job.work.row).map_err(|fault| fault_in(fault, place))?;
+    }
+    let columns = match mapping.columns(alloc, &job.work.row) {
+        Ok(columns) => columns,
+        Err(fault) => {
+            tell_map_fault(rt, word_at(request, place), &fault)?;
+            return Ok(false);
+        }
+    };
+    job.told.enter(word_at(request, place));
+    let imported = import_rows(
+        &columns,
+        &mapping.meanings,
+        setup.roster(),
+        &mut job.work,
+        &mut reader,
+        &mut job.changes,
+        &mut job.times,
+        &mut job.notes,
+        &mut job.told,
+        &mut job.tally,
+    );
+    let mut source = reader.into_inner();
+    source.clear();
+    show_told(rt, &mut job.told);
+    imported.map_err(|fault| fault_in(fault, place))?;
+    Ok(true)
+}
+
+/// Writes what is left, the symbols and the counts, and says what the import is doubted for.
+fn finish<T, W: Write>(
+    rt: &T,
+    setup: &Setup,
+    request: &Request,
+    job: &mut Job<'_, T::File>,
+    answers: &mut W,
+) -> Result<Ending, Fault>
+where
+    T: AllocGlobal + Eprint + Files,
+{
+    let mut symbols = create(rt, request, ".symbols")?;
+    write_symbols(&mut symbols, setup.roster(), &job.notes).map_err(|fault| fault_in(fault, 0))?;
+    flush(&mut job.changes)?;
+    flush(&mut job.times)?;
+    flush(&mut symbols)?;
+    let Some(sums) = job.tally.sums() else {
+        return Err(fault_in(ImportFault::TooLong, FILES));
+    };
+    write_tally(answers, &job.tally, &sums).map_err(|fault| fault_in(fault, 0))?;
+    match Guard::of(&sums, &job.notes) {
+        Some(guard) => Err(Fault::of(guard.code(), 7, About::Nothing)),
+        None => Ok(Ending::Done),
+    }
+}
+
+/// A new file of the name that `--out` gives, with this end.
+fn create<T: AllocGlobal + Files>(
+    rt: &T,
+    request: &Request,
+    end: &str,
+) -> Result<Answers<T::File>, Fault> {
+    let name = match &request.out {
+        Some(name) => name.as_str(),
+        None => "",
+    };
+    let Ok(path) = format!(in rt.alloc(); "{name}{end}") else {
+        return Err(no_memory());
+    };
+    let Ok(file) = fs::create(rt, path.as_str()) else {
+        return Err(unwritten());
+    };
+    Answers::new(rt.alloc(), file, false).map_err(|_| no_memory())
+}
+
+fn flush<W: Write>(writer: &mut W) -> Result<(), Fault> {
+    writer.flush().map_err(|_| unwritten())
+}
+
+/// Shows the rows that were refused or skipped, on standard error.
+fn show_told<T: Eprint>(rt: &T, told: &mut Told<'_, Vec<u8>>) {
+    if let Ok(text) = str::from_utf8(&told.errors) {
+        let _ = rt.eprint(text);
+    }
+    told.errors.clear();
+}
+
+/// Tells on standard error why a mapping is refused: its table, its key and what is expected there.
+fn tell_map_fault<'x, T>(rt: &T, file: &'x str, fault: &'x MapFault) -> Result<Ending, Fault>
+where
+    T: AllocGlobal + Eprint,
+{
+    let mut text = Vec::new(rt.alloc());
+    let (sentence, table, key, expected) = match fault {
+        MapFault::NotToml { .. } => ("this mapping is no TOML", "", "", ""),
+        MapFault::Missing {
+            table,
+            key,
+            expected,
+        } => ("a key is absent", *table, key.as_str(), *expected),
+        MapFault::Unknown {
+            table,
+            key,
+            expected,
+        } => ("a key that is not known", *table, key.as_str(), *expected),
+        MapFault::BadValue {
+            table,
+            key,
+            expected,
+        } => (
+            "a value that is not allowed",
+            *table,
+            key.as_str(),
+            *expected,
+        ),
+        MapFault::NoColumn { key, expected } => {
+            (
+                "the file has no such column",
+                "column",
+                key.as_str(),
+                *expected,
+            )
+        }
+        MapFault::NoMemory => return Err(no_memory()),
+    };
+    let line = match fault {
+        MapFault::NotToml { line } => Item::Number(*line),
+        _ => Item::Absent,
+    };
+    let items = [
+        Item::Text("nms_review: "),
+        Item::Bytes(file.as_bytes()),
+        Item::Text(": "),
+        Item::Text(fault.code()),
+        Item::Text(": "),
+        Item::Text(sentence),
+        Item::Text(if key.is_empty() { ": line " } else { ": [" }),
+        line,
+        Item::Text(table),
+        Item::Text(if key.is_empty() { "" } else { "] " }),
+        Item::Bytes(key.as_bytes()),
+        Item::Text(if key.is_empty() { "" } else { ": expected " }),
+        Item::Text(expected),
+    ];
+    if write_line(&mut text, Form::Text { colours: false }, &items).is_err() {
+        return Err(no_memory());
+    }
+    if let Ok(text) = str::from_utf8(&text) {
+        let _ = rt.eprint(text);
+    }
+    Ok(Ending::SetupRefused)
+}
+
+/// A fault of an import, in the file of a word.
+fn fault_in(fault: ImportFault, place: usize) -> Fault {
+    Fault::of(fault.code(), fault.status(), About::Word(place))
+}
+
+fn no_memory() -> Fault {
+    Fault::of("E4", 5, About::Nothing)
+}
+
+fn unwritten() -> Fault {
+    Fault::of("E2", 1, About::Nothing)
+}
