@@ -13,7 +13,7 @@ loop-done-init g c = (
   λ config bytes seen reads. (
     [],
     subst (λ (rows : List Record). RowsFrom {R = g.row.R.Denot} config g.R.Read.remaining c.args.reader.now bytes rows)
-    (sym (append-nil seen)) reads,
+        (sym (append-nil seen)) reads,
     none_written (g.C.Write.contents c.args.changes.now),
     none_written (g.T.Write.contents c.args.times.now),
     omega arith,
@@ -45,7 +45,11 @@ loop-done-preserved g c = (
         times_on c.args.columns.now c.args.meanings.now c.args.roster.now had.0 row (g.T.Write.contents c.args.times.now)
             (g.T.Write.contents c.loop-done.times) (g.T.Write.contents c.import_row.new.times) had.3 c.in_ok-import_row.ensures.times,
         omega (arith, c.in_ok-import_row.ensures.rows, had.4, length-append had.0 (row ∷ [])),
-        omega (arith, c.in_ok-import_row.ensures.counted, had.5,
-        accepted_more c.args.columns.now c.args.meanings.now c.args.roster.now had.0 row),
+        omega (
+          arith,
+          c.in_ok-import_row.ensures.counted,
+          had.5,
+          accepted_more c.args.columns.now c.args.meanings.now c.args.roster.now had.0 row,
+        ),
       ),
 )
