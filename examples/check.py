@@ -4,7 +4,7 @@ that is named, and compares what it writes on both streams and its status with w
 
     examples/check.py [PROGRAM]
 
-It writes a line for each difference, and last `N passed, M failed`; status 1 where one failed. None is left out by
+With NMS_ONLY in the environment only the examples and cases run that have that text in their names. It writes a line for each difference, and last `N passed, M failed`; status 1 where one failed. None is left out by
 forgetting: the runs are the rows of README.md's table, every file of this folder has to be named by one, the cases are
 all that bundle.sh makes and finds, and a kind of case that is not known fails. What no call shows, or not whole, has to
 stand in the stored input of crates/nms_examples.
@@ -270,10 +270,16 @@ def main(program):
         except (Wrong, OSError, subprocess.TimeoutExpired) as fault:
             return f"{name}: {fault}"
 
+    only = os.environ.get("NMS_ONLY")
+    if only:
+        calls, failed = [it for it in calls if only in it[0]], [it for it in failed if only in it]
+        failed += [] if calls or failed else [f"{only}: no example or case has this in its name"]
     with ThreadPoolExecutor(os.cpu_count()) as pool:
         differing = list(filter(None, pool.map(run, calls)))
     for line in [*failed, *differing]:
         print(f"DIFFERS: {line}")
+    if differing and not only:
+        print("To run some alone: ./gate examples NAME")
     print(f"{len(calls) - len(differing)} passed, {len(failed) + len(differing)} failed")
     return 1 if failed or differing else 0
 

@@ -361,11 +361,17 @@ def main(program, tool):
         except (Wrong, OSError, subprocess.TimeoutExpired) as fault:
             return f"{name}: {fault}"
 
+    failed = [f"examples/review/{it}: docs/REVIEW.md does not name it" for it in unnamed()]
+    only = os.environ.get("NMS_ONLY")
+    if only:
+        runs = [it for it in runs if only in it[0]]
+        failed = [] if runs else [f"{only}: no case or trial has this in its name"]
     with ThreadPoolExecutor(os.cpu_count()) as pool:
         differing = list(filter(None, pool.map(run, runs)))
-    failed = [f"examples/review/{it}: docs/REVIEW.md does not name it" for it in unnamed()]
     for line in [*failed, *differing]:
         print(f"DIFFERS: {line}")
+    if differing and not only:
+        print("To run some alone: ./gate review NAME")
     print(f"{len(runs) - len(differing)} passed, {len(failed) + len(differing)} failed")
     return 1 if failed or differing else 0
 
