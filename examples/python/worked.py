@@ -76,5 +76,8 @@ board.close()
 with open(sys.argv[1], "rb") as file:
     setup = file.read()
 print("\nthe setup:", nms.setup_place(setup))
-for wrong in (setup.replace(b'name = "PNY"', b'name = "ABC"'), setup.replace(b"queue", b"que"), b"tape_limit = 1\nqueue 2\n"):
+for wrong in (setup.replace(b'name = "PNY"', b'name = "ABC"'), setup.replace(b"queue", b"que")):
     print(nms.setup_place(wrong))
+wrong = b"tape_limit = 1\nname = N\n"
+place = nms.setup_place(wrong)
+print(f"{place.table}: code {place.code}, line", wrong[:place.start].count(b"\n") + 1)
