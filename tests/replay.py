@@ -569,7 +569,7 @@ def signals(program, tool):
 
 
 def little_memory(program, tool):
-    """With less and less memory a run ends with a code of want of memory, or as ever; it never hangs."""
+    """With less and less memory a run ends with an out-of-memory code, or as ever; it never hangs."""
     statuses = set()
     for megabytes in (4, 6, 8, 10, 12, 16, 20, 24, 32, 48, 64, 96, 128, 256):
         with Failing(program, tool, f"a run within {megabytes} MB") as it:
