@@ -3,9 +3,9 @@
 
     docs/check.py
 
-It reads the pages (README.md, CHANGELOG.md, docs/, examples/README.md), the help and the sources; it proves and builds nothing. Each
-part below says what it looks at. It writes a line for each difference, and last `N passed, M failed`; status 1 where one
-failed.
+It reads the pages (README.md, CHANGELOG.md, docs/, examples/README.md, tests/README.md), the help and the sources; it
+proves and builds nothing. Each part below says what it looks at. It writes a line for each difference, and last `N passed,
+M failed`; status 1 where one failed.
 """
 import itertools
 import os
@@ -27,7 +27,7 @@ MOST_COLUMNS = 140
 LIMITS = (("MOST_RECORDS", "records of a script"), ("MOST_CHANGES", "changes of a tape"), ("MOST_SYMBOLS", "symbols"),
           ("MOST_PARTICIPANTS", "participants"), ("MOST_FEEDS", "feeds"), ("MOST_DESKS", "desks"), ("MOST_QUEUE", "changes in the queue"))
 # The picture in README.md is what the program draws in this case.
-DRAWINGS = "examples/review/drawing.cases"
+DRAWINGS = "tests/review/drawing.cases"
 DAY = "command a day with a locked and two crossed stretches, and a plan where it was made"
 SPAN = re.compile(r"`([^`]+)`")
 CELLS = 0
@@ -52,7 +52,7 @@ def files_of():
 
 FILES = files_of()
 FOLDERS = {os.path.dirname(it) for it in FILES} | {os.path.dirname(os.path.dirname(it)) for it in FILES}
-PAGES = sorted(it for it in FILES if it in ("README.md", "CHANGELOG.md") or re.fullmatch(r"(docs|examples)/\w+\.md", it))
+PAGES = sorted(it for it in FILES if it in ("README.md", "CHANGELOG.md") or re.fullmatch(r"(docs|examples|tests)/\w+\.md", it))
 CRATES = [re.split(r"[ :]", line)[0] for line in read("crates.txt").split("\n") if re.match(r"nms_\w+", line)]
 PORTED = set(re.findall(r"[a-z]\w+", re.sub(r"#.*|\w+=\S+", "", read("crates.txt"))))
 
@@ -148,7 +148,7 @@ def has_path(page, path):
     path = path.rstrip("/.,").split("#")[0]
     if path.startswith("./"):
         path = path[2:]
-    places = ["", f"{os.path.dirname(page)}/", "examples/", "examples/cases/", "bench/", "build/", "docs/", "tests/", "include/", "crates/"]
+    places = ["", f"{os.path.dirname(page)}/", "examples/", "tests/", "tests/cases/", "bench/", "build/", "docs/", "include/", "crates/"]
     places += [f"crates/{it}/{below}" for it in CRATES for below in ("", "src/", "specs/", "proofs/", "src/trials/")]
     for place in places:
         whole = os.path.normpath(place + path)
@@ -243,7 +243,7 @@ def codes_in(text):
 
 def check_statuses():
     """The statuses in ERRORS.md are those that the gate sees each code end with; L9 ends nothing by itself."""
-    exits = read("examples/cases/texts.cases").split("== text exits\n-- gives\n")[1].split("==")[0]
+    exits = read("tests/cases/texts.cases").split("== text exits\n-- gives\n")[1].split("==")[0]
     status = {code: it for code, it in re.findall(r"^([A-Z]\d+) (\d)$", exits, re.M) if code != "L9"}
     page = "docs/ERRORS.md"
     listed = {row["Status"]: codes_in(row["Codes"]) for row in rows(prose(page)) if "Codes" in row and "Status" in row}
@@ -424,10 +424,10 @@ def check_plain():
 
 
 def check_cases():
-    """examples/README.md lists each file of cases."""
-    page = "examples/README.md"
+    """tests/README.md lists each file of cases."""
+    page = "tests/README.md"
     for file in sorted(FILES):
-        if re.fullmatch(r"examples/(cases/)?\w+\.cases", file):
+        if re.fullmatch(r"tests/(cases/)?\w+\.cases", file):
             check(f"`{os.path.basename(file)}`" in read(page), page, f"`{file}` is not listed")
 
 

@@ -1,10 +1,10 @@
 #!/bin/sh
-# Writes the examples and cases of this folder as one input of crates/nms_examples, which the gate runs: all but those that
-# a call of the program shows whole, which check.py runs. With the word `check` it compares instead, and ends with a line
-# `N passed, M failed`; with `print` it writes all examples and cases out.
+# Writes the examples of examples/ and the cases of cases/ as one input of crates/nms_examples, which the gate runs: all but
+# those that a call of the program shows whole, which check.py runs. With the word `check` it compares instead, and ends
+# with a line `N passed, M failed`; with `print` it writes all examples and cases out.
 set -eu
 export LC_ALL=C
-cd "$(dirname "$0")"
+cd "$(dirname "$0")"/../examples
 stored=../crates/nms_examples/stdin
 
 setup() { echo "== setup${1:+ $1}"; [ $# = 0 ] || cat "$1"; }
@@ -144,7 +144,7 @@ bundle() {
     filled
     runs
     crowds
-    cat cases/*.cases
+    cat ../tests/cases/*.cases
 }
 
 # All but reports and calls, and no setup that nothing stands behind.
@@ -161,7 +161,7 @@ elif [ "${1:-}" = check ]; then
     if below | cmp -s - "$stored"; then
         echo '1 passed, 0 failed'
     else
-        echo 'DIFFERS: crates/nms_examples/stdin: run examples/bundle.sh'
+        echo 'DIFFERS: crates/nms_examples/stdin: run tests/bundle.sh'
         echo '0 passed, 1 failed'
         exit 1
     fi

@@ -1,18 +1,17 @@
 #!/usr/bin/env python3
-"""Runs every case of examples/review/, and every call of docs/REVIEW.md, with ./nms_review or the program that is named,
-and compares what it writes on both streams and its status with what must come.
+"""Runs every case of tests/review/, and every call of the pages PAGES, with the reviewer's program, and compares what it
+writes on both streams and its status with what must come.
 
-    examples/check_review.py [PROGRAM [TOOL]]
+    tests/check_review.py [PROGRAM [TOOL]]      PROGRAM is nms_review, TOOL is nms_tool
 
-A file `X.cases` there has cases of the form of cases/commands.cases, of the kind `command`: the words, the files, the
-streams, the status and the texts. The other files there are what docs/REVIEW.md names, and each has to be named. In that
+A file `X.cases` has cases of the form of cases/commands.cases, of the kind `command`: the words, the files, the streams,
+the status and the texts. The files of examples/review/ are what docs/REVIEW.md names, and each has to be named. In a
 page a line of four spaces and `./nms_review WORDS` is a call, or one of `./nms_tool`, which TOOL stands for; the block
-behind it is what it writes, with the words `status N` in the text between them where N is not 0. Beside these the program
+after it is what it writes, with the words `status N` in the text between them where N is not 0. Beside these the program
 meets a closed output, one whose reader has gone, records of a million bytes, records whose fields and lists are longer than
 any that is right, byte order marks before quotes, each byte of a file once, a setup of many symbols, streams of several
-pieces, a day with more versions than a picture has columns, an import of examples/import/, and one of 100,000 random rows
-that tests/import_judge.py compares with a plain converter. It writes a line for each difference, and last
-`N passed, M failed`; status 1 where one failed.
+pieces, a day with more versions than a picture has columns, the imports of examples/import/, and the random files that
+the judges JUDGES compare with a plain slow program.
 """
 import os
 import re
@@ -21,13 +20,15 @@ import subprocess
 import sys
 import tempfile
 import time
-from concurrent.futures import ThreadPoolExecutor
 
-from check import MOST, Wrong, cases_of, command
+from stored import EXAMPLES, MOST, TESTS, TOP, cases_of, command, programs, read
+from trials import Trial, Wrong, compare, run
 
-HERE = os.path.dirname(os.path.realpath(__file__))
-TOP = os.path.dirname(HERE)
-ROOM = os.path.join(HERE, "review")
+ROOM = os.path.join(EXAMPLES, "review")
+# The pages whose calls run, the mappings of examples/import/, and the programs that judge random files.
+PAGES = ("docs/REVIEW.md",)
+IMPORTS = ("taq",)
+JUDGES = ("import_judge.py",)
 # Memory within which a file of two hundred million bytes is explained: it must not grow with the file, but with the longest
 # record alone.
 LITTLE = 256 << 20
@@ -35,46 +36,44 @@ LITTLE = 256 << 20
 CALL = re.compile(r"^    \./(nms_review|nms_tool) (.*)\n((?:(?!    \./nms_|```).*\n)*)```\w*\n([\s\S]*?)```$", re.M)
 
 
-def stored():
-    """The cases of the files, each with its name."""
-    for name in sorted(it for it in os.listdir(ROOM) if it.endswith(".cases")):
-        with open(os.path.join(ROOM, name), "rb") as file:
-            for case in cases_of(name, file.read()):
-                if case.kind != "command" or not case.has_gives:
-                    raise Wrong(f"{name}: {case.title}: not a command with what it gives")
-                yield f"{name}: {case.title}", command(case, None).run
+def stored(program):
+    """The cases of the files."""
+    for name in sorted(os.listdir(f"{TESTS}/review")):
+        for case in cases_of(name, read("review", name)):
+            yield Trial(case.name, run_stored, (case, program))
 
 
-def page(tool):
-    """The calls of docs/REVIEW.md, each with the text of the block behind it."""
-    with open(os.path.join(TOP, "docs/REVIEW.md"), encoding="utf-8") as file:
-        text = file.read()
-    for name, words, between, block in CALL.findall(text):
-        status = re.search(r"status (\d)", between)
-        other = tool if name == "nms_tool" else None
-        yield f"docs/REVIEW.md: {words}", shown(other, words.split(), int(status[1]) if status else 0, block.encode())
+def run_stored(case, program):
+    if case.kind != "command" or not case.has_gives:
+        raise Wrong("not a command with what it gives")
+    command(case).run(program)
 
 
-def shown(other, words, status, text):
+def pages(program, tool):
+    """The calls of the pages, each with the text of the block after it."""
+    for page in PAGES:
+        for name, words, between, block in CALL.findall(read(TOP, page).decode()):
+            status = re.search(r"status (\d)", between)
+            ran = tool if name == "nms_tool" else program
+            yield Trial(f"{page}: {words}", shown, (ran, words.split(), int(status[1]) if status else 0, block.encode()))
+
+
+def shown(program, words, status, text):
     """A call at the top of the repository that writes this text, or its beginning where it ends with a line `..`."""
     words, _, _ = parted(words, ">")
     words, _, given = parted(words, "<")
-
-    def run(program):
-        with open(os.path.join(TOP, *given) if given else os.devnull, "rb") as file:
-            ran = subprocess.run([other or program, *words], cwd=TOP, stdin=file, capture_output=True, timeout=MOST)
-        came = ran.stdout or ran.stderr
-        wanted = text
-        if text.endswith(b"\n..\n"):
-            wanted = text[:-3]
-            came = came[: len(wanted)]
-        if (ran.returncode, came) != (status, wanted):
-            raise Wrong(f"status {ran.returncode}, {came!r}, and not {status}, {wanted!r}"[:2000])
-    return run
+    with open(os.path.join(TOP, *given) if given else os.devnull, "rb") as file:
+        ran = subprocess.run([program, *words], cwd=TOP, stdin=file, capture_output=True, timeout=MOST, check=False)
+    came = ran.stdout or ran.stderr
+    if text.endswith(b"\n..\n"):
+        text = text[:-3]
+        came = came[: len(text)]
+    compare("the text", came, text)
+    compare("status", ran.returncode, status)
 
 
 def parted(words, sign):
-    """The words before a sign, the sign, and those behind it."""
+    """The words before a sign, the sign, and those after it."""
     at = words.index(sign) if sign in words else len(words)
     return words[:at], words[at:at + 1], words[at + 1:]
 
@@ -85,16 +84,13 @@ def called(program, words, **how):
     return subprocess.run([program, *words], stdin=subprocess.DEVNULL, timeout=MOST, **how)
 
 
-def in_room(name, make):
+def in_room(name, make, program):
     """A trial in a folder with a file of changes that `make` writes."""
-    def run(program):
-        with tempfile.TemporaryDirectory(prefix="nms-") as room:
-            path = os.path.join(room, "given.changes")
-            with open(path, "wb") as file:
-                make(file)
-            trial = globals()[name]
-            trial(program, path)
-    return f"trial: {name}", run
+    with tempfile.TemporaryDirectory(prefix="nms-") as room:
+        path = os.path.join(room, "given.changes")
+        with open(path, "wb") as file:
+            make(file)
+        globals()[name](program, path)
 
 
 def must(holds, what):
@@ -320,62 +316,38 @@ TRIALS = [
 ]
 
 
-def imported(program):
-    """The three files, the counts and the refused rows that an import of examples/import/taq.txt makes."""
-    given = os.path.join(HERE, "import")
+def imported(program, mapping):
+    """The three files, the counts and the refused rows that an import of the rows beside a mapping makes."""
+    given = os.path.join(EXAMPLES, "import")
     with tempfile.TemporaryDirectory(prefix="nms-") as room:
         out = os.path.join(room, "day")
-        words = ["import", "taq.toml", "taq.txt", "--out", out, "--setup", "../market.toml"]
+        words = ["import", f"{mapping}.toml", f"{mapping}.txt", "--out", out, "--setup", "../market.toml"]
         ran = called(program, words, capture_output=True, cwd=given)
+        must(ran.returncode == 0, f"status {ran.returncode}, {ran.stderr!r}")
         came = {"counts": ran.stdout, "errors": ran.stderr}
-        for name in ("changes", "times", "symbols"):
-            with open(f"{out}.{name}", "rb") as file:
-                came[name] = file.read()
-    must(ran.returncode == 0, f"status {ran.returncode}, {ran.stderr!r}")
+        came |= {name: read(f"{out}.{name}") for name in ("changes", "times", "symbols")}
     for name, text in came.items():
-        with open(os.path.join(given, f"taq.{name}"), "rb") as file:
-            must(file.read() == text, f"taq.{name}: {text!r}")
+        compare(f"{mapping}.{name}", text, read(given, f"{mapping}.{name}"))
 
 
-def judged(program):
-    """An import of 100,000 random rows, against the plain converter of tests/import_judge.py."""
-    ran = called(sys.executable, [os.path.join(TOP, "tests/import_judge.py"), program], capture_output=True)
+def judged(program, judge):
+    """Random files, against the plain slow program of a judge, which prints its seed and what differs."""
+    ran = called(sys.executable, [os.path.join(TESTS, judge), program], capture_output=True)
     must(ran.returncode == 0, f"{ran.stdout.decode()}{ran.stderr.decode()}"[-2000:])
 
 
-def unnamed():
-    """The files of the folder that the page does not name."""
-    with open(os.path.join(TOP, "docs/REVIEW.md"), encoding="utf-8") as file:
-        text = file.read()
-    return [it for it in sorted(os.listdir(ROOM)) if not it.endswith(".cases") and f"examples/review/{it}" not in text]
+def named_by_the_page(name):
+    must(f"examples/review/{name}" in read(TOP, "docs/REVIEW.md").decode(), "docs/REVIEW.md does not name it")
 
 
-def main(program, tool):
-    others = [("trial: imported", imported), ("trial: judged", judged)]
-    runs = [*stored(), *page(tool), *(in_room(*it) for it in TRIALS), *others]
-
-    def run(named):
-        name, trial = named
-        try:
-            trial(program)
-        except (Wrong, OSError, subprocess.TimeoutExpired) as fault:
-            return f"{name}: {fault}"
-
-    failed = [f"examples/review/{it}: docs/REVIEW.md does not name it" for it in unnamed()]
-    only = os.environ.get("NMS_ONLY")
-    if only:
-        runs = [it for it in runs if only in it[0]]
-        failed = [] if runs else [f"{only}: no case or trial has this in its name"]
-    with ThreadPoolExecutor(os.cpu_count()) as pool:
-        differing = list(filter(None, pool.map(run, runs)))
-    for line in [*failed, *differing]:
-        print(f"DIFFERS: {line}")
-    if differing and not only:
-        print("To run some alone: ./gate review NAME")
-    print(f"{len(runs) - len(differing)} passed, {len(failed) + len(differing)} failed")
-    return 1 if failed or differing else 0
+def trials(program, tool):
+    yield from stored(program)
+    yield from pages(program, tool)
+    yield from (Trial(f"trial: {name}", in_room, (name, make, program)) for name, make in TRIALS)
+    yield from (Trial(f"trial: imported {it}", imported, (program, it)) for it in IMPORTS)
+    yield from (Trial(f"trial: judged by {it}", judged, (program, it)) for it in JUDGES)
+    yield from (Trial(f"examples/review/{it}", named_by_the_page, (it,)) for it in sorted(os.listdir(ROOM)))
 
 
 if __name__ == "__main__":
-    given = [os.path.realpath(it) for it in sys.argv[1:]]
-    sys.exit(main(*given, *[f"{TOP}/nms_review", f"{TOP}/nms_tool"][len(given):]))
+    sys.exit(run("review", trials(*programs(sys.argv[1:], "nms_review", "nms_tool"))))

@@ -1,26 +1,24 @@
 #!/usr/bin/env python3
 """Forges plans: takes some that are confirmed, changes one field at a time, and compares what an audit finds.
 
-    examples/forge.py [EXAMPLES [PROGRAM]]
+    tests/forge.py [EXAMPLES [PROGRAM]]      EXAMPLES is nms_examples, PROGRAM is nms_tool
 
-What must be found is said by the plain slow program of `judge_plans.py`: the least doubt that holds; or none, where
-what was forged is itself a plan than which no way to spread the shares is better. EXAMPLES is the built `nms_examples`,
-which judges all forged fields in one run; PROGRAM is `nms_tool`, which is called with each forged text: records that
-are gone, doubled, added, in another order, or too many. It writes a line for each difference, and last `N passed,
-M failed`; status 1 where one failed.
+What must be found is `doubt` of rules.py: the least that holds; or none, where what was forged is itself a plan than which
+no way to spread the shares is better. EXAMPLES judges the forged fields of a plan in one run, PROGRAM is called with each
+forged text: records that are gone, doubled, added, in another order, or too many. A forged plan that differs is made as
+small as it can be. The trials are `plan N` and `texts of plan N`, counted from 0; they count what they forge.
 """
-import os
 import random
 import subprocess
 import sys
 import tempfile
-from concurrent.futures import ThreadPoolExecutor
 
-sys.dont_write_bytecode = True
-from judge_plans import FEES, RANGE, best, cost_of, dollars, doubt, drawn, drawn_plan, money, names_of, usable
+from judge_plans import changes_of, drawn, drawn_plan
+from rules import FEES, RANGE, best_way, cost_of, doubt, records_of, usable
+from stored import MOST, programs
+from trials import Several, Trial, Wrong, least, run
 
-TOP = os.path.dirname(os.path.dirname(os.path.realpath(__file__)))
-PLANS, TEXTS = 240, 25
+SEED, PLANS, TEXTS = 242_611, 240, 25
 KINDS = "TOOMUCH", "TOOLITTLE", "MARGINAL"
 
 
@@ -46,29 +44,30 @@ class Forged:
         there = self.symbol == "ABC" and self.order["side"] == self.side
         rows = self.rows[: self.version] if there else []
         found = doubt(self.order, rows, (self.legs, self.filled, self.cost), self.cuts)
-        if found is None and (-self.filled, self.cost) != best(self.order, rows):
-            sys.exit(f"a certificate passes for a plan that is not the best: {self.text()}")
+        if found is None and (-self.filled, self.cost) != best_way(self.order, rows):
+            raise Wrong("a certificate passes for a plan that is not the best", self.text())
         return found or "confirmed"
 
     def changes(self):
-        def line(part, price, shares, protected):
-            sides = f",,{dollars(price)},{shares}" if self.side == "B" else f"{dollars(price)},{shares},,"
-            return f"Q,{part},ABC,{'A' if protected else 'M'},{sides}\n"
-        return "".join(line(*row) for row in self.rows)
+        return "".join(f"{it}\n" for it in changes_of({"side": self.side}, self.rows))
 
     def records(self):
-        order = self.order
-        yield f"PLAN,{self.version},{order['side']},{self.symbol},{order['shares']},{dollars(order['limit'])}," \
-            f"{'M' if order['manual'] else ''},{self.filled},{money(self.cost)}" \
-            f"{',' if order['self_help'] else ''}{names_of(order)}\n"
-        for part, price, shares in self.legs:
-            yield f"LEG,{part},{dollars(price)},{shares}\n"
-        for price, kind, marginal in self.cuts:
-            yield f"CUT,{dollars(price)},{kind},{money(marginal) if kind == 'MARGINAL' else ''}\n"
-        yield "END\n"
+        plan = self.legs, self.filled, self.cost
+        return [f"{it}\n" for it in records_of(self.order, self.version, self.symbol, plan, self.cuts)]
 
     def text(self):
         return "".join(self.records())
+
+    def parts(self):
+        """What it is made of: quotations, legs and cuts."""
+        return [*(("row", it) for it in self.rows), *(("leg", it) for it in self.legs), *(("cut", it) for it in self.cuts)]
+
+    def of_parts(self, parts):
+        """This plan with some of its parts alone, which is the least version that has them."""
+        it = self.copy()
+        it.rows, it.legs, it.cuts = ([part for kind, part in parts if kind == wanted] for wanted in ("row", "leg", "cut"))
+        it.version = self.version - len(self.rows) + len(it.rows)
+        return it
 
 
 def near(number, least, most, steps):
@@ -130,7 +129,7 @@ def forged_cut(cut):
 
 
 def lawful_plans(chance, count):
-    """Plans of orders drawn by chance that are confirmed, and fill something. Half of the orders declare self-help."""
+    """Plans of random orders that are confirmed, and fill something. Half of the orders declare self-help."""
     naming = random.Random(611)
     while count:
         order, rows, _, _ = drawn(chance)
@@ -142,17 +141,36 @@ def lawful_plans(chance, count):
             yield it
 
 
-def judged(examples, plans):
-    """Those of which `nms_examples` finds something else, in one run."""
-    wanted = [it.finding() for it in plans]
-    cases = zip(plans, wanted)
-    text = "".join(f"== check {at}\n{it.changes()}-- plan\n{it.text()}-- gives\n{want}\n" for at, (it, want) in enumerate(cases))
-    ran = subprocess.run([examples], input=f"== setup\n{text}".encode(), capture_output=True)
-    heads = [it.split("\n", 1) for it in ran.stdout.decode().split("== check ")[1:]]
-    found = {int(at): it.strip() for at, it in heads}
-    cases = enumerate(zip(plans, wanted))
-    differing = [f"{it.changes()}{it.text()}{want}: {found.get(at)}" for at, (it, want) in cases if found.get(at) != "as it must"]
-    return differing or ([] if ran.returncode == 0 else [f"status {ran.returncode}"])
+def found_by(examples, plans):
+    """What `nms_examples` finds of each plan, in one run; `as it must` if it is what is wanted."""
+    cases = (f"== check {at}\n{it.changes()}-- plan\n{it.text()}-- gives\n{it.finding()}\n" for at, it in enumerate(plans))
+    text = "== setup\n" + "".join(cases)
+    ran = subprocess.run([examples], input=text.encode(), capture_output=True, timeout=MOST, check=False)
+    heads = (it.split("\n", 1) for it in ran.stdout.decode(errors="replace").split("== check ")[1:])
+    found = {int(at): " ".join(it.split()) for at, it in heads}
+    if ran.returncode and set(found.values()) == {"as it must"}:
+        return [f"status {ran.returncode}"] * len(plans)
+    return [found.get(at, f"nothing, status {ran.returncode}") for at in range(len(plans))]
+
+
+def is_found(examples, plan):
+    return found_by(examples, [plan]) == ["as it must"]
+
+
+def judged(examples, plan):
+    """How many forged fields of a plan are judged as they must be; raises the others, the first on its least parts."""
+    plans = list(forged_fields(plan))
+    found = found_by(examples, plans)
+    wrong = [(it, said) for it, said in zip(plans, found) if said != "as it must"]
+    if not wrong:
+        return len(plans)
+    first, said = wrong[0]
+    small = first.of_parts(least(first.parts(), lambda parts: not is_found(examples, first.of_parts(parts)), 100))
+    (small, said) = (small, found_by(examples, [small])[0]) if not is_found(examples, small) else (first, said)
+    shown = f"{small.changes()}-- plan\n{small.text()}-- gives\n{small.finding()}\n"
+    faults = [Wrong(f"{small.finding()} is to be found, and it said: {said}", f"the least that shows it:\n{shown}")]
+    faults += [Wrong(f"{it.finding()} is to be found, and it said: {said}", f"{it.changes()}{it.text()}") for it, said in wrong[1:]]
+    raise Several(faults, len(plans) - len(wrong))
 
 
 def forged_texts(plan):
@@ -178,37 +196,36 @@ def forged_texts(plan):
         yield "".join(records).replace(record, record.replace(",", ";") if "," in record else "end\n")
 
 
-def refused(program, plan, text):
+def is_refused(program, plan, text):
+    """Raises if a text is not refused as no plan."""
     with tempfile.TemporaryDirectory(prefix="nms-") as room:
         for name, it in (("changes", plan.changes()), ("plan", text)):
-            with open(os.path.join(room, name), "w", encoding="utf-8") as file:
+            with open(f"{room}/{name}", "w", encoding="utf-8") as file:
                 file.write(it)
-        ran = subprocess.run([program, "check", "changes", "plan"], cwd=room, capture_output=True)
-        if (ran.returncode, ran.stdout, ran.stderr) == (6, b"", b"nms_tool: L11\n"):
-            return None
-        return f"{text}{ran}"
+        ran = subprocess.run([program, "check", "changes", "plan"], cwd=room, capture_output=True, timeout=MOST, check=False)
+    if (ran.returncode, ran.stdout, ran.stderr) != (6, b"", b"nms_tool: L11\n"):
+        raise Wrong(f"status {ran.returncode}, {ran.stdout!r}, {ran.stderr!r}, and not L11", text)
 
 
-def main(examples, program):
-    chance = random.Random(242_611)
-    plans = list(lawful_plans(chance, PLANS))
-    fields = [it for plan in plans for it in forged_fields(plan)]
-    texts = [(plan, text) for plan in plans[:TEXTS] for text in forged_texts(plan)]
-    found = judged(examples, fields)
-    with ThreadPoolExecutor(os.cpu_count()) as pool:
-        told = pool.map(lambda it: refused(program, *it), texts)
-        differing = [it for it in told if it is not None]
-    for fault in found[:5] + differing[:5]:
-        print(f"DIFFERS: {fault}"[:1500], flush=True)
-    failed = len(found) + len(differing)
-    print(f"{len(fields) + len(texts) - failed} passed, {failed} failed")
-    return 1 if failed else 0
+def all_refused(program, plan):
+    """How many forged texts of a plan are refused; raises the others."""
+    found, texts = [], list(forged_texts(plan))
+    for text in texts:
+        try:
+            is_refused(program, plan, text)
+        except Wrong as fault:
+            found.append(fault)
+    if found:
+        raise Several(found, len(texts) - len(found))
+    return len(texts)
 
 
-def built(crate):
-    return f"{TOP}/crates/{crate}/out/{crate}"
+def trials(examples, program):
+    plans = list(enumerate(lawful_plans(random.Random(SEED), PLANS)))
+    yield from (Trial(f"plan {number}", judged, (examples, plan)) for number, plan in plans)
+    yield from (Trial(f"texts of plan {number}", all_refused, (program, plan)) for number, plan in plans[:TEXTS])
 
 
 if __name__ == "__main__":
-    given = [os.path.realpath(it) for it in sys.argv[1:]]
-    sys.exit(main(*given, *map(built, ("nms_examples", "nms_tool")[len(given):])))
+    print(f"seed {SEED}: {PLANS} plans")
+    sys.exit(run("forged", trials(*programs(sys.argv[1:], "nms_examples", "nms_tool")), processes=True))

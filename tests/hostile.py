@@ -1,23 +1,23 @@
 #!/usr/bin/env python3
-"""Runs calls of ./nms_tool, or of the program that is named, on a machine that fails once, at each point in turn.
+"""Runs calls of the program on a machine that fails once, at each point in turn.
 
-    examples/hostile.py [PROGRAM]
+    tests/hostile.py [PROGRAM]      PROGRAM is nms_tool
 
-Each request for memory is refused, from the first one until none is: the call has to end with its answer, or with want
-of memory by a code that is its own, and of the answer at most a beginning. Each read and each write fails: the call has
-to end with E1 or E2, and what it wrote has to be the answers to the records that it had read, or to those that it had
-answered, byte for byte. And all streams move single bytes: nothing may change. It writes a line for each difference,
-and last `N passed, M failed`, by points; status 1 where one failed. Where the machine lets no process trace another one
-it says so and counts nothing: `examples/refuse.py` stands for a part of it there.
+Each request for memory is refused, from the first one until none is: the call has to end with its answer, or with an
+out-of-memory code of its own, and of the answer at most a beginning. Each read and each write fails: the call has to end
+with E1 or E2, and what it wrote has to be the answers to the records that it had read, or to those that it had answered,
+byte for byte. And all streams move single bytes: nothing may change. It counts points. A machine that lets no process trace
+another one is skipped; `tests/refuse.py` stands for a part of it there.
 """
 import os
 import sys
 import tempfile
 from concurrent.futures import ProcessPoolExecutor
 
-sys.dont_write_bytecode = True
 import traced
-from refuse import ALWAYS, OFFERS, PLAN, STATUS, TOP, setup
+from refuse import ALWAYS, OFFERS, PLAN, STATUS, setup
+from stored import TOP, programs
+from trials import Lacking, Several, Trial, Wrong, jobs, run
 
 SCRIPT = "Q,N,ABC,A,9.99,300,10.01,200\nQ,P,ABC,A,9.99,500,10.02,100\nT\nP\nS,P,ABC,H\nF\nN,0,ABC\nL,0\nE,0,ABC,10.02\n" \
     "X,P\nF\nO,0,B,ABC,200,10.01\nZ\nQ,Q,ABC,A,9.98,100,,\n"
@@ -28,15 +28,26 @@ FEEDS = {"feed_a": OFFERS.replace("Q,Y", "Q,N"), "feed_b": "Q,Y,ABC,A,,,10.01,20
 
 
 class Call:
-    """A call: the codes of want of memory that have to be seen of it, and further ones that may be."""
+    """A call: the out-of-memory codes that have to be seen of it, and further ones that may be."""
 
     def __init__(self, name, words, must, may="", files=None, given="", unwritten="E2"):
         self.name, self.words, self.files, self.given, self.unwritten = name, words, files or {}, given, unwritten
-        self.over = 0
+        self.over, self.points = 0, 1
         self.must, self.may = set(must.split()), {*must.split(), *may.split(), *ALWAYS}
 
     def run(self, program, room, plan=traced.Plan(), given=None):
         return traced.run(program, self.words, room, (self.given if given is None else given).encode(), plan)
+
+    def judged(self, program):
+        """How many points were right; raises those that were not."""
+        if not traced.is_allowed():
+            raise Lacking("this machine lets no process trace another one")
+        with ProcessPoolExecutor(jobs()) as pool:
+            found = self.faults(program, pool)
+        right = max(0, self.points - len(found))
+        if found:
+            raise Several([Wrong(it) for it in found], right)
+        return right
 
     def faults(self, program, pool):
         """What was not as it must be."""
@@ -47,7 +58,6 @@ class Call:
             ample = self.run(program, room)
             single = self.run(program, room, traced.Plan(single=True))
             if ample.status or ample.errors or not ample.out:
-                self.points = 1
                 return [f"with nothing failed: {ample}"[:500]]
             found = [] if single[:3] == ample[:3] else [f"with single bytes: {single}"[:500]]
             plans = list(self.plans(ample, single))
@@ -87,7 +97,7 @@ class Call:
 
 class Caller(Call):
     """A run of another program of this repository, which makes calls of the crates: with memory refused it gives its
-    answers, or a first part of them and status 1. It gets over so many refusals at least, with all its answers."""
+    answers, or a first part of them and status 1. With `over` refusals at least it gives all its answers."""
 
     def __init__(self, crate, name, given, over=0):
         super().__init__(f"{crate}: {name}", [], "", given=given)
@@ -124,20 +134,10 @@ def calls():
     yield Call("a live run", live, "E4 E6", "E7 E10 L12", files={**SETUP, **FEEDS}, unwritten="L13")
 
 
-def main(program):
-    if not traced.is_allowed():
-        print("this machine lets no process trace another one\n0 passed, 0 failed")
-        return 0
-    passed, failed = 0, 0
-    with ProcessPoolExecutor() as pool:
-        for call in calls():
-            found = call.faults(program, pool)
-            for fault in found[:5]:
-                print(f"DIFFERS: {call.name}: {fault}", flush=True)
-            passed, failed = passed + max(0, call.points - len(found)), failed + len(found)
-    print(f"{passed} passed, {failed} failed")
-    return 1 if failed else 0
+def trials(program):
+    return [Trial(call.name, call.judged, (program,)) for call in calls()]
 
 
 if __name__ == "__main__":
-    sys.exit(main(os.path.realpath(sys.argv[1]) if len(sys.argv) > 1 else f"{TOP}/crates/nms_tool/out/nms_tool"))
+    # Each call runs several points at once.
+    sys.exit(run("failures", trials(*programs(sys.argv[1:], "nms_tool")), alone=True))

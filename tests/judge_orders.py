@@ -1,60 +1,14 @@
 #!/usr/bin/env python3
-"""Writes scripts of orders drawn by chance, each with the plans that it must give: `judge_orders.py SCRIPTS [SEED]`.
+"""Writes scripts of random orders, each with the plans that it must give: `tests/judge_orders.py SCRIPTS [SEED]`.
 
-A plain slow program of the rules, with those of `judge_plans.py`: it makes the plan of the fixed choice, and stops
-where trying every way to spread the lots finds a better one. Each script has 25 small boards, one change apart,
-under the built-in setup, and an order on each.
+What they must give is `planned` of rules.py: the plan of the fixed choice, which has to be as good as the best of every way
+to spread the lots. Each script has 25 small boards, one change apart, under the built-in setup, and an order on each.
+tests/cases/chance_orders.cases has 20.
 """
 import random
 import sys
 
-from judge_plans import FEES, best, dollars, money, parts_at, size, unit_cost, usable
-
-
-def rank(order, row):
-    return row[1] if order["side"] == "B" else -row[1]
-
-
-def filled_at(order, rows, most, price):
-    """The legs at this price, or None where that is too much or too little; and the price's cut."""
-    swept, pool = parts_at(order, rows, price)
-    if size(swept) > most:
-        return None, f"CUT,{dollars(price)},TOOMUCH,"
-    if size(swept) + size(pool) < most:
-        return None, f"CUT,{dollars(price)},TOOLITTLE,"
-    left, shares = most - size(swept), {row[0]: row[2] for row in swept}
-    pool = sorted(pool, key=lambda row: (unit_cost(order, row[0], row[1]), rank(order, row)))
-    marginal = unit_cost(order, *pool[0][:2])
-    for row in pool:
-        taken = min(left, row[2])
-        if taken:
-            shares[row[0]], marginal, left = taken, unit_cost(order, row[0], row[1]), left - taken
-    return shares, f"CUT,{dollars(price)},MARGINAL,{money(marginal)}"
-
-
-def cost_of(order, rows, shares):
-    return sum(unit_cost(order, row[0], row[1]) * shares.get(row[0], 0) for row in rows)
-
-
-def planned(order, rows, version):
-    """The records that answer the order."""
-    rows = usable(order, rows)
-    most = min(order["shares"], size(rows))
-    prices = sorted({row[1] for row in rows}, reverse=order["side"] == "S")
-    tried = [filled_at(order, rows, most, price) for price in prices]
-    ways = [shares for shares, _ in tried if shares is not None] or [{}]
-    shares = min(ways, key=lambda shares: cost_of(order, rows, shares))
-    cost = cost_of(order, rows, shares)
-    if (-sum(shares.values()), cost) != best(order, rows):
-        sys.exit("a lawful plan is better")
-    flag = "M" if order["manual"] else ""
-    head = f"PLAN,{version},{order['side']},ABC,{order['shares']},{dollars(order['limit'])},{flag},{most},{money(cost)}"
-    legs = [
-        f"LEG,{row[0]},{dollars(row[1])},{shares[row[0]]}"
-        for row in sorted(rows, key=lambda row: rank(order, row))
-        if row[0] in shares
-    ]
-    return [head, *legs, *(cut for _, cut in tried), "END"]
+from rules import FEES, dollars, planned
 
 
 def drawn_order(chance, base):
@@ -66,33 +20,44 @@ def drawn_order(chance, base):
     }
 
 
-def write_case(chance, number):
+def record_of(order, desk):
+    flag = ",M" if order["manual"] else ""
+    return f"O,{desk},{order['side']},ABC,{order['shares']},{dollars(order['limit'])}{flag}"
+
+
+def drawn_sides(chance, base):
+    """A price and shares for each side."""
+    return [(base + chance.choice([-200, -100, 0, 0, 100, 200]), chance.choice([0, 100, 200, 300])) for _ in "bo"]
+
+
+def quotes_of(board, order):
+    """The quotations of the side that the order trades with; a board has a state and two sides by participant."""
+    side = 2 if order["side"] == "B" else 1
+    quotes = [(part, *board[part][side], board[part][0] == "A") for part in FEES if part in board and board[part][0] != "H"]
+    return [it for it in quotes if it[2]]
+
+
+def case(chance, number):
+    """The lines of a case."""
     base = chance.choice([100_000, 100_000, 9_999])
     board, script, answers = {}, [], []
     for version in range(1, 26):
         part, letter = chance.choice(list(FEES)), chance.choice("AAAM")
-        bid, offer = (
-            (base + chance.choice([-200, -100, 0, 0, 100, 200]), chance.choice([0, 100, 200, 300])) for _ in "bo"
-        )
+        bid, offer = drawn_sides(chance, base)
         board[part] = (letter, bid, offer)
         script.append(f"Q,{part},ABC,{letter},{dollars(bid[0])},{bid[1]},{dollars(offer[0])},{offer[1]}")
         order = drawn_order(chance, base)
-        side = 2 if order["side"] == "B" else 1
-        rows = [(part, *board[part][side], board[part][0] == "A") for part in FEES if part in board]
-        flag = ",M" if order["manual"] else ""
-        script += ["F", f"O,0,{order['side']},ABC,{order['shares']},{dollars(order['limit'])}{flag}"]
-        answers += [f"PUB,{version}", *planned(order, [row for row in rows if row[2]], version)]
-    print(f"== script orders drawn by chance, {number}", *script, "-- gives", *answers, sep="\n")
-    print("75 read, 0 refused, 25 taken, 25 published")
+        script += ["F", record_of(order, 0)]
+        answers += [f"PUB,{version}", *planned(order, quotes_of(board, order), version)]
+    counts = "75 read, 0 refused, 25 taken, 25 published"
+    return [f"== script orders drawn by chance, {number}", *script, "-- gives", *answers, counts]
 
 
-def main():
-    scripts = int(sys.argv[1])
-    chance = random.Random(int(sys.argv[2]) if sys.argv[2:] else 242_600)
-    print("== setup")
-    for number in range(1, scripts + 1):
-        write_case(chance, number)
+def cases(count, seed=242_600):
+    """The text of so many cases."""
+    chance = random.Random(seed)
+    return "== setup\n" + "".join(f"{it}\n" for number in range(1, count + 1) for it in case(chance, number))
 
 
 if __name__ == "__main__":
-    main()
+    sys.stdout.write(cases(*map(int, sys.argv[1:])))

@@ -1,30 +1,30 @@
 #!/usr/bin/env python3
-"""Plans orders on boards drawn by chance, and compares each plan with every lawful way to trade.
+"""Plans orders on random boards, and compares each plan with every lawful way to trade.
 
-    examples/judge_sweeps.py [PROGRAM [BOARDS [SEED]]]
+    tests/judge_sweeps.py [PROGRAM [BOARDS [SEED]]]      PROGRAM is nms_tool; 6,000 boards if no number is given
 
 On each board one order names nobody, one declares self-help against one participant, one against two, and one against
 all: the quotations of a named participant are neither usable nor binding for it (17 CFR 242.611(b)(1)). Half of the
 boards stand under the built-in setup, half under one whose fees lie whole steps of price apart, so that unit costs tie
 across prices, with round lots of 100 and of 1. What is judged of a plan: its record says the order, with the names by
 place; its legs are in their one order, lawful and summed rightly; no lawful way to give shares to the quotations, by the
-lot, fills more, or as much for less; and each cut says what it has to. A plain slow program tries every way, and knows
-no cutoffs and no order of filling. Names that are none are told by their code. PROGRAM is `nms_tool`; there are 6,000
-boards where no number is given. It writes a line for each difference, and last `N passed, M failed`; status 1 where one
-failed.
+lot, fills more, or as much for less; and each cut says what it has to (`doubt` of rules.py). Names that are none are
+refused by their code.
+
+The best of every lawful way is found here once more: it gives shares to all quotations and asks of each whether it may have
+them, where `best_way` of rules.py tries the usable ones alone. The trials `both judges, seed N` compare the two. A script
+that differs is made as short as it can be. The trials are `seed N`, 25 boards each; odd seeds have the second setup.
 """
 import itertools
-import os
 import random
 import subprocess
 import sys
 import tempfile
-from concurrent.futures import ProcessPoolExecutor
 
-sys.dont_write_bytecode = True
-from judge_plans import FEES, dollars, doubt, is_better, is_named, money, names_of, unit_cost
+from rules import FEES, best_way, dollars, doubt, is_better, is_named, money, names_of, price_of, unit_cost
+from stored import MOST, programs
+from trials import Trial, Wrong, least, run
 
-TOP = os.path.dirname(os.path.dirname(os.path.realpath(__file__)))
 BOARDS_OF_A_SCRIPT = 25
 # What stands in the eighth field of an order that is refused: one of the names is not on the roster.
 NO_NAMES = ["", "Q", "+", "N+", "+P", "N++P", "N+Q", "n", "N P", "N+P+"]
@@ -40,7 +40,7 @@ TIED_SETUP = "tape_limit = 99\nqueue = 9\ndesks = 1\n" + "".join(
 
 
 def is_lawful(order, rows, given):
-    """Whether so many shares of each quotation keep the order and the rule."""
+    """Whether such shares of each quotation keep the order and the rule."""
     if sum(given) > order["shares"]:
         return False
     for row, shares in zip(rows, given):
@@ -100,11 +100,6 @@ def wrong(order, rows, version, records):
     return doubt(order, rows, (legs, filled, cost), cuts)
 
 
-def price_of(text):
-    whole, decimals = text.split(".")
-    return int(whole) * 10_000 + int(decimals)
-
-
 def cut_of(fields):
     price, kind, marginal = fields
     return price_of(price), kind, nanodollars(marginal) if marginal else 0
@@ -158,27 +153,47 @@ def drawn_side(chance, kind, base):
     return price, chance.choice([0, 1, 2, 3]) * kind["lot"] + chance.choice([0, 0, kind["lot"] // 2])
 
 
-def drawn_script(seed, is_tied):
-    """A script, and how each part of its answer has to be: a line, or an order with what it can trade with."""
+def drawn_steps(seed):
+    """The symbol with its lot and fees, and the steps of a script: ("quote", participant, state, bid, offer), ("order",
+    order, record), or ("refused", record, code)."""
     chance = random.Random(seed)
-    kind, base = drawn_kind(chance, is_tied)
-    board, script, due = {}, [], []
-    for version in range(1, BOARDS_OF_A_SCRIPT + 1):
+    kind, base = drawn_kind(chance, is_tied(seed))
+    steps = []
+    for _ in range(BOARDS_OF_A_SCRIPT):
         part, letter = chance.choice(list(FEES)), chance.choice("AAAAMH")
         bid, offer = (drawn_side(chance, kind, base) for _ in "bo")
-        board[part] = letter, bid, offer
-        script += [f"Q,{part},{kind['sym']},{letter},{dollars(bid[0])},{bid[1]},{dollars(offer[0])},{offer[1]}", "F"]
-        due.append(f"PUB,{version}")
+        steps.append(("quote", part, letter, bid, offer))
         for order in drawn_orders(chance, kind, base):
             if chance.random() < 0.05:
                 flag = chance.choice(["", "M", "X"])
-                script.append(f"O,0,B,ABC,100,10.00,{flag},{chance.choice(NO_NAMES)}")
-                due.append(f"ERR,{len(script)},L3")
+                steps.append(("refused", f"O,0,B,ABC,100,10.00,{flag},{chance.choice(NO_NAMES)}", "L3"))
             if chance.random() < 0.02:
-                script.append("O,0,B,ABC,100,10.00,X,N")
-                due.append(f"ERR,{len(script)},L5")
-            script.append(record_of(chance, order))
-            due.append((order, shown(board, order), version))
+                steps.append(("refused", "O,0,B,ABC,100,10.00,X,N", "L5"))
+            steps.append(("order", order, record_of(chance, order)))
+    return kind, steps
+
+
+def is_tied(seed):
+    return seed % 2 == 1
+
+
+def scripted(kind, steps):
+    """The script of some steps, and how each part of its answer has to be: a line, or an order with the quotations that it
+    can trade with and the version."""
+    board, script, due, version = {}, [], [], 0
+    for what, *words in steps:
+        if what == "quote":
+            part, letter, bid, offer = words
+            board[part] = letter, bid, offer
+            script += [f"Q,{part},{kind['sym']},{letter},{dollars(bid[0])},{bid[1]},{dollars(offer[0])},{offer[1]}", "F"]
+            version += 1
+            due.append(f"PUB,{version}")
+        elif what == "refused":
+            script.append(words[0])
+            due.append(f"ERR,{len(script)},{words[1]}")
+        else:
+            script.append(words[1])
+            due.append((words[0], shown(board, words[0]), version))
     return "".join(it + "\n" for it in script), due
 
 
@@ -192,12 +207,10 @@ def shown(board, order):
     return [row for row in rows if row[2]]
 
 
-def judged(program, setup, seed):
-    """How many plans are as they must be, and what is wrong with the first that is not. Odd seeds have the second setup."""
-    is_tied = seed % 2 == 1
-    script, due = drawn_script(seed, is_tied)
-    words = [program, "script", "--setup", setup] if is_tied else [program]
-    ran = subprocess.run(words, input=script.encode(), capture_output=True, timeout=60)
+def judge(words, kind, steps):
+    """How many plans are as they must be before the first that is not, and what is wrong with that one."""
+    script, due = scripted(kind, steps)
+    ran = subprocess.run(words, input=script.encode(), capture_output=True, timeout=MOST, check=False)
     lines, right = iter(ran.stdout.decode(errors="replace").split("\n")), 0
     for it in due:
         line = next(lines, "")
@@ -207,30 +220,51 @@ def judged(program, setup, seed):
             records = [line]
             while records[-1] not in ("END", ""):
                 records.append(next(lines, ""))
-            fault = wrong(*it, records)
-            right += 1
+            try:
+                fault = wrong(*it, records)
+            except (ValueError, KeyError, TypeError) as error:
+                fault = f"records that are none of a plan: {error}"
+            fault = fault and f"{fault}; answered is {records}, asked was {it}"
+            right += not fault
         if fault:
-            return right, f"script of the seed {seed}: {fault}, in place of {it}\n{script}"
+            return right, fault
     if (ran.returncode, ran.stderr, list(lines)) != (0, b"", [""]):
-        return right, f"script of the seed {seed}: status {ran.returncode}, {ran.stderr!r}, or more than was asked for"
+        return right, f"status {ran.returncode}, {ran.stderr!r}, or more than was asked for"
     return right, None
 
 
-def main():
-    given = sys.argv[1:]
-    program = os.path.abspath(given[0]) if given else os.path.join(TOP, "nms_tool")
-    scripts = -(-(int(given[1]) if given[1:] else 6000) // BOARDS_OF_A_SCRIPT)
-    first = int(given[2]) if given[2:] else 242_611
-    with tempfile.NamedTemporaryFile("w", suffix=".toml") as setup, ProcessPoolExecutor(os.cpu_count()) as pool:
+def judged(program, setup, seed):
+    """How many plans are as they must be; raises what is wrong with the first that is not, on the least script."""
+    kind, steps = drawn_steps(seed)
+    words = [program, "script", "--setup", setup] if is_tied(seed) else [program]
+    right, fault = judge(words, kind, steps)
+    if fault:
+        steps = least(steps, lambda steps: judge(words, kind, steps)[1])
+        fault = judge(words, kind, steps)[1]
+        setup = TIED_SETUP if is_tied(seed) else "the built-in setup\n"
+        raise Wrong(fault, f"the least script that shows it:\n{scripted(kind, steps)[0]}under {setup}", right)
+    return right
+
+
+def both(seed):
+    """Raises an order of a script for which the two slow programs find another best."""
+    kind, steps = drawn_steps(seed)
+    asked = [it for it in scripted(kind, steps)[1] if not isinstance(it, str)]
+    for order, rows, _ in asked:
+        filled, cost = best(order, rows)
+        if (-filled, cost) != best_way(order, rows):
+            raise Wrong(f"{filled} shares for {cost}, and {best_way(order, rows)}: {order}, {rows}")
+
+
+def main(program, boards=6000, first=242_611):
+    seeds = range(first, first + -(-boards // BOARDS_OF_A_SCRIPT))
+    print(f"seeds {seeds[0]} to {seeds[-1]}: {BOARDS_OF_A_SCRIPT} boards each")
+    with tempfile.NamedTemporaryFile("w", suffix=".toml") as setup:
         setup.write(TIED_SETUP)
         setup.flush()
-        runs = list(pool.map(judged, [program] * scripts, [setup.name] * scripts, range(first, first + scripts)))
-    failed = [fault for _, fault in runs if fault]
-    for fault in failed[:20]:
-        print(fault)
-    print(f"{sum(right for right, _ in runs)} passed, {len(failed)} failed")
-    sys.exit(1 if failed else 0)
+        found = [Trial(f"seed {it}", judged, (program, setup.name, it)) for it in seeds]
+        return run("sweeps", found + [Trial(f"both judges, seed {it}", both, (it,)) for it in seeds], processes=True)
 
 
 if __name__ == "__main__":
-    main()
+    sys.exit(main(*programs(sys.argv[1:2], "nms_tool"), *map(int, sys.argv[2:])))

@@ -1,13 +1,11 @@
 #!/usr/bin/env python3
-"""Runs calls of ./nms_tool, or of the program that is named, with less and less memory, and looks at what each ends with.
+"""Runs calls of the program with less and less memory, and looks at what each ends with.
 
-    examples/refuse.py [PROGRAM]
+    tests/refuse.py [PROGRAM]      PROGRAM is nms_tool
 
-With ample memory a call must give its answer, and with less the same answer, or status 5 (7 where a thread can't be
-started) with one line that names want of memory, and of the answer at most a beginning. Each code that a call can
-want memory by has to be seen. What refuses memory is a limit on the address space, and the C library is told to ask
-the system for no more than it is asked for. It writes a line for each difference, and last `N passed, M failed`;
-status 1 where one failed.
+With ample memory a call must give its answer, and with less the same answer, or status 5 (7 if a thread can't be started)
+with one out-of-memory code, and of the answer at most a beginning. Each such code of a call has to be seen. What refuses
+memory is a limit on the address space, and the C library takes no more of the system than it is asked for.
 """
 import os
 import resource
@@ -16,16 +14,17 @@ import sys
 import tempfile
 from concurrent.futures import ThreadPoolExecutor
 
-TOP = os.path.dirname(os.path.dirname(os.path.realpath(__file__)))
+from stored import MOST, programs
+from trials import Trial, Wrong, jobs, run
+
 PAGE = 4096
 STACK = 256 * 1024
-# Limits tried of each call, and seconds that one may take.
+# Limits tried of each call.
 STEPS = 160
-MOST = 60
 # The C library asks the system for each piece of memory by itself; or for pieces alone that are not small.
 EACH = "glibc.malloc.mmap_threshold=1:glibc.malloc.mmap_max=1000000000:glibc.malloc.tcache_count=0"
 LARGE = "glibc.malloc.mmap_threshold=65536:glibc.malloc.top_pad=0:glibc.malloc.trim_threshold=4096"
-# By what code a call may want memory, whatever else it does; a live run that can't begin, or can't append, ends with 7.
+# The out-of-memory codes that any call may end with; a live run that can't begin, or can't append, ends with 7.
 ALWAYS = {"G2", "C9", "E4"}
 STATUS = {"E6": 7, "E7": 7}
 
@@ -34,7 +33,7 @@ HEAD = "tape_limit = 10000000\nqueue = 1024\ndesks = 2\nparticipant = [{name = \
 
 
 def setup(symbols):
-    """A setup of so many symbols. The more there are, the more a board takes."""
+    """A setup of that number of symbols. The more there are, the more a board takes."""
     return HEAD % ", ".join('{name = "%s", lot = 100}' % name for name in ["ABC", *(f"S.{it}" for it in range(symbols - 1))])
 
 
@@ -44,12 +43,12 @@ PLAN = "PLAN,3,B,ABC,600,10.0100,,600,6000.300000000\nLEG,N,10.0000,100\nLEG,P,1
 
 
 def prices(count, participant):
-    """So many offers of a participant, each at a price of its own."""
+    """A number of offers of a participant, each at a price of its own."""
     return [f"Q,{participant},ABC,A,,,{1 + it // 10000}.{it % 10000:04},100\n" for it in range(count)]
 
 
 class Call:
-    """A call, the codes of want of memory that have to be seen of it, and further ones that may be."""
+    """A call, the out-of-memory codes that have to be seen of it, and further ones that may be."""
 
     def __init__(self, name, words, must, may="", files=None, given="", pieces=LARGE):
         self.name, self.words, self.files, self.given, self.pieces = name, words, files or {}, given, pieces
@@ -72,6 +71,12 @@ class Call:
             low, high = (low, middle) if good(self.run(program, room, middle)) else (middle, high)
         return high
 
+    def judged(self, program, start):
+        """Raises what was not as it must be: one failure, however many limits show it."""
+        found = self.faults(program, start)
+        if found:
+            raise Wrong(found[0], "\n".join(found))
+
     def faults(self, program, start):
         """What was not as it must be."""
         with tempfile.TemporaryDirectory(prefix="nms-") as room:
@@ -84,7 +89,7 @@ class Call:
             most = self.least(program, room, start, lambda ran: ran == ample)
             wide = max(PAGE, (most - start) // STEPS // PAGE * PAGE)
             limits = sorted({*range(start, most, wide), *range(max(start, most - STEPS // 4 * PAGE), most, PAGE)})
-            with ThreadPoolExecutor(os.cpu_count()) as pool:
+            with ThreadPoolExecutor(jobs()) as pool:
                 rans = list(pool.map(lambda it: self.run(program, room, it), limits))
             return self.judge(ample, zip(limits, rans))
 
@@ -100,7 +105,7 @@ class Call:
 
 
 def start_of(program):
-    """The least limit under which a program starts at all: it answers, or says that it wants memory."""
+    """The least limit under which a program starts at all: it answers, or says that memory is out."""
     version = Call("", ["--version"], "")
     return version.least(program, "/", 0, lambda ran: ran[0] == 0 or ran == (5, b"", "nms_tool: G2\n"))
 
@@ -132,17 +137,11 @@ def calls():
     yield Call("a live run of many orders", live, "E4", "E6 E7 E10 L12", {**long, **orders})
 
 
-def main(program):
+def trials(program):
     start = start_of(program)
-    passed, failed = 0, 0
-    for call in calls():
-        found = call.faults(program, start)
-        for fault in found:
-            print(f"DIFFERS: {call.name} with memory refused: {fault}", flush=True)
-        passed, failed = passed + (not found), failed + bool(found)
-    print(f"{passed} passed, {failed} failed")
-    return 1 if failed else 0
+    return [Trial(call.name, call.judged, (program, start)) for call in calls()]
 
 
 if __name__ == "__main__":
-    sys.exit(main(os.path.realpath(sys.argv[1]) if len(sys.argv) > 1 else f"{TOP}/crates/nms_tool/out/nms_tool"))
+    # Each call runs several limits at once.
+    sys.exit(run("memory", trials(*programs(sys.argv[1:], "nms_tool")), alone=True))

@@ -7,6 +7,7 @@ between, is the library trying again, and is refused too. What the loader does b
 import ctypes
 import errno
 import os
+import platform
 import resource
 import signal
 import struct
@@ -175,8 +176,8 @@ def run(program, words, folder, given, plan=Plan()):
 
 
 def is_allowed():
-    """Whether this machine lets a process trace another one."""
+    """Whether this machine lets a process trace another one, and has the registers that are named here."""
     try:
-        return run("/bin/true", [], "/", b"").status == 0
+        return platform.machine() == "x86_64" and run("/bin/true", [], "/", b"").status == 0
     except OSError:
         return False
