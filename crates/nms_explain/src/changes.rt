@@ -5,10 +5,11 @@ use crate::hints::{hint_of, hint_of_feed, parted_number};
 use crate::line_count::LineCount;
 use crate::record_source::{RecordSource, RecordText, next_record, open_source, record_of};
 use crate::refusal::{Refusal, tell_refusal};
+use crate::remedies::remedy_in;
 use crate::span::{Point, Span, name_span, open_quote, point_at, span_of};
 use crate::tally::{Tally, tell_remark};
 use nms_fees::Setup;
-use nms_lines::{ByteRecord, LineFault, Reader, Reading, read_line};
+use nms_lines::{ByteRecord, Kind, LineFault, Reader, Reading, read_line};
 use nms_places::{Counts, FieldName, FieldPlace, Place, kind_of, place_of, text_at, unknown_name};
 use nms_quote::{Feed, Roster};
 use nms_show::{Ending, Form, Item};
@@ -212,7 +213,28 @@ fn refusal_of<'a>(
         found: finding.found,
         expected: finding.expected,
         hint,
+        remedy: remedy_in(fault.code(), has_sides(kind_of(row))),
         quote: quote_at(text, line),
+    }
+}
+
+/// Whether a record of that kind has a bid and an offer.
+fn has_sides(kind: Option<Kind>) -> bool {
+    match kind {
+        Some(Kind::Quote) => true,
+        Some(
+            Kind::State
+            | Kind::Withdraw
+            | Kind::Lot
+            | Kind::TakeOne
+            | Kind::TakeAll
+            | Kind::Publish
+            | Kind::Tell
+            | Kind::Best
+            | Kind::Through
+            | Kind::Sweep,
+        )
+        | None => false,
     }
 }
 

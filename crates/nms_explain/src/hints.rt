@@ -37,7 +37,7 @@ pub(crate) fn hint_of_kind(number: u64, text: &[u8]) -> &'static str {
     }
     let by_mark = hint_of_marks(first);
     if by_mark.is_empty() && number == 1 && is_word(first) {
-        return "this looks like a header row: there is none";
+        return "this looks like a header row: there is none; for a vendor's file see import";
     }
     by_mark
 }
@@ -79,11 +79,28 @@ fn hint_of_marks(first: &[u8]) -> &'static str {
         [b'{', ..] => "this looks like JSON: records are fields between commas",
         [b'[', ..] => "this looks like a setup: were files swapped?",
         [b' ', ..] => "no space may stand before a kind",
-        _ if memchr(b'\t', first).is_some() => "tabs stand between the fields: commas are expected",
+        _ if memchr(b'|', first).is_some() => hint_of_pipes(first),
+        _ if memchr(b'\t', first).is_some() => hint_of_tabs(first),
         _ if memchr(b';', first).is_some() =>
             "semicolons stand between the fields: commas are expected",
         _ if memchr(b'=', first).is_some() => "this looks like a setup: were files swapped?",
         _ => "",
+    }
+}
+
+/// What a record looks like whose fields stand between pipes.
+fn hint_of_pipes(first: &[u8]) -> &'static str {
+    match first {
+        [b'A'..=b'Z', b'|', ..] => "pipes stand between the fields: commas are expected",
+        _ => "this looks like pipe-separated values: see import",
+    }
+}
+
+/// What a record looks like whose fields stand between tabs.
+fn hint_of_tabs(first: &[u8]) -> &'static str {
+    match first {
+        [b'A'..=b'Z', b'\t', ..] => "tabs stand between the fields: commas are expected",
+        _ => "this looks like tab-separated values: see import",
     }
 }
 

@@ -4,6 +4,7 @@ use crate::explain_fault::ExplainFault;
 use crate::hints::hint_of_kind;
 use crate::record_source::{RecordSource, RecordText, next_record, open_source, record_of};
 use crate::refusal::{Refusal, tell_missing, tell_refusal};
+use crate::remedies::remedy_of;
 use crate::span::{Point, Span, span_of};
 use crate::tally::{tell_count, tell_counts};
 use nms_fees::Setup;
@@ -171,6 +172,7 @@ fn refusal_of<'a>(
         found,
         expected,
         hint: hint_for(due, number, text),
+        remedy: remedy_of(CODE),
         quote: quote_at(text, line),
     }
 }

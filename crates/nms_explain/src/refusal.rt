@@ -33,6 +33,8 @@ pub(crate) struct Refusal<'a> {
     pub(crate) expected: &'a str,
     /// What the record looks like instead, or nothing.
     pub(crate) hint: &'a str,
+    /// What to do about it.
+    pub(crate) remedy: &'a str,
     /// The quote of the record that opens a field which goes on over a line end, or to the end of the file.
     pub(crate) quote: Option<Point>,
 }
@@ -56,7 +58,7 @@ pub(crate) fn tell_refusal<W: Write>(
     tell_finding(form, refusal, answers)?;
     tell_quote(form, refusal, answers)?;
     tell_advice(form, refusal.hint, answers)?;
-    tell_advice(form, remedy_of(refusal.code), answers)
+    tell_advice(form, refusal.remedy, answers)
 }
 
 /// Writes the line of a refusal's place.
@@ -200,7 +202,7 @@ fn finding_members<'a>(refusal: &Refusal<'a>) -> [(&'static str, Item<'a>); 7] {
         ("text", Item::Bytes(refusal.text)),
         ("found", refusal.found),
         ("expected", Item::Text(refusal.expected)),
-        ("remedy", Item::Text(remedy_of(refusal.code))),
+        ("remedy", Item::Text(refusal.remedy)),
         ("hint", text_or_absent(refusal.hint)),
         ("quote_line", line),
         ("quote_column", column),

@@ -24,3 +24,12 @@ pub fn remedy_of(code: &str) -> &'static str {
         _ => "",
     }
 }
+
+/// What to do about a refused record: as `remedy_of`, which speaks of a side to a record that has sides alone.
+pub(crate) fn remedy_in(code: &str, has_sides: bool) -> &'static str {
+    match code {
+        "L2" if !has_sides => "Count the commas.",
+        "L6" if !has_sides => "No signs, no spaces, at most four decimals.",
+        _ => remedy_of(code),
+    }
+}
