@@ -124,15 +124,14 @@ impl OpenBoard {
         ensures unwritten { OnErr result (out.new ≡ out.old) }
     {
         let sym = sym_of(self.setup.roster(), place)?;
+        // Each row is written as soon as it is there, so that the two need not be kept side by side.
         let bid = best_on(&self.board, Side::Bid, sym);
+        out.bid = NmsRow::of(&bid);
         let offer = best_on(&self.board, Side::Offer, sym);
-        *out = NmsBest {
-            version: self.board.applied(),
-            bid: NmsRow::of(&bid),
-            offer: NmsRow::of(&offer),
-            market: market_number(market_between(bid, offer)),
-            spare: 0,
-        };
+        out.offer = NmsRow::of(&offer);
+        out.version = self.board.applied();
+        out.market = market_number(market_between(bid, offer));
+        out.spare = 0;
         Ok(())
     }
 
