@@ -11,7 +11,6 @@ ghost use Rattle.nms_calls.specs.Opened.{made_said, sizes_on};
 ghost use Rattle.nms_calls.specs.RecordSaid.{PlanRead, are_narrow, change_of_line, fields_in, order_numbers, plan_text_fault, record_fault, record_left, record_said, side_number};
 ghost use Rattle.nms_calls.specs.Written.{IsWritten};
 
-use crate::{MOST_PLAN_TEXT, MOST_RECORD};
 use crate::call_fault::CallFault;
 use crate::open_board::OpenBoard;
 use crate::order_numbers::NmsOrder;
@@ -20,6 +19,7 @@ use crate::plan_numbers::NmsPlan;
 use crate::plan_reading::plan_of;
 use crate::plan_writing::put_plan;
 use crate::text_writing::put_text;
+use crate::{MOST_PLAN_TEXT, MOST_RECORD};
 use nms_cert::is_out_of_range;
 use nms_fees::SetupFault;
 use nms_lines::{
