@@ -1,5 +1,6 @@
 //! The calls as the library has them: numbers come in and are tested, and the answer goes into the caller's room, where the
-//! places that it does not need are 0. So both sides of bench/latency do the same work.
+//! places that it does not need are 0. So both sides of bench/latency do the same work. A call of a library is a call: none of
+//! the three is merged into its caller.
 
 use std::num::NonZeroU32;
 
@@ -181,6 +182,7 @@ impl Open {
         Ok(Order { side, sym, shares: n.shares, limit: n.limit, manual: n.manual == 1, self_help: PartSet(n.self_help) })
     }
 
+    #[inline(never)]
     pub fn apply(&mut self, n: &ChangeNumbers) -> Result<(), Refused> {
         let change = self.change_of(n)?;
         if self.boards.applied() >= MOST_CHANGES {
@@ -190,6 +192,7 @@ impl Open {
         Ok(())
     }
 
+    #[inline(never)]
     pub fn best_of(&self, sym: u16, out: &mut BestNumbers) -> Result<(), Refused> {
         let view = self.boards.view(self.sym(sym)?);
         for side in Side::BOTH {
@@ -201,6 +204,7 @@ impl Open {
         Ok(())
     }
 
+    #[inline(never)]
     pub fn plan(&self, n: &OrderNumbers, out: &mut PlanNumbers) -> Result<(), Refused> {
         let order = self.order_of(n)?;
         plan(self.boards.view(order.sym), &order, &self.fees, out);
