@@ -12,8 +12,8 @@
  *   1/1,000,000 dollar. Shares are 1 to 999,999,999. Money is in nanodollars (10^-9 dollar).
  *
  * MEMORY
- *   nms_open takes memory, and nms_close gives it back. nms_read_plan and nms_setup_place take memory and give it back
- *   before they return. No other call takes any. The caller's structs may lie anywhere: on the stack, in an array, in shared memory.
+ *   nms_open takes memory, and nms_close gives it back. nms_setup_place takes memory and gives it back before it returns. No
+ *   other call takes any. The caller's structs may lie anywhere: on the stack, in an array, in shared memory.
  *
  * THREADS
  *   A board is for one call at a time. Give each thread a board of its own, or call under a lock of your own. A board may
@@ -470,8 +470,7 @@ static inline uint32_t nms_plan_text(nms_board *board, const nms_order *order, c
 }
 
 /* Reads a plan, its order and its certificate from that text. What it reads need not be lawful: nms_confirm judges that.
- * Codes: NMS_L11_BAD_PLAN_TEXT, NMS_RANGE (a marginal beyond 10^18 nanodollars), NMS_NO_MEMORY, NMS_CLOSED. Takes memory
- * and gives it back. */
+ * Codes: NMS_L11_BAD_PLAN_TEXT, NMS_RANGE (more than 8,192 bytes, or a marginal beyond 10^18 nanodollars), NMS_CLOSED. */
 static inline uint32_t nms_read_plan(nms_board *board, const char *text, size_t text_bytes, nms_order *order, nms_plan *plan)
 {
     return board && text && order && plan ? nms_raw_read_plan(board, (const uint8_t *)text, text_bytes, order, plan) : (uint32_t)NMS_NULL;

@@ -1,8 +1,8 @@
 /* A hostile caller: calls each function of nms.h with each bad number, size, name, kind and state of the handle, with the
  * bytes of each text cut and altered, with random bytes as every struct, with a full tape, and with each request for memory
  * refused in turn. Each call has to answer its code, and a refused one has to leave the board and the caller's structs as
- * they were. An allocator that counts shows that no call takes memory but nms_open, nms_setup_place and nms_read_plan, and
- * that they give all of it back.
+ * they were. An allocator that counts shows that no call takes memory but nms_open and nms_setup_place, and that they give all
+ * of it back.
  *
  * What a call is given ends at a page that can't be touched, so a byte too many ends the program. Link it with
  * -Wl,--wrap=malloc,--wrap=realloc,--wrap=calloc,--wrap=free; tests/library.py runs it under the address and
@@ -43,7 +43,7 @@ void *__real_calloc(size_t count, size_t size);
 void __real_free(void *at);
 
 /* Requests so far, blocks that were not given back yet, and the request that is refused (0: none). */
-static unsigned long requests, refuse_at, of_readings;
+static unsigned long requests, refuse_at;
 static long blocks;
 
 static int is_refused(void)
@@ -560,23 +560,6 @@ static void looks(nms_board *board)
     equals(state_of(board), before, "the board after looks");
 }
 
-/* The requests for memory so far, but for those of readings of plans. */
-static unsigned long asked(void)
-{
-    return requests - of_readings;
-}
-
-/* Reads a plan, which takes memory and has to give it all back. */
-static uint32_t read_plan(nms_board *board, const char *text, size_t bytes, nms_order *order, nms_plan *plan)
-{
-    const unsigned long from = requests;
-    const long held = blocks;
-    const uint32_t code = nms_read_plan(board, text, bytes, order, plan);
-    of_readings += requests - from;
-    equals((unsigned long)blocks, (unsigned long)held, "blocks of memory after the reading of a plan");
-    return code;
-}
-
 /* ---- plans that nobody made ---- */
 
 static void plans(nms_board *board)
@@ -642,7 +625,7 @@ static void plans(nms_board *board)
     for (size_t size = 0; size < bytes; ++size) {
         nms_order *out_order = filled(2, sizeof *out_order, 0x5A);
         at = filled(1, sizeof *at, 0x5A);
-        code = read_plan(board, copied(3, whole, size), size, out_order, at);
+        code = nms_read_plan(board, copied(3, whole, size), size, out_order, at);
         equals(code, size == bytes - 1 ? NMS_OK : NMS_L11_BAD_PLAN_TEXT, "a text of a plan that is cut");
         if (code != NMS_OK)
             equals(is_filled(out_order, sizeof *out_order, 0x5A) && is_filled(at, sizeof *at, 0x5A), 1, "what a cut text wrote");
@@ -654,7 +637,7 @@ static void plans(nms_board *board)
             char *text = copied(3, whole, bytes);
             text[place] = (char)others[other];
             at = filled(1, sizeof *at, 0x5A);
-            code = read_plan(board, text, bytes, out_order, at);
+            code = nms_read_plan(board, text, bytes, out_order, at);
             equals(code == NMS_OK || code == NMS_L11_BAD_PLAN_TEXT, 1, "a text of a plan with a byte altered");
             if (code == NMS_OK) {
                 nms_doubt why;
@@ -663,6 +646,22 @@ static void plans(nms_board *board)
             } else
                 equals(is_filled(out_order, sizeof *out_order, 0x5A) && is_filled(at, sizeof *at, 0x5A), 1, "what an altered text wrote");
         }
+    /* The most bytes that a text may have, and one more: with blank lines behind the plan, in one field, and of commas alone. */
+    static char longest[NMS_PLAN_TEXT_ROOM + 1];
+    for (size_t size = sizeof longest - 2; size <= sizeof longest; ++size) {
+        const uint32_t too_long = size > NMS_PLAN_TEXT_ROOM ? NMS_RANGE : NMS_OK;
+        nms_order *out_order = filled(2, sizeof *out_order, 0x5A);
+        at = filled(1, sizeof *at, 0x5A);
+        memset(longest, '\n', sizeof longest);
+        memcpy(longest, whole, bytes);
+        equals(nms_read_plan(board, copied(3, longest, size), size, out_order, at), too_long, "a text with blank lines behind the plan");
+        equals(is_filled(out_order, sizeof *out_order, 0x5A) && is_filled(at, sizeof *at, 0x5A), too_long != NMS_OK, "what it wrote");
+        for (int other = 0; other < 3; ++other) {
+            memset(longest, ",N\""[other], sizeof longest);
+            code = nms_read_plan(board, copied(3, longest, size), size, out_order, at);
+            equals(code, too_long ? too_long : (uint32_t)NMS_L11_BAD_PLAN_TEXT, "a text of one byte, repeated");
+        }
+    }
     equals(state_of(board), before, "the board after texts of plans");
 }
 
@@ -807,7 +806,7 @@ static void setups(void)
 static void memory(void)
 {
     const long held = blocks;
-    unsigned long of_open, of_place, of_reading, from = requests;
+    unsigned long of_open, of_place, from = requests;
     nms_board board = NMS_BOARD_CLOSED;
     equals(nms_open(setup, setup_bytes, &board), NMS_OK, "an open");
     of_open = requests - from;
@@ -837,28 +836,7 @@ static void memory(void)
         equals(is_filled(place, sizeof *place, 0x5A), 1, "what that place wrote");
     }
     setup[0] ^= 1;
-    equals(nms_open(setup, setup_bytes, &board), NMS_OK, "an open");
-    nms_order order = { .limit = 100000, .shares = 1 };
-    nms_plan plan;
-    char text[NMS_PLAN_TEXT_ROOM];
-    size_t bytes;
-    equals(nms_plan_order(&board, &order, &plan), NMS_OK, "a plan");
-    equals(nms_plan_text(&board, &order, &plan, text, sizeof text, &bytes), NMS_OK, "the text of a plan");
-    from = requests;
-    equals(nms_read_plan(&board, text, bytes, &order, &plan), NMS_OK, "the reading of a plan");
-    of_reading = requests - from;
-    for (unsigned long at = 1; at <= of_reading; ++at) {
-        nms_order *read_order = filled(2, sizeof *read_order, 0x5A);
-        nms_plan *read = filled(1, sizeof *read, 0x5A);
-        const long before = blocks;
-        refuse_at = requests + at;
-        equals(nms_read_plan(&board, text, bytes, read_order, read), NMS_NO_MEMORY, "a reading with a request for memory refused");
-        refuse_at = 0;
-        equals((unsigned long)blocks, (unsigned long)before, "blocks of memory after that reading");
-        equals(is_filled(read_order, sizeof *read_order, 0x5A) && is_filled(read, sizeof *read, 0x5A), 1, "what that reading wrote");
-    }
-    equals(nms_close(&board), NMS_OK, "a close");
-    printf("an open asks for memory %lu times, a setup's place %lu times, the reading of a plan %lu times\n", of_open, of_place, of_reading);
+    printf("an open asks for memory %lu times, a setup's place %lu times\n", of_open, of_place);
 }
 
 /* ---- random bytes ---- */
@@ -894,7 +872,7 @@ static void random_bytes(unsigned long rounds)
         char *text;
         uint32_t code;
         size_t bytes;
-        const unsigned long from = asked();
+        const unsigned long from = requests;
         const uint16_t sym = (uint16_t)(draw() % 9 ? draw() & 1 : draw());
         const uint8_t side = (uint8_t)(draw() % 9 ? draw() & 1 : draw());
         scatter(change, sizeof *change);
@@ -933,7 +911,7 @@ static void random_bytes(unsigned long rounds)
             text = filled(3, NMS_PLAN_TEXT_ROOM, 0x5A);
             equals(nms_plan_text(&board, order, plan, text, NMS_PLAN_TEXT_ROOM, &bytes), NMS_OK, "the text of a random plan");
             text = copied(3, text, bytes);
-            equals(read_plan(&board, text, bytes, order, plan), NMS_OK, "the reading of a random plan");
+            equals(nms_read_plan(&board, text, bytes, order, plan), NMS_OK, "the reading of a random plan");
             unconfirmed += nms_confirm(&board, order, plan, doubt) != NMS_OK;
         }
         scatter(plan, draw() % sizeof *plan);
@@ -952,8 +930,8 @@ static void random_bytes(unsigned long rounds)
         text = filled(3, bytes, 0);
         scatter(text, bytes);
         nms_apply_text(&board, text, bytes);
-        read_plan(&board, text, bytes, order, plan);
-        equals(asked(), from, "requests for memory of calls on an open board");
+        nms_read_plan(&board, text, bytes, order, plan);
+        equals(requests, from, "requests for memory of calls on an open board");
         nms_counts_of(&board, &counts);
         if (counts.room < 2) {
             nms_close(&board);
@@ -982,17 +960,17 @@ int main(int count, char **words)
 
     states();
     open_board(&board);
-    from = asked();
+    from = requests;
     nulls(&board);
     changes(&board);
-    equals(asked(), from, "requests for memory of calls on an open board");
+    equals(requests, from, "requests for memory of calls on an open board");
     equals(nms_close(&board), NMS_OK, "a close");
     open_board(&board);
-    from = asked();
+    from = requests;
     orders(&board);
     looks(&board);
     plans(&board);
-    equals(asked(), from, "requests for memory of calls on an open board");
+    equals(requests, from, "requests for memory of calls on an open board");
     records(&board);
     equals(nms_close(&board), NMS_OK, "a close");
     full();

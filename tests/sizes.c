@@ -94,6 +94,10 @@ int main(int count, char **words)
         const char twice[] = "tape_limit = 9\nqueue = 9\ndesks = 1\n[[participant]]\nname = \"N\"\nfeed = \"A\"\nfee = 1\nrate = 1\n"
                              "[[participant]]\nname = \"P\"\nfeed = \"A\"\nfee = 1\nrate = 1\n"
                              "[[participant]]\nname = \"P\"\nfeed = \"A\"\nfee = 1\nrate = 1\n[[symbol]]\nname = \"ABC\"\nlot = 100\n";
+        /* Four faults: a fee out of range (C6), then two bad names and a bad symbol (C4). The least code counts, and of its places the first. */
+        const char several[] = "tape_limit = 9\nqueue = 9\ndesks = 1\n[[participant]]\nname = \"N\"\nfeed = \"A\"\nfee = 1\nrate = -100000000\n"
+                               "[[participant]]\nname = \"p\"\nfeed = \"A\"\nfee = 1\nrate = 1\n"
+                               "[[participant]]\nname = \"q\"\nfeed = \"A\"\nfee = 1\nrate = 1\n[[symbol]]\nname = \"abc\"\nlot = 100\n";
         const char torn[] = "tape_limit = 9\nqueue 9\n";
         nms_place place;
         WRITES(nms_place, nms_setup_place(twice, sizeof twice - 1, out));
@@ -101,6 +105,8 @@ int main(int count, char **words)
         holds(nms_setup_place(twice, sizeof twice - 1, &place) == NMS_OK && place.code == NMS_C4_BAD_NAME && place.table == NMS_PARTICIPANT &&
                   place.element == 2 && place.spot == NMS_NAME_TWICE && place.twin == 1 && place.start == 0 && place.end == 0 &&
                   place.spare == 0, "nms_place: code, table, element, spot, twin");
+        holds(nms_setup_place(several, sizeof several - 1, &place) == NMS_OK && place.code == NMS_C4_BAD_NAME && place.table == NMS_PARTICIPANT &&
+                  place.element == 1 && place.spot == NMS_NAME, "nms_place: of several faults of the least code the first");
         holds(nms_setup_place(torn, sizeof torn - 1, &place) == NMS_OK && place.code == NMS_C1_NOT_TOML && place.table == NMS_NO_DOCUMENT &&
                   place.start >= 15 && place.start <= place.end && place.end <= sizeof torn - 1 && place.element == 0 && place.twin == 0,
               "nms_place: start, end");
@@ -159,6 +165,11 @@ int main(int count, char **words)
               through.offers == 1 && through.offer[0].price == 100811 && through.offer[0].part == 3, "nms_through");
     holds(nms_traded_through(&board, 1, 9900000, &through) == NMS_OK && through.bids == 1 && through.bid[0].price == 99009 &&
               through.offers == 0, "nms_through: bids");
+    /* A bid at the very price is not above it, nor an offer below it: one 1/1,000,000 dollar to either side decides. */
+    holds(nms_traded_through(&board, 1, 9900900, &through) == NMS_OK && through.bids == 0 && nms_traded_through(&board, 1, 9900899, &through) == NMS_OK &&
+              through.bids == 1, "nms_traded_through: a bid at the price");
+    holds(nms_traded_through(&board, 1, 10081100, &through) == NMS_OK && through.offers == 0 && nms_traded_through(&board, 1, 10081101, &through) == NMS_OK &&
+              through.offers == 1, "nms_traded_through: an offer at the price");
     nms_counts counts;
     holds(nms_counts_of(&board, &counts) == NMS_OK && counts.applied == 3 && counts.room == 997 && counts.parts == 4 && counts.syms == 2,
           "nms_counts");

@@ -7,21 +7,22 @@
 mod board;
 mod check;
 mod list;
+mod numbers;
 mod serve;
 mod sweep;
 mod types;
 
 use std::hint::black_box;
-use std::num::NonZeroU32;
 
-use board::{market, Boards, Row};
+use board::Boards;
+use numbers::{BestNumbers, ChangeNumbers, Open, OrderNumbers, PlanNumbers, RowNumbers};
 use types::*;
 
 /// What a load asks for, one after another.
 pub enum Operation {
-    Apply(Change),
+    Apply(ChangeNumbers),
     Look(Sym),
-    Plan(Order),
+    Plan(OrderNumbers),
 }
 
 /// A load's setup and its operations.
@@ -31,10 +32,6 @@ pub struct Load {
     pub lots: Vec<u32>,
     pub fees: FeeBook,
     pub operations: Vec<Operation>,
-}
-
-fn side(price: u64, shares: u64) -> Option<SideQuote> {
-    NonZeroU32::new(shares as u32).map(|shares| SideQuote { price, shares })
 }
 
 fn read_load(path: &str) -> Load {
@@ -58,22 +55,26 @@ fn read_load(path: &str) -> Load {
         }
         let n: Vec<u64> = rest.split(' ').map(|it| it.parse().expect("a number")).collect();
         load.operations.push(match kind {
-            "Q" => {
-                let state = [QState::Automated, QState::Manual, QState::Halted][n[2] as usize];
-                let sides = [side(n[3], n[4]), side(n[5], n[6])];
-                Operation::Apply(Change::Quote { part: n[0] as u8, sym: n[1] as u16, state, sides })
-            }
-            "S" => Operation::Apply(Change::State { part: n[0] as u8, sym: n[1] as u16, state: [QState::Automated, QState::Manual, QState::Halted][n[2] as usize] }),
-            "R" => Operation::Apply(Change::Lot { sym: n[0] as u16, lot: n[1] as u16 }),
-            "X" => Operation::Apply(Change::Withdraw { part: n[0] as u8 }),
+            "Q" => Operation::Apply(ChangeNumbers {
+                part: n[0] as u8,
+                sym: n[1] as u16,
+                state: n[2] as u8,
+                price: [n[3], n[5]],
+                shares: [n[4] as u32, n[6] as u32],
+                ..Default::default()
+            }),
+            "S" => Operation::Apply(ChangeNumbers { kind: 1, part: n[0] as u8, sym: n[1] as u16, state: n[2] as u8, ..Default::default() }),
+            "X" => Operation::Apply(ChangeNumbers { kind: 2, part: n[0] as u8, ..Default::default() }),
+            "R" => Operation::Apply(ChangeNumbers { kind: 3, sym: n[0] as u16, lot: n[1] as u16, ..Default::default() }),
             "N" => Operation::Look(n[0] as u16),
-            _ => Operation::Plan(Order {
-                side: if n[0] == 0 { OrderSide::Buy } else { OrderSide::Sell },
+            _ => Operation::Plan(OrderNumbers {
+                side: n[0] as u8,
                 sym: n[1] as u16,
                 shares: n[2] as u32,
                 limit: n[3],
-                manual: n[4] == 1,
-                self_help: PartSet(n[5] as u32),
+                manual: n[4] as u8,
+                self_help: n[5] as u32,
+                spare: 0,
             }),
         });
     }
@@ -129,32 +130,19 @@ impl Sum {
         self.0 = (self.0 ^ number).wrapping_mul(0x100_0000_01b3);
     }
 
-    fn take_row(&mut self, row: Option<&Row>) {
-        let (price, receipt, size, part, protected) =
-            row.map_or((0, 0, 0, 0, 0), |r| (r.price, u64::from(r.receipt), u64::from(r.size), u64::from(r.part), u64::from(r.protected)));
-        [price, receipt, size, part, protected].into_iter().for_each(|it| self.take(it));
+    fn take_row(&mut self, row: &RowNumbers) {
+        [row.price, row.receipt, u64::from(row.size), u64::from(row.part), u64::from(row.protected)].into_iter().for_each(|it| self.take(it));
     }
 
-    fn take_plan(&mut self, plan: &Plan, certificate: &Certificate) {
-        [plan.version, plan.cost as u64, (plan.cost >> 64) as u64, u64::from(plan.filled), plan.legs.len() as u64].into_iter().for_each(|it| self.take(it));
-        for leg in plan.legs.iter() {
+    fn take_plan(&mut self, plan: &PlanNumbers) {
+        [plan.version, plan.cost_low, plan.cost_high as u64, u64::from(plan.filled), u64::from(plan.legs)].into_iter().for_each(|it| self.take(it));
+        for leg in &plan.leg[..plan.legs as usize] {
             [leg.price, u64::from(leg.shares), u64::from(leg.part)].into_iter().for_each(|it| self.take(it));
         }
-        for cut in certificate.iter() {
-            let (kind, marginal) = match cut.kind {
-                CutKind::TooMuch => (0, 0),
-                CutKind::TooLittle => (1, 0),
-                CutKind::Marginal(k) => (2, k as u64),
-            };
-            [cut.price, kind, marginal].into_iter().for_each(|it| self.take(it));
+        for cut in &plan.cut[..plan.cuts as usize] {
+            [cut.price, u64::from(cut.kind), cut.marginal as u64].into_iter().for_each(|it| self.take(it));
         }
     }
-}
-
-/// What a look answers: the version, the two best rows and the market, by value as through the library.
-fn best_of(boards: &Boards, sym: Sym) -> (u64, Option<Row>, Option<Row>, board::Market) {
-    let view = boards.view(sym);
-    (view.version, view.book.best(Side::Bid).copied(), view.book.best(Side::Offer).copied(), market(view.book))
 }
 
 fn calls(load: &Load) {
@@ -164,9 +152,9 @@ fn calls(load: &Load) {
     let clock = clock[clock.len() / 2];
     println!("clock {clock}");
 
-    let open = || Boards::new(load.parts.len(), &load.lots);
+    let open = || Open { boards: Boards::new(load.parts.len(), &load.lots), fees: FeeBook(load.fees.0), parts: load.parts.len(), syms: load.syms.len() };
     let from = now();
-    let mut boards = open();
+    let mut desk = open();
     println!("open {}", now() - from);
 
     // All changes in one go.
@@ -174,7 +162,7 @@ fn calls(load: &Load) {
     let from = now();
     for operation in &load.operations {
         if let Operation::Apply(change) = operation {
-            boards.apply(change);
+            desk.apply(change).expect("a change");
             many += 1;
         }
     }
@@ -183,38 +171,40 @@ fn calls(load: &Load) {
     // All looks in one go, on the board that they left, at the symbols of the changes. Each look waits for the answer of the
     // one before it, as a caller's does who acts on it: no price has 64 bits, but that is not known before it is there.
     let syms: Vec<Sym> = load.operations.iter().filter_map(sym_of).collect();
-    let (mut at, mut many) = (0, 0);
+    let (mut at, mut many, mut best) = (0, 0, BestNumbers::default());
     let from = now();
     while at < syms.len() {
-        let (_, bid, offer, _) = black_box(best_of(&boards, syms[at]));
-        at += 1 + (bid.map_or(0, |r| r.price) >> 63) as usize + (offer.map_or(0, |r| r.price) >> 63) as usize;
+        desk.best_of(syms[at], black_box(&mut best)).expect("a symbol");
+        let answer = black_box(&best);
+        at += 1 + (answer.rows[0].price >> 63) as usize + (answer.rows[1].price >> 63) as usize;
         many += 1;
     }
     println!("best_all {many} {:.2}", (now() - from) as f64 / many as f64);
 
     // Each call by itself, and a sum of what all of them answer.
-    let (mut apply, mut best, mut planning, mut confirming) = (Times::default(), Times::default(), Times::default(), Times::default());
-    let (mut boards, mut sum) = (open(), Sum(0xcbf2_9ce4_8422_2325));
+    let (mut apply, mut looks, mut planning, mut confirming) = (Times::default(), Times::default(), Times::default(), Times::default());
+    let (mut desk, mut sum, mut plan) = (open(), Sum(0xcbf2_9ce4_8422_2325), PlanNumbers::default());
     for operation in &load.operations {
         match operation {
-            Operation::Apply(change) => apply.take(|| boards.apply(change)),
+            Operation::Apply(change) => apply.take(|| desk.apply(change)).expect("a change"),
             Operation::Look(_) => {}
-            Operation::Plan(order) => {
-                let (plan, certificate) = planning.take(|| sweep::plan(boards.view(order.sym), order, &load.fees));
-                sum.take_plan(&plan, &certificate);
-                assert!(confirming.take(|| check::confirm(boards.view(order.sym), order, &load.fees, &plan, &certificate)));
+            Operation::Plan(numbers) => {
+                planning.take(|| desk.plan(numbers, black_box(&mut plan))).expect("an order");
+                sum.take_plan(black_box(&plan));
+                let order = desk.order_of(numbers).expect("an order");
+                let (plan, certificate) = plan.read(&order);
+                assert!(confirming.take(|| check::confirm(desk.boards.view(order.sym), &order, &desk.fees, &plan, &certificate)));
             }
         }
         if let Some(sym) = sym_of(operation) {
-            let (version, bid, offer, market) = best.take(|| best_of(&boards, sym));
-            sum.take(version);
-            sum.take_row(bid.as_ref());
-            sum.take_row(offer.as_ref());
-            sum.take(market as u64);
+            looks.take(|| desk.best_of(sym, black_box(&mut best))).expect("a symbol");
+            sum.take(best.version);
+            best.rows.iter().for_each(|row| sum.take_row(row));
+            sum.take(u64::from(best.market));
         }
     }
     apply.print("apply", clock);
-    best.print("best", clock);
+    looks.print("best", clock);
     planning.print("plan", clock);
     confirming.print("confirm", clock);
     println!("sum {:016x}", sum.0);
@@ -223,8 +213,8 @@ fn calls(load: &Load) {
 /// The symbol of an operation that has one.
 fn sym_of(operation: &Operation) -> Option<Sym> {
     match operation {
-        Operation::Apply(Change::Quote { sym, .. } | Change::State { sym, .. } | Change::Lot { sym, .. }) | Operation::Look(sym) => Some(*sym),
-        Operation::Apply(Change::Withdraw { .. }) => None,
+        Operation::Apply(change) => (change.kind != 2).then_some(change.sym),
+        Operation::Look(sym) => Some(*sym),
         Operation::Plan(order) => Some(order.sym),
     }
 }

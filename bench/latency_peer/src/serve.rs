@@ -5,7 +5,8 @@ use std::io::{self, BufRead, Write};
 use std::num::NonZeroU32;
 
 use crate::board::{market, Boards, Market};
-use crate::sweep::plan;
+use crate::numbers::PlanNumbers;
+use crate::sweep;
 use crate::types::*;
 use crate::Load;
 
@@ -34,6 +35,7 @@ pub fn serve(load: &Load) {
     let parts: std::collections::HashMap<&str, u8> = load.parts.iter().enumerate().map(|(at, name)| (name.as_str(), at as u8)).collect();
     let syms: std::collections::HashMap<&str, u16> = load.syms.iter().enumerate().map(|(at, name)| (name.as_str(), at as u16)).collect();
     let mut boards = Boards::new(load.parts.len(), &load.lots);
+    let mut room = PlanNumbers::default();
     let (mut queue, mut taken) = (Vec::new(), 0u64);
     let (mut input, mut line, mut answer) = (io::stdin().lock(), String::new(), String::new());
     let mut out = io::stdout().lock();
@@ -84,7 +86,8 @@ pub fn serve(load: &Load) {
                     manual: fields.get(6) == Some(&"M"),
                     self_help: PartSet::default(),
                 };
-                let (plan, certificate) = plan(boards.view(order.sym), &order, &load.fees);
+                sweep::plan(boards.view(order.sym), &order, &load.fees, &mut room);
+                let (plan, certificate) = room.read(&order);
                 let flag = if order.manual { "M" } else { "" };
                 let (limit, cost) = (dollars(order.limit), money(plan.cost));
                 writeln!(answer, "PLAN,{},{},{},{},{limit},{flag},{},{cost}", plan.version, fields[2], fields[3], order.shares, plan.filled).expect("room");

@@ -3,6 +3,7 @@
 
 use crate::board::{Book, View};
 use crate::list::List;
+use crate::numbers::{CutNumbers, LegNumbers, PlanNumbers};
 use crate::types::*;
 
 /// A row that the order may trade with, and its unit cost.
@@ -37,12 +38,13 @@ pub fn usable_rows(book: &Book, order: &Order, fees: &FeeBook) -> List<Usable, M
     rows
 }
 
-pub fn plan(view: View, order: &Order, fees: &FeeBook) -> (Plan, Certificate) {
+/// Into the caller's room: each cut and each leg goes to its place at once.
+pub fn plan(view: View, order: &Order, fees: &FeeBook, out: &mut PlanNumbers) {
     let rows = usable_rows(view.book, order, fees);
     let total: u64 = rows.iter().map(|r| u64::from(r.size)).sum();
     let filled = total.min(u64::from(order.shares));
 
-    let mut certificate = Certificate::new();
+    let mut cuts = 0;
     let mut best: Option<(Money, [u32; MAX_PARTS])> = None;
 
     let mut swept = 0u64;
@@ -62,10 +64,10 @@ pub fn plan(view: View, order: &Order, fees: &FeeBook) -> (Plan, Certificate) {
             pool_size += u64::from(row.size);
         }
 
-        let kind = if swept > filled {
-            CutKind::TooMuch
+        let (kind, marginal) = if swept > filled {
+            (0, 0)
         } else if swept + pool_size < filled {
-            CutKind::TooLittle
+            (1, 0)
         } else {
             let mut takes = in_full;
             let mut cost = swept_cost;
@@ -85,9 +87,10 @@ pub fn plan(view: View, order: &Order, fees: &FeeBook) -> (Plan, Certificate) {
             if best.as_ref().is_none_or(|(least, _)| cost < *least) {
                 best = Some((cost, takes));
             }
-            CutKind::Marginal(Money::from(marginal))
+            (2, marginal)
         };
-        certificate.push(Cut { price, kind });
+        out.cut[cuts] = CutNumbers { price, marginal, kind, spare: 0 };
+        cuts += 1;
 
         for (i, row) in rows.iter().enumerate().take(end).skip(start).filter(|(_, r)| r.protected) {
             in_full[i] = row.size;
@@ -100,12 +103,14 @@ pub fn plan(view: View, order: &Order, fees: &FeeBook) -> (Plan, Certificate) {
     }
 
     let (cost, takes) = best.unwrap_or((0, [0; MAX_PARTS]));
-    let legs = rows
-        .iter()
-        .zip(takes)
-        .filter(|(_, shares)| *shares > 0)
-        .map(|(row, shares)| Leg { part: row.part, price: row.price, shares })
-        .collect();
-    let plan = Plan { version: view.version, order: *order, legs, filled: filled as u32, cost };
-    (plan, certificate)
+    let mut legs = 0;
+    for (row, shares) in rows.iter().zip(takes).filter(|(_, shares)| *shares > 0) {
+        out.leg[legs] = LegNumbers { price: row.price, shares, part: row.part, spare: [0; 3] };
+        legs += 1;
+    }
+    out.leg[legs..].fill(LegNumbers::default());
+    out.cut[cuts..].fill(CutNumbers::default());
+    out.version = view.version;
+    (out.cost_low, out.cost_high) = (cost as u64, (cost >> 64) as i64);
+    (out.filled, out.legs, out.cuts, out.spare) = (filled as u32, legs as u32, cuts as u32, 0);
 }

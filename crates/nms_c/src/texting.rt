@@ -93,7 +93,7 @@ pub extern "C" fn nms_raw_read_plan(
         × PlanRead opened.settings.roster text.now told order.old order.new out.old out.new) }
     ensures same { board.new.value ≡ board.old.value }
 {
-    let Some(kept) = take(alloc, board) else {
+    let Some(mut kept) = take(alloc, board) else {
         return CLOSED;
     };
     let code = answer(kept.read_plan(alloc, text, order, out));

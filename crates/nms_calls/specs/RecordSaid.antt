@@ -1,6 +1,6 @@
 -- What the text of one record says, and the text of a plan. This product's own rule.
-use Rattle.std.specs.Prelude.{◌≡◌, ◌≢◌, ◌==◌, ℕ, Bool, false, nat_le, not, List, length, IfSome, Option, Some, None, Result, Ok, Err}
-use Rattle.std.specs.Prelude.{if◌then◌else◌}
+use Rattle.std.specs.Prelude.{◌≡◌, ◌≢◌, ◌<◌, ◌≤◌, ◌==◌, ℕ, Bool, false, nat_le, not, List, length, IfSome, Option, Some, None}
+use Rattle.std.specs.Prelude.{Result, Ok, Err, if◌then◌else◌}
 use Rattle.std.specs.List.{list_all, slice_split}
 use Rattle.nms_quote.specs.Roster.{Listing}
 use Rattle.nms_quote.specs.Terms.{Terms}
@@ -25,7 +25,7 @@ use Rattle.nms_calls.specs.Opened.{Opened, left_on, made_said, room_fault}
 use Rattle.nms_calls.specs.PlanNumbers.{AreNumbersOf}
 use Rattle.nms_calls.specs.RowNumbers.{flag}
 use Rattle.nms_calls.specs.Written.{text_fault}
-use Rattle.nms_calls.specs.declared.TheConstants.{MOST_RECORD}
+use Rattle.nms_calls.specs.declared.TheConstants.{MOST_PLAN_TEXT, MOST_RECORD}
 use Rattle.nms_calls.specs.declared.call_fault.CallFault.{CallFault}
 use Rattle.nms_calls.specs.declared.call_fault.CallFault.TheVariants as fault
 use Rattle.nms_calls.specs.declared.order_numbers.NmsOrder.{NmsOrder}
@@ -100,11 +100,13 @@ pub record IsRead (roster : Listing) (records : List Record) (order : NmsOrder) 
   pub order_of : order ≡ order_numbers plan.order
   pub numbers : AreNumbersOf plan certificate out
 
--- what came of reading a plan from a text: at no fault its numbers, else why it is none, and nothing written
+-- what came of reading a plan from a text: at no fault its numbers, else why it is none, and nothing written. A text of too many
+-- bytes is out of range, and so is a marginal that the numbers have no room for
 pub record PlanRead (roster : Listing) (text : List ℕ) (told : Option CallFault) (old_order order : NmsOrder) (old out : NmsPlan) : Type
     0 where
   pub read : told ≡ None → (records : List Record) → AreAllRecords (Some text) records → IsRead roster records order out
   pub refused : told ≡ Some fault.PlanText → (records : List Record) → AreAllRecords (Some text) records → plan_in roster records ≡ None
-  pub wide : told ≡ Some fault.Range → (records : List Record) → AreAllRecords (Some text) records
+  pub long : MOST_PLAN_TEXT < length text → told ≡ Some fault.Range
+  pub wide : told ≡ Some fault.Range → length text ≤ MOST_PLAN_TEXT → (records : List Record) → AreAllRecords (Some text) records
       → IfSome (plan_in roster records) (λ said. are_narrow said.cuts ≡ false)
   pub unwritten : told ≢ None → (order ≡ old_order) × (out ≡ old)

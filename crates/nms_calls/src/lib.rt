@@ -6,6 +6,8 @@
 pub const MOST_MILLIONTHS: u64 = 9_999_999_999_999;
 /// The most bytes that the text of one record may have.
 pub const MOST_RECORD: usize = 255;
+/// The most bytes that the text of a plan may have. Every plan that the library writes has fewer.
+pub const MOST_PLAN_TEXT: usize = 8192;
 
 mod call_fault;
 mod change_calls;

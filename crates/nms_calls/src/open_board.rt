@@ -8,7 +8,7 @@ ghost use Rattle.nms_calls.specs.OrderSaid.{order_said};
 ghost use Rattle.nms_calls.specs.PlanNumbers.{IsBestPlan};
 ghost use Rattle.nms_calls.specs.RowNumbers.{AreBest};
 
-use crate::MOST_RECORD;
+use crate::MOST_PLAN_TEXT;
 use crate::call_fault::CallFault;
 use crate::change_numbers::NmsChange;
 use crate::change_reading::{change_of, sym_of};
@@ -31,16 +31,13 @@ use std::alloc::Global;
 use std::marker::Model;
 use std::str;
 
-/// The room of the text of a plan, which is shorter.
-const MOST_PLAN_TEXT: usize = 8192;
-
 /// A board with its setup, and all the room that its calls need: none of them takes memory.
 #[derive(Drop)]
 pub struct OpenBoard {
     pub(crate) setup: Setup,
     pub(crate) board: Boards,
     planner: Planner,
-    /// The fields of the record that is read.
+    /// The fields of the record that is read. A field is of at least one byte of the text, a comma or the end.
     pub(crate) row: ByteRecord,
     /// The text of the plan that is written.
     pub(crate) text: Vec<u8>,
@@ -73,7 +70,7 @@ impl OpenBoard {
             return Err(SetupFault::NoMemory);
         };
         let (Ok(row), Ok(text)) = (
-            ByteRecord::with_capacity(alloc, MOST_RECORD, MOST_RECORD + 1),
+            ByteRecord::with_capacity(alloc, MOST_PLAN_TEXT, MOST_PLAN_TEXT + 1),
             Vec::with_capacity(alloc, MOST_PLAN_TEXT),
         ) else {
             return Err(SetupFault::NoMemory);
@@ -127,15 +124,14 @@ impl OpenBoard {
         ensures unwritten { OnErr result (out.new ≡ out.old) }
     {
         let sym = sym_of(self.setup.roster(), place)?;
+        // Each row is written as soon as it is there, so that the two need not be kept side by side.
         let bid = best_on(&self.board, Side::Bid, sym);
+        out.bid = NmsRow::of(&bid);
         let offer = best_on(&self.board, Side::Offer, sym);
-        *out = NmsBest {
-            version: self.board.applied(),
-            bid: NmsRow::of(&bid),
-            offer: NmsRow::of(&offer),
-            market: market_number(market_between(bid, offer)),
-            spare: 0,
-        };
+        out.offer = NmsRow::of(&offer);
+        out.version = self.board.applied();
+        out.market = market_number(market_between(bid, offer));
+        out.spare = 0;
         Ok(())
     }
 

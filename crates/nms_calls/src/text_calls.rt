@@ -11,7 +11,6 @@ ghost use Rattle.nms_calls.specs.Opened.{made_said, sizes_on};
 ghost use Rattle.nms_calls.specs.RecordSaid.{PlanRead, are_narrow, change_of_line, fields_in, order_numbers, plan_text_fault, record_fault, record_left, record_said, side_number};
 ghost use Rattle.nms_calls.specs.Written.{IsWritten};
 
-use crate::MOST_RECORD;
 use crate::call_fault::CallFault;
 use crate::open_board::OpenBoard;
 use crate::order_numbers::NmsOrder;
@@ -20,10 +19,11 @@ use crate::plan_numbers::NmsPlan;
 use crate::plan_reading::plan_of;
 use crate::plan_writing::put_plan;
 use crate::text_writing::put_text;
+use crate::{MOST_PLAN_TEXT, MOST_RECORD};
 use nms_cert::is_out_of_range;
 use nms_fees::SetupFault;
 use nms_lines::{
-    ByteRecord, Line, LineFault, PlanTextFault, Reading, append_plan, read_line, read_plan,
+    ByteRecord, Line, LineFault, PlanTextFault, Reading, append_plan, read_line, read_plan_by,
 };
 use nms_quote::{Certificate, Change, Order, OrderSide, SideQuote};
 use nms_units::Lot;
@@ -84,18 +84,23 @@ impl OpenBoard {
         put_text(self.text.as_slice(), out, bytes)
     }
 
-    /// Reads a plan with its order and its certificate from text. It takes memory, and gives it back.
+    /// Reads a plan with its order and its certificate from text. A text of more than `MOST_PLAN_TEXT` bytes is out of
+    /// range.
     pub fn read_plan(
-        &self,
+        &mut self,
         alloc: Global,
         text: &[u8],
         order: &mut NmsOrder,
         out: &mut NmsPlan,
     ) -> Result<(), CallFault>
         ensures faults { IfErr result (λ fault. (fault ≡ CallFault.PlanText) ⊎ ((fault ≡ CallFault.Range) ⊎ (fault ≡ CallFault.Setup SetupFault.NoMemory))) }
-        ensures told { PlanRead self.now.settings.roster text.now (result_err result) order.old order.new out.old out.new }
+        ensures told { PlanRead self.old.settings.roster text.now (result_err result) order.old order.new out.old out.new }
+        ensures same { self.new ≡ self.old }
     {
-        match read_plan(alloc, text, self.setup.roster()) {
+        if text.len() > MOST_PLAN_TEXT {
+            return Err(CallFault::Range);
+        }
+        match read_plan_by(alloc, &mut self.row, text, self.setup.roster()) {
             Ok((plan, certificate)) => {
                 if !are_narrow(&certificate) {
                     return Err(CallFault::Range);

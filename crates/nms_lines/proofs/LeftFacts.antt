@@ -1,9 +1,9 @@
 -- The records that a reader has still to give, after it gave one.
-use Rattle.std.proofs.Common.{◌≡◌, ℕ, true, false, List, [], ◌∷◌, refl, sym, ap, ◌∙◌}
-use Rattle.std.specs.Prelude.{Option, Some}
+use Rattle.std.proofs.Common.{◌≡◌, ℕ, true, false, List, [], ◌∷◌, refl, sym, ap, ◌∙◌, inl, inr}
+use Rattle.std.specs.Prelude.{IsSome, Option, Some}
 use Rattle.csv.specs.Machine.{Read}
-use Rattle.csv.specs.Reading.{AreRecords, ReadRecord, Reached, Ready, default_config, reader_config, reader_state, reader_trim, source_of}
-use Rattle.csv.specs.Reading.{strip_bom}
+use Rattle.csv.specs.Reading.{AreRecords, ChangesHeaders, ReadRecord, Reached, Ready, default_config, names_headers, reader_config}
+use Rattle.csv.specs.Reading.{reader_headers, reader_state, reader_trim, source_of, strip_bom}
 use Rattle.csv.specs.declared.parser.Config.{Config}
 use Rattle.csv.specs.declared.parser.State.{State}
 use Rattle.csv.specs.declared.reader.Reader.{Reader}
@@ -72,3 +72,13 @@ pub left_first : {R : Type 0} (remaining : R → Option (List ℕ)) (reader : Re
     → AreAllRecords (Some bytes) records → AreLeft remaining reader records
 left_first remaining reader bytes records plain ready config known start all =
     record { plain = plain; ready = ready; config = config; bytes = strip_bom bytes; known = known; records = rw start all }
+
+-- a header row that is set leaves all that is to come
+pub left_headed : {R : Type 0} (remaining : R → Option (List ℕ)) (old new : Reader R) (bytes : List ℕ) (records : List Record)
+    → ChangesHeaders old new → IsSome (reader_headers new) → names_headers old ≡ true → reader_trim old ≡ trim.None
+    → reader_config old ≡ default_config → source_of remaining old ≡ Some (strip_bom bytes) → reader_state old ≡ state.StartRecord
+    → AreAllRecords (Some bytes) records → AreLeft remaining new records
+left_headed {R} remaining old new bytes records same set named plain config known start all =
+    left_first remaining new bytes records (ap (λ (r : Reader R). reader_trim r) same ∙ plain)
+    (inr (inl (ap (λ (r : Reader R). names_headers r) same ∙ named, set))) (ap (λ (r : Reader R). reader_config r) same ∙ config)
+    (ap (λ (r : Reader R). source_of remaining r) same ∙ known) (ap (λ (r : Reader R). reader_state r) same ∙ start) all

@@ -40,7 +40,7 @@ pub use line_fault::LineFault;
 pub use line_reading::read_line;
 pub use named::read_names;
 pub use number::{price_of, some_shares_of};
-pub use plan_reading::read_plan;
+pub use plan_reading::{read_plan, read_plan_by};
 pub use plan_text_fault::PlanTextFault;
 pub use plan_writing::{append_plan, name_of_part, name_of_sym, write_plan};
 pub use record_fault::RecordFault;

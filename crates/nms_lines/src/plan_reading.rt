@@ -10,7 +10,7 @@ ghost use Rattle.nms_lines.specs.Records.{AreAllRecords};
 use crate::plan_record::{PlanHead, cut_in, head_in, is_end, leg_in};
 use crate::plan_text_fault::PlanTextFault;
 use crate::record_fault::RecordFault;
-use crate::record_reading::{open_records, read_next};
+use crate::record_reading::{open_bare_records, read_next};
 use arrayvec::ArrayVec;
 use csv::{ByteRecord, Reader};
 use nms_quote::{Certificate, Leg, Plan, Roster};
@@ -39,9 +39,31 @@ pub fn read_plan(
         → result ≡ Err PlanTextFault.BadPlanText → plan_in roster.now records ≡ None }
     ensures faults { result ≢ Err PlanTextFault.WriteFault }
 {
-    let mut reader = open_records(alloc, text);
     let mut row = ByteRecord::new(alloc);
-    read_records(&mut reader, &mut row, roster)
+    read_plan_by(alloc, &mut row, text, roster)
+}
+
+/// The same by a row that is there: it takes no memory if the row has room for as many bytes as the text has, and for a
+/// field more.
+pub fn read_plan_by(
+    alloc: Global,
+    row: &mut ByteRecord,
+    text: &[u8],
+    roster: &Roster,
+) -> Result<(Plan, Certificate), PlanTextFault>
+    ensures read { (records : List Record) → AreAllRecords (Some text.now) records
+        → IfOk result (λ made. plan_in roster.now records ≡ Some (said_by made.0 made.1.items)) }
+    ensures parts { IfOk result (λ made. All (λ leg. leg.part < length roster.now.parts) made.0.legs.items) }
+    ensures sym { IfOk result (λ made. made.0.order.sym < length roster.now.syms) }
+    ensures self_help { IfOk result (λ made. AreBelow (length roster.now.parts) made.0.order.self_help) }
+    ensures refused { (records : List Record) → AreAllRecords (Some text.now) records
+        → result ≡ Err PlanTextFault.BadPlanText → plan_in roster.now records ≡ None }
+    ensures faults { result ≢ Err PlanTextFault.WriteFault }
+{
+    match open_bare_records(alloc, text) {
+        Ok(mut reader) => read_records(&mut reader, row, roster),
+        Err(_) => Err(PlanTextFault::NoMemory),
+    }
 }
 
 /// Reads a plan and its certificate from the records that are left.

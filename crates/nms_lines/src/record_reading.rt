@@ -1,5 +1,5 @@
 //! The records of a text, one after another: `specs/Records`.
-ghost use Rattle.std.specs.Prelude.{◌≡◌, ℕ, ◌++◌, ◌∷◌, [], List, Option, Some, OnErr, true, false, Ok, Err};
+ghost use Rattle.std.specs.Prelude.{◌≡◌, ℕ, ◌++◌, ◌∷◌, [], IfOk, List, Option, Some, OnErr, true, false, Ok, Err};
 ghost use Rattle.csv.specs.Reading.{error_kind, is_io};
 ghost use Rattle.csv.specs.Records.{fields_of};
 ghost use Rattle.nms_lines.specs.Layout.{Record};
@@ -8,7 +8,7 @@ ghost use Rattle.nms_lines.specs.Records.{AreAllRecords, HasStopped, ReadsFrom};
 
 use crate::record_fault::RecordFault;
 use csv::{ByteRecord, Error, Reader, ReaderBuilder};
-use std::alloc::Global;
+use std::alloc::{AllocError, Global};
 use std::io::Read;
 
 /// A reader of the records of a text: comma, double quote, no header row, records of any length, nothing
@@ -24,6 +24,25 @@ pub fn open_records<R: Read>(alloc: Global, source: R) -> Reader<R>
         .has_headers(false)
         .flexible(true)
         .from_reader(alloc, source)
+}
+
+/// The same reader with a header row of no fields set before the first read: it looks for none, and so keeps no copy of the
+/// first record. Then no read takes memory for a row that has room for what it reads.
+pub(crate) fn open_bare_records<R: Read + Drop>(
+    alloc: Global,
+    source: R,
+) -> Result<Reader<R>, AllocError>
+    ensures left { (bytes : List ℕ) (records : List Record) → R.remaining source ≡ Some bytes
+        → AreAllRecords (Some bytes) records → IfOk result (λ reader. AreLeft R.remaining reader records) }
+{
+    let mut reader = ReaderBuilder::new()
+        .has_headers(true)
+        .flexible(true)
+        .from_reader(alloc, source);
+    match reader.set_byte_headers(ByteRecord::new(alloc)) {
+        Ok(()) => Ok(reader),
+        Err(_) => Err(AllocError),
+    }
 }
 
 /// Reads the next record into `row`, and tells whether there was one.
