@@ -6,6 +6,7 @@ use crate::files::{open_word, read_file, setup_of, word_at};
 use crate::importing::serve_import;
 use crate::screen::Screen;
 use crate::source::Source;
+use crate::timing::serve_when;
 use nms_drawing::{draw_changes, show_version, stream_changes, write_opening};
 use nms_fees::Setup;
 use nms_review_words::{Request, Sub};
@@ -26,9 +27,11 @@ pub(crate) fn serve<T, W: Write>(
 where
     T: AllocGlobal + Clock + Eprint + Files,
 {
-    // What explains a setup needs none.
-    if request.command == Sub::Explain {
-        return serve_explain(rt, screen, request, answers);
+    // What explains a setup needs none, nor do times.
+    match request.command {
+        Sub::Explain => return serve_explain(rt, screen, request, answers),
+        Sub::When => return serve_when(rt, screen, request, answers),
+        _ => {}
     }
     let setup = setup_of(rt, request)?;
     serve_under(rt, screen, &setup, request, answers)
@@ -55,6 +58,7 @@ where
         Sub::Why => serve_why(rt, screen, setup, request, answers),
         Sub::Draw => serve_draw(rt, screen, setup, request, answers),
         Sub::Import => serve_import(rt, screen, setup, request, answers),
+        Sub::When => serve_when(rt, screen, request, answers),
     }
 }
 

@@ -22,6 +22,8 @@ pub enum Sub {
     Draw,
     /// Makes changes of a vendor's files. Its own words are `MAP` and one or more of `FILE`.
     Import,
+    /// Finds versions by their times, or the time of a version. Its own words are `TIMES` and any number of `TIME`.
+    When,
 }
 
 /// What kind of file is explained.
@@ -60,6 +62,8 @@ pub(crate) enum WordForm {
     Several,
     /// A word that may stand behind those.
     Optional,
+    /// The last of its own words, which may be repeated, or left out.
+    AnyNumber,
     /// An option with a value, and what help calls the value.
     Valued(&'static str),
     /// The same, which it needs.
@@ -89,6 +93,12 @@ const JSON: Word = Word {
     name: "json",
     help: "Prints one JSON object a line",
     form: WordForm::Flag,
+};
+
+const SYMBOLS: Word = Word {
+    name: "symbols",
+    help: "The file of symbols that an import wrote, to find versions within one symbol",
+    form: WordForm::Valued("FILE"),
 };
 
 static EXPLAIN: [Word; 5] = [
@@ -213,9 +223,39 @@ static IMPORT: [Word; 4] = [
     SETUP,
 ];
 
+static WHEN: [Word; 7] = [
+    Word {
+        name: "TIMES",
+        help: "The file of times that an import wrote",
+        form: WordForm::Needed,
+    },
+    Word {
+        name: "TIME",
+        help: "The times to find: six digits HHMMSS, and up to nine after them",
+        form: WordForm::AnyNumber,
+    },
+    Word {
+        name: "before",
+        help: "Finds the version before a time, without the changes of that time",
+        form: WordForm::Flag,
+    },
+    Word {
+        name: "version",
+        help: "Prints the time of this version, in place of finding any",
+        form: WordForm::Valued("VERSION"),
+    },
+    SYMBOLS,
+    Word {
+        name: "symbol",
+        help: "The symbol that they are found for",
+        form: WordForm::Valued("SYM"),
+    },
+    JSON,
+];
+
 impl Sub {
     /// Each of them.
-    pub(crate) const ALL: [Sub; 9] = [
+    pub(crate) const ALL: [Sub; 10] = [
         Sub::Explain,
         Sub::Tape,
         Sub::At,
@@ -225,6 +265,7 @@ impl Sub {
         Sub::Why,
         Sub::Draw,
         Sub::Import,
+        Sub::When,
     ];
 
     /// The word that asks for it.
@@ -239,6 +280,7 @@ impl Sub {
             Sub::Why => "why",
             Sub::Draw => "draw",
             Sub::Import => "import",
+            Sub::When => "when",
         }
     }
 
@@ -257,6 +299,7 @@ impl Sub {
                 "Says why a plan is as it is: its rows, what it takes, and what each cut shows",
             Sub::Draw => "Draws a symbol's day as one SVG",
             Sub::Import => "Makes a file of changes of a vendor's files, by a mapping",
+            Sub::When => "Finds versions by time, or the time of a version",
         }
     }
 
@@ -272,6 +315,7 @@ impl Sub {
             Sub::Why => WHY.as_slice(),
             Sub::Draw => DRAW.as_slice(),
             Sub::Import => IMPORT.as_slice(),
+            Sub::When => WHEN.as_slice(),
         }
     }
 
