@@ -33,6 +33,8 @@ pub(crate) enum About {
     Feed,
     /// The value of `--plan`.
     Plan,
+    /// The value of `--times`.
+    Times,
     /// The value of `--symbols`.
     Symbols,
     /// The value of `--symbol`.

@@ -153,6 +153,7 @@ fn word_of(about: About, request: &Request) -> &str {
         About::Setup => request.setup.as_ref(),
         About::Feed => request.feed.as_ref(),
         About::Plan => request.plan.as_ref(),
+        About::Times => request.times.as_ref(),
         About::Symbols => request.symbols.as_ref(),
         About::Symbol => request.symbol.as_ref(),
         About::Version => request.version.as_ref(),

@@ -1,5 +1,5 @@
 //! The subcommand `when`: versions that are found by their times, and the time of a version.
-use crate::call::{form_of, version_in};
+use crate::call::{form_of, has_word, version_in, version_of};
 use crate::fault::{About, Fault};
 use crate::files::{read_file, word_at};
 use crate::screen::Screen;
@@ -84,6 +84,40 @@ pub(crate) fn times_of(alloc: Global, text: &[u8], about: About) -> Result<Times
     read_times(alloc, text).map_err(|fault| Fault::of_times(fault, about))
 }
 
+/// The times of the file that `--times` names, if it names one.
+pub(crate) fn given_times<T: AllocGlobal + Files>(
+    rt: &T,
+    request: &Request,
+) -> Result<Option<Times>, Fault> {
+    let Some(file) = &request.times else {
+        return Ok(None);
+    };
+    let text = read_file(rt, file.as_str(), About::Times)?;
+    Ok(Some(times_of(rt.alloc(), &text, About::Times)?))
+}
+
+/// The version that the first word names: a number, or `@` and a time, which is found among the times that are given. With a
+/// file of symbols it is found for the symbol that the word at a place names.
+pub(crate) fn version_among<T: AllocGlobal + Files>(
+    rt: &T,
+    request: &Request,
+    times: Option<&Times>,
+    symbol: usize,
+) -> Result<u64, Fault> {
+    let Some(word) = word_at(request, 0).strip_prefix('@') else {
+        return version_of(request);
+    };
+    let time = time_in(word, About::Word(0))?;
+    let Some(times) = times else {
+        return Err(Fault::usage(About::Word(0), "a time in place of a version needs --times"));
+    };
+    if request.symbols.is_some() && !has_word(request, symbol) {
+        return Err(Fault::usage(About::Nothing, "--symbols needs SYM"));
+    }
+    let symbol = (word_at(request, symbol), About::Word(symbol));
+    Ok(rising_of(rt, request, symbol, times, About::Times)?.version_at(time))
+}
+
 /// The symbol that `--symbol` names; nothing if it is not given.
 fn symbol_of(request: &Request) -> &str {
     match &request.symbol {
@@ -139,7 +173,7 @@ fn tell_versions<W: Write>(
             let text = time.text();
             let members = [
                 ("what", Item::Text("version")),
-                ("time", Item::Bytes(&text)),
+                ("time", Item::Bytes(text.as_slice())),
                 ("before", Item::Flag(request.before)),
                 ("version", number),
             ];
@@ -165,7 +199,7 @@ fn tell_time<W: Write>(
     }
     let digits = times.time_of(version).map(|time| time.text());
     let time = match &digits {
-        Some(digits) => Item::Bytes(digits),
+        Some(digits) => Item::Bytes(digits.as_slice()),
         None => Item::Absent,
     };
     let row = source_row(text, version);

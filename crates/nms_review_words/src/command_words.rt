@@ -66,6 +66,7 @@ fn request_in(alloc: Global, matches: &ArgMatches<'_>) -> Result<Request, AllocE
         feed: value_text(alloc, inner, "feed")?,
         plan: value_text(alloc, inner, "plan")?,
         out: value_text(alloc, inner, "out")?,
+        times: value_text(alloc, inner, "times")?,
         symbols: value_text(alloc, inner, "symbols")?,
         symbol: value_text(alloc, inner, "symbol")?,
         version: value_text(alloc, inner, "version")?,

@@ -16,6 +16,8 @@ pub struct Request {
     pub plan: Option<String>,
     /// The name that `--out` gives to the files that are written.
     pub out: Option<String>,
+    /// The file that `--times` names.
+    pub times: Option<String>,
     /// The file that `--symbols` names.
     pub symbols: Option<String>,
     /// The symbol that `--symbol` names.

@@ -95,6 +95,12 @@ const JSON: Word = Word {
     form: WordForm::Flag,
 };
 
+const TIMES: Word = Word {
+    name: "times",
+    help: "The file of times that an import wrote, a line for each change",
+    form: WordForm::Valued("FILE"),
+};
+
 const SYMBOLS: Word = Word {
     name: "symbols",
     help: "The file of symbols that an import wrote, to find versions within one symbol",
@@ -130,10 +136,10 @@ static TAPE: [Word; 2] = [
     SETUP,
 ];
 
-static AT: [Word; 5] = [
+static AT: [Word; 7] = [
     Word {
         name: "VERSION",
-        help: "The number of the version: how many changes it has",
+        help: "The number of the version: how many changes it has; or @ and a time, with --times",
         form: WordForm::Needed,
     },
     CHANGES,
@@ -142,6 +148,8 @@ static AT: [Word; 5] = [
         help: "The symbol; all of them in a table where it is not given",
         form: WordForm::Optional,
     },
+    TIMES,
+    SYMBOLS,
     SETUP,
     JSON,
 ];
@@ -156,35 +164,38 @@ static OPENING: [Word; 3] = [
     SETUP,
 ];
 
-static STREAM: [Word; 4] = [
+static STREAM: [Word; 5] = [
     CHANGES,
     Word {
         name: "SYM",
         help: "The symbol; all of them where it is not given",
         form: WordForm::Optional,
     },
+    TIMES,
     SETUP,
     JSON,
 ];
 
-static CHECK: [Word; 4] = [
+static CHECK: [Word; 5] = [
     CHANGES,
     Word {
         name: "ANSWERS",
         help: "The file of what a script, a live run or `plan` answered",
         form: WordForm::Needed,
     },
+    TIMES,
     SETUP,
     JSON,
 ];
 
-static WHY: [Word; 4] = [
+static WHY: [Word; 5] = [
     CHANGES,
     Word {
         name: "PLAN",
         help: "The file of the plan and its certificate",
         form: WordForm::Needed,
     },
+    TIMES,
     SETUP,
     JSON,
 ];

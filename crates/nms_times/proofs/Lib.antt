@@ -1,1 +1,3 @@
-mod VersionFacts
+pub mod ClockFacts
+pub mod TextFacts
+pub mod VersionFacts

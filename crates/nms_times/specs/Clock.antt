@@ -1,5 +1,5 @@
 -- A time of day as 15 digits, HHMMSSnnnnnnnnn: hours, minutes, seconds, nanoseconds. This product's own rule.
-use Rattle.std.specs.Prelude.{ℕ, ◌*◌, ◌-◌, ◌/◌, ◌%◌, ◌^◌, ◌&&◌, Bool, List, ◌++◌, length, take, drop, nat_lt, Option, Some, None}
+use Rattle.std.specs.Prelude.{ℕ, ◌*◌, ◌-◌, ◌/◌, ◌%◌, ◌^◌, ◌==◌, ◌&&◌, Bool, List, ◌++◌, length, take, drop, nat_lt, Option, Some, None}
 use Rattle.std.specs.Prelude.{option_map, if◌then◌else◌}
 use Rattle.nms_units.specs.Digits.{number_in}
 use Rattle.nms_units.specs.Money.{three_digits}
@@ -15,7 +15,7 @@ seconds text = option_map (λ n. n * 1000000000) (number_in 6 text)
 
 -- digits after the second, up to nine, as nanoseconds
 abbrev pub nanoseconds : List ℕ → Option ℕ
-nanoseconds text = if nat_lt 0 (length text) then option_map (λ n. n * 10 ^ (9 - length text)) (number_in 9 text) else Some 0
+nanoseconds text = if length text == 0 then Some 0 else option_map (λ n. n * 10 ^ (9 - length text)) (number_in 9 text)
 
 -- HHMMSS and the digits after it as one number of 15 digits
 abbrev pub clock_number : List ℕ → Option ℕ

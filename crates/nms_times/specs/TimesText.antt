@@ -1,27 +1,24 @@
 -- The text of times: a line for each change, of 16 bytes, or of 32 with the row of the source. This product's own rule.
-use Rattle.std.specs.Prelude.{ℕ, zero, suc, ◌≡◌, ◌-◌, ◌*◌, ◌<◌, ◌==◌, ◌&&◌, ◌||◌, Bool, List, [], ◌∷◌, take, drop, length, slice_index}
+use Rattle.std.specs.Prelude.{ℕ, zero, suc, ◌≡◌, ◌+◌, ◌*◌, ◌<◌, ◌==◌, ◌&&◌, ◌||◌, Bool, List, take, drop, length, slice_index, nat_lt}
 use Rattle.std.specs.Prelude.{Option, Some, None, IsSome, if◌then◌else◌}
 use Rattle.std.specs.Char.{is_ascii_digit}
 use Rattle.std.specs.List.{list_all}
-use Rattle.std.specs.Str.{bytes_eq}
 use Rattle.nms_units.specs.Digits.{number_in}
 use Rattle.nms_times.specs.Clock.{time_reading}
 
 -- the bytes of a line: 32 if a comma follows the first time, else 16
 abbrev pub width_of : List ℕ → ℕ
-width_of text = if slice_index text 15 == 44 then 32 else 16
+width_of text = if nat_lt 15 (length text) && slice_index text 15 == 44 then 32 else 16
 
 -- the line at a place, from 0; the last may be cut off
 abbrev pub line_at : (width : ℕ) → List ℕ → (place : ℕ) → List ℕ
 line_at width text place = take width (drop (place * width) text)
 
--- a comma, and 15 digits of a row
-abbrev pub is_row : List ℕ → Bool
-is_row text = bytes_eq (take 1 text) (44 ∷ []) && list_all is_ascii_digit (drop 1 text)
-
--- what stands after the time: a line feed, or a comma, 15 digits and a line feed
+-- what stands after the time: a line feed; or a comma, 15 digits and a line feed
 abbrev pub is_end : List ℕ → Bool
-is_end rest = bytes_eq rest (10 ∷ []) || (is_row (take 16 rest) && bytes_eq (drop 16 rest) (10 ∷ []))
+is_end rest =
+    (length rest == 1 && slice_index rest 0 == 10)
+    || (length rest == 17 && slice_index rest 0 == 44 && list_all is_ascii_digit (take 15 (drop 1 rest)) && slice_index rest 16 == 10)
 
 -- the time of a line: its first 15 bytes, if the line is whole and ends as a line does
 abbrev pub time_in : (width : ℕ) → List ℕ → Option ℕ
@@ -36,12 +33,13 @@ pub record HasTimes (text times : List ℕ) : Type 0 where
   pub whole : length text ≡ length times * width_of text
   pub each : (place : ℕ) → place < length times → time_at text place ≡ Some (slice_index times place)
 
--- a line, from 1, is the first that has no time
+-- a line, from 1, is the first that has no time; the last may be cut off
 pub record IsFirstWrong (text : List ℕ) (line : ℕ) : Type 0 where
-  pub counted : 0 < line
-  pub there : (line - 1) * width_of text < length text
-  pub wrong : time_at text (line - 1) ≡ None
-  pub first : (place : ℕ) → place < line - 1 → IsSome (time_at text place)
+  pub place : ℕ
+  pub counted : line ≡ place + 1
+  pub there : place * width_of text < length text
+  pub wrong : time_at text place ≡ None
+  pub first : (earlier : ℕ) → earlier < place → IsSome (time_at text earlier)
 
 -- the row that a line has after its time
 abbrev pub row_in : List ℕ → Option ℕ

@@ -1,13 +1,15 @@
 //! A file of times, read: `specs/TimesText`.
-ghost use Rattle.std.specs.Prelude.{◌≡◌, ◌+◌, ◌*◌, ◌<◌, ◌≤◌, ◌×◌, [], length, IfErr, IfOk};
+ghost use Rattle.std.specs.Prelude.{◌≡◌, ◌+◌, ◌*◌, ◌<◌, ◌≤◌, ◌×◌, ◌++◌, ◌∷◌, [], length, IfErr, IfOk, OnOk};
+ghost use Rattle.std.specs.Char.{is_ascii_digit};
+ghost use Rattle.std.specs.List.{list_all};
 ghost use Rattle.nms_times.specs.Faults.{IsReadFault};
-ghost use Rattle.nms_times.specs.TimesText.{HasTimes, is_end, is_row, line_at, row_of, time_in, width_of};
+ghost use Rattle.nms_times.specs.TimesText.{HasTimes, is_end, line_at, row_of, time_in, width_of};
 
 use crate::time_of_day::TimeOfDay;
 use crate::times::Times;
 use crate::times_fault::TimesFault;
 use nms_units::parse_digits;
-use std::alloc::Global;
+use std::alloc::{AllocError, Global};
 
 /// The bytes of a line: a time and a line feed.
 const SHORT: usize = 16;
@@ -51,19 +53,34 @@ fn fill(text: &[u8], all: &mut Vec<TimeOfDay>) -> Result<(), TimesFault>
     all.reserve_exact(lines)?;
     for place in 0..lines {
         match time_in(width, line_at(text, width, place)) {
-            Some(time) => all.push(time)?,
-            None => return Err(TimesFault::NotTime { line: place as u64 + 1 }),
+            Some(time) => keep(all, time)?,
+            None => {
+                return Err(TimesFault::NotTime {
+                    line: place as u64 + 1,
+                });
+            }
         }
     }
     if lines * width < text.len() {
-        return Err(TimesFault::NotTime { line: lines as u64 + 1 });
+        return Err(TimesFault::NotTime {
+            line: lines as u64 + 1,
+        });
     }
+    Ok(())
+}
+
+/// Puts a time at the end of a list.
+fn keep(all: &mut Vec<TimeOfDay>, time: TimeOfDay) -> Result<(), AllocError>
+    ensures { OnOk result (all.new.items ≡ all.old.items ++ time ∷ []) }
+{
+    all.push(time)?;
     Ok(())
 }
 
 /// The bytes of a line of a text.
 fn width_of(text: &[u8]) -> usize
-    ensures { result ≡ width_of text.now }
+    ensures width { result ≡ width_of text.now }
+    ensures low { 16 ≤ result }
 {
     if text.len() > TIME && text[TIME] == b',' {
         LONG
@@ -84,9 +101,10 @@ fn line_at(text: &[u8], width: usize, place: usize) -> &[u8]
 
 /// The time of a line.
 fn time_in(width: usize, line: &[u8]) -> Option<TimeOfDay>
+    requires { 16 ≤ width }
     ensures { result ≡ time_in width line.now }
 {
-    if line.len() == width && line.len() > TIME && is_end(&line[TIME..]) {
+    if line.len() == width && is_end(&line[TIME..]) {
         TimeOfDay::parse(&line[..TIME])
     } else {
         None
@@ -97,18 +115,13 @@ fn time_in(width: usize, line: &[u8]) -> Option<TimeOfDay>
 fn is_end(rest: &[u8]) -> bool
     ensures { result ≡ is_end rest.now }
 {
-    match rest {
-        b"\n" => true,
-        _ => rest.len() > 16 && is_row(&rest[..16]) && &rest[16..] == b"\n",
-    }
+    (rest.len() == 1 && rest[0] == b'\n')
+        || (rest.len() == 17 && rest[0] == b',' && are_digits(&rest[1..16]) && rest[16] == b'\n')
 }
 
-/// Whether a text is a comma and digits.
-fn is_row(text: &[u8]) -> bool
-    ensures { result ≡ is_row text.now }
+/// Whether all bytes are digits.
+fn are_digits(text: &[u8]) -> bool
+    ensures { result ≡ list_all is_ascii_digit text.now }
 {
-    match text {
-        [b',', digits @ ..] => digits.iter().all(u8::is_ascii_digit),
-        _ => false,
-    }
+    text.iter().all(|byte| byte.is_ascii_digit())
 }

@@ -53,8 +53,8 @@ impl TimeOfDay {
         ensures { result ≡ time_reading text.now }
     {
         match clock_in(text) {
-            Some(number) => TimeOfDay::new(number),
-            None => None,
+            Some(digits) if is_clock(digits) => Some(TimeOfDay { digits }),
+            Some(_) | None => None,
         }
     }
 

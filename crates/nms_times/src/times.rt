@@ -1,7 +1,8 @@
 //! The times of the changes of a tape: `specs/Times`.
-ghost use Rattle.std.specs.Prelude.{◌≡◌, ◌+◌, ◌-◌, ◌<◌, ◌≤◌, ◌×◌, length, IfErr, IfOk, MatchOption};
+ghost use Rattle.std.specs.Prelude.{◌≡◌, ◌≢◌, ◌+◌, ◌-◌, ◌<◌, ◌≤◌, ◌×◌, length, IfErr, IfOk, MatchOption};
 ghost use Rattle.std.specs.List.Sorted.{IsNonDecreasing};
 ghost use Rattle.nms_times.specs.Faults.{IsFall};
+ghost use Rattle.nms_times.specs.declared.times_fault.TimesFault.TheVariants.{OtherLength};
 ghost use Rattle.nms_times.specs.Times.{FallsAt, between, time_of};
 
 use crate::rising::Rising;
@@ -37,6 +38,18 @@ impl Times {
         ensures { result ≡ length self.now }
     {
         self.all.len()
+    }
+
+    /// Whether there are as many as changes; else `OtherLength`.
+    pub fn check_len(&self, changes: usize) -> Result<(), TimesFault>
+        ensures same { IfOk result (λ _. length self.now ≡ changes) }
+        ensures other { IfErr result (λ fault. (fault ≡ OtherLength) × (length self.now ≢ changes)) }
+    {
+        if self.all.len() == changes {
+            Ok(())
+        } else {
+            Err(TimesFault::OtherLength)
+        }
     }
 
     /// The time of a version, that of its last change. Version 0 has none, nor has one beyond the times.

@@ -59,6 +59,11 @@ impl TimesFault {
 }
 
 impl From<AllocError> for TimesFault {
+    ghost use Rattle.std.specs.Prelude.{◌≡◌};
+    ghost use Rattle.nms_times.specs.declared.times_fault.TimesFault.TheVariants.{NoMemory};
+
+    ghost from_gives = { λ _ fault. fault ≡ NoMemory };
+
     fn from(_error: AllocError) -> TimesFault {
         TimesFault::NoMemory
     }

@@ -1,8 +1,6 @@
-use Rattle.std.proofs.Common.{ℕ, ◌≡◌, ◌<◌, ◌×◌, length, slice_index, Some}
-use Rattle.nms_times.specs.TimesText.{line_at, time_in}
+use Rattle.std.proofs.Common.{◌≡◌, ◌×◌, length}
+use Rattle.nms_times.proofs.TextFacts.{HasFirst}
 use Rattle.nms_times.proofs.reading.fill.Given as goal
 
 abbrev pub invariant-loop-place : goal.invariant-loop-place
-invariant-loop-place l =
-    (length l.all.items ≡ l.place)
-    × ((k : ℕ) → k < l.place → time_in l.width (line_at l.width l.text k) ≡ Some (slice_index l.all.items k))
+invariant-loop-place l = (length l.all.items ≡ l.place) × HasFirst l.width l.text l.all.items l.place
