@@ -10,9 +10,9 @@ page a line of four spaces and `./nms_review WORDS` is a call, or one of `./nms_
 behind it is what it writes, with the words `status N` in the text between them where N is not 0. Beside these the program
 meets a closed output, one whose reader has gone, records of a million bytes, records whose fields and lists are longer than
 any that is right, byte order marks before quotes, each byte of a file once, a setup of many symbols, streams of several
-pieces, a day with more versions than a picture has columns, an import of examples/import/, and one of 100,000 random rows
-that tests/import_judge.py compares with a plain converter. It writes a line for each difference, and last
-`N passed, M failed`; status 1 where one failed.
+pieces, a day with more versions than a picture has columns, an import of examples/import/, one of 100,000 random rows
+that tests/import_judge.py compares with a plain converter, and 4,000 searches by time that tests/times_judge.py compares with a
+plain count. It writes a line for each difference, and last `N passed, M failed`; status 1 where one failed.
 """
 import os
 import re
@@ -343,6 +343,12 @@ def judged(program):
     must(ran.returncode == 0, f"{ran.stdout.decode()}{ran.stderr.decode()}"[-2000:])
 
 
+def searched(program):
+    """4,000 random times and versions, against the plain count of tests/times_judge.py."""
+    ran = called(sys.executable, [os.path.join(TOP, "tests/times_judge.py"), program], capture_output=True)
+    must(ran.returncode == 0, f"{ran.stdout.decode()}{ran.stderr.decode()}"[-2000:])
+
+
 def unnamed():
     """The files of the folder that the page does not name."""
     with open(os.path.join(TOP, "docs/REVIEW.md"), encoding="utf-8") as file:
@@ -351,7 +357,7 @@ def unnamed():
 
 
 def main(program, tool):
-    others = [("trial: imported", imported), ("trial: judged", judged)]
+    others = [("trial: imported", imported), ("trial: judged", judged), ("trial: searched", searched)]
     runs = [*stored(), *page(tool), *(in_room(*it) for it in TRIALS), *others]
 
     def run(named):

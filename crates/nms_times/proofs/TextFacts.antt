@@ -1,6 +1,6 @@
 -- The lines of a text of times, read one after another.
-use Rattle.std.proofs.Common.{ℕ, ◌≡◌, ◌<◌, ◌≤◌, ◌+◌, ◌*◌, ◌-◌, ◌/◌, ◌%◌, ◌==◌, false, List, [], ◌∷◌, ◌++◌, length, take, drop, arith, refl, sym, ap, subst, ◌∙◌}
-use Rattle.std.proofs.Common.{Some, None, IsSome, slice_index, below_more, length-drop}
+use Rattle.std.proofs.Common.{ℕ, ◌≡◌, ◌<◌, ◌≤◌, ◌+◌, ◌*◌, ◌-◌, ◌/◌, ◌%◌, ◌==◌, ◌×◌, false, List, [], ◌∷◌, ◌++◌, length, take, drop}
+use Rattle.std.proofs.Common.{arith, refl, sym, ap, subst, ◌∙◌, Some, None, IsSome, slice_index, below_more, length-drop}
 use Rattle.std.proofs.lemmas.Bool.Decides.{nat_tests}
 use Rattle.std.proofs.lemmas.List.{length-take, get_or_append_left, get_or_push}
 use Rattle.std.proofs.lemmas.Nat.{div-add-mod', mod_below}
@@ -52,5 +52,6 @@ first_wrong text times width lines same there read wrong = record {
   counted = refl;
   there = subst (λ w. lines * w < length text) same there;
   wrong = subst (λ w. time_in w (line_at w text lines) ≡ None) same wrong;
-  first = λ earlier h. subst IsSome (sym (subst (λ w. time_in w (line_at w text earlier) ≡ Some (slice_index times earlier)) same (read earlier h))) tt;
+  first = λ earlier h.
+    subst IsSome (sym (subst (λ w. time_in w (line_at w text earlier) ≡ Some (slice_index times earlier)) same (read earlier h))) tt;
 }

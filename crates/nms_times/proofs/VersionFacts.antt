@@ -1,5 +1,6 @@
 -- How many elements pass a test from the front on, by two tests or over elements that do not fall.
-use Rattle.std.proofs.Common.{ℕ, ◌≡◌, ◌<◌, ◌≤◌, ◌×◌, Bool, true, false, List, [], ◌∷◌, length, get_or, arith, refl, nat_le, nat_lt, slice_index}
+use Rattle.std.proofs.Common.{ℕ, ◌≡◌, ◌<◌, ◌≤◌, ◌×◌, Bool, true, false, List, [], ◌∷◌, length}
+use Rattle.std.proofs.Common.{get_or, arith, refl, nat_le, nat_lt, slice_index}
 use Rattle.std.specs.List.{prefix_len}
 use Rattle.std.specs.List.Sorted.{IsNonDecreasing, IsPartitionPoint}
 use Rattle.std.proofs.lemmas.Bool.Decides.{nat_tests}

@@ -18,7 +18,7 @@ const LONG: usize = 32;
 /// The bytes of a time.
 const TIME: usize = 15;
 
-/// Reads the text of times, a line for each change: 15 digits `HHMMSSnnnnnnnnn` and a line feed; or, in every line, a comma
+/// Reads the text of times, a line for each change: 15 digits HHMMSSnnnnnnnnn and a line feed; or, in every line, a comma
 /// and the 15 digits of a row between. Takes 8 bytes of memory a line.
 ///
 /// `NotTime` has the first line that is none, `NoMemory` comes in place of any answer.

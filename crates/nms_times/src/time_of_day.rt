@@ -7,7 +7,7 @@ ghost use Rattle.nms_times.specs.Clock.{clock_number, is_clock, nanoseconds, sec
 use nms_units::parse_digits;
 use std::marker::Model;
 
-/// A time of day, 00:00:00 to 23:59:59.999999999, as the number whose 15 digits are `HHMMSSnnnnnnnnn`: 93000000000001 is a
+/// A time of day, 00:00:00 to 23:59:59.999999999, as the number whose 15 digits are HHMMSSnnnnnnnnn: 93000000000001 is a
 /// nanosecond after 09:30:00. A later time has a greater number. There is no leap second and no zone.
 #[derive(Clone, Copy, Debug, PartialEq, Eq, PartialOrd, Ord)]
 pub struct TimeOfDay {
@@ -40,7 +40,7 @@ impl TimeOfDay {
         }
     }
 
-    /// The number whose 15 digits are `HHMMSSnnnnnnnnn`.
+    /// The number whose 15 digits are HHMMSSnnnnnnnnn.
     pub fn get(self) -> u64
         ensures number { result ≡ self }
         ensures clock { is_clock result ≡ true }
@@ -48,7 +48,7 @@ impl TimeOfDay {
         self.digits
     }
 
-    /// Reads six digits `HHMMSS`, and up to nine after them. Any other text is `None`.
+    /// Reads six digits HHMMSS, and up to nine after them. Any other text is `None`.
     pub fn parse(text: &[u8]) -> Option<Self>
         ensures { result ≡ time_reading text.now }
     {
@@ -58,7 +58,7 @@ impl TimeOfDay {
         }
     }
 
-    /// Its 15 digits, `HHMMSSnnnnnnnnn`.
+    /// Its 15 digits, HHMMSSnnnnnnnnn.
     pub fn text(self) -> [u8; 15]
         ensures { result ≡ time_text self }
     {

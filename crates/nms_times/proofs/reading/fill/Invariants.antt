@@ -1,3 +1,4 @@
+-- `fill`: the lines so far have the times that are in the list.
 use Rattle.std.proofs.Common.{◌≡◌, ◌×◌, length}
 use Rattle.nms_times.proofs.TextFacts.{HasFirst}
 use Rattle.nms_times.proofs.reading.fill.Given as goal

@@ -1,3 +1,4 @@
+-- `first_fall`: no time so far is before the one at its left.
 use Rattle.std.proofs.Common.{◌≤◌}
 use Rattle.std.specs.List.{AllAdjacentBelow}
 use Rattle.nms_times.proofs.times.first_fall.Given as goal

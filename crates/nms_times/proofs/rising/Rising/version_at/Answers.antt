@@ -8,5 +8,7 @@ pub returns-clause-version : goal.returns-clause-version
 returns-clause-version c =
     let times = c.args.self.times.now in
     let parted = IsPartitionedBy-leb (λ x. x) times c.args.time c.args.self.rise in
-    let point = IsPartitionPoint-from_clause (λ x. leb x c.args.time) _ _ c.partition_point.ensures.partitioned parted (λ a r q k. search rules) in
+    let point =
+        IsPartitionPoint-from_clause (λ x. leb x c.args.time) _ _ c.partition_point.ensures.partitioned parted
+        (λ a r q k. search rules) in
     rw at_point (λ x. leb x c.args.time) times c.partition_point.result c.partition_point.ensures.bound point 0 refl
