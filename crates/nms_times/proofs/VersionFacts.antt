@@ -8,7 +8,8 @@ use Rattle.std.proofs.lemmas.List.Sums.{prefix_len_is, prefix_len_passes, prefix
 use Rattle.nms_times.specs.Times.{version_at, version_before}
 
 -- a test that passes more passes no fewer from the front on
-pub prefix_len-mono : {X : Type 0} (p q : X → Bool) → ((x : X) → p x ≡ true → q x ≡ true) → (xs : List X) → prefix_len p xs ≤ prefix_len q xs
+pub prefix_len-mono : {X : Type 0} (p q : X → Bool) → ((x : X) → p x ≡ true → q x ≡ true) → (xs : List X)
+    → prefix_len p xs ≤ prefix_len q xs
 prefix_len-mono p q weaker [] = omega arith
 prefix_len-mono p q weaker (x ∷ xs) = by_test (p x) refl
   where

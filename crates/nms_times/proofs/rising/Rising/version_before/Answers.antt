@@ -1,4 +1,5 @@
--- `version_before`: all that it promises. Times that do not fall are parted by the test of what is earlier, so the bisection finds the prefix.
+-- `version_before`: all that it promises. Times that do not fall are parted by the test of what is
+-- earlier, so the bisection finds the prefix.
 use Rattle.std.proofs.Common.{ltb, arith, rules, sym}
 use Rattle.std.proofs.lemmas.List.Sorted.{IsPartitionPoint-from_clause, IsPartitionedBy-ltb}
 use Rattle.nms_times.proofs.VersionFacts.{at_point}
