@@ -28,7 +28,7 @@ ROOM = os.path.join(EXAMPLES, "review")
 # The pages whose calls run, the mappings of examples/import/, and the programs that judge random files.
 PAGES = ("docs/REVIEW.md",)
 IMPORTS = ("taq",)
-JUDGES = ("import_judge.py",)
+JUDGES = ("import_judge.py", "times_judge.py")
 # Memory within which a file of two hundred million bytes is explained: it must not grow with the file, but with the longest
 # record alone.
 LITTLE = 256 << 20

@@ -4,6 +4,7 @@ use nms_files::ChangesFault;
 use nms_lines::PlanTextFault;
 use nms_show::ShowFault;
 use nms_stream::StreamFault;
+use nms_times::TimesFault;
 use thiserror::Error;
 
 /// Why an answer was not written whole.
@@ -21,6 +22,9 @@ pub enum DrawingFault {
     /// L11 or L12: the text of the plan is none, or memory ran out. Nothing was written.
     #[error("{0}")]
     Plan(PlanTextFault),
+    /// T3: there are not as many times as changes. Nothing was written.
+    #[error("{0}")]
+    Times(TimesFault),
     /// E2: the writer failed. A first part of the answer was written.
     #[error("E2: the output could not be written")]
     WriteFault,
@@ -39,6 +43,7 @@ impl DrawingFault {
             DrawingFault::Plan(PlanTextFault::BadPlanText) => "L11",
             DrawingFault::Plan(PlanTextFault::NoMemory) => "L12",
             DrawingFault::Plan(PlanTextFault::WriteFault) => "L13",
+            DrawingFault::Times(fault) => fault.code(),
             DrawingFault::WriteFault => "E2",
             DrawingFault::NoMemory => "E4",
         }
@@ -53,6 +58,7 @@ impl DrawingFault {
     pub fn status(self) -> u8 {
         match self {
             DrawingFault::Changes(fault) => fault.status(),
+            DrawingFault::Times(fault) => fault.status(),
             DrawingFault::VersionBeyondTape | DrawingFault::Plan(PlanTextFault::BadPlanText) => 6,
             DrawingFault::Board(_)
             | DrawingFault::NoMemory
@@ -79,5 +85,11 @@ impl From<StreamFault> for DrawingFault {
             StreamFault::WriteFault => DrawingFault::WriteFault,
             StreamFault::NoMemory => DrawingFault::NoMemory,
         }
+    }
+}
+
+impl From<TimesFault> for DrawingFault {
+    fn from(fault: TimesFault) -> Self {
+        DrawingFault::Times(fault)
     }
 }

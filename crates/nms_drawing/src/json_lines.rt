@@ -96,6 +96,18 @@ const COLUMNS: [(&str, bool); 9] = [
     ("offer_shares", true),
 ];
 
+/// Writes the object of a line with a time.
+pub(crate) fn write_timed<W: Write>(
+    alloc: Global,
+    answers: &mut W,
+    line: &[u8],
+    time: &[u8],
+) -> std::result::Result<(), ShowFault> {
+    let [a, b, c, d, e, f, g, h, i, j] = members_of(line);
+    let time = ("time", text_in(time));
+    write_object(alloc, answers, &[a, b, c, d, e, f, g, h, i, j, time])
+}
+
 /// Writes the object of a line.
 fn write_fields<W: Write>(
     alloc: Global,
@@ -128,7 +140,7 @@ fn members_of<'a>(line: &'a [u8]) -> [(&'static str, Item<'a>); 10] {
 }
 
 /// The first field of a line, and what stands behind its comma.
-fn field_of(line: &[u8]) -> (&[u8], &[u8]) {
+pub(crate) fn field_of(line: &[u8]) -> (&[u8], &[u8]) {
     match line.iter().position(|byte| *byte == b',') {
         Some(end) => (
             line.get(..end).unwrap_or(line),

@@ -11,6 +11,7 @@ mod opened;
 mod picture;
 mod scale;
 mod streamed;
+mod timed_lines;
 mod version;
 mod words;
 

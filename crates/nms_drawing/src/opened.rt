@@ -26,7 +26,7 @@ pub fn write_opening<R: Read + Drop, W: Write>(
     version: u64,
     answers: &mut W,
 ) -> Result<Ending, DrawingFault> {
-    let board = board_at(alloc, setup, source, version)?;
+    let board = board_at(alloc, setup, source, None, version)?;
     let Ok(text) = opening_text(alloc, setup.roster(), &board) else {
         return Err(DrawingFault::NoMemory);
     };

@@ -13,17 +13,20 @@ use nms_quote::{Change, Roster, Side, Sym};
 use nms_show::{Column, Ending, Form, Item, ShowFault, write_object, write_row};
 use nms_stream::{Quoted, quoted_on, word_of_market};
 use nms_text::report;
+use nms_times::Times;
 use std::alloc::Global;
 use std::io::{Read, Write};
 
 /// Writes what is known at a version, the first so many changes of a file: of one symbol the report, or of all symbols
 /// a table of their best bids and offers. As JSON, an object for each row and pair, or for each symbol.
 ///
-/// Where the file has fewer changes it is `VersionBeyondTape`, and nothing is written. It is not flushed.
+/// Where the file has fewer changes it is `VersionBeyondTape`; where times are given, and not as many, `Times`. Then nothing is
+/// written. It is not flushed.
 pub fn show_version<R: Read + Drop, W: Write>(
     alloc: Global,
     setup: &Setup,
     source: R,
+    times: Option<&Times>,
     version: u64,
     sym: Option<Sym>,
     form: Form,
@@ -31,7 +34,7 @@ pub fn show_version<R: Read + Drop, W: Write>(
 ) -> Result<Ending, DrawingFault>
     requires { IfSome sym (λ sym. sym < length setup.now.roster.syms) }
 {
-    let board = board_at(alloc, setup, source, version)?;
+    let board = board_at(alloc, setup, source, times, version)?;
     match sym {
         Some(sym) => show_symbol(alloc, setup.roster(), &board, sym, form, answers)?,
         None => show_all(alloc, setup.roster(), &board, form, answers)?,
@@ -41,11 +44,12 @@ pub fn show_version<R: Read + Drop, W: Write>(
 
 /// The board of a version, the first so many changes of a file.
 ///
-/// If the file has fewer changes it is `VersionBeyondTape`.
+/// If the file has fewer changes it is `VersionBeyondTape`; if times are given, and not as many, `Times`.
 pub(crate) fn board_at<R: Read + Drop>(
     alloc: Global,
     setup: &Setup,
     source: R,
+    times: Option<&Times>,
     version: u64,
 ) -> Result<Boards, DrawingFault>
     ensures { IfOk result (λ board. board.sizes ≡ sizes_of setup.now.roster) }
@@ -54,6 +58,9 @@ pub(crate) fn board_at<R: Read + Drop>(
         Ok(changes) => changes,
         Err(fault) => return Err(DrawingFault::Changes(fault)),
     };
+    if let Some(times) = times {
+        times.check_len(changes.len())?;
+    }
     if version > changes.len() as u64 {
         return Err(DrawingFault::VersionBeyondTape);
     }

@@ -42,15 +42,19 @@ pub(crate) fn no_sym(place: usize) -> Fault {
     )
 }
 
-/// The version that the first word names, in digits alone: `parse` would take a plus before them too.
+/// The version that the first word names.
 pub(crate) fn version_of(request: &Request) -> Result<u64, Fault> {
-    let word = word_at(request, 0);
+    version_in(word_at(request, 0), About::Word(0))
+}
+
+/// The version that a word names, in digits alone: `parse` would take a plus before them too.
+pub(crate) fn version_in(word: &str, about: About) -> Result<u64, Fault> {
     let version = if word.bytes().all(|byte| byte.is_ascii_digit()) {
         word.parse::<u64>().ok()
     } else {
         None
     };
-    version.ok_or(Fault::usage(About::Word(0), "a version is a number, 0 or more"))
+    version.ok_or(Fault::usage(about, "a version is a number, 0 or more"))
 }
 
 /// The feed that `--feed` names, A if it is not given.

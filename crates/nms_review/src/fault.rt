@@ -1,5 +1,6 @@
 //! Why a request was not served.
 use nms_show::ShowFault;
+use nms_times::TimesFault;
 use std::io;
 
 /// Why a request was not served.
@@ -15,6 +16,8 @@ pub(crate) struct Fault {
     pub(crate) cause: Option<io::Error>,
     /// What was expected in place of a word.
     pub(crate) expected: &'static str,
+    /// The line of a file that it is about, from 1.
+    pub(crate) line: Option<u64>,
 }
 
 /// What a fault is about.
@@ -30,6 +33,14 @@ pub(crate) enum About {
     Feed,
     /// The value of `--plan`.
     Plan,
+    /// The value of `--times`.
+    Times,
+    /// The value of `--symbols`.
+    Symbols,
+    /// The value of `--symbol`.
+    Symbol,
+    /// The value of `--version`.
+    Version,
 }
 
 impl Fault {
@@ -44,6 +55,15 @@ impl Fault {
             about: if is_own { About::Nothing } else { about },
             cause: None,
             expected: "",
+            line: None,
+        }
+    }
+
+    /// A fault of times, in the file that a word names.
+    pub(crate) fn of_times(fault: TimesFault, about: About) -> Self {
+        Fault {
+            line: fault.line(),
+            ..Fault::of(fault.code(), fault.status(), about)
         }
     }
 

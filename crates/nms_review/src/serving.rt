@@ -6,6 +6,7 @@ use crate::files::{open_word, read_file, setup_of, word_at};
 use crate::importing::serve_import;
 use crate::screen::Screen;
 use crate::source::Source;
+use crate::timing::{given_times, serve_when, version_among};
 use nms_drawing::{draw_changes, show_version, stream_changes, write_opening};
 use nms_fees::Setup;
 use nms_review_words::{Request, Sub};
@@ -26,9 +27,12 @@ pub(crate) fn serve<T, W: Write>(
 where
     T: AllocGlobal + Clock + Eprint + Files,
 {
-    // What explains a setup needs none.
+    // What explains a setup needs none, nor do times.
     if request.command == Sub::Explain {
         return serve_explain(rt, screen, request, answers);
+    }
+    if request.command == Sub::When {
+        return serve_when(rt, screen, request, answers);
     }
     let setup = setup_of(rt, request)?;
     serve_under(rt, screen, &setup, request, answers)
@@ -55,6 +59,7 @@ where
         Sub::Why => serve_why(rt, screen, setup, request, answers),
         Sub::Draw => serve_draw(rt, screen, setup, request, answers),
         Sub::Import => serve_import(rt, screen, setup, request, answers),
+        Sub::When => serve_when(rt, screen, request, answers),
     }
 }
 
@@ -89,17 +94,29 @@ fn serve_at<T, W: Write>(
 where
     T: AllocGlobal + Clock + Eprint + Files,
 {
-    let version = version_of(request)?;
     let sym = sym_at(setup, request, 2);
     if sym.is_none() && has_word(request, 2) {
         return Err(no_sym(2));
     }
+    let times = given_times(rt, request)?;
+    let version = version_among(rt, request, times.as_ref(), 2)?;
     let file = open_word(rt, request, 1)?;
     let mut source = Source::new(rt, screen, file);
     let form = form_of(screen, request);
-    let served = show_version(rt.alloc(), setup, &mut source, version, sym, form, answers).map_err(
-        |fault| fault_of(fault.code(), fault.status(), ("A1", About::Word(0)), 1),
-    );
+    let served = show_version(
+        rt.alloc(),
+        setup,
+        &mut source,
+        times.as_ref(),
+        version,
+        sym,
+        form,
+        answers,
+    )
+    .map_err(|fault| match fault.code() {
+        "T3" => Fault::of("T3", 6, About::Times),
+        code => fault_of(code, fault.status(), ("A1", About::Word(0)), 1),
+    });
     ended(&mut source, served)
 }
 
@@ -138,12 +155,20 @@ where
     if sym.is_none() && has_word(request, 1) {
         return Err(no_sym(1));
     }
+    let times = given_times(rt, request)?;
     let file = open_word(rt, request, 0)?;
     let mut source = Source::new(rt, screen, file);
     let form = form_of(screen, request);
-    let served = stream_changes(rt.alloc(), setup, &mut source, sym, form, answers).map_err(
-        |fault| Fault::of(fault.code(), fault.status(), About::Word(0)),
-    );
+    let served = stream_changes(
+        rt.alloc(),
+        setup,
+        &mut source,
+        times.as_ref(),
+        sym,
+        form,
+        answers,
+    )
+    .map_err(|fault| { fault_of(fault.code(), fault.status(), ("T3", About::Times), 0) });
     ended(&mut source, served)
 }
 
@@ -160,12 +185,21 @@ where
 {
     let name = word_at(request, 1);
     let text = read_file(rt, name, About::Word(1))?;
+    let times = given_times(rt, request)?;
     let file = open_word(rt, request, 0)?;
     let mut source = Source::new(rt, screen, file);
     let form = form_of(screen, request);
-    let served = check_answers(rt.alloc(), setup, &mut source, name, &text, form, answers).map_err(
-        |fault| Fault::of(fault.code(), fault.status(), About::Word(0)),
-    );
+    let served = check_answers(
+        rt.alloc(),
+        setup,
+        &mut source,
+        times.as_ref(),
+        name,
+        &text,
+        form,
+        answers,
+    )
+    .map_err(|fault| { fault_of(fault.code(), fault.status(), ("T3", About::Times), 0) });
     ended(&mut source, served)
 }
 
@@ -182,12 +216,24 @@ where
 {
     let name = word_at(request, 1);
     let text = read_file(rt, name, About::Word(1))?;
+    let times = given_times(rt, request)?;
     let file = open_word(rt, request, 0)?;
     let mut source = Source::new(rt, screen, file);
     let form = form_of(screen, request);
-    let served = explain_why(rt.alloc(), setup, &mut source, name, &text, form, answers).map_err(
-        |fault| fault_of(fault.code(), fault.status(), ("L11", About::Word(1)), 0),
-    );
+    let served = explain_why(
+        rt.alloc(),
+        setup,
+        &mut source,
+        times.as_ref(),
+        name,
+        &text,
+        form,
+        answers,
+    )
+    .map_err(|fault| match fault.code() {
+        "T3" => Fault::of("T3", 6, About::Times),
+        code => fault_of(code, fault.status(), ("L11", About::Word(1)), 0),
+    });
     ended(&mut source, served)
 }
 

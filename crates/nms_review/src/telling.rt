@@ -5,7 +5,7 @@ use nms_show::{Form, Item, ShowFault, write_line};
 use std::io::{ErrorKind, Write};
 
 /// What each code says, of those that end a request. Where a record stands, `explain` tells.
-static SENTENCES: [(&'static str, &'static str); 30] = [
+static SENTENCES: [(&'static str, &'static str); 34] = [
     ("E1", "it could not be read"),
     ("E2", "the output could not be written"),
     ("E3", "it has more than 10,000,000 records"),
@@ -57,6 +57,16 @@ static SENTENCES: [(&'static str, &'static str); 30] = [
     ("L7", "the first refused record has shares that are none"),
     ("L8", "the first refused record has half a side"),
     ("L11", "it is not the text of one plan"),
+    ("T1", "a line is not the time of a change"),
+    (
+        "T2",
+        "a time is before the one above it; if the file is sorted by symbol, give --symbols",
+    ),
+    ("T3", "it has not as many lines as there are changes"),
+    (
+        "T4",
+        "a line is not a symbol with its first and its last version",
+    ),
 ];
 
 /// What of the records and of memory is told in other words.
@@ -78,6 +88,10 @@ fn write_fault<E: Write>(
 ) -> Result<(), ShowFault> {
     let name = word_of(fault.about, request);
     let colon = if name.is_empty() { "" } else { ": " };
+    let (line, number) = match fault.line {
+        Some(line) => (": line ", Item::Number(line)),
+        None => ("", Item::Absent),
+    };
     let items = [
         Item::Text("nms_review: "),
         Item::Bytes(name.as_bytes()),
@@ -85,6 +99,8 @@ fn write_fault<E: Write>(
         Item::Text(fault.code),
         Item::Text(": "),
         Item::Text(sentence_of(fault)),
+        Item::Text(line),
+        number,
     ];
     write_line(errors, Form::Text { colours: false }, &items)
 }
@@ -115,7 +131,7 @@ fn write_tip<E: Write>(fault: &Fault, request: &Request, errors: &mut E) -> Resu
 
 /// The kind of the file that was refused, as `explain` names it.
 fn kind_of(fault: &Fault, request: &Request) -> Option<&'static str> {
-    // Only records and setups have places; a version or a length has none.
+    // Only records and setups have places that `explain` shows.
     if fault.status == 6 && !fault.code.starts_with('L') {
         return None;
     }
@@ -137,6 +153,10 @@ fn word_of(about: About, request: &Request) -> &str {
         About::Setup => request.setup.as_ref(),
         About::Feed => request.feed.as_ref(),
         About::Plan => request.plan.as_ref(),
+        About::Times => request.times.as_ref(),
+        About::Symbols => request.symbols.as_ref(),
+        About::Symbol => request.symbol.as_ref(),
+        About::Version => request.version.as_ref(),
     };
     match word {
         Some(word) => word.as_str(),

@@ -45,6 +45,7 @@ fn arg_of<'a>(alloc: Global, word: Word) -> Arg<'a> {
         WordForm::OfKinds => arg.required(true).value_parser(KINDS.as_slice()),
         WordForm::Several => arg.required(true).num_args(1..),
         WordForm::Optional => arg,
+        WordForm::AnyNumber => arg.num_args(1..),
         WordForm::Valued(value) => arg.long(word.name).value_name(value),
         WordForm::NeededValue(value) => arg.long(word.name).value_name(value).required(true),
         WordForm::Flag => arg.long(word.name).action(ArgAction::SetTrue),

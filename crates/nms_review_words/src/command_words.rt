@@ -66,6 +66,11 @@ fn request_in(alloc: Global, matches: &ArgMatches<'_>) -> Result<Request, AllocE
         feed: value_text(alloc, inner, "feed")?,
         plan: value_text(alloc, inner, "plan")?,
         out: value_text(alloc, inner, "out")?,
+        times: value_text(alloc, inner, "times")?,
+        symbols: value_text(alloc, inner, "symbols")?,
+        symbol: value_text(alloc, inner, "symbol")?,
+        version: value_text(alloc, inner, "version")?,
+        before: inner.get_str("before") == Some("true"),
         json: inner.get_str("json") == Some("true"),
     })
 }
@@ -94,7 +99,11 @@ fn own_words(
 /// Whether what has this form is an option, and no word of the subcommand's own.
 fn is_option_form(form: WordForm) -> bool {
     match form {
-        WordForm::Needed | WordForm::OfKinds | WordForm::Several | WordForm::Optional => false,
+        WordForm::Needed
+        | WordForm::OfKinds
+        | WordForm::Several
+        | WordForm::Optional
+        | WordForm::AnyNumber => false,
         WordForm::Valued(_) | WordForm::NeededValue(_) | WordForm::Flag => true,
     }
 }

@@ -16,6 +16,16 @@ pub struct Request {
     pub plan: Option<String>,
     /// The name that `--out` gives to the files that are written.
     pub out: Option<String>,
+    /// The file that `--times` names.
+    pub times: Option<String>,
+    /// The file that `--symbols` names.
+    pub symbols: Option<String>,
+    /// The symbol that `--symbol` names.
+    pub symbol: Option<String>,
+    /// The version that `--version` gives, as it was written.
+    pub version: Option<String>,
+    /// Whether `--before` was given.
+    pub before: bool,
     /// Whether `--json` was given.
     pub json: bool,
 }

@@ -22,6 +22,8 @@ pub enum Sub {
     Draw,
     /// Makes changes of a vendor's files. Its own words are `MAP` and one or more of `FILE`.
     Import,
+    /// Finds versions by their times, or the time of a version. Its own words are `TIMES` and any number of `TIME`.
+    When,
 }
 
 /// What kind of file is explained.
@@ -60,6 +62,8 @@ pub(crate) enum WordForm {
     Several,
     /// A word that may stand behind those.
     Optional,
+    /// The last of its own words, which may be repeated, or left out.
+    AnyNumber,
     /// An option with a value, and what help calls the value.
     Valued(&'static str),
     /// The same, which it needs.
@@ -91,6 +95,18 @@ const JSON: Word = Word {
     form: WordForm::Flag,
 };
 
+const TIMES: Word = Word {
+    name: "times",
+    help: "The file of times that an import wrote, a line for each change",
+    form: WordForm::Valued("FILE"),
+};
+
+const SYMBOLS: Word = Word {
+    name: "symbols",
+    help: "The file of symbols that an import wrote, to find versions within one symbol",
+    form: WordForm::Valued("FILE"),
+};
+
 static EXPLAIN: [Word; 5] = [
     Word {
         name: "KIND",
@@ -120,10 +136,10 @@ static TAPE: [Word; 2] = [
     SETUP,
 ];
 
-static AT: [Word; 5] = [
+static AT: [Word; 7] = [
     Word {
         name: "VERSION",
-        help: "The number of the version: how many changes it has",
+        help: "The number of the version: how many changes it has; or @ and a time, with --times",
         form: WordForm::Needed,
     },
     CHANGES,
@@ -132,6 +148,8 @@ static AT: [Word; 5] = [
         help: "The symbol; all of them in a table where it is not given",
         form: WordForm::Optional,
     },
+    TIMES,
+    SYMBOLS,
     SETUP,
     JSON,
 ];
@@ -146,35 +164,38 @@ static OPENING: [Word; 3] = [
     SETUP,
 ];
 
-static STREAM: [Word; 4] = [
+static STREAM: [Word; 5] = [
     CHANGES,
     Word {
         name: "SYM",
         help: "The symbol; all of them where it is not given",
         form: WordForm::Optional,
     },
+    TIMES,
     SETUP,
     JSON,
 ];
 
-static CHECK: [Word; 4] = [
+static CHECK: [Word; 5] = [
     CHANGES,
     Word {
         name: "ANSWERS",
         help: "The file of what a script, a live run or `plan` answered",
         form: WordForm::Needed,
     },
+    TIMES,
     SETUP,
     JSON,
 ];
 
-static WHY: [Word; 4] = [
+static WHY: [Word; 5] = [
     CHANGES,
     Word {
         name: "PLAN",
         help: "The file of the plan and its certificate",
         form: WordForm::Needed,
     },
+    TIMES,
     SETUP,
     JSON,
 ];
@@ -213,9 +234,39 @@ static IMPORT: [Word; 4] = [
     SETUP,
 ];
 
+static WHEN: [Word; 7] = [
+    Word {
+        name: "TIMES",
+        help: "The file of times that an import wrote",
+        form: WordForm::Needed,
+    },
+    Word {
+        name: "TIME",
+        help: "The times to find: six digits HHMMSS, and up to nine after them",
+        form: WordForm::AnyNumber,
+    },
+    Word {
+        name: "before",
+        help: "Finds the version before a time, without the changes of that time",
+        form: WordForm::Flag,
+    },
+    Word {
+        name: "version",
+        help: "Prints the time of this version, in place of finding any",
+        form: WordForm::Valued("VERSION"),
+    },
+    SYMBOLS,
+    Word {
+        name: "symbol",
+        help: "The symbol that they are found for",
+        form: WordForm::Valued("SYM"),
+    },
+    JSON,
+];
+
 impl Sub {
     /// Each of them.
-    pub(crate) const ALL: [Sub; 9] = [
+    pub(crate) const ALL: [Sub; 10] = [
         Sub::Explain,
         Sub::Tape,
         Sub::At,
@@ -225,6 +276,7 @@ impl Sub {
         Sub::Why,
         Sub::Draw,
         Sub::Import,
+        Sub::When,
     ];
 
     /// The word that asks for it.
@@ -239,6 +291,7 @@ impl Sub {
             Sub::Why => "why",
             Sub::Draw => "draw",
             Sub::Import => "import",
+            Sub::When => "when",
         }
     }
 
@@ -257,6 +310,7 @@ impl Sub {
                 "Says why a plan is as it is: its rows, what it takes, and what each cut shows",
             Sub::Draw => "Draws a symbol's day as one SVG",
             Sub::Import => "Makes a file of changes of a vendor's files, by a mapping",
+            Sub::When => "Finds versions by time, or the time of a version",
         }
     }
 
@@ -272,6 +326,7 @@ impl Sub {
             Sub::Why => WHY.as_slice(),
             Sub::Draw => DRAW.as_slice(),
             Sub::Import => IMPORT.as_slice(),
+            Sub::When => WHEN.as_slice(),
         }
     }
 

@@ -15,11 +15,12 @@ use nms_files::read_changes;
 use nms_lines::{PlanTextFault, read_plan};
 use nms_quote::{Certificate, Change, Plan};
 use nms_show::{Ending, Form, Item, ShowFault};
+use nms_times::Times;
 use std::alloc::Global;
 use std::io::{Read, Write};
 
 /// The table of verdicts.
-const HEADINGS: [Heading; 14] = [
+static HEADINGS: [Heading; 14] = [
     Heading("plan", "plan", 6, true),
     Heading("line", "line", 8, true),
     Heading("version", "version", 8, true),
@@ -35,6 +36,33 @@ const HEADINGS: [Heading; 14] = [
     Heading("found", "found", 20, true),
     Heading("expected", "expected", 20, true),
 ];
+
+/// The same with the time of each plan's version.
+static TIMED_HEADINGS: [Heading; 15] = [
+    Heading("plan", "plan", 6, true),
+    Heading("line", "line", 8, true),
+    Heading("version", "version", 8, true),
+    Heading("time", "time", 15, true),
+    Heading("side", "side", 4, false),
+    Heading("symbol", "symbol", 8, false),
+    Heading("shares", "shares", 9, true),
+    Heading("limit", "limit", 12, true),
+    Heading("verdict", "verdict", 9, false),
+    Heading("code", "code", 4, false),
+    Heading("", "breach", 3, false),
+    Heading("leg", "leg", 3, true),
+    Heading("cut", "cut", 3, true),
+    Heading("found", "found", 20, true),
+    Heading("expected", "expected", 20, true),
+];
+
+/// The table of verdicts, with times if they are given.
+fn headings_of(times: Option<&Times>) -> &'static [Heading] {
+    match times {
+        Some(_) => TIMED_HEADINGS.as_slice(),
+        None => HEADINGS.as_slice(),
+    }
+}
 
 /// What came of a plan.
 #[derive(Clone, Copy)]
@@ -56,6 +84,8 @@ struct Counts {
 /// of verdicts and a line of totals, or an object a plan as JSON: by version, those of one version as they stand, and last
 /// those that can't be read.
 ///
+/// With times, which must be as many as the changes, each plan has that of its version.
+///
 /// The changes are read whole, and go over the board once; the answers are searched for records `PLAN` to `END`, and all else
 /// there is passed over. What stands where a plan should and is none is told as L11. `Doubted` where a plan is doubted, else
 /// `Refused` where one can't be read, else `Done`. Nothing is flushed.
@@ -63,13 +93,19 @@ pub fn check_answers<R: Read + Drop, W: Write>(
     alloc: Global,
     setup: &Setup,
     changes: R,
+    times: Option<&Times>,
     file: &str,
     text: &[u8],
     form: Form,
     answers: &mut W,
 ) -> Result<Ending, VerdictFault> {
     match read_changes(alloc, setup, changes) {
-        Ok(changes) => check_text(alloc, setup, &changes, file, text, form, answers),
+        Ok(changes) => {
+            if let Some(times) = times {
+                times.check_len(changes.len())?;
+            }
+            check_text(alloc, setup, &changes, times, file, text, form, answers)
+        }
         Err(fault) => Err(VerdictFault::Changes(fault)),
     }
 }
@@ -79,6 +115,7 @@ fn check_text<W: Write>(
     alloc: Global,
     setup: &Setup,
     changes: &[Change],
+    times: Option<&Times>,
     file: &str,
     text: &[u8],
     form: Form,
@@ -88,7 +125,7 @@ fn check_text<W: Write>(
     requires few { length changes.now ≤ MOST_CHANGES }
 {
     match pieces_of(alloc, setup.roster(), text) {
-        Ok(pieces) => check_pieces(alloc, setup, changes, file, &pieces, form, answers),
+        Ok(pieces) => check_pieces(alloc, setup, changes, times, file, &pieces, form, answers),
         Err(_) => Err(VerdictFault::Show(ShowFault::NoMemory)),
     }
 }
@@ -98,6 +135,7 @@ fn check_pieces<W: Write>(
     alloc: Global,
     setup: &Setup,
     changes: &[Change],
+    times: Option<&Times>,
     file: &str,
     pieces: &[Piece<'_>],
     form: Form,
@@ -108,7 +146,7 @@ fn check_pieces<W: Write>(
 {
     match Boards::new(alloc, setup.roster()) {
         Ok(mut board) => check_on(
-            alloc, setup, changes, &mut board, file, pieces, form, answers,
+            alloc, setup, changes, &mut board, times, file, pieces, form, answers,
         ),
         Err(fault) => Err(VerdictFault::Board(fault)),
     }
@@ -120,6 +158,7 @@ fn check_on<W: Write>(
     setup: &Setup,
     changes: &[Change],
     board: &mut Boards,
+    times: Option<&Times>,
     file: &str,
     pieces: &[Piece<'_>],
     form: Form,
@@ -129,13 +168,14 @@ fn check_on<W: Write>(
     requires few { length changes.now ≤ MOST_CHANGES }
     requires at { IsAt (sizes_of setup.now.roster) changes.now board.old }
 {
-    write_head(answers, form, file)?;
+    write_head(answers, form, file, headings_of(times))?;
     let mut counts = Counts::default();
     for piece in pieces {
         let number = PlanNumber {
             file,
             plan: piece.plan,
             line: piece.line,
+            times,
         };
         let outcome = check_piece(
             alloc, setup, changes, board, piece.text, number, form, answers,
@@ -229,7 +269,7 @@ fn check_plan<W: Write>(
         alloc,
         answers,
         form,
-        &HEADINGS,
+        headings_of(number.times),
         setup.roster(),
         number,
         plan,
@@ -242,14 +282,19 @@ fn check_plan<W: Write>(
 }
 
 /// Writes what the table is, and its head.
-fn write_head<W: Write>(answers: &mut W, form: Form, file: &str) -> Result<(), ShowFault> {
+fn write_head<W: Write>(
+    answers: &mut W,
+    form: Form,
+    file: &str,
+    headings: &[Heading],
+) -> Result<(), ShowFault> {
     tell_line(
         answers,
         form,
         "The plans in |file|, each judged on its own version of the changes:",
         &[("file", Item::Bytes(file.as_bytes()))],
     )?;
-    tell_head(answers, form, &HEADINGS)
+    tell_head(answers, form, headings)
 }
 
 /// Writes that a plan's text is none.

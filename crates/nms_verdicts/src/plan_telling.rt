@@ -6,6 +6,7 @@ use crate::verdict::Verdict;
 use nms_plan_places::{BreachPlace, DoubtPlace, PassedOver};
 use nms_quote::{Plan, Roster};
 use nms_show::{Form, Item, ShowFault};
+use nms_times::Times;
 use std::alloc::Global;
 use std::io::Write;
 
@@ -18,6 +19,8 @@ pub(crate) struct PlanNumber<'a> {
     pub(crate) plan: u64,
     /// Its first line, counted from 1.
     pub(crate) line: u64,
+    /// The times of the changes, if they are given.
+    pub(crate) times: Option<&'a Times>,
 }
 
 /// Tells of a plan and its verdict: as a row under headings with what is doubtful, or without headings as sentences.
@@ -54,9 +57,22 @@ fn tell_named<W: Write>(
     names: &[u8],
 ) -> Result<(), ShowFault> {
     let finding = finding_of(verdict, roster, plan);
+    let digits = match number.times {
+        Some(times) => times.time_of(plan.version).map(|time| time.text()),
+        None => None,
+    };
+    let time = match &digits {
+        Some(digits) => Item::Bytes(digits.as_slice()),
+        None => Item::Absent,
+    };
     let sentences = sentences_of(plan, verdict);
     let all = [
         sentences[0],
+        if digits.is_some() {
+            "The last change of that version has the time |time|."
+        } else {
+            ""
+        },
         sentences[1],
         sentences[2],
         sentences[3],
@@ -66,16 +82,16 @@ fn tell_named<W: Write>(
     let lines = if headings.is_empty() {
         &all[..]
     } else {
-        &all[4..]
+        &all[5..]
     };
-    tell(
-        alloc,
-        answers,
-        form,
-        headings,
-        lines,
-        &facts_of(roster, number, plan, verdict, &finding, names),
-    )
+    let facts = facts_of(roster, number, plan, verdict, &finding, names, time);
+    // Without times there is no key of one.
+    let known = if number.times.is_some() {
+        &facts[..]
+    } else {
+        &facts[..25]
+    };
+    tell(alloc, answers, form, headings, lines, known)
 }
 
 /// What is told of a plan and its verdict.
@@ -86,7 +102,8 @@ fn facts_of<'a>(
     verdict: &Verdict,
     finding: &Finding<'a>,
     names: &'a [u8],
-) -> [(&'static str, Item<'a>); 25] {
+    time: Item<'a>,
+) -> [(&'static str, Item<'a>); 26] {
     let order = &plan.order;
     [
         ("what", Item::Text("plan")),
@@ -114,6 +131,7 @@ fn facts_of<'a>(
         ("found", finding.found),
         ("expected", finding.expected),
         ("other", finding.other),
+        ("time", time),
     ]
 }
 

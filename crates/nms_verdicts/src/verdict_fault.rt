@@ -3,6 +3,7 @@ use nms_board::BoardFault;
 use nms_files::ChangesFault;
 use nms_lines::PlanTextFault;
 use nms_show::ShowFault;
+use nms_times::TimesFault;
 use thiserror::Error;
 
 /// Why plans were not judged, or not to the end.
@@ -11,6 +12,9 @@ pub enum VerdictFault {
     /// The file of changes is no tape. Nothing was written.
     #[error("{0}")]
     Changes(ChangesFault),
+    /// T3: there are not as many times as changes. Nothing was written.
+    #[error("{0}")]
+    Times(TimesFault),
     /// B1: no memory for a board. What was written before stands.
     #[error("{0}")]
     Board(BoardFault),
@@ -28,6 +32,7 @@ impl VerdictFault {
     pub fn code(&self) -> &'static str {
         match self {
             VerdictFault::Changes(fault) => fault.code(),
+            VerdictFault::Times(fault) => fault.code(),
             VerdictFault::Board(fault) => fault.code(),
             VerdictFault::Plan(fault) => fault.code(),
             VerdictFault::Show(fault) => fault.code(),
@@ -38,6 +43,7 @@ impl VerdictFault {
     pub fn status(&self) -> u8 {
         match self {
             VerdictFault::Changes(fault) => fault.status(),
+            VerdictFault::Times(fault) => fault.status(),
             VerdictFault::Board(BoardFault::NoMemory) => 5,
             VerdictFault::Plan(fault) => fault.status(),
             VerdictFault::Show(fault) => fault.status(),
@@ -48,5 +54,11 @@ impl VerdictFault {
 impl From<ShowFault> for VerdictFault {
     fn from(fault: ShowFault) -> Self {
         VerdictFault::Show(fault)
+    }
+}
+
+impl From<TimesFault> for VerdictFault {
+    fn from(fault: TimesFault) -> Self {
+        VerdictFault::Times(fault)
     }
 }

@@ -17,6 +17,7 @@ use nms_lines::read_plan;
 use nms_quote::{Certificate, Change, Plan};
 use nms_rules::{fillable, usable_rows};
 use nms_show::{Ending, Form, Item, ShowFault};
+use nms_times::Times;
 use std::alloc::Global;
 use std::io::{Read, Write};
 
@@ -24,18 +25,25 @@ use std::io::{Read, Write};
 /// then the quotations in rank order with what a share costs and what is sent there; how many shares can be filled; and
 /// each cut's bound beside the plan's cost.
 ///
-/// `Doubted` where the plan is doubted, else `Done`. A text that is no plan is a fault. Nothing is flushed.
+/// `Doubted` where the plan is doubted, else `Done`. A text that is no plan is a fault. With times, which must be as many as the
+/// changes, that of the plan's version is told too. Nothing is flushed.
 pub fn explain_why<R: Read + Drop, W: Write>(
     alloc: Global,
     setup: &Setup,
     changes: R,
+    times: Option<&Times>,
     file: &str,
     plan: &[u8],
     form: Form,
     answers: &mut W,
 ) -> Result<Ending, VerdictFault> {
     match read_changes(alloc, setup, changes) {
-        Ok(changes) => explain_text(alloc, setup, &changes, file, plan, form, answers),
+        Ok(changes) => {
+            if let Some(times) = times {
+                times.check_len(changes.len())?;
+            }
+            explain_text(alloc, setup, &changes, times, file, plan, form, answers)
+        }
         Err(fault) => Err(VerdictFault::Changes(fault)),
     }
 }
@@ -45,6 +53,7 @@ fn explain_text<W: Write>(
     alloc: Global,
     setup: &Setup,
     changes: &[Change],
+    times: Option<&Times>,
     file: &str,
     text: &[u8],
     form: Form,
@@ -58,6 +67,7 @@ fn explain_text<W: Write>(
             alloc,
             setup,
             changes,
+            times,
             file,
             &plan,
             &certificate,
@@ -73,6 +83,7 @@ fn explain_plan<W: Write>(
     alloc: Global,
     setup: &Setup,
     changes: &[Change],
+    times: Option<&Times>,
     file: &str,
     plan: &Plan,
     certificate: &Certificate,
@@ -95,6 +106,7 @@ fn explain_plan<W: Write>(
         alloc,
         setup,
         &view,
+        times,
         file,
         plan,
         certificate,
@@ -114,6 +126,7 @@ fn tell_judged<W: Write>(
     alloc: Global,
     setup: &Setup,
     view: &View,
+    times: Option<&Times>,
     file: &str,
     plan: &Plan,
     certificate: &Certificate,
@@ -125,6 +138,7 @@ fn tell_judged<W: Write>(
         file,
         plan: 1,
         line: 1,
+        times,
     };
     tell_plan(
         alloc,

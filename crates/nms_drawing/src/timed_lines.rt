@@ -1,0 +1,129 @@
+//! Lines of a stream with the times of their versions: a writer that takes the stream and gives each line on with its time.
+use crate::json_lines::{field_of, write_timed};
+use nms_show::{Form, ShowFault};
+use nms_times::Times;
+use std::alloc::Global;
+use std::io::{Error, ErrorKind, Result, Write};
+use std::{mem, str};
+
+/// What the column of times is called.
+const HEAD: &[u8] = b",time\n";
+
+/// A writer of a stream whose lines are given on with their times: as they are, or as objects.
+#[derive(Drop)]
+pub(crate) struct TimedLines<'a, W> {
+    alloc: Global,
+    times: &'a Times,
+    form: Form,
+    answers: &'a mut W,
+    /// The beginning of a line whose end was not yet written.
+    begun: Vec<u8>,
+    is_after_header: bool,
+    wants_memory: bool,
+}
+
+impl<'a, W: Write> TimedLines<'a, W> {
+    /// One that has taken nothing.
+    pub(crate) fn new(alloc: Global, times: &'a Times, form: Form, answers: &'a mut W) -> Self {
+        TimedLines {
+            alloc,
+            times,
+            form,
+            answers,
+            begun: Vec::new(alloc),
+            is_after_header: false,
+            wants_memory: false,
+        }
+    }
+
+    /// Whether a write failed because memory ran out.
+    pub(crate) fn wants_memory(&self) -> bool {
+        self.wants_memory
+    }
+
+    /// Takes a piece of the stream: a line's rest with its end, or the beginning of one.
+    fn take(&mut self, piece: &[u8]) -> std::result::Result<(), ShowFault> {
+        let Some((b'\n', rest)) = piece.split_last() else {
+            return self.keep(piece);
+        };
+        if self.begun.is_empty() {
+            return self.tell(rest);
+        }
+        self.keep(rest)?;
+        let line = mem::replace(&mut self.begun, Vec::new(self.alloc));
+        self.tell(&line)
+    }
+
+    /// Keeps the beginning of a line.
+    fn keep(&mut self, piece: &[u8]) -> std::result::Result<(), ShowFault> {
+        match self.begun.extend_from_slice(piece) {
+            Ok(()) => Ok(()),
+            Err(_) => Err(ShowFault::NoMemory),
+        }
+    }
+
+    /// Gives a line on.
+    fn tell(&mut self, line: &[u8]) -> std::result::Result<(), ShowFault> {
+        if !self.is_after_header {
+            self.is_after_header = true;
+            return self.tell_header(line);
+        }
+        let digits = match version_of(line) {
+            Some(version) => self.times.time_of(version).map(|time| time.text()),
+            None => None,
+        };
+        let none: &[u8] = &[];
+        let time = match &digits {
+            Some(digits) => digits.as_slice(),
+            None => none,
+        };
+        if self.form.is_json() {
+            return write_timed(self.alloc, self.answers, line, time);
+        }
+        self.put(line)?;
+        self.put(b",")?;
+        self.put(time)?;
+        self.put(b"\n")
+    }
+
+    /// Gives the header on; objects have none.
+    fn tell_header(&mut self, line: &[u8]) -> std::result::Result<(), ShowFault> {
+        if self.form.is_json() {
+            return Ok(());
+        }
+        self.put(line)?;
+        self.put(HEAD)
+    }
+
+    /// Writes bytes.
+    fn put(&mut self, bytes: &[u8]) -> std::result::Result<(), ShowFault> {
+        match self.answers.write_all(bytes) {
+            Ok(()) => Ok(()),
+            Err(_) => Err(ShowFault::WriteFault),
+        }
+    }
+}
+
+impl<W: Write> Write for TimedLines<'_, W> {
+    fn write(&mut self, bytes: &[u8]) -> Result<usize> {
+        for piece in bytes.split_inclusive(|byte| *byte == b'\n') {
+            match self.take(piece) {
+                Ok(()) => {}
+                Err(fault) => {
+                    self.wants_memory = fault == ShowFault::NoMemory;
+                    return Err(Error::from(ErrorKind::WriteZero));
+                }
+            }
+        }
+        Ok(bytes.len())
+    }
+
+    fn flush(&mut self) -> Result<()> {
+        self.answers.flush()
+    }
+}
+
+/// The version of a line, its first field.
+fn version_of(line: &[u8]) -> Option<u64> {
+    str::from_utf8(field_of(line).0).ok()?.parse::<u64>().ok()
+}

@@ -1,0 +1,3 @@
+pub mod ClockFacts
+pub mod TextFacts
+pub mod VersionFacts

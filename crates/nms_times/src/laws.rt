@@ -1,0 +1,24 @@
+//! Laws above the definitions. Each function does nothing: its contract is the law.
+ghost use Rattle.std.specs.Prelude.{◌≡◌, ℕ, ◌<◌, ◌≤◌, List, length};
+ghost use Rattle.std.specs.List.Sorted.{IsNonDecreasing};
+ghost use Rattle.nms_times.specs.Examples.{ExamplesHold};
+ghost use Rattle.nms_times.specs.Laws.{Splits};
+ghost use Rattle.nms_times.specs.Times.{version_at, version_before};
+
+/// If no time is before an earlier one, the version at a time has exactly the changes that are not later, and the version
+/// before it exactly those that are earlier.
+pub fn the_version_splits_the_times()
+    ensures { (times : List ℕ) (t place : ℕ) → IsNonDecreasing times → place < length times → Splits times t place }
+{}
+
+/// A later time has no earlier version, and the version before a time is no later than the version at it.
+pub fn versions_rise_with_time()
+    ensures at { (times : List ℕ) (t u : ℕ) → t ≤ u → version_at times t ≤ version_at times u }
+    ensures before { (times : List ℕ) (t u : ℕ) → t ≤ u → version_before times t ≤ version_before times u }
+    ensures between { (times : List ℕ) (t : ℕ) → version_before times t ≤ version_at times t }
+{}
+
+/// The definitions give what the worked examples say.
+pub fn worked_examples()
+    ensures { ExamplesHold }
+{}

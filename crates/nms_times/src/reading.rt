@@ -1,0 +1,127 @@
+//! A file of times, read: `specs/TimesText`.
+ghost use Rattle.std.specs.Prelude.{◌≡◌, ◌+◌, ◌*◌, ◌<◌, ◌≤◌, ◌×◌, ◌++◌, ◌∷◌, [], length, IfErr, IfOk, OnOk};
+ghost use Rattle.std.specs.Char.{is_ascii_digit};
+ghost use Rattle.std.specs.List.{list_all};
+ghost use Rattle.nms_times.specs.Faults.{IsReadFault};
+ghost use Rattle.nms_times.specs.TimesText.{HasTimes, is_end, line_at, row_of, time_in, width_of};
+
+use crate::time_of_day::TimeOfDay;
+use crate::times::Times;
+use crate::times_fault::TimesFault;
+use nms_units::parse_digits;
+use std::alloc::{AllocError, Global};
+
+/// The bytes of a line: a time and a line feed.
+const SHORT: usize = 16;
+/// The bytes of a line with the row of the source: a time, a comma, the row and a line feed.
+const LONG: usize = 32;
+/// The bytes of a time.
+const TIME: usize = 15;
+
+/// Reads the text of times, a line for each change: 15 digits HHMMSSnnnnnnnnn and a line feed; or, in every line, a comma
+/// and the 15 digits of a row between. Takes 8 bytes of memory a line.
+///
+/// `NotTime` has the first line that is none, `NoMemory` comes in place of any answer.
+pub fn read_times(alloc: Global, text: &[u8]) -> Result<Times, TimesFault>
+    ensures read { IfOk result (λ times. HasTimes text.now times) }
+    ensures refused { IfErr result (IsReadFault text.now) }
+{
+    let mut all = Vec::new(alloc);
+    fill(text, &mut all)?;
+    Ok(Times::of(all))
+}
+
+/// The row of the source that a version's line has. `None` if the lines have none, for version 0, and beyond the lines.
+pub fn source_row(text: &[u8], version: u64) -> Option<u64>
+    ensures { result ≡ row_of text.now version }
+{
+    if version == 0 || version > (text.len() / LONG) as u64 || width_of(text) == SHORT {
+        return None;
+    }
+    let line = line_at(text, LONG, version as usize - 1);
+    parse_digits(&line[SHORT..SHORT + TIME], TIME)
+}
+
+/// Puts the times of a text into a list.
+fn fill(text: &[u8], all: &mut Vec<TimeOfDay>) -> Result<(), TimesFault>
+    requires { all.old.items ≡ [] }
+    ensures read { IfOk result (λ _. HasTimes text.now all.new.items) }
+    ensures refused { IfErr result (IsReadFault text.now) }
+{
+    let width = width_of(text);
+    let lines = text.len() / width;
+    all.reserve_exact(lines)?;
+    for place in 0..lines {
+        match time_in(width, line_at(text, width, place)) {
+            Some(time) => keep(all, time)?,
+            None => {
+                return Err(TimesFault::NotTime {
+                    line: place as u64 + 1,
+                });
+            }
+        }
+    }
+    if lines * width < text.len() {
+        return Err(TimesFault::NotTime {
+            line: lines as u64 + 1,
+        });
+    }
+    Ok(())
+}
+
+/// Puts a time at the end of a list.
+fn keep(all: &mut Vec<TimeOfDay>, time: TimeOfDay) -> Result<(), AllocError>
+    ensures { OnOk result (all.new.items ≡ all.old.items ++ time ∷ []) }
+{
+    all.push(time)?;
+    Ok(())
+}
+
+/// The bytes of a line of a text.
+fn width_of(text: &[u8]) -> usize
+    ensures width { result ≡ width_of text.now }
+    ensures low { 16 ≤ result }
+{
+    if text.len() > TIME && text[TIME] == b',' {
+        LONG
+    } else {
+        SHORT
+    }
+}
+
+/// The line at a place, from 0.
+fn line_at(text: &[u8], width: usize, place: usize) -> &[u8]
+    requires { place * width + width ≤ length text.now }
+    ensures line { result.now ≡ line_at width text.now place }
+    ensures whole { length result.now ≡ width }
+{
+    let from = place * width;
+    &text[from..from + width]
+}
+
+/// The time of a line.
+fn time_in(width: usize, line: &[u8]) -> Option<TimeOfDay>
+    requires { 16 ≤ width }
+    ensures { result ≡ time_in width line.now }
+{
+    if line.len() == width && is_end(&line[TIME..]) {
+        TimeOfDay::parse(&line[..TIME])
+    } else {
+        None
+    }
+}
+
+/// Whether a line may end so after its time.
+fn is_end(rest: &[u8]) -> bool
+    ensures { result ≡ is_end rest.now }
+{
+    (rest.len() == 1 && rest[0] == b'\n')
+        || (rest.len() == 17 && rest[0] == b',' && are_digits(&rest[1..16]) && rest[16] == b'\n')
+}
+
+/// Whether all bytes are digits.
+fn are_digits(text: &[u8]) -> bool
+    ensures { result ≡ list_all is_ascii_digit text.now }
+{
+    text.iter().all(|byte| byte.is_ascii_digit())
+}

@@ -1,0 +1,45 @@
+//! Times that do not fall, in which versions are found by bisection: `specs/Times`.
+ghost use Rattle.std.specs.Prelude.{◌≡◌, ◌+◌, ◌<◌, ◌≤◌, ◌^◌, length, nat_le, nat_lt};
+ghost use Rattle.std.specs.List.Sorted.{IsNonDecreasing};
+ghost use Rattle.nms_times.specs.Times.{version_at, version_before};
+
+use crate::time_of_day::TimeOfDay;
+
+/// The times of the changes after a version, none before an earlier one.
+#[derive(Clone, Copy)]
+pub struct Rising<'a> {
+    /// The version before the first of these changes.
+    pub before: u64,
+    /// The times of these changes, in order.
+    pub times: &'a [TimeOfDay],
+    pub ghost rise: { IsNonDecreasing times.now },
+    pub ghost few: { before + length times.now < 2 ^ 64 },
+}
+
+impl Rising<'_> {
+    /// The version at a time: the last of which no change has a later time.
+    pub fn version_at(self, time: TimeOfDay) -> u64
+        ensures version { result ≡ self.before + version_at self.times.now time }
+        ensures high { result ≤ self.before + length self.times.now }
+    {
+        let found = self.times.partition_point(
+            |it: &TimeOfDay| -> bool
+                ensures { result ≡ nat_le it.now time }
+            { it.get() <= time.get() },
+        );
+        self.before + found as u64
+    }
+
+    /// The version before a time: the last of which every change has an earlier time.
+    pub fn version_before(self, time: TimeOfDay) -> u64
+        ensures version { result ≡ self.before + version_before self.times.now time }
+        ensures high { result ≤ self.before + length self.times.now }
+    {
+        let found = self.times.partition_point(
+            |it: &TimeOfDay| -> bool
+                ensures { result ≡ nat_lt it.now time }
+            { it.get() < time.get() },
+        );
+        self.before + found as u64
+    }
+}

@@ -1,0 +1,64 @@
+//! Which versions the changes of a symbol made: a line of the file of symbols.
+ghost use Rattle.std.specs.Prelude.{◌≡◌, ◌<◌, ◌≤◌, ◌×◌, IfOk, IfSome, length};
+
+use crate::times_fault::TimesFault;
+use nms_units::parse_digits;
+
+/// The changes of a symbol: those after a version, up to another. Between them there may be others.
+#[derive(Clone, Copy, Debug, PartialEq, Eq)]
+pub struct Span {
+    /// The version before the first of them.
+    pub before: usize,
+    /// The version after the last of them.
+    pub last: usize,
+}
+
+/// The span of a symbol in the text of symbols, a line each: a name, a comma, the version after its first change, a comma, the
+/// version after its last. `None` if no line has the name; of several the first counts.
+///
+/// `NotSymbol` has the first line that is none, or whose versions are not from 1 to the number given.
+pub fn find_span(text: &[u8], symbol: &[u8], versions: usize) -> Result<Option<Span>, TimesFault>
+    ensures { IfOk result (λ found. IfSome found (λ span. (span.before < span.last) × (span.last ≤ versions))) }
+{
+    let mut found = None;
+    let mut rest = text;
+    let mut line = 0u64;
+    while !rest.is_empty() {
+        line += 1;
+        let Some((name, span, more)) = first_span(rest, versions) else {
+            return Err(TimesFault::NotSymbol { line });
+        };
+        if found.is_none() && name == symbol {
+            found = Some(span);
+        }
+        rest = more;
+    }
+    Ok(found)
+}
+
+/// The name and the span of the first line, and the lines after it.
+fn first_span(text: &[u8], versions: usize) -> Option<(&[u8], Span, &[u8])>
+    ensures within { IfSome result (λ it. (it.1.0.before < it.1.0.last) × (it.1.0.last ≤ versions)) }
+    ensures shorter { IfSome result (λ it. length it.1.1.now < length text.now) }
+{
+    let (line, rest) = before_byte(text, b'\n')?;
+    let (name, versions_text) = before_byte(line, b',')?;
+    let (first, last) = before_byte(versions_text, b',')?;
+    let (first, last) = (parse_digits(first, 19)?, parse_digits(last, 19)?);
+    if first == 0 || first > last || last > versions as u64 {
+        return None;
+    }
+    let span = Span {
+        before: first as usize - 1,
+        last: last as usize,
+    };
+    Some((name, span, rest))
+}
+
+/// What stands before the first byte of a kind, and what stands after it.
+fn before_byte(text: &[u8], byte: u8) -> Option<(&[u8], &[u8])>
+    ensures { IfSome result (λ it. length it.1.now < length text.now) }
+{
+    let place = text.iter().position(|it| *it == byte)?;
+    Some((&text[..place], &text[place + 1..]))
+}

@@ -1,0 +1,70 @@
+//! Why times were not read, or no version was found by them.
+use std::alloc::AllocError;
+use thiserror::Error;
+
+/// Why times were not read, or no version was found by them.
+#[derive(Clone, Copy, Debug, PartialEq, Eq, Error)]
+pub enum TimesFault {
+    /// T1: this line, from 1, is the first that is not 15 digits of a time of day and a line feed, or these with a comma and
+    /// 15 digits between; or it has another length than the first line.
+    #[error("T1: a line is not the time of a change")]
+    NotTime { line: u64 },
+    /// T2: the time of this line, from 1, is the first that is before that of the line above it.
+    #[error("T2: a time is before the one above it")]
+    TimesFall { line: u64 },
+    /// T3: there are not as many lines as changes.
+    #[error("T3: there are not as many times as changes")]
+    OtherLength,
+    /// T4: this line, from 1, is the first of the symbols that is not a name and two versions of the times, the first not
+    /// above the last.
+    #[error("T4: a line is not a symbol with its first and last version")]
+    NotSymbol { line: u64 },
+    /// E4: out of memory.
+    #[error("E4: out of memory")]
+    NoMemory,
+}
+
+impl TimesFault {
+    /// Its code: `T1` to `T4`, or `E4`.
+    pub fn code(self) -> &'static str {
+        match self {
+            TimesFault::NotTime { .. } => "T1",
+            TimesFault::TimesFall { .. } => "T2",
+            TimesFault::OtherLength => "T3",
+            TimesFault::NotSymbol { .. } => "T4",
+            TimesFault::NoMemory => "E4",
+        }
+    }
+
+    /// The exit status of a program that it ends: 6 for what was read, 5 for memory.
+    pub fn status(self) -> u8 {
+        match self {
+            TimesFault::NotTime { .. }
+            | TimesFault::TimesFall { .. }
+            | TimesFault::OtherLength
+            | TimesFault::NotSymbol { .. } => 6,
+            TimesFault::NoMemory => 5,
+        }
+    }
+
+    /// The line that it is about, from 1, if it is about one.
+    pub fn line(self) -> Option<u64> {
+        match self {
+            TimesFault::NotTime { line }
+            | TimesFault::TimesFall { line }
+            | TimesFault::NotSymbol { line } => Some(line),
+            TimesFault::OtherLength | TimesFault::NoMemory => None,
+        }
+    }
+}
+
+impl From<AllocError> for TimesFault {
+    ghost use Rattle.std.specs.Prelude.{◌≡◌};
+    ghost use Rattle.nms_times.specs.declared.times_fault.TimesFault.TheVariants.{NoMemory};
+
+    ghost from_gives = { λ _ fault. fault ≡ NoMemory };
+
+    fn from(_error: AllocError) -> TimesFault {
+        TimesFault::NoMemory
+    }
+}
