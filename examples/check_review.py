@@ -1,17 +1,18 @@
 #!/usr/bin/env python3
-"""Runs every case of examples/review/, and every call of docs/REVIEW.md, with ./nms_review or the program that is named,
+"""Runs every case of examples/review/, and every call of docs/REVIEW.md and docs/TRADES.md, with ./nms_review or the program that is named,
 and compares what it writes on both streams and its status with what must come.
 
     examples/check_review.py [PROGRAM [TOOL]]
 
 A file `X.cases` there has cases of the form of cases/commands.cases, of the kind `command`: the words, the files, the
-streams, the status and the texts. The other files there are what docs/REVIEW.md names, and each has to be named. In that
-page a line of four spaces and `./nms_review WORDS` is a call, or one of `./nms_tool`, which TOOL stands for; the block
+streams, the status and the texts. The other files there are what docs/REVIEW.md names, and each has to be named. In
+these pages a line of four spaces and `./nms_review WORDS` is a call, or one of `./nms_tool`, which TOOL stands for; the block
 behind it is what it writes, with the words `status N` in the text between them where N is not 0. Beside these the program
 meets a closed output, one whose reader has gone, records of a million bytes, records whose fields and lists are longer than
 any that is right, byte order marks before quotes, each byte of a file once, a setup of many symbols, streams of several
-pieces, a day with more versions than a picture has columns, an import of examples/import/, and one of 100,000 random rows
-that tests/import_judge.py compares with a plain converter. It writes a line for each difference, and last
+pieces, a day with more versions than a picture has columns, an import of examples/import/, one of 100,000 random rows
+that tests/import_judge.py compares with a plain converter, and 20,000 random executions that tests/trades_judge.py judges by
+a plain slow program. It writes a line for each difference, and last
 `N passed, M failed`; status 1 where one failed.
 """
 import os
@@ -45,14 +46,15 @@ def stored():
                 yield f"{name}: {case.title}", command(case, None).run
 
 
-def page(tool):
-    """The calls of docs/REVIEW.md, each with the text of the block behind it."""
-    with open(os.path.join(TOP, "docs/REVIEW.md"), encoding="utf-8") as file:
-        text = file.read()
-    for name, words, between, block in CALL.findall(text):
-        status = re.search(r"status (\d)", between)
-        other = tool if name == "nms_tool" else None
-        yield f"docs/REVIEW.md: {words}", shown(other, words.split(), int(status[1]) if status else 0, block.encode())
+def pages(tool):
+    """The calls of docs/REVIEW.md and docs/TRADES.md, each with the text of the block behind it."""
+    for at in ("docs/REVIEW.md", "docs/TRADES.md"):
+        with open(os.path.join(TOP, at), encoding="utf-8") as file:
+            text = file.read()
+        for name, words, between, block in CALL.findall(text):
+            status = re.search(r"status (\d)", between)
+            other = tool if name == "nms_tool" else None
+            yield f"{at}: {words}", shown(other, words.split(), int(status[1]) if status else 0, block.encode())
 
 
 def shown(other, words, status, text):
@@ -343,6 +345,12 @@ def judged(program):
     must(ran.returncode == 0, f"{ran.stdout.decode()}{ran.stderr.decode()}"[-2000:])
 
 
+def traded(program):
+    """20,000 random executions, against the plain slow program of tests/trades_judge.py."""
+    ran = called(sys.executable, [os.path.join(TOP, "tests/trades_judge.py"), program], capture_output=True)
+    must(ran.returncode == 0, f"{ran.stdout.decode()}{ran.stderr.decode()}"[-2000:])
+
+
 def unnamed():
     """The files of the folder that the page does not name."""
     with open(os.path.join(TOP, "docs/REVIEW.md"), encoding="utf-8") as file:
@@ -351,8 +359,8 @@ def unnamed():
 
 
 def main(program, tool):
-    others = [("trial: imported", imported), ("trial: judged", judged)]
-    runs = [*stored(), *page(tool), *(in_room(*it) for it in TRIALS), *others]
+    others = [("trial: imported", imported), ("trial: judged", judged), ("trial: traded", traded)]
+    runs = [*stored(), *pages(tool), *(in_room(*it) for it in TRIALS), *others]
 
     def run(named):
         name, trial = named

@@ -12,6 +12,7 @@ mod screen;
 mod serving;
 mod source;
 mod telling;
+mod trading;
 
 use answers::Answers;
 use fault::Fault;

@@ -6,6 +6,7 @@ use crate::files::{open_word, read_file, setup_of, word_at};
 use crate::importing::serve_import;
 use crate::screen::Screen;
 use crate::source::Source;
+use crate::trading::serve_trades;
 use nms_drawing::{draw_changes, show_version, stream_changes, write_opening};
 use nms_fees::Setup;
 use nms_review_words::{Request, Sub};
@@ -55,6 +56,7 @@ where
         Sub::Why => serve_why(rt, screen, setup, request, answers),
         Sub::Draw => serve_draw(rt, screen, setup, request, answers),
         Sub::Import => serve_import(rt, screen, setup, request, answers),
+        Sub::Trades => serve_trades(rt, screen, setup, request, answers),
     }
 }
 

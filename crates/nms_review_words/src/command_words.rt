@@ -67,6 +67,7 @@ fn request_in(alloc: Global, matches: &ArgMatches<'_>) -> Result<Request, AllocE
         plan: value_text(alloc, inner, "plan")?,
         out: value_text(alloc, inner, "out")?,
         json: inner.get_str("json") == Some("true"),
+        table: inner.get_str("table") == Some("true"),
     })
 }
 

@@ -18,4 +18,6 @@ pub struct Request {
     pub out: Option<String>,
     /// Whether `--json` was given.
     pub json: bool,
+    /// Whether `--table` was given.
+    pub table: bool,
 }

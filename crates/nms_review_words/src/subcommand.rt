@@ -22,6 +22,8 @@ pub enum Sub {
     Draw,
     /// Makes changes of a vendor's files. Its own words are `MAP` and one or more of `FILE`.
     Import,
+    /// Judges a file of executions. Its own words are `CHANGES` and `EXECUTIONS`.
+    Trades,
 }
 
 /// What kind of file is explained.
@@ -213,9 +215,25 @@ static IMPORT: [Word; 4] = [
     SETUP,
 ];
 
+static TRADES: [Word; 5] = [
+    CHANGES,
+    Word {
+        name: "EXECUTIONS",
+        help: "The file of the executions",
+        form: WordForm::Needed,
+    },
+    Word {
+        name: "table",
+        help: "Prints counts and sums in place of a line for each execution",
+        form: WordForm::Flag,
+    },
+    SETUP,
+    JSON,
+];
+
 impl Sub {
     /// Each of them.
-    pub(crate) const ALL: [Sub; 9] = [
+    pub(crate) const ALL: [Sub; 10] = [
         Sub::Explain,
         Sub::Tape,
         Sub::At,
@@ -225,6 +243,7 @@ impl Sub {
         Sub::Why,
         Sub::Draw,
         Sub::Import,
+        Sub::Trades,
     ];
 
     /// The word that asks for it.
@@ -239,6 +258,7 @@ impl Sub {
             Sub::Why => "why",
             Sub::Draw => "draw",
             Sub::Import => "import",
+            Sub::Trades => "trades",
         }
     }
 
@@ -257,6 +277,7 @@ impl Sub {
                 "Says why a plan is as it is: its rows, what it takes, and what each cut shows",
             Sub::Draw => "Draws a symbol's day as one SVG",
             Sub::Import => "Makes a file of changes of a vendor's files, by a mapping",
+            Sub::Trades => "Says which executions traded through a protected quotation, and whose",
         }
     }
 
@@ -272,6 +293,7 @@ impl Sub {
             Sub::Why => WHY.as_slice(),
             Sub::Draw => DRAW.as_slice(),
             Sub::Import => IMPORT.as_slice(),
+            Sub::Trades => TRADES.as_slice(),
         }
     }
 
