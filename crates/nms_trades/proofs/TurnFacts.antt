@@ -1,7 +1,7 @@
 -- One more turn: it stands among the turns, and what was found before it stays.
 use Rattle.std.proofs.Common.{◌≡◌, ◌≢◌, ◌<◌, ◌+◌, ◌++◌, ◌∷◌, ℕ, [], List, Contains, Option, Some, slice_get, length, take, get_or}
-use Rattle.std.proofs.Common.{arith, ◌⊎◌, inl, inr, subst, sym, ap, ◌∙◌, refl}
-use Rattle.std.proofs.lemmas.Bool.{cases_lt}
+use Rattle.std.proofs.Common.{arith, inl, inr, subst, sym, ap, ◌∙◌, refl}
+use Rattle.std.proofs.lemmas.Bool.{cases_eq, cases_lt}
 use Rattle.std.proofs.lemmas.List.{take_more}
 use Rattle.std.proofs.lemmas.List.Elements.{Contains-append_left, Contains-push, Contains-push_cases}
 use Rattle.std.proofs.lemmas.List.Sorted.{Contains-permutation}
@@ -29,15 +29,6 @@ pub have_sorted : (turns sorted : List Turn) (k : ℕ) → IsPermutation turns s
 have_sorted turns sorted k same had place below =
     let own = had place below in
     (own.0, Contains-permutation turns sorted own.0 same own.1, own.2)
-
-cases_eq : (a b : ℕ) → (a ≡ b) ⊎ (a ≢ b)
-cases_eq a b = elim (cases_lt a b) [
-  | inl less ↦ inr (λ is. absurd (omega (arith, less, is)))
-  | inr more ↦ elim (cases_lt b a) [
-    | inl less ↦ inr (λ is. absurd (omega (arith, less, is)))
-    | inr other ↦ inl (omega (arith, more, other))
-  ]
-]
 
 -- with the finding of one more turn
 pub answered_more : (sizes : Sizes) (tape : Tape) (executions : List Execution) (old new : List (Option Finding)) (turns : List Turn)

@@ -1,5 +1,5 @@
 -- The lines of an execution. This product's own rule.
-use Rattle.std.specs.Prelude.{ℕ, ◌×◌, ◌==◌, Bool, List, [], ◌∷◌, codes, filter, map, not, Option, Some, None, if◌then◌else◌}
+use Rattle.std.specs.Prelude.{ℕ, ◌==◌, Bool, List, [], ◌∷◌, codes, filter, map, not, Option, Some, None, if◌then◌else◌}
 use Rattle.std.specs.Fmt.{decimal}
 use Rattle.nms_units.specs.Price.{price_text}
 use Rattle.nms_quote.specs.Members.{has_part}

@@ -1,5 +1,5 @@
 -- The turns in which executions are judged: each of them has one. This product's own rule.
-use Rattle.std.specs.Prelude.{ℕ, ◌≡◌, ◌<◌, ⊥, Contains, List, Option, Some, None, slice_get}
+use Rattle.std.specs.Prelude.{ℕ, ◌≡◌, ◌<◌, Contains, List, Option, Some, None, slice_get}
 use Rattle.nms_quote.specs.Roster.{Sizes}
 use Rattle.nms_quote.specs.Tape.{Tape}
 use Rattle.nms_trades.specs.Judged.{IsFound}

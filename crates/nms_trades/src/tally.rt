@@ -111,30 +111,53 @@ impl Tally {
     {
         let sums = sums_of(execution, finding)?;
         let is_open = sums.count > 0 && !has_cause(execution, finding);
-        self.all = self.all.with(finding, is_open, &sums)?;
+        let all = self.all.with(finding, is_open, &sums)?;
+        self.add_places(execution, finding, is_open, &sums)?;
+        self.all = all;
+        Some(())
+    }
+
+    /// Counts it for its participant, its symbol, its causes, and those that were traded through.
+    fn add_places(
+        &mut self,
+        execution: &Execution,
+        finding: &Finding,
+        is_open: bool,
+        sums: &Sums,
+    ) -> Option<()> {
         let off = self.executed.len().checked_sub(1)?;
         let place = execution.part.map_or(off, |part| usize::from(part.get()));
         if let Some(count) = self.executed.get_mut(place) {
-            *count = count.with(finding, is_open, &sums)?;
+            *count = count.with(finding, is_open, sums)?;
         }
         if let Some(count) = self.syms.get_mut(usize::from(execution.sym.get())) {
-            *count = count.with(finding, is_open, &sums)?;
+            *count = count.with(finding, is_open, sums)?;
         }
         if finding.is_clean() {
             return Some(());
         }
-        for place in 0..12 {
-            if Cause::ALL[place].applies(&execution.claims, finding.crossed, sums.helped) {
-                self.causes[place] = self.causes[place].with(finding, is_open, &sums)?;
-            }
-        }
+        self.add_causes(execution, finding, is_open, sums)?;
         self.add_rows(execution, finding)
     }
 
+    /// Counts it for each cause that applies.
+    fn add_causes(
+        &mut self,
+        execution: &Execution,
+        finding: &Finding,
+        is_open: bool,
+        sums: &Sums,
+    ) -> Option<()> {
+        for place in 0..12 {
+            if Cause::ALL[place].applies(&execution.claims, finding.crossed, sums.helped) {
+                self.causes[place] = self.causes[place].with(finding, is_open, sums)?;
+            }
+        }
+        Some(())
+    }
+
     /// Counts the rows that an execution traded through, each for its participant.
-    fn add_rows(&mut self, execution: &Execution, finding: &Finding) -> Option<()>
-        ensures { self.new.all ≡ self.old.all }
-    {
+    fn add_rows(&mut self, execution: &Execution, finding: &Finding) -> Option<()> {
         let mut before = Sums::none();
         for (_, row) in &finding.passed {
             let after = with_row(before, execution, row)?;
