@@ -2,5 +2,5 @@
 use Rattle.std.proofs.Common.{◌≡◌, length}
 use Rattle.nms_trades.proofs.judging.no_answers.Given as goal
 
-abbrev pub invariant-loop-1 : goal.invariant-loop-1
-invariant-loop-1 l = length l.answers.items ≡ l.loop-1
+abbrev pub invariant-loop : goal.invariant-loop
+invariant-loop l = length l.answers.items ≡ l.counter
