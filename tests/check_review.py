@@ -26,9 +26,9 @@ from trials import Trial, Wrong, compare, run
 
 ROOM = os.path.join(EXAMPLES, "review")
 # The pages whose calls run, the mappings of examples/import/, and the programs that judge random files.
-PAGES = ("docs/REVIEW.md",)
+PAGES = ("docs/REVIEW.md", "docs/TRADES.md")
 IMPORTS = ("taq",)
-JUDGES = ("import_judge.py", "times_judge.py")
+JUDGES = ("import_judge.py", "times_judge.py", "trades_judge.py")
 # Memory within which a file of two hundred million bytes is explained: it must not grow with the file, but with the longest
 # record alone.
 LITTLE = 256 << 20

@@ -74,8 +74,8 @@ def trial(program, dice, room):
     ran = subprocess.run(call + ["--before"] * before, capture_output=True, check=False, text=True)
     falls = next((n + 2 for n, pair in enumerate(zip(flat, flat[1:])) if pair[1] < pair[0]), None) if part is flat else None
     if falls:
-        if ran.returncode != 6 or "T2: " not in ran.stderr or not ran.stderr.endswith(f": line {falls}\n"):
-            return f"{flat[:20]}..: status {ran.returncode}, {ran.stderr!r}, and not T2 at line {falls}"
+        if ran.returncode != 6 or "H2: " not in ran.stderr or not ran.stderr.endswith(f": line {falls}\n"):
+            return f"{flat[:20]}..: status {ran.returncode}, {ran.stderr!r}, and not H2 at line {falls}"
     else:
         wanted = [counted(part, before, first, it) for it in words]
         got = ran.stdout.split()

@@ -22,7 +22,7 @@ pub enum DrawingFault {
     /// L11 or L12: the text of the plan is none, or memory ran out. Nothing was written.
     #[error("{0}")]
     Plan(PlanTextFault),
-    /// T3: there are not as many times as changes. Nothing was written.
+    /// H3: there are not as many times as changes. Nothing was written.
     #[error("{0}")]
     Times(TimesFault),
     /// E2: the writer failed. A first part of the answer was written.

@@ -13,6 +13,7 @@ mod serving;
 mod source;
 mod telling;
 mod timing;
+mod trading;
 
 use answers::Answers;
 use fault::Fault;

@@ -7,6 +7,7 @@ use crate::importing::serve_import;
 use crate::screen::Screen;
 use crate::source::Source;
 use crate::timing::{given_times, serve_when, version_among};
+use crate::trading::serve_trades;
 use nms_drawing::{draw_changes, show_version, stream_changes, write_opening};
 use nms_fees::Setup;
 use nms_review_words::{Request, Sub};
@@ -60,6 +61,7 @@ where
         Sub::Draw => serve_draw(rt, screen, setup, request, answers),
         Sub::Import => serve_import(rt, screen, setup, request, answers),
         Sub::When => serve_when(rt, screen, request, answers),
+        Sub::Trades => serve_trades(rt, screen, setup, request, answers),
     }
 }
 
@@ -114,7 +116,7 @@ where
         answers,
     )
     .map_err(|fault| match fault.code() {
-        "T3" => Fault::of("T3", 6, About::Times),
+        "H3" => Fault::of("H3", 6, About::Times),
         code => fault_of(code, fault.status(), ("A1", About::Word(0)), 1),
     });
     ended(&mut source, served)
@@ -168,7 +170,7 @@ where
         form,
         answers,
     )
-    .map_err(|fault| { fault_of(fault.code(), fault.status(), ("T3", About::Times), 0) });
+    .map_err(|fault| { fault_of(fault.code(), fault.status(), ("H3", About::Times), 0) });
     ended(&mut source, served)
 }
 
@@ -199,7 +201,7 @@ where
         form,
         answers,
     )
-    .map_err(|fault| { fault_of(fault.code(), fault.status(), ("T3", About::Times), 0) });
+    .map_err(|fault| { fault_of(fault.code(), fault.status(), ("H3", About::Times), 0) });
     ended(&mut source, served)
 }
 
@@ -231,7 +233,7 @@ where
         answers,
     )
     .map_err(|fault| match fault.code() {
-        "T3" => Fault::of("T3", 6, About::Times),
+        "H3" => Fault::of("H3", 6, About::Times),
         code => fault_of(code, fault.status(), ("L11", About::Word(1)), 0),
     });
     ended(&mut source, served)

@@ -57,14 +57,14 @@ static SENTENCES: [(&'static str, &'static str); 34] = [
     ("L7", "the first refused record has shares that are none"),
     ("L8", "the first refused record has half a side"),
     ("L11", "it is not the text of one plan"),
-    ("T1", "a line is not the time of a change"),
+    ("H1", "a line is not the time of a change"),
     (
-        "T2",
+        "H2",
         "a time is before the one above it; if the file is sorted by symbol, give --symbols",
     ),
-    ("T3", "it has not as many lines as there are changes"),
+    ("H3", "it has not as many lines as there are changes"),
     (
-        "T4",
+        "H4",
         "a line is not a symbol with its first and its last version",
     ),
 ];

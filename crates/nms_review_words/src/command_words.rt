@@ -72,6 +72,7 @@ fn request_in(alloc: Global, matches: &ArgMatches<'_>) -> Result<Request, AllocE
         version: value_text(alloc, inner, "version")?,
         before: inner.get_str("before") == Some("true"),
         json: inner.get_str("json") == Some("true"),
+        table: inner.get_str("table") == Some("true"),
     })
 }
 

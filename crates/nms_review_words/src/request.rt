@@ -28,4 +28,6 @@ pub struct Request {
     pub before: bool,
     /// Whether `--json` was given.
     pub json: bool,
+    /// Whether `--table` was given.
+    pub table: bool,
 }

@@ -24,6 +24,8 @@ pub enum Sub {
     Import,
     /// Finds versions by their times, or the time of a version. Its own words are `TIMES` and any number of `TIME`.
     When,
+    /// Judges a file of executions. Its own words are `CHANGES` and `EXECUTIONS`.
+    Trades,
 }
 
 /// What kind of file is explained.
@@ -264,9 +266,25 @@ static WHEN: [Word; 7] = [
     JSON,
 ];
 
+static TRADES: [Word; 5] = [
+    CHANGES,
+    Word {
+        name: "EXECUTIONS",
+        help: "The file of the executions",
+        form: WordForm::Needed,
+    },
+    Word {
+        name: "table",
+        help: "Prints counts and sums in place of a line for each execution",
+        form: WordForm::Flag,
+    },
+    SETUP,
+    JSON,
+];
+
 impl Sub {
     /// Each of them.
-    pub(crate) const ALL: [Sub; 10] = [
+    pub(crate) const ALL: [Sub; 11] = [
         Sub::Explain,
         Sub::Tape,
         Sub::At,
@@ -277,6 +295,7 @@ impl Sub {
         Sub::Draw,
         Sub::Import,
         Sub::When,
+        Sub::Trades,
     ];
 
     /// The word that asks for it.
@@ -292,6 +311,7 @@ impl Sub {
             Sub::Draw => "draw",
             Sub::Import => "import",
             Sub::When => "when",
+            Sub::Trades => "trades",
         }
     }
 
@@ -311,6 +331,7 @@ impl Sub {
             Sub::Draw => "Draws a symbol's day as one SVG",
             Sub::Import => "Makes a file of changes of a vendor's files, by a mapping",
             Sub::When => "Finds versions by time, or the time of a version",
+            Sub::Trades => "Says which executions traded through a protected quotation, and whose",
         }
     }
 
@@ -327,6 +348,7 @@ impl Sub {
             Sub::Draw => DRAW.as_slice(),
             Sub::Import => IMPORT.as_slice(),
             Sub::When => WHEN.as_slice(),
+            Sub::Trades => TRADES.as_slice(),
         }
     }
 

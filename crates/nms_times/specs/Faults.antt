@@ -5,7 +5,7 @@ use Rattle.nms_times.specs.TimesText.{IsFirstWrong}
 use Rattle.nms_times.specs.declared.times_fault.TimesFault.{TimesFault}
 use Rattle.nms_times.specs.declared.times_fault.TimesFault.TheVariants as fault
 
--- T1 names the first line that has no time, unless memory ran out
+-- H1 names the first line that has no time, unless memory ran out
 abbrev pub IsReadFault : List ℕ → TimesFault → Type 0
 IsReadFault text (fault.NotTime line) = IsFirstWrong text line
 IsReadFault text (fault.TimesFall line) = ⊥
@@ -13,6 +13,6 @@ IsReadFault text fault.OtherLength = ⊥
 IsReadFault text (fault.NotSymbol line) = ⊥
 IsReadFault text fault.NoMemory = Unit {0}
 
--- T2 names the first line whose time is before that of the line above it, of the times of the changes after a version
+-- H2 names the first line whose time is before that of the line above it, of the times of the changes after a version
 abbrev pub IsFall : List ℕ → (before : ℕ) → TimesFault → Type 0
 IsFall times before error = (place : ℕ) × FallsAt times place × (error ≡ fault.TimesFall (before + place + 1))

@@ -5,19 +5,19 @@ use thiserror::Error;
 /// Why times were not read, or no version was found by them.
 #[derive(Clone, Copy, Debug, PartialEq, Eq, Error)]
 pub enum TimesFault {
-    /// T1: this line, from 1, is the first that is not 15 digits of a time of day and a line feed, or these with a comma and
+    /// H1: this line, from 1, is the first that is not 15 digits of a time of day and a line feed, or these with a comma and
     /// 15 digits between; or it has another length than the first line.
-    #[error("T1: a line is not the time of a change")]
+    #[error("H1: a line is not the time of a change")]
     NotTime { line: u64 },
-    /// T2: the time of this line, from 1, is the first that is before that of the line above it.
-    #[error("T2: a time is before the one above it")]
+    /// H2: the time of this line, from 1, is the first that is before that of the line above it.
+    #[error("H2: a time is before the one above it")]
     TimesFall { line: u64 },
-    /// T3: there are not as many lines as changes.
-    #[error("T3: there are not as many times as changes")]
+    /// H3: there are not as many lines as changes.
+    #[error("H3: there are not as many times as changes")]
     OtherLength,
-    /// T4: this line, from 1, is the first of the symbols that is not a name and two versions of the times, the first not
+    /// H4: this line, from 1, is the first of the symbols that is not a name and two versions of the times, the first not
     /// above the last.
-    #[error("T4: a line is not a symbol with its first and last version")]
+    #[error("H4: a line is not a symbol with its first and last version")]
     NotSymbol { line: u64 },
     /// E4: out of memory.
     #[error("E4: out of memory")]
@@ -25,13 +25,13 @@ pub enum TimesFault {
 }
 
 impl TimesFault {
-    /// Its code: `T1` to `T4`, or `E4`.
+    /// Its code: `H1` to `H4`, or `E4`.
     pub fn code(self) -> &'static str {
         match self {
-            TimesFault::NotTime { .. } => "T1",
-            TimesFault::TimesFall { .. } => "T2",
-            TimesFault::OtherLength => "T3",
-            TimesFault::NotSymbol { .. } => "T4",
+            TimesFault::NotTime { .. } => "H1",
+            TimesFault::TimesFall { .. } => "H2",
+            TimesFault::OtherLength => "H3",
+            TimesFault::NotSymbol { .. } => "H4",
             TimesFault::NoMemory => "E4",
         }
     }

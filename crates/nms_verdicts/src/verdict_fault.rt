@@ -12,7 +12,7 @@ pub enum VerdictFault {
     /// The file of changes is no tape. Nothing was written.
     #[error("{0}")]
     Changes(ChangesFault),
-    /// T3: there are not as many times as changes. Nothing was written.
+    /// H3: there are not as many times as changes. Nothing was written.
     #[error("{0}")]
     Times(TimesFault),
     /// B1: no memory for a board. What was written before stands.

@@ -1,0 +1,3 @@
+mod RankFacts
+mod TurnFacts
+mod WholeFacts

@@ -1,0 +1,40 @@
+//! An execution.
+use crate::claims::Claims;
+use arrayvec::ArrayVec;
+use nms_quote::{Part, Sym};
+use nms_units::Shares;
+
+/// The most bytes of an execution's name.
+pub(crate) const MOST_NAME: usize = 32;
+
+/// Whether an execution bought or sold. It is not judged: a trade is both.
+#[derive(Clone, Copy, Debug, PartialEq, Eq)]
+pub enum Deal {
+    /// `B`
+    Bought,
+    /// `S`
+    Sold,
+}
+
+/// An execution, as a record gives it.
+#[derive(Drop)]
+pub struct Execution {
+    /// The line on which its record begins, from 1.
+    pub line: u64,
+    /// The name that the record gives it.
+    pub name: ArrayVec<u8, MOST_NAME>,
+    /// The symbol that was traded.
+    pub sym: Sym,
+    /// The price in 1/1,000,000 dollar, at least 1.
+    pub millionths: u64,
+    /// The shares, at least 1.
+    pub shares: Shares,
+    /// Whether it bought or sold, if the record says so.
+    pub deal: Option<Deal>,
+    /// The version of the changes that was in force.
+    pub version: u64,
+    /// Where it was executed; `None` off an exchange.
+    pub part: Option<Part>,
+    /// The exceptions that it claims.
+    pub claims: Claims,
+}

@@ -1,0 +1,99 @@
+//! A file of executions, read record by record: `specs/Reading`.
+ghost use Rattle.std.specs.Prelude.{All, IfOk, OnOk};
+ghost use Rattle.nms_trades.specs.Reading.{IsOn};
+
+use crate::execution::Execution;
+use crate::reading::read_execution;
+use crate::trade_fault::TradeFault;
+use nms_lines::{ByteRecord, Reader, RecordFault, open_records, read_next};
+use nms_quote::Roster;
+use std::alloc::Global;
+use std::io::Read;
+
+/// A record that is refused.
+#[derive(Clone, Copy, Debug, PartialEq, Eq)]
+pub(crate) struct Refusal {
+    /// The line on which it begins, from 1.
+    pub(crate) line: u64,
+    /// Why it is refused.
+    pub(crate) fault: TradeFault,
+}
+
+/// The records of a file: those that say an execution, and those that are refused, each in order.
+#[derive(Drop)]
+pub(crate) struct Records {
+    pub(crate) executions: Vec<Execution>,
+    pub(crate) refused: Vec<Refusal>,
+}
+
+/// Reads all executions of a file. One that is refused does not stop the others. There are so many changes.
+pub(crate) fn read_executions<R: Read + Drop>(
+    alloc: Global,
+    roster: &Roster,
+    changes: u64,
+    source: R,
+) -> Result<Records, RecordFault>
+    ensures on { IfOk result (λ records. All (IsOn roster.now changes) records.executions.items) }
+{
+    let mut reader = open_records(alloc, source);
+    let mut row = ByteRecord::new(alloc);
+    let mut records = Records {
+        executions: Vec::new(alloc),
+        refused: Vec::new(alloc),
+    };
+    match take_records(&mut reader, &mut row, roster, changes, &mut records) {
+        Ok(()) => Ok(records),
+        Err(fault) => Err(fault),
+    }
+}
+
+/// Takes the records that are left.
+fn take_records<R: Read>(
+    reader: &mut Reader<R>,
+    row: &mut ByteRecord,
+    roster: &Roster,
+    changes: u64,
+    records: &mut Records,
+) -> Result<(), RecordFault>
+    requires { All (IsOn roster.now changes) records.old.executions.items }
+    ensures { All (IsOn roster.now changes) records.new.executions.items }
+{
+    for _ in 0..u64::MAX {
+        match read_next(reader, row) {
+            Ok(true) => take_record(row, roster, changes, records)?,
+            Ok(false) => return Ok(()),
+            Err(fault) => return Err(fault),
+        }
+    }
+    // No source has so many records.
+    Err(RecordFault::Failed)
+}
+
+/// Takes one record.
+fn take_record(
+    row: &ByteRecord,
+    roster: &Roster,
+    changes: u64,
+    records: &mut Records,
+) -> Result<(), RecordFault>
+    requires { All (IsOn roster.now changes) records.old.executions.items }
+    ensures { All (IsOn roster.now changes) records.new.executions.items }
+{
+    let line = line_of(row);
+    let pushed = match read_execution(row, roster, changes, line) {
+        Ok(execution) => records.executions.push(execution),
+        Err(fault) => records.refused.push(Refusal { line, fault }),
+    };
+    match pushed {
+        Ok(()) => Ok(()),
+        Err(_) => Err(RecordFault::NoMemory),
+    }
+}
+
+/// The line on which a record begins, from 1.
+fn line_of(row: &ByteRecord) -> u64 {
+    match row.position() {
+        Some(position) => position.line(),
+        None => 0,
+    }
+}

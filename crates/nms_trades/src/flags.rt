@@ -1,0 +1,48 @@
+//! The flags of an execution.
+
+use crate::claims::Claims;
+use nms_quote::{PartSet, Roster};
+
+/// The exceptions that a text claims: flags joined by `+`, none in an empty text. One that is repeated counts once.
+pub(crate) fn claims_in(text: &[u8], roster: &Roster) -> Option<Claims> {
+    let mut claims = Claims::none();
+    if text.is_empty() {
+        return Some(claims);
+    }
+    for flag in text.split(|byte| *byte == b'+') {
+        claims = with_flag(claims, flag, roster)?;
+    }
+    Some(claims)
+}
+
+/// The claims and that of one more flag.
+fn with_flag(claims: Claims, flag: &[u8], roster: &Roster) -> Option<Claims> {
+    let mut claims = claims;
+    match flag {
+        b"C" => claims.not_regular = true,
+        b"O" => claims.single_priced = true,
+        b"I" => claims.sweep = true,
+        b"J" => claims.swept = true,
+        b"K" => claims.benchmark = true,
+        b"P" => claims.stopped = true,
+        b"Q" => claims.contingent = true,
+        b"E" => claims.exempt = true,
+        b"T" => claims.outside_hours = true,
+        b"Z" => claims.out_of_sequence = true,
+        [b'H', b'=', names @ ..] => {
+            claims.self_help = named_in(names, claims.self_help, roster)?;
+        }
+        _ => return None,
+    }
+    Some(claims)
+}
+
+/// A set and the participants of these names too, which are joined by `/`.
+fn named_in(names: &[u8], set: PartSet, roster: &Roster) -> Option<PartSet> {
+    let mut set = set;
+    for name in names.split(|byte| *byte == b'/') {
+        let part = roster.find_part(name)?;
+        set = set.with(part);
+    }
+    Some(set)
+}

@@ -1,0 +1,140 @@
+//! The lines of one execution as CSV: `specs/Lines`.
+ghost use Rattle.std.specs.Prelude.{◌≡◌, ◌++◌, ◌∷◌, [], OnOk};
+ghost use Rattle.nms_lines.specs.Text.{text_of};
+ghost use Rattle.nms_trades.specs.Lines.{clean_record, own_word, refusal_record, row_record, row_records, side_word};
+
+use crate::cause::Cause;
+use crate::execution::Execution;
+use crate::execution_file::Refusal;
+use crate::finding::Finding;
+use crate::millionths::push_millionths;
+use crate::money_through::{Sums, difference, is_helped};
+use nms_board::Row;
+use nms_lines::{end_record, name_of_part, push_number, push_price, push_text};
+use nms_quote::{Part, Roster, Side};
+use std::alloc::AllocError;
+
+/// Appends that a record is refused.
+pub(crate) fn append_refusal(out: &mut Vec<u8>, refusal: &Refusal) -> Result<(), AllocError>
+    ensures { OnOk result (out.new.items ≡ out.old.items ++ text_of (refusal_record refusal.now ∷ [])) }
+{
+    out.extend_from_slice(b"REFUSED")?;
+    push_number(out, refusal.line)?;
+    push_number(out, refusal.fault.column())?;
+    push_text(out, refusal.fault.code())?;
+    end_record(out)
+}
+
+/// Appends that an execution traded through nothing.
+pub(crate) fn append_clean(out: &mut Vec<u8>, execution: &Execution) -> Result<(), AllocError>
+    ensures { OnOk result (out.new.items ≡ out.old.items ++ text_of (clean_record execution.now ∷ [])) }
+{
+    out.extend_from_slice(b"CLEAN")?;
+    out.push(b',')?;
+    out.extend_from_slice(execution.name.as_slice())?;
+    push_number(out, execution.version)?;
+    end_record(out)
+}
+
+/// Appends that an execution traded through, and the rows that are left.
+pub(crate) fn append_through(
+    out: &mut Vec<u8>,
+    roster: &Roster,
+    execution: &Execution,
+    finding: &Finding,
+    sums: &Sums,
+) -> Result<(), AllocError> {
+    out.extend_from_slice(b"THROUGH")?;
+    out.push(b',')?;
+    out.extend_from_slice(execution.name.as_slice())?;
+    push_number(out, execution.version)?;
+    push_number(out, sums.count)?;
+    push_millionths(out, sums.worst)?;
+    push_number(out, u64::from(sums.shares))?;
+    out.push(b',')?;
+    append_causes(out, execution, finding.crossed, sums.helped)?;
+    end_record(out)?;
+    append_rows(out, roster, execution, &finding.passed)
+}
+
+/// Appends the causes that apply, joined by `+`, or `NONE`.
+pub(crate) fn append_causes(
+    out: &mut Vec<u8>,
+    execution: &Execution,
+    crossed: bool,
+    helped: bool,
+) -> Result<(), AllocError> {
+    let mut first = true;
+    for cause in Cause::ALL {
+        if !cause.applies(&execution.claims, crossed, helped) {
+            continue;
+        }
+        if !first {
+            out.push(b'+')?;
+        }
+        out.extend_from_slice(cause.word().as_bytes())?;
+        first = false;
+    }
+    if first {
+        out.extend_from_slice(b"NONE")?;
+    }
+    Ok(())
+}
+
+/// Appends the rows that self-help does not take out.
+fn append_rows(
+    out: &mut Vec<u8>,
+    roster: &Roster,
+    execution: &Execution,
+    passed: &[(Side, Row)],
+) -> Result<(), AllocError>
+    ensures { OnOk result (out.new.items ≡ out.old.items ++ text_of (row_records roster.now execution.now passed.now)) }
+{
+    for (side, row) in passed {
+        if !is_helped(execution, row) {
+            append_row(out, roster, execution, *side, row)?;
+        }
+    }
+    Ok(())
+}
+
+/// Appends a row that was traded through.
+fn append_row(
+    out: &mut Vec<u8>,
+    roster: &Roster,
+    execution: &Execution,
+    side: Side,
+    row: &Row,
+) -> Result<(), AllocError>
+    ensures { OnOk result (out.new.items ≡ out.old.items ++ text_of (row_record roster.now execution.now side row.now ∷ [])) }
+{
+    out.extend_from_slice(b"ROW")?;
+    push_text(out, word_of_side(side))?;
+    push_text(out, name_of_part(roster, row.part))?;
+    push_price(out, row.price)?;
+    push_number(out, u64::from(row.size))?;
+    push_number(out, row.receipt)?;
+    push_millionths(out, difference(row, execution.millionths))?;
+    push_text(out, word_of_own(&execution.part, row.part))?;
+    end_record(out)
+}
+
+/// The word for a side.
+pub(crate) fn word_of_side(side: Side) -> &'static str
+    ensures { result.now ≡ side_word side }
+{
+    match side {
+        Side::Bid => "BID",
+        Side::Offer => "OFFER",
+    }
+}
+
+/// `OWN` for a row of the participant that executed.
+pub(crate) fn word_of_own(executed: &Option<Part>, part: Part) -> &'static str
+    ensures { result.now ≡ own_word executed.now part }
+{
+    match executed {
+        Some(executed) if *executed == part => "OWN",
+        Some(_) | None => "",
+    }
+}

@@ -1,0 +1,134 @@
+//! The lines of one execution as JSON.
+use crate::execution::Execution;
+use crate::execution_file::Refusal;
+use crate::finding::Finding;
+use crate::line::{append_causes, word_of_own, word_of_side};
+use crate::millionths::push_millionths;
+use crate::money_through::{Sums, difference, is_helped};
+use nms_board::Row;
+use nms_lines::name_of_part;
+use nms_quote::{Roster, Side};
+use nms_show::{Item, ShowFault, write_object};
+use std::alloc::{AllocError, Global};
+use std::io::Write;
+
+/// Writes that a record is refused.
+pub(crate) fn write_refusal<W: Write>(
+    alloc: Global,
+    answers: &mut W,
+    refusal: &Refusal,
+) -> Result<(), ShowFault> {
+    write_object(
+        alloc,
+        answers,
+        &[
+            ("what", Item::Text("refused")),
+            ("line", Item::Number(refusal.line)),
+            ("column", Item::Number(refusal.fault.column())),
+            ("code", Item::Text(refusal.fault.code())),
+        ],
+    )
+}
+
+/// Writes that an execution traded through nothing.
+pub(crate) fn write_clean<W: Write>(
+    alloc: Global,
+    answers: &mut W,
+    execution: &Execution,
+) -> Result<(), ShowFault> {
+    write_object(
+        alloc,
+        answers,
+        &[
+            ("what", Item::Text("clean")),
+            ("id", Item::Bytes(execution.name.as_slice())),
+            ("version", Item::Number(execution.version)),
+        ],
+    )
+}
+
+/// Writes that an execution traded through, and the rows that are left.
+pub(crate) fn write_through<W: Write>(
+    alloc: Global,
+    answers: &mut W,
+    text: &mut Vec<u8>,
+    roster: &Roster,
+    execution: &Execution,
+    finding: &Finding,
+    sums: &Sums,
+) -> Result<(), ShowFault> {
+    text.clear();
+    let Ok(cut) = append_texts(text, execution, finding.crossed, sums) else {
+        return Err(ShowFault::NoMemory);
+    };
+    let (worst, causes) = text.split_at(cut.min(text.len()));
+    write_object(
+        alloc,
+        answers,
+        &[
+            ("what", Item::Text("through")),
+            ("id", Item::Bytes(execution.name.as_slice())),
+            ("version", Item::Number(execution.version)),
+            ("count", Item::Number(sums.count)),
+            ("worst", Item::Bytes(behind_comma(worst))),
+            ("shares", Item::Number(u64::from(sums.shares))),
+            ("cause", Item::Bytes(causes)),
+        ],
+    )?;
+    for (side, row) in &finding.passed {
+        if !is_helped(execution, row) {
+            write_passed(alloc, answers, text, roster, execution, *side, row)?;
+        }
+    }
+    Ok(())
+}
+
+/// Appends the greatest difference behind a comma, and then the causes. Returns where the causes begin.
+fn append_texts(
+    text: &mut Vec<u8>,
+    execution: &Execution,
+    crossed: bool,
+    sums: &Sums,
+) -> Result<usize, AllocError> {
+    push_millionths(text, sums.worst)?;
+    let cut = text.len();
+    append_causes(text, execution, crossed, sums.helped)?;
+    Ok(cut)
+}
+
+/// Writes a row that was traded through.
+fn write_passed<W: Write>(
+    alloc: Global,
+    answers: &mut W,
+    text: &mut Vec<u8>,
+    roster: &Roster,
+    execution: &Execution,
+    side: Side,
+    row: &Row,
+) -> Result<(), ShowFault> {
+    text.clear();
+    if push_millionths(text, difference(row, execution.millionths)).is_err() {
+        return Err(ShowFault::NoMemory);
+    }
+    let own = !word_of_own(&execution.part, row.part).is_empty();
+    write_object(
+        alloc,
+        answers,
+        &[
+            ("what", Item::Text("row")),
+            ("id", Item::Bytes(execution.name.as_slice())),
+            ("side", Item::Text(word_of_side(side))),
+            ("participant", Item::Text(name_of_part(roster, row.part))),
+            ("price", Item::of_price(row.price)),
+            ("shares", Item::Number(u64::from(row.size))),
+            ("receipt", Item::Number(row.receipt)),
+            ("by", Item::Bytes(behind_comma(text))),
+            ("own", Item::Flag(own)),
+        ],
+    )
+}
+
+/// A text without the comma that stands before it.
+pub(crate) fn behind_comma(text: &[u8]) -> &[u8] {
+    text.strip_prefix(b",").unwrap_or(text)
+}

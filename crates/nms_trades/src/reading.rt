@@ -1,0 +1,114 @@
+//! What a record of an execution says: `specs/Reading`.
+ghost use Rattle.std.specs.Prelude.{◌≡◌, IfErr, IfOk, true};
+ghost use Rattle.csv.specs.Records.{fields_of};
+ghost use Rattle.nms_trades.specs.Reading.{IsOn, IsReadFrom, deal_in, is_name, is_name_byte, part_of, version_of};
+
+use crate::execution::{Deal, Execution, MOST_NAME};
+use crate::flags::claims_in;
+use crate::millionths::millionths_in;
+use crate::trade_fault::TradeFault;
+use arrayvec::ArrayVec;
+use nms_lines::{ByteRecord, field_at, some_shares_of};
+use nms_quote::{Part, Roster};
+use nms_units::parse_digits;
+
+/// What a record says, or the first fault of it. There are so many changes.
+pub(crate) fn read_execution(
+    row: &ByteRecord,
+    roster: &Roster,
+    changes: u64,
+    line: u64,
+) -> Result<Execution, TradeFault>
+    ensures on { IfOk result (IsOn roster.now changes) }
+    ensures read { IfOk result (IsReadFrom roster.now changes (fields_of row.now)) }
+{
+    if field_at(row, 0) != b"D".as_slice() {
+        return Err(TradeFault::UnknownKind);
+    }
+    if row.len() != 9 {
+        return Err(TradeFault::FieldCount);
+    }
+    if !is_name(field_at(row, 1)) {
+        return Err(TradeFault::BadName);
+    }
+    let sym = roster
+        .find_sym(field_at(row, 2))
+        .ok_or(TradeFault::UnknownSymbol)?;
+    let millionths = millionths_in(field_at(row, 3)).ok_or(TradeFault::BadPrice)?;
+    let shares = some_shares_of(field_at(row, 4)).ok_or(TradeFault::BadShares)?;
+    let deal = deal_in(field_at(row, 5))?;
+    let version = version_in(field_at(row, 6), changes)?;
+    let part = part_in(field_at(row, 7), roster)?;
+    let claims = claims_in(field_at(row, 8), roster).ok_or(TradeFault::BadFlags)?;
+    Ok(Execution {
+        line,
+        name: name_of(field_at(row, 1)),
+        sym,
+        millionths,
+        shares,
+        deal,
+        version,
+        part,
+        claims,
+    })
+}
+
+/// Whether a text is a name: 1 to 32 of letters, digits, `.`, `-` and `_`.
+fn is_name(text: &[u8]) -> bool
+    ensures { result ≡ is_name text.now }
+{
+    !text.is_empty() && text.len() <= MOST_NAME && text.iter().all(|byte| is_name_byte(*byte))
+}
+
+/// A name, copied.
+fn name_of(text: &[u8]) -> ArrayVec<u8, MOST_NAME>
+    requires { is_name text.now ≡ true }
+    ensures { result.items ≡ text.now }
+{
+    let mut name = ArrayVec::new_in(());
+    let _ = name.try_extend_from_slice(text);
+    name
+}
+
+/// Whether a byte may stand in a name.
+fn is_name_byte(byte: u8) -> bool
+    ensures { result ≡ is_name_byte byte }
+{
+    byte.is_ascii_alphanumeric() || byte == b'.' || byte == b'-' || byte == b'_'
+}
+
+/// Whether it bought or sold.
+fn deal_in(text: &[u8]) -> Result<Option<Deal>, TradeFault>
+    ensures { result ≡ deal_in text.now }
+{
+    match text {
+        b"" => Ok(None),
+        b"B" => Ok(Some(Deal::Bought)),
+        b"S" => Ok(Some(Deal::Sold)),
+        _ => Err(TradeFault::BadSide),
+    }
+}
+
+/// The version that a text writes, one of so many changes.
+fn version_in(text: &[u8], changes: u64) -> Result<u64, TradeFault>
+    ensures { result ≡ version_of changes text.now }
+{
+    match parse_digits(text, 9) {
+        None => Err(TradeFault::BadVersion),
+        Some(version) if version > changes => Err(TradeFault::Beyond),
+        Some(version) => Ok(version),
+    }
+}
+
+/// The participant that a text names; an empty one names none.
+fn part_in(text: &[u8], roster: &Roster) -> Result<Option<Part>, TradeFault>
+    ensures { result ≡ part_of roster.now text.now }
+{
+    if text.is_empty() {
+        return Ok(None);
+    }
+    match roster.find_part(text) {
+        Some(part) => Ok(Some(part)),
+        None => Err(TradeFault::UnknownParticipant),
+    }
+}

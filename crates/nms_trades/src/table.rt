@@ -1,0 +1,316 @@
+//! The counts and sums of all executions, as tables.
+ghost use Rattle.std.specs.Prelude.{◌≡◌, IfOk, filter, length};
+ghost use Rattle.nms_trades.specs.Counts.{is_found, is_passed};
+
+use crate::cause::Cause;
+use crate::execution::Execution;
+use crate::execution_file::Records;
+use crate::finding::Finding;
+use crate::tally::{Count, Tally};
+use crate::trades_fault::TradesFault;
+use nms_lines::{name_of_part, name_of_sym};
+use nms_quote::{Part, Roster, Sym};
+use nms_show::{Column, Form, Item, ShowFault, write_line, write_object, write_row};
+use nms_units::Money;
+use std::alloc::{AllocError, Global};
+use std::io::Write;
+
+/// How many symbols the table has at most: those with the most shares through.
+const MOST_SYMBOLS_SHOWN: usize = 50;
+
+/// Writes the counts and sums of all executions.
+pub(crate) fn write_table<W: Write>(
+    alloc: Global,
+    roster: &Roster,
+    records: &Records,
+    findings: &[Option<Finding>],
+    form: Form,
+    answers: &mut W,
+) -> Result<(), TradesFault>
+    requires { length findings.now ≡ length records.now.executions.items }
+{
+    let tally = tally_of(alloc, roster, &records.executions, findings)?;
+    let refused = records.refused.len() as u64;
+    Ok(write_tally(alloc, roster, &tally, refused, form, answers)?)
+}
+
+/// The counts of executions, each with what is found of it. Those of all are the lengths of the lists.
+fn tally_of(
+    alloc: Global,
+    roster: &Roster,
+    executions: &[Execution],
+    findings: &[Option<Finding>],
+) -> Result<Tally, TradesFault>
+    requires { length findings.now ≡ length executions.now }
+    ensures executions { IfOk result (λ tally. tally.all.executions ≡ length (filter is_found findings.now)) }
+    ensures through { IfOk result (λ tally. tally.all.through ≡ length (filter is_passed findings.now)) }
+{
+    let Ok(mut tally) = Tally::none(alloc, roster.parts() + 1, roster.syms()) else {
+        return Err(TradesFault::Show(ShowFault::NoMemory));
+    };
+    let mut place = 0;
+    for answer in findings {
+        if let Some(finding) = answer {
+            let Some(()) = tally.add(&executions[place], finding) else {
+                return Err(TradesFault::TooLong);
+            };
+        }
+        place += 1;
+    }
+    Ok(tally)
+}
+
+/// Writes a tally.
+fn write_tally<W: Write>(
+    alloc: Global,
+    roster: &Roster,
+    tally: &Tally,
+    refused: u64,
+    form: Form,
+    answers: &mut W,
+) -> Result<(), ShowFault> {
+    write_all(alloc, &tally.all, refused, form, answers)?;
+    write_head(form, "cause", answers)?;
+    for place in 0..12 {
+        let name = Item::Text(Cause::ALL[place].word());
+        write_count(alloc, "cause", name, &tally.causes[place], form, answers)?;
+    }
+    write_head(form, "executed by", answers)?;
+    write_parts(alloc, roster, "executed", &tally.executed, form, answers)?;
+    write_head(form, "traded through", answers)?;
+    write_parts(alloc, roster, "passed", &tally.passed, form, answers)?;
+    write_head(form, "symbol", answers)?;
+    write_symbols(alloc, roster, &tally.syms, form, answers)
+}
+
+/// Writes the counts of all.
+fn write_all<W: Write>(
+    alloc: Global,
+    all: &Count,
+    refused: u64,
+    form: Form,
+    answers: &mut W,
+) -> Result<(), ShowFault> {
+    let clean = all.executions - all.through.min(all.executions);
+    let rate = rate_of(all);
+    if form.is_json() {
+        return write_object(
+            alloc,
+            answers,
+            &[
+                ("what", Item::Text("totals")),
+                ("executions", Item::Number(all.executions)),
+                ("refused", Item::Number(refused)),
+                ("clean", Item::Number(clean)),
+                ("through", Item::Number(all.through)),
+                ("no_cause", Item::Number(all.open)),
+                ("per_10000", rate),
+                ("rows", Item::Number(all.rows)),
+                ("shares", Item::Number(all.shares)),
+                ("dollars", money_of(all.dollars)),
+            ],
+        );
+    }
+    write_line(
+        answers,
+        form,
+        &[
+            Item::Number(all.executions),
+            Item::Text(" executions = "),
+            Item::Number(clean),
+            Item::Text(" clean + "),
+            Item::Number(all.through),
+            Item::Text(" through, "),
+            Item::Number(all.open),
+            Item::Text(" of them without a cause; "),
+            Item::Number(refused),
+            Item::Text(" records refused"),
+        ],
+    )?;
+    write_line(
+        answers,
+        form,
+        &[
+            Item::Text("through: "),
+            rate,
+            Item::Text(" per 10,000 executions, "),
+            Item::Number(all.shares),
+            Item::Text(" shares, "),
+            money_of(all.dollars),
+            Item::Text(" dollars"),
+        ],
+    )
+}
+
+/// How many of 10,000 executions traded through, rounded down.
+fn rate_of(all: &Count) -> Item<'static> {
+    match all.through.checked_mul(10_000) {
+        Some(many) if all.executions > 0 => Item::Number(many / all.executions),
+        Some(_) | None => Item::Absent,
+    }
+}
+
+/// So many 1/1,000,000 dollar as money.
+fn money_of(millionths: i128) -> Item<'static> {
+    match millionths.checked_mul(1000) {
+        Some(nanodollars) => Item::of_money(Money::new(nanodollars)),
+        None => Item::Absent,
+    }
+}
+
+/// Writes the head of a table; of objects there is none.
+fn write_head<W: Write>(form: Form, name: &str, answers: &mut W) -> Result<(), ShowFault> {
+    if form.is_json() {
+        return Ok(());
+    }
+    write_line(answers, form, &[])?;
+    write_row(
+        answers,
+        form,
+        &columns_of(
+            Item::Strong(name),
+            [
+                Item::Strong("executions"),
+                Item::Strong("through"),
+                Item::Strong("no cause"),
+                Item::Strong("rows"),
+                Item::Strong("shares"),
+                Item::Strong("dollars"),
+                Item::Strong("worst"),
+            ],
+        ),
+    )
+}
+
+/// Writes a count, if there is anything in it.
+fn write_count<W: Write>(
+    alloc: Global,
+    what: &str,
+    name: Item<'_>,
+    count: &Count,
+    form: Form,
+    answers: &mut W,
+) -> Result<(), ShowFault> {
+    if count.executions == 0 && count.rows == 0 {
+        return Ok(());
+    }
+    let (dollars, worst) = (money_of(count.dollars), money_of(i128::from(count.worst)));
+    if form.is_json() {
+        return write_object(
+            alloc,
+            answers,
+            &[
+                ("what", Item::Text(what)),
+                ("name", name),
+                ("executions", Item::Number(count.executions)),
+                ("through", Item::Number(count.through)),
+                ("no_cause", Item::Number(count.open)),
+                ("rows", Item::Number(count.rows)),
+                ("shares", Item::Number(count.shares)),
+                ("dollars", dollars),
+                ("worst", worst),
+            ],
+        );
+    }
+    let items = [
+        Item::Number(count.executions),
+        Item::Number(count.through),
+        Item::Number(count.open),
+        Item::Number(count.rows),
+        Item::Number(count.shares),
+        dollars,
+        worst,
+    ];
+    write_row(answers, form, &columns_of(name, items))
+}
+
+/// The columns of a row.
+fn columns_of<'a>(name: Item<'a>, items: [Item<'a>; 7]) -> [Column<'a>; 8] {
+    let [executions, through, open, rows, shares, dollars, worst] = items;
+    [
+        column(name, 18, false),
+        column(executions, 10, true),
+        column(through, 8, true),
+        column(open, 8, true),
+        column(rows, 8, true),
+        column(shares, 12, true),
+        column(dollars, 20, true),
+        column(worst, 16, true),
+    ]
+}
+
+fn column(item: Item<'_>, width: usize, right: bool) -> Column<'_> {
+    Column { item, width, right }
+}
+
+/// Writes the counts of participants; what stands behind the last one is off an exchange.
+fn write_parts<W: Write>(
+    alloc: Global,
+    roster: &Roster,
+    what: &str,
+    counts: &[Count],
+    form: Form,
+    answers: &mut W,
+) -> Result<(), ShowFault> {
+    for (place, count) in counts.iter().enumerate() {
+        let name = if place < roster.parts() {
+            match Part::new(place as u8) {
+                Some(part) => Item::Text(name_of_part(roster, part)),
+                None => Item::Absent,
+            }
+        } else {
+            Item::Text("(none)")
+        };
+        write_count(alloc, what, name, count, form, answers)?;
+    }
+    Ok(())
+}
+
+/// Writes the counts of symbols: in a table the 50 with the most shares through, as objects all.
+fn write_symbols<W: Write>(
+    alloc: Global,
+    roster: &Roster,
+    counts: &[Count],
+    form: Form,
+    answers: &mut W,
+) -> Result<(), ShowFault> {
+    let Ok(order) = by_shares(alloc, counts) else {
+        return Err(ShowFault::NoMemory);
+    };
+    let shown = if form.is_json() {
+        order.len()
+    } else {
+        MOST_SYMBOLS_SHOWN
+    };
+    for place in order.iter().take(shown) {
+        if let Some(count) = counts.get(*place) {
+            write_count(
+                alloc,
+                "symbol",
+                sym_item(roster, *place),
+                count,
+                form,
+                answers,
+            )?;
+        }
+    }
+    Ok(())
+}
+
+/// The places of counts, those with the most shares first.
+fn by_shares(alloc: Global, counts: &[Count]) -> Result<Vec<usize>, AllocError> {
+    let mut order = Vec::with_capacity(alloc, counts.len())?;
+    for place in 0..counts.len() {
+        order.push(place)?;
+    }
+    order.sort_by_key(|place| u64::MAX - counts.get(*place).map_or(0, |count| count.shares))?;
+    Ok(order)
+}
+
+/// The name of the symbol at a place.
+fn sym_item(roster: &Roster, place: usize) -> Item<'_> {
+    match Sym::new(place as u16) {
+        Some(sym) => Item::Text(name_of_sym(roster, sym)),
+        None => Item::Absent,
+    }
+}

@@ -1,0 +1,192 @@
+//! How many executions traded through, and how much: of all, by cause, by participant and by symbol.
+ghost use Rattle.std.specs.Prelude.{◌≡◌, ◌+◌, IfOk, IfSome, OnSome};
+ghost use Rattle.nms_trades.specs.Counts.{passes_once};
+
+use crate::cause::Cause;
+use crate::execution::Execution;
+use crate::finding::Finding;
+use crate::money_through::{Sums, sums_of, with_row};
+use std::alloc::{AllocError, Global};
+
+/// How many executions there were, and how much they traded through.
+#[derive(Clone, Copy, Debug, PartialEq, Eq)]
+pub(crate) struct Count {
+    /// Executions.
+    pub(crate) executions: u64,
+    /// Those that traded through.
+    pub(crate) through: u64,
+    /// Those of them to which no cause applies.
+    pub(crate) open: u64,
+    /// Rows that were traded through.
+    pub(crate) rows: u64,
+    /// Shares through.
+    pub(crate) shares: u64,
+    /// Dollars through, in 1/1,000,000.
+    pub(crate) dollars: i128,
+    /// The greatest difference, in 1/1,000,000 dollar.
+    pub(crate) worst: u64,
+}
+
+impl Count {
+    /// Nothing.
+    pub(crate) fn none() -> Count
+        ensures executions { result.executions ≡ 0 }
+        ensures through { result.through ≡ 0 }
+    {
+        Count {
+            executions: 0,
+            through: 0,
+            open: 0,
+            rows: 0,
+            shares: 0,
+            dollars: 0,
+            worst: 0,
+        }
+    }
+
+    /// With one more execution.
+    fn with(self, finding: &Finding, is_open: bool, sums: &Sums) -> Option<Count>
+        ensures executions { IfSome result (λ count. count.executions ≡ self.executions + 1) }
+        ensures through { IfSome result (λ count. count.through ≡ self.through + passes_once finding.now) }
+    {
+        let mut count = self;
+        count.executions = count.executions.checked_add(1)?;
+        if finding.is_clean() {
+            return Some(count);
+        }
+        count.through = count.through.checked_add(1)?;
+        if is_open {
+            count.open = count.open.checked_add(1)?;
+        }
+        count.with_sums(sums)
+    }
+
+    /// With what was traded through.
+    fn with_sums(self, sums: &Sums) -> Option<Count>
+        ensures executions { IfSome result (λ count. count.executions ≡ self.executions) }
+        ensures through { IfSome result (λ count. count.through ≡ self.through) }
+    {
+        let mut count = self;
+        count.rows = count.rows.checked_add(sums.count)?;
+        count.shares = count.shares.checked_add(u64::from(sums.shares))?;
+        count.dollars = count.dollars.checked_add(sums.dollars)?;
+        count.worst = count.worst.max(sums.worst);
+        Some(count)
+    }
+}
+
+/// The counts of all executions.
+#[derive(Drop)]
+pub(crate) struct Tally {
+    pub(crate) all: Count,
+    /// By cause, in the order of `Cause::ALL`.
+    pub(crate) causes: [Count; 12],
+    /// By participant that executed, and last off an exchange.
+    pub(crate) executed: Vec<Count>,
+    /// By participant that was traded through.
+    pub(crate) passed: Vec<Count>,
+    /// By symbol.
+    pub(crate) syms: Vec<Count>,
+}
+
+impl Tally {
+    /// Nothing, of so many participants and symbols.
+    pub(crate) fn none(alloc: Global, parts: usize, syms: usize) -> Result<Tally, AllocError>
+        ensures executions { IfOk result (λ tally. tally.all.executions ≡ 0) }
+        ensures through { IfOk result (λ tally. tally.all.through ≡ 0) }
+    {
+        Ok(Tally {
+            all: Count::none(),
+            causes: [Count::none(); 12],
+            executed: counts(alloc, parts)?,
+            passed: counts(alloc, parts)?,
+            syms: counts(alloc, syms)?,
+        })
+    }
+
+    /// Counts one more execution. `None` comes only of sums that no number holds.
+    pub(crate) fn add(&mut self, execution: &Execution, finding: &Finding) -> Option<()>
+        ensures executions { OnSome result (self.new.all.executions ≡ self.old.all.executions + 1) }
+        ensures through { OnSome result (self.new.all.through ≡ self.old.all.through + passes_once finding.now) }
+    {
+        let sums = sums_of(execution, finding)?;
+        let is_open = sums.count > 0 && !has_cause(execution, finding);
+        let all = self.all.with(finding, is_open, &sums)?;
+        self.add_places(execution, finding, is_open, &sums)?;
+        self.all = all;
+        Some(())
+    }
+
+    /// Counts it for its participant, its symbol, its causes, and those that were traded through.
+    fn add_places(
+        &mut self,
+        execution: &Execution,
+        finding: &Finding,
+        is_open: bool,
+        sums: &Sums,
+    ) -> Option<()> {
+        let off = self.executed.len().checked_sub(1)?;
+        let place = execution.part.map_or(off, |part| usize::from(part.get()));
+        if let Some(count) = self.executed.get_mut(place) {
+            *count = count.with(finding, is_open, sums)?;
+        }
+        if let Some(count) = self.syms.get_mut(usize::from(execution.sym.get())) {
+            *count = count.with(finding, is_open, sums)?;
+        }
+        if finding.is_clean() {
+            return Some(());
+        }
+        self.add_causes(execution, finding, is_open, sums)?;
+        self.add_rows(execution, finding)
+    }
+
+    /// Counts it for each cause that applies.
+    fn add_causes(
+        &mut self,
+        execution: &Execution,
+        finding: &Finding,
+        is_open: bool,
+        sums: &Sums,
+    ) -> Option<()> {
+        for place in 0..12 {
+            if Cause::ALL[place].applies(&execution.claims, finding.crossed, sums.helped) {
+                self.causes[place] = self.causes[place].with(finding, is_open, sums)?;
+            }
+        }
+        Some(())
+    }
+
+    /// Counts the rows that an execution traded through, each for its participant.
+    fn add_rows(&mut self, execution: &Execution, finding: &Finding) -> Option<()> {
+        let mut before = Sums::none();
+        for (_, row) in &finding.passed {
+            let after = with_row(before, execution, row)?;
+            if let Some(count) = self.passed.get_mut(usize::from(row.part.get())) {
+                let own = Sums {
+                    count: after.count.checked_sub(before.count)?,
+                    worst: after.worst,
+                    shares: after.shares.checked_sub(before.shares)?,
+                    dollars: after.dollars.checked_sub(before.dollars)?,
+                    helped: false,
+                };
+                *count = count.with_sums(&own)?;
+            }
+            before = Sums { worst: 0, ..after };
+        }
+        Some(())
+    }
+}
+
+/// So many counts of nothing.
+fn counts(alloc: Global, count: usize) -> Result<Vec<Count>, AllocError> {
+    let mut counts = Vec::with_capacity(alloc, count)?;
+    for _ in 0..count {
+        counts.push(Count::none())?;
+    }
+    Ok(counts)
+}
+
+/// Whether a cause applies to an execution as a whole: any but self-help, which takes out rows.
+pub(crate) fn has_cause(execution: &Execution, finding: &Finding) -> bool {
+    Cause::ALL.iter().any(|cause| cause.applies(&execution.claims, finding.crossed, false))
+}

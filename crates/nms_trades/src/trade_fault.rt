@@ -1,0 +1,68 @@
+//! Why an execution's record is refused: `specs/Faults`.
+ghost use Rattle.std.specs.Prelude.{◌≡◌};
+ghost use Rattle.nms_trades.specs.Faults.{code_of, column_of};
+
+/// Why an execution's record is refused: the first that holds, in this order.
+#[derive(Clone, Copy, Debug, PartialEq, Eq)]
+pub enum TradeFault {
+    /// X1: the first field is not `D`.
+    UnknownKind,
+    /// X2: it has not nine fields.
+    FieldCount,
+    /// X3: the name is not 1 to 32 of letters, digits, `.`, `-` and `_`.
+    BadName,
+    /// X4: the symbol is not on the roster.
+    UnknownSymbol,
+    /// X5: the price is none, or zero.
+    BadPrice,
+    /// X6: the shares are none, or zero.
+    BadShares,
+    /// X7: the side is not `B`, `S` or empty.
+    BadSide,
+    /// X8: the version is not 1 to 9 digits.
+    BadVersion,
+    /// X9: there are fewer changes than the version says.
+    Beyond,
+    /// X10: the participant is neither empty nor on the roster.
+    UnknownParticipant,
+    /// X11: a flag is none.
+    BadFlags,
+}
+
+impl TradeFault {
+    /// The code of the fault, `X1` to `X11`.
+    pub(crate) fn code(self) -> &'static str
+        ensures { result.now ≡ code_of self }
+    {
+        match self {
+            TradeFault::UnknownKind => "X1",
+            TradeFault::FieldCount => "X2",
+            TradeFault::BadName => "X3",
+            TradeFault::UnknownSymbol => "X4",
+            TradeFault::BadPrice => "X5",
+            TradeFault::BadShares => "X6",
+            TradeFault::BadSide => "X7",
+            TradeFault::BadVersion => "X8",
+            TradeFault::Beyond => "X9",
+            TradeFault::UnknownParticipant => "X10",
+            TradeFault::BadFlags => "X11",
+        }
+    }
+
+    /// The column that it is about, from 1: of the number of fields it is the first.
+    pub(crate) fn column(self) -> u64
+        ensures { result ≡ column_of self }
+    {
+        match self {
+            TradeFault::UnknownKind | TradeFault::FieldCount => 1,
+            TradeFault::BadName => 2,
+            TradeFault::UnknownSymbol => 3,
+            TradeFault::BadPrice => 4,
+            TradeFault::BadShares => 5,
+            TradeFault::BadSide => 6,
+            TradeFault::BadVersion | TradeFault::Beyond => 7,
+            TradeFault::UnknownParticipant => 8,
+            TradeFault::BadFlags => 9,
+        }
+    }
+}

@@ -1,0 +1,69 @@
+//! A file of executions, judged on a file of changes.
+use crate::execution_file::{Records, read_executions};
+use crate::judging::judge_all;
+use crate::lines::write_answers;
+use crate::table::write_table;
+use crate::trades_fault::TradesFault;
+use nms_fees::Setup;
+use nms_files::read_changes;
+use nms_quote::Change;
+use nms_show::{Ending, Form};
+use std::alloc::Global;
+use std::io::{Read, Write};
+
+/// What is written of executions.
+#[derive(Clone, Copy, Debug, PartialEq, Eq)]
+pub enum Layout {
+    /// A line or more for each.
+    Lines,
+    /// Counts and sums of all.
+    Table,
+}
+
+/// Judges each execution of a file on the version of the changes that it names, and writes what is found in the order of the
+/// file: CSV, or an object a line as JSON; or the counts and sums of all.
+///
+/// Both files are read whole. A record that is refused is written as such and counted. `Refused` if there is one, else
+/// `Done`. Nothing is flushed.
+pub fn judge_file<C: Read + Drop, E: Read + Drop, W: Write>(
+    alloc: Global,
+    setup: &Setup,
+    changes: C,
+    executions: E,
+    form: Form,
+    layout: Layout,
+    answers: &mut W,
+) -> Result<Ending, TradesFault> {
+    let changes = match read_changes(alloc, setup, changes) {
+        Ok(changes) => changes,
+        Err(fault) => return Err(TradesFault::Changes(fault)),
+    };
+    let roster = setup.roster();
+    match read_executions(alloc, roster, changes.len() as u64, executions) {
+        Ok(records) => judge_records(alloc, setup, &changes, &records, form, layout, answers),
+        Err(fault) => Err(TradesFault::Executions(fault)),
+    }
+}
+
+/// Judges the executions among records.
+fn judge_records<W: Write>(
+    alloc: Global,
+    setup: &Setup,
+    changes: &[Change],
+    records: &Records,
+    form: Form,
+    layout: Layout,
+    answers: &mut W,
+) -> Result<Ending, TradesFault> {
+    let roster = setup.roster();
+    let findings = judge_all(alloc, roster, changes, &records.executions)?;
+    match layout {
+        Layout::Lines => write_answers(alloc, roster, records, &findings, form, answers)?,
+        Layout::Table => write_table(alloc, roster, records, &findings, form, answers)?,
+    }
+    if records.refused.is_empty() {
+        Ok(Ending::Done)
+    } else {
+        Ok(Ending::Refused)
+    }
+}

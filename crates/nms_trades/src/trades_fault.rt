@@ -1,0 +1,70 @@
+//! Why executions were not judged.
+use nms_board::BoardFault;
+use nms_files::ChangesFault;
+use nms_lines::RecordFault;
+use nms_show::ShowFault;
+use thiserror::Error;
+
+/// Why executions were not judged, or not to the end.
+#[derive(Clone, Copy, Debug, PartialEq, Eq, Error)]
+pub enum TradesFault {
+    /// The file of changes is no tape. Nothing was written.
+    #[error("{0}")]
+    Changes(ChangesFault),
+    /// E1 or E4: the file of executions could not be read, or memory ran out for it. Nothing was written.
+    #[error("{0}")]
+    Executions(RecordFault),
+    /// B1: no memory for the board or for what is found. Nothing was written.
+    #[error("{0}")]
+    Board(BoardFault),
+    /// E3: there are more than 10,000,000 executions. Nothing was written.
+    #[error("E3: more than 10,000,000 executions")]
+    TooLong,
+    /// E2 or E4: the output could not be written, or memory ran out. A first part of it may have been written.
+    #[error("{0}")]
+    Show(ShowFault),
+}
+
+impl TradesFault {
+    /// The code of the fault: that of a file, `B1`, `E2`, `E3` or `E4`.
+    pub fn code(&self) -> &'static str {
+        match self {
+            TradesFault::Changes(fault) => fault.code(),
+            TradesFault::Executions(fault) => fault.code(),
+            TradesFault::Board(fault) => fault.code(),
+            TradesFault::TooLong => "E3",
+            TradesFault::Show(fault) => fault.code(),
+        }
+    }
+
+    /// The exit status of a program that it ends.
+    pub fn status(&self) -> u8 {
+        match self {
+            TradesFault::Changes(fault) => fault.status(),
+            TradesFault::Executions(fault) => fault.status(),
+            TradesFault::Board(BoardFault::NoMemory) => 5,
+            TradesFault::TooLong => 6,
+            TradesFault::Show(fault) => fault.status(),
+        }
+    }
+
+    /// Whether it is about the file of executions, and not about that of the changes.
+    pub fn is_of_executions(&self) -> bool {
+        match self {
+            TradesFault::Executions(_) | TradesFault::TooLong => true,
+            TradesFault::Changes(_) | TradesFault::Board(_) | TradesFault::Show(_) => false,
+        }
+    }
+}
+
+impl From<ShowFault> for TradesFault {
+    fn from(fault: ShowFault) -> Self {
+        TradesFault::Show(fault)
+    }
+}
+
+impl From<BoardFault> for TradesFault {
+    fn from(fault: BoardFault) -> Self {
+        TradesFault::Board(fault)
+    }
+}

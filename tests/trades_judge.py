@@ -1,0 +1,243 @@
+#!/usr/bin/env python3
+"""Compares `nms_review trades` with a plain slow program, on random executions among random changes.
+
+    tests/trades_judge.py PROGRAM [EXECUTIONS [SEED]]
+
+EXECUTIONS is 20,000 if it is not given. The plain program looks back over all changes at each execution, by the rules that
+rules.py has, and compares prices in 1/1,000,000 dollar. One record in ten is refused, in each way that a
+record can be. The lines, the same as JSON, and the table as JSON must be those of the plain program. It prints the seed, and
+at a difference the first execution that differs with the changes up to its version. The last line is `N passed, M failed`;
+status 1 at a difference.
+"""
+import json
+import os
+import random
+import subprocess
+import sys
+import tempfile
+
+import judge_lots
+import rules
+
+PARTS, SYMS = list(judge_lots.PARTS), ["ABC", "PNY"]
+OPENING = {"ABC": 100, "PNY": 100}
+CHANGES, EACH = 150, 250
+WORDS = {"C": "NOTREGULAR-CLAIMED", "O": "AUCTION-CLAIMED", "I": "ISO-CLAIMED", "J": "SWEPT-CLAIMED", "K": "BENCHMARK-CLAIMED", "P": "STOPPED-CLAIMED",
+         "Q": "CONTINGENT-CLAIMED", "E": "EXEMPT-CLAIMED", "T": "HOURS-CLAIMED", "Z": "SEQUENCE-CLAIMED"}
+CAUSES = ["SELFHELP-CLAIMED", "NOTREGULAR-CLAIMED", "AUCTION-CLAIMED", "CROSSED", "ISO-CLAIMED", "SWEPT-CLAIMED", "BENCHMARK-CLAIMED", "STOPPED-CLAIMED",
+          "CONTINGENT-CLAIMED", "EXEMPT-CLAIMED", "HOURS-CLAIMED", "SEQUENCE-CLAIMED"]
+
+
+def drawn_change(chance):
+    """A change as a line, and as the plain program has it."""
+    part, sym, letter = chance.choice(PARTS), chance.choice(["ABC", "ABC", "PNY"]), chance.choice("AAAAMH")
+    kind = chance.choices("QSXR", [40, 4, 2, 4])[0]
+    if kind == "Q":
+        (bid, says_bid), (offer, says_offer) = judge_lots.drawn_side(chance), judge_lots.drawn_side(chance)
+        return f"Q,{part},{sym},{letter},{bid},{offer}", ("Q", part, sym, letter, {"BID": says_bid, "OFFER": says_offer})
+    if kind == "S":
+        return f"S,{part},{sym},{letter}", ("S", part, sym, letter)
+    if kind == "X":
+        return f"X,{part}", ("X", part)
+    lot = chance.choice([1, 10, 40, 100])
+    return f"R,{sym},{lot}", ("R", sym, lot)
+
+
+def fine(millionths):
+    return f"{millionths // 1_000_000}.{millionths % 1_000_000:06}"
+
+
+def drawn_flags(chance):
+    """Flags as a text, their words, and the participants that self-help names."""
+    letters = chance.choices([[], ["H"], chance.sample(list(WORDS), chance.randrange(1, 4))], [60, 15, 25])[0]
+    if chance.random() < 0.1:
+        letters = letters + ["H"]
+    texts, named = [], set()
+    for letter in letters:
+        if letter != "H":
+            texts.append(letter)
+            continue
+        names = chance.choices(PARTS, k=chance.randrange(1, 4))
+        named |= set(names)
+        texts.append("H=" + "/".join(names))
+    return "+".join(texts), {WORDS[it] for it in letters if it != "H"}, named
+
+
+BAD = [  # the place of the field, what stands in it, the column and the code
+    (0, "E", 1, "X1"), (0, "d", 1, "X1"), (1, "", 2, "X3"), (1, "a b", 2, "X3"), (1, "x" * 33, 2, "X3"), (2, "abc", 3, "X4"),
+    (2, "", 3, "X4"), (3, "", 4, "X5"), (3, "0.000000", 4, "X5"), (3, "10.1234567", 4, "X5"), (3, "12345678", 4, "X5"),
+    (3, "-1", 4, "X5"), (3, "1.", 4, "X5"), (3, ".5", 4, "X5"), (4, "0", 5, "X6"), (4, "", 5, "X6"), (4, "1234567890", 5, "X6"),
+    (5, "b", 6, "X7"), (5, "BS", 6, "X7"), (6, "", 7, "X8"), (6, "-1", 7, "X8"), (6, "@1", 7, "X8"), (6, "1234567890", 7, "X8"),
+    (6, str(CHANGES + 1), 7, "X9"), (7, "n", 8, "X10"), (7, "NN", 8, "X10"), (8, "X", 9, "X11"), (8, "I+", 9, "X11"),
+    (8, "H=", 9, "X11"), (8, "H=N/", 9, "X11"), (8, "H", 9, "X11"), (8, "IJ", 9, "X11"),
+]
+
+
+def judged(tape, seen, sym, version, millionths, shares, part, words, named):
+    """What is found of an execution: its rows, each with how much it takes, and the causes."""
+    if (version, sym) not in seen:
+        sides = []
+        for side, sign in (("BID", -1), ("OFFER", 1)):
+            found = [it for it in rules.rows(tape[:version], sym, side, OPENING) if it[4] == "A"]
+            sides.append((side, sign, sorted(found, key=lambda it: (sign * it[0], -it[1], it[2]))))
+        seen[version, sym] = sides
+    sides = seen[version, sym]
+    through = [(side, it) for side, sign, found in sides for it in found if sign * it[0] * 100 < sign * millionths]
+    (bids, offers), left, rows = (it[2] for it in sides), shares, []
+    for side, it in through:
+        if it[3] not in named:
+            takes = min(left, it[1])
+            left -= takes
+            rows.append((side, it[3], it[0], it[1], it[2], abs(it[0] * 100 - millionths), takes))
+    causes = set(words)
+    if len(rows) < len(through):
+        causes.add("SELFHELP-CLAIMED")
+    if bids and offers and bids[0][0] > offers[0][0]:
+        causes.add("CROSSED")
+    return bool(through), rows, [it for it in CAUSES if it in causes]
+
+
+def count():
+    return {"executions": 0, "through": 0, "no_cause": 0, "rows": 0, "shares": 0, "dollars": 0, "worst": 0}
+
+
+def add(to, is_through, rows, causes, whole=True):
+    if whole:
+        to["executions"] += 1
+        to["through"] += is_through
+        to["no_cause"] += bool(rows) and not set(causes) - {"SELFHELP-CLAIMED"}
+    to["rows"] += len(rows)
+    to["shares"] += sum(it[6] for it in rows)
+    to["dollars"] += sum(it[5] * it[6] for it in rows)
+    to["worst"] = max([to["worst"], *(it[5] for it in rows)])
+
+
+def day(chance, first):
+    """A file of changes, one of executions, the lines and the table that must come; and of each answer its record."""
+    pairs = [drawn_change(chance) for _ in range(CHANGES)]
+    tape, seen, records, answers = [it[1] for it in pairs], {}, [], []
+    tables = {"cause": {}, "executed": {}, "passed": {}, "symbol": {}}
+    total, refused = count(), 0
+    for number in range(EACH):
+        sym, version = chance.choice(["ABC", "ABC", "PNY"]), chance.choice([0, 1, CHANGES, *range(CHANGES)])
+        millionths = chance.choice([chance.randrange(9_990_000, 10_020_000, 10_000), chance.randrange(9_980_000, 10_030_000),
+                                    chance.randrange(9_980_000, 10_030_000, 50), 1, 9_999_999_999_999])
+        shares, part = chance.choice([1, 50, 100, 300, 5000, 999_999_999]), chance.choice(["", *PARTS])
+        flags, words, named = drawn_flags(chance)
+        price, name = fine(millionths), f"x{first + number}.{chance.choice(['a', 'B-', '_'])}"
+        if chance.random() < 0.3 and price.endswith("0"):
+            price = price.rstrip("0").rstrip(".")
+        fields = ["D", name, sym, price, str(shares), chance.choice(["", "B", "S"]), str(version), part, flags]
+        if chance.random() < 0.1:
+            refused += 1
+            if chance.random() < 0.1:
+                records.append(",".join(fields[:8] if chance.random() < 0.5 else fields + [""]))
+                answers.append([f"REFUSED,{number + 1},1,X2"])
+                continue
+            place, text, column, code = chance.choice(BAD)
+            fields[place] = text
+            records.append(",".join(fields))
+            answers.append([f"REFUSED,{number + 1},{column},{code}"])
+            continue
+        records.append(",".join(fields))
+        is_through, rows, causes = judged(tape, seen, sym, version, millionths, shares, part, words, named)
+        for table, key in (("executed", part or "(none)"), ("symbol", sym)):
+            add(tables[table].setdefault(key, count()), is_through, rows, causes)
+        add(total, is_through, rows, causes)
+        if not is_through:
+            answers.append([f"CLEAN,{name},{version}"])
+            continue
+        for cause in causes:
+            add(tables["cause"].setdefault(cause, count()), is_through, rows, causes)
+        for row in rows:
+            add(tables["passed"].setdefault(row[1], count()), is_through, [row], causes, whole=False)
+        worst = fine(max((it[5] for it in rows), default=0))
+        head = f"THROUGH,{name},{version},{len(rows)},{worst},{sum(it[6] for it in rows)},{'+'.join(causes) or 'NONE'}"
+        answers.append([head] + [
+            f"ROW,{side},{who},{rules.dollars(at)},{size},{receipt},{fine(by)},{'OWN' if who == part else ''}"
+            for side, who, at, size, receipt, by, _ in rows])
+    return pairs, records, answers, table_of(total, refused, tables)
+
+
+def table_of(total, refused, tables):
+    """The objects of the table, those of one kind in the program's order."""
+    def item(what, name, it):
+        return {"what": what, "name": name, **it, "dollars": fine(it["dollars"]) + "000", "worst": fine(it["worst"]) + "000"}
+    executions, through = total["executions"], total["through"]
+    objects = [{"what": "totals", "executions": executions, "refused": refused, "clean": executions - through,
+                "through": through, "no_cause": total["no_cause"], "per_10000": through * 10_000 // executions,
+                "rows": total["rows"], "shares": total["shares"], "dollars": fine(total["dollars"]) + "000"}]
+    symbols = sorted(SYMS, key=lambda it: -tables["symbol"].get(it, count())["shares"])
+    for what, names in (("cause", CAUSES), ("executed", [*PARTS, "(none)"]), ("passed", PARTS), ("symbol", symbols)):
+        objects += [item(what, name, tables[what][name]) for name in names if name in tables[what]]
+    return objects
+
+
+def objects_of(answers):
+    """The same answers as JSON."""
+    for lines in answers:
+        head = lines[0].split(",")
+        if head[0] == "REFUSED":
+            yield {"what": "refused", "line": int(head[1]), "column": int(head[2]), "code": head[3]}
+        elif head[0] == "CLEAN":
+            yield {"what": "clean", "id": head[1], "version": int(head[2])}
+        else:
+            yield {"what": "through", "id": head[1], "version": int(head[2]), "count": int(head[3]), "worst": head[4],
+                   "shares": int(head[5]), "cause": head[6]}
+        for line in lines[1:]:
+            _, side, who, price, size, receipt, by, own = line.split(",")
+            yield {"what": "row", "id": head[1], "side": side, "participant": who, "price": price, "shares": int(size),
+                   "receipt": int(receipt), "by": by, "own": own == "OWN"}
+
+
+def ran(program, folder, status, *options):
+    done = subprocess.run([program, "trades", "c", "e", *options], cwd=folder, capture_output=True, text=True, timeout=600)
+    if done.returncode != status or done.stderr:
+        return [f"status {done.returncode}, {done.stderr}"]
+    return done.stdout.splitlines()
+
+
+def difference(program, folder, made):
+    """What is wrong of one day, or nothing."""
+    pairs, records, answers, table = made
+    for name, lines in (("c", [it[0] for it in pairs]), ("e", records)):
+        with open(os.path.join(folder, name), "w", encoding="utf-8") as file:
+            file.write("".join(line + "\n" for line in lines))
+    status = 6 if any(it[0].startswith("REFUSED") for it in answers) else 0
+    came, wanted = ran(program, folder, status), [line for lines in answers for line in lines]
+    if came != wanted:
+        at = 0
+        for record, lines in zip(records, answers):
+            if came[at:at + len(lines)] != lines:
+                upto = record.split(",")[6] if record.count(",") == 8 else "0"
+                shown = [it[0] for it in pairs][:int(upto) if upto.isdigit() else 0]
+                return "\n".join([*shown, record, "came:", *came[at:at + 5], "wanted:", *lines])
+            at += len(lines)
+        return "more lines came: " + " ".join(came[at:at + 3])
+    if [json.loads(it) for it in ran(program, folder, status, "--json")] != list(objects_of(answers)):
+        return "the objects differ"
+    came = [json.loads(it) for it in ran(program, folder, status, "--table", "--json")]
+    if came != table:
+        return "\n".join(["the table differs", *(f"{it}\n{own}" for it, own in zip(came, table) if it != own)])
+    return ""
+
+
+def main():
+    program = os.path.realpath(sys.argv[1])
+    executions = int(sys.argv[2]) if len(sys.argv) > 2 else 20_000
+    seed = int(sys.argv[3]) if len(sys.argv) > 3 else random.randrange(10**9)
+    print(f"seed {seed}")
+    chance, passed, failed = random.Random(seed), 0, 0
+    with tempfile.TemporaryDirectory() as folder:
+        for first in range(0, executions, EACH):
+            wrong = difference(program, folder, day(chance, first))
+            passed, failed = (passed, failed + 1) if wrong else (passed + 1, failed)
+            if wrong:
+                print(wrong)
+                break
+    print(f"{passed} passed, {failed} failed")
+    sys.exit(1 if failed else 0)
+
+
+if __name__ == "__main__":
+    main()
