@@ -110,10 +110,25 @@ fn start_desk<'s, E, R: Threads + Wait + Sync, G: Gate>(
     ) else {
         return Err(LiveFault::Open);
     };
+    match put_handle(means.rt, handles, handle) {
+        Ok(()) => Ok(()),
+        Err(fault) => Err(fault),
+    }
+}
+
+/// Puts the handle of a worker behind the others. A worker that has no place there is heard out.
+fn put_handle<R: Threads>(
+    rt: &R,
+    handles: &mut Vec<PromisedHandle<Desked, DeskJob>>,
+    handle: PromisedHandle<Desked, DeskJob>,
+) -> Result<(), LiveFault>
+    ensures put { OnOk result (handles.new.items ≡ handles.old.items ++ handle ∷ []) }
+    ensures fault { IfErr result IsNoLine }
+{
     match handles.push(handle) {
         Ok(()) => Ok(()),
         Err(back) => {
-            let _worked = back.value.join(means.rt);
+            let _worked = back.value.join(rt);
             Err(LiveFault::NoMemory)
         }
     }
