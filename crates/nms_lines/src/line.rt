@@ -4,7 +4,7 @@ use nms_quote::{Change, Feed, Order, Sym};
 use nms_units::Price;
 
 /// Where a record comes from, which decides the kinds that it may have. This product's own rule.
-#[derive(Clone, Copy, PartialEq, Eq)]
+#[derive(Clone, Copy, Debug, PartialEq, Eq)]
 pub enum Reading {
     /// A script: every kind.
     Script {
