@@ -74,14 +74,14 @@ fn leg(row: &PricedRow, shares: u64) -> Leg
 fn is_below(cutoff: Rank, marginal: Money, row: &PricedRow) -> bool
     ensures { result ≡ is_below cutoff marginal row.now }
 {
-    row.is_pooled(cutoff) & (row.unit_cost() < marginal)
+    row.is_pooled(cutoff) && row.unit_cost() < marginal
 }
 
 /// Whether a row of the pool costs just the marginal.
 fn is_level(cutoff: Rank, marginal: Money, row: &PricedRow) -> bool
     ensures { result ≡ is_level cutoff marginal row.now }
 {
-    row.is_pooled(cutoff) & !(row.unit_cost() < marginal) & !(marginal < row.unit_cost())
+    row.is_pooled(cutoff) && !(row.unit_cost() < marginal) && !(marginal < row.unit_cost())
 }
 
 /// How many shares are taken before those at the marginal: what must be swept, and what costs less.
@@ -129,7 +129,7 @@ fn share_of(cutoff: Rank, marginal: Money, left: u64, row: &PricedRow) -> u64
     ensures within { result ≤ MOST_SIZE }
 {
     let size = u64::from(row.size);
-    if row.is_swept(cutoff) | is_below(cutoff, marginal, row) {
+    if row.is_swept(cutoff) || is_below(cutoff, marginal, row) {
         size
     } else if is_level(cutoff, marginal, row) {
         left.min(size)

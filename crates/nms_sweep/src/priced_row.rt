@@ -100,13 +100,13 @@ impl PricedRow {
     pub(crate) fn is_swept(&self, cutoff: Rank) -> bool
         ensures { result ≡ is_swept cutoff self.now }
     {
-        self.protected & (self.rank < cutoff)
+        self.protected && self.rank < cutoff
     }
 
     /// Whether it is in the pool at a price of that rank: it is at that price or better, and need not be swept.
     pub(crate) fn is_pooled(&self, cutoff: Rank) -> bool
         ensures { result ≡ is_pooled cutoff self.now }
     {
-        (self.rank <= cutoff) & !self.is_swept(cutoff)
+        self.rank <= cutoff && !self.is_swept(cutoff)
     }
 }

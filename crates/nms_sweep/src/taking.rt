@@ -53,7 +53,7 @@ pub(crate) fn take_cheapest(by_cost: &[PricedRow], cutoff: Rank, number: u64) ->
 fn has_last(row: &PricedRow, cutoff: Rank, number: u64) -> bool
     ensures { result ≡ has_last cutoff number row.now }
 {
-    row.is_pooled(cutoff) & (number <= u64::from(row.size))
+    row.is_pooled(cutoff) && number <= u64::from(row.size)
 }
 
 /// What is taken with so many shares of a row.
