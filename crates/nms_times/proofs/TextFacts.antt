@@ -1,5 +1,5 @@
 -- The lines of a text of times, read one after another.
-use Rattle.std.proofs.Common.{ℕ, ◌≡◌, ◌<◌, ◌≤◌, ◌+◌, ◌*◌, ◌-◌, ◌/◌, ◌%◌, ◌==◌, ◌×◌, false, List, [], ◌∷◌, ◌++◌, length, take, drop}
+use Rattle.std.proofs.Common.{ℕ, ◌≡◌, ◌<◌, ◌≤◌, ◌+◌, ◌*◌, ◌-◌, ◌/◌, ◌%◌, ◌==◌, false, List, [], ◌∷◌, ◌++◌, length, take, drop}
 use Rattle.std.proofs.Common.{arith, refl, sym, ap, subst, ◌∙◌, Some, None, IsSome, slice_index, below_more, length-drop}
 use Rattle.std.proofs.lemmas.Bool.Decides.{nat_tests}
 use Rattle.std.proofs.lemmas.List.{length-take, get_or_append_left, get_or_push}
@@ -20,13 +20,13 @@ one_more width text times lines t long read this =
     (this ∙ ap Some (sym (get_or_push times t 0 lines long)))
 
 -- a line that is cut off has no time
-pub cut_line : (width : ℕ) (text : List ℕ) (place : ℕ) → length text < place * width + width
+pub cut_line : (width : ℕ) (text : List ℕ) (place : ℕ) → 0 < width → length text < place * width + width
     → time_in width (line_at width text place) ≡ None
-cut_line width text place short =
+cut_line width text place wide short =
     let all = length-take width (drop (place * width) text) in
     let rest = length-drop (place * width) text in
-    let below : length (line_at width text place) < width = omega (arith, all, rest) in
-    let other : (length (line_at width text place) == width) ≡ false = grind (arith, nat_tests) in
+    let below : length (take width (drop (place * width) text)) < width = omega (arith, all, rest) in
+    let other : (length (take width (drop (place * width) text)) == width) ≡ false = grind (arith, nat_tests) in
     rw other refl
 
 -- where no whole line is left, fewer bytes than a line are
@@ -53,5 +53,5 @@ first_wrong text times width lines same there read wrong = record {
   there = subst (λ w. lines * w < length text) same there;
   wrong = subst (λ w. time_in w (line_at w text lines) ≡ None) same wrong;
   first = λ earlier h.
-    subst IsSome (sym (subst (λ w. time_in w (line_at w text earlier) ≡ Some (slice_index times earlier)) same (read earlier h))) tt;
+      subst IsSome (sym (subst (λ w. time_in w (line_at w text earlier) ≡ Some (slice_index times earlier)) same (read earlier h))) refl;
 }

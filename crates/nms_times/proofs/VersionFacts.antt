@@ -1,5 +1,5 @@
 -- How many elements pass a test from the front on, by two tests or over elements that do not fall.
-use Rattle.std.proofs.Common.{ℕ, ◌≡◌, ◌<◌, ◌≤◌, ◌×◌, Bool, true, false, List, [], ◌∷◌, length}
+use Rattle.std.proofs.Common.{ℕ, ◌≡◌, ◌<◌, ◌≤◌, Bool, true, false, List, [], ◌∷◌, length}
 use Rattle.std.proofs.Common.{get_or, arith, refl, nat_le, nat_lt, slice_index}
 use Rattle.std.specs.List.{prefix_len}
 use Rattle.std.specs.List.Sorted.{IsNonDecreasing, IsPartitionPoint}
@@ -11,11 +11,11 @@ use Rattle.nms_times.specs.Times.{version_at, version_before}
 pub prefix_len-mono : {X : Type 0} (p q : X → Bool) → ((x : X) → p x ≡ true → q x ≡ true) → (xs : List X)
     → prefix_len p xs ≤ prefix_len q xs
 prefix_len-mono p q weaker [] = omega arith
-prefix_len-mono p q weaker (x ∷ xs) = by_test (p x) refl
+prefix_len-mono p q weaker (x ∷ xs) = by_test (p x) refl (prefix_len-mono p q weaker xs)
   where
-    by_test : (b : Bool) → p x ≡ b → prefix_len p (x ∷ xs) ≤ prefix_len q (x ∷ xs)
-    by_test true yes = rw (yes, weaker x yes) (omega (arith, prefix_len-mono p q weaker xs))
-    by_test false no = rw no (omega arith)
+    by_test : (b : Bool) → p x ≡ b → prefix_len p xs ≤ prefix_len q xs → prefix_len p (x ∷ xs) ≤ prefix_len q (x ∷ xs)
+    by_test true yes more = let too : q x ≡ true = weaker x yes in rw (yes, too) (omega arith)
+    by_test false no more = rw no (omega arith)
 
 -- the point that a bisection finds is that number
 pub at_point : {X : Type 0} (p : X → Bool) (xs : List X) (n : ℕ) → n ≤ length xs

@@ -1,5 +1,5 @@
 -- When times are refused. This product's own rule.
-use Rattle.std.specs.Prelude.{ℕ, ◌≡◌, ◌+◌, ◌×◌, List}
+use Rattle.std.specs.Prelude.{ℕ, ◌≡◌, ◌+◌, List}
 use Rattle.nms_times.specs.Times.{FallsAt}
 use Rattle.nms_times.specs.TimesText.{IsFirstWrong}
 use Rattle.nms_times.specs.declared.times_fault.TimesFault.{TimesFault}

@@ -1,6 +1,6 @@
 -- Versions by time. The times of a tape are a list: that of change k stands at k - 1, so a version's time is that of its last
 -- change. This product's own rule.
-use Rattle.std.specs.Prelude.{ℕ, zero, suc, ◌≡◌, ◌+◌, ◌-◌, ◌<◌, ◌≤◌, ◌×◌, List, take, drop, length, nat_le, nat_lt, slice_get, slice_index}
+use Rattle.std.specs.Prelude.{ℕ, zero, suc, ◌≡◌, ◌+◌, ◌-◌, ◌<◌, ◌≤◌, List, take, drop, length, nat_le, nat_lt, slice_get, slice_index}
 use Rattle.std.specs.Prelude.{Option, None}
 use Rattle.std.specs.List.{prefix_len, AllAdjacentBelow}
 

@@ -1,5 +1,5 @@
 -- The text of times: a line for each change, of 16 bytes, or of 32 with the row of the source. This product's own rule.
-use Rattle.std.specs.Prelude.{ℕ, zero, suc, ◌≡◌, ◌+◌, ◌*◌, ◌<◌, ◌==◌, ◌&&◌, ◌||◌, Bool, List, take, drop, length, slice_index, nat_lt}
+use Rattle.std.specs.Prelude.{ℕ, ◌≡◌, ◌+◌, ◌-◌, ◌*◌, ◌/◌, ◌<◌, ◌==◌, ◌&&◌, ◌||◌, Bool, List, take, drop, length, slice_index, nat_le, nat_lt}
 use Rattle.std.specs.Prelude.{Option, Some, None, IsSome, if◌then◌else◌}
 use Rattle.std.specs.Char.{is_ascii_digit}
 use Rattle.std.specs.List.{list_all}
@@ -41,11 +41,8 @@ pub record IsFirstWrong (text : List ℕ) (line : ℕ) : Type 0 where
   pub wrong : time_at text place ≡ None
   pub first : (earlier : ℕ) → earlier < place → IsSome (time_at text earlier)
 
--- the row that a line has after its time
-abbrev pub row_in : List ℕ → Option ℕ
-row_in line = if length line == 32 then number_in 15 (take 15 (drop 16 line)) else None
-
--- the row of the source of a version's last change
+-- the row of the source of a version's last change, if the lines have rows
 abbrev pub row_of : List ℕ → (version : ℕ) → Option ℕ
-row_of text zero = None
-row_of text (suc place) = if width_of text == 32 then row_in (line_at 32 text place) else None
+row_of text version =
+    if nat_lt 0 version && width_of text == 32 && nat_le version (length text / 32)
+    then number_in 15 (take 15 (drop 16 (line_at 32 text (version - 1)))) else None

@@ -1,5 +1,5 @@
 //! A file of times, read: `specs/TimesText`.
-ghost use Rattle.std.specs.Prelude.{◌≡◌, ◌+◌, ◌*◌, ◌<◌, ◌≤◌, ◌×◌, ◌++◌, ◌∷◌, [], length, IfErr, IfOk, OnOk};
+ghost use Rattle.std.specs.Prelude.{◌≡◌, ◌+◌, ◌*◌, ◌<◌, ◌≤◌, ◌++◌, ◌∷◌, [], length, IfErr, IfOk, OnOk};
 ghost use Rattle.std.specs.Char.{is_ascii_digit};
 ghost use Rattle.std.specs.List.{list_all};
 ghost use Rattle.nms_times.specs.Faults.{IsReadFault};
@@ -35,11 +35,12 @@ pub fn read_times(alloc: Global, text: &[u8]) -> Result<Times, TimesFault>
 pub fn source_row(text: &[u8], version: u64) -> Option<u64>
     ensures { result ≡ row_of text.now version }
 {
-    if version == 0 || version > (text.len() / LONG) as u64 || width_of(text) == SHORT {
-        return None;
+    if 0 < version && width_of(text) == LONG && version <= (text.len() / LONG) as u64 {
+        let line = line_at(text, LONG, version as usize - 1);
+        parse_digits(&line[16..31], TIME)
+    } else {
+        None
     }
-    let line = line_at(text, LONG, version as usize - 1);
-    parse_digits(&line[SHORT..SHORT + TIME], TIME)
 }
 
 /// Puts the times of a text into a list.
@@ -52,14 +53,12 @@ fn fill(text: &[u8], all: &mut Vec<TimeOfDay>) -> Result<(), TimesFault>
     let lines = text.len() / width;
     all.reserve_exact(lines)?;
     for place in 0..lines {
-        match time_in(width, line_at(text, width, place)) {
-            Some(time) => keep(all, time)?,
-            None => {
-                return Err(TimesFault::NotTime {
-                    line: place as u64 + 1,
-                });
-            }
-        }
+        let Some(time) = time_in(width, line_at(text, width, place)) else {
+            return Err(TimesFault::NotTime {
+                line: place as u64 + 1,
+            });
+        };
+        keep(all, time)?;
     }
     if lines * width < text.len() {
         return Err(TimesFault::NotTime {
@@ -104,8 +103,12 @@ fn time_in(width: usize, line: &[u8]) -> Option<TimeOfDay>
     requires { 16 ≤ width }
     ensures { result ≡ time_in width line.now }
 {
-    if line.len() == width && is_end(&line[TIME..]) {
-        TimeOfDay::parse(&line[..TIME])
+    if line.len() != width {
+        return None;
+    }
+    let (time, rest) = line.split_at(TIME);
+    if is_end(rest) {
+        TimeOfDay::parse(time)
     } else {
         None
     }

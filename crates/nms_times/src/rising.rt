@@ -18,9 +18,9 @@ pub struct Rising<'a> {
 
 impl Rising<'_> {
     /// The version at a time: the last of which no change has a later time.
-    pub fn version_at(self, time: TimeOfDay) -> u64
-        ensures version { result ≡ self.before + version_at self.times.now time }
-        ensures high { result ≤ self.before + length self.times.now }
+    pub fn version_at(&self, time: TimeOfDay) -> u64
+        ensures version { result ≡ self.now.before + version_at self.now.times.now time }
+        ensures high { result ≤ self.now.before + length self.now.times.now }
     {
         let found = self.times.partition_point(
             |it: &TimeOfDay| -> bool
@@ -31,9 +31,9 @@ impl Rising<'_> {
     }
 
     /// The version before a time: the last of which every change has an earlier time.
-    pub fn version_before(self, time: TimeOfDay) -> u64
-        ensures version { result ≡ self.before + version_before self.times.now time }
-        ensures high { result ≤ self.before + length self.times.now }
+    pub fn version_before(&self, time: TimeOfDay) -> u64
+        ensures version { result ≡ self.now.before + version_before self.now.times.now time }
+        ensures high { result ≤ self.now.before + length self.now.times.now }
     {
         let found = self.times.partition_point(
             |it: &TimeOfDay| -> bool

@@ -1,5 +1,5 @@
 //! Which versions the changes of a symbol made: a line of the file of symbols.
-ghost use Rattle.std.specs.Prelude.{◌≡◌, ◌<◌, ◌≤◌, ◌×◌, IfOk, IfSome, length};
+ghost use Rattle.std.specs.Prelude.{◌≡◌, ◌<◌, ◌≤◌, IfOk, IfSome, length};
 
 use crate::times_fault::TimesFault;
 use nms_units::parse_digits;
@@ -38,8 +38,8 @@ pub fn find_span(text: &[u8], symbol: &[u8], versions: usize) -> Result<Option<S
 
 /// The name and the span of the first line, and the lines after it.
 fn first_span(text: &[u8], versions: usize) -> Option<(&[u8], Span, &[u8])>
-    ensures within { IfSome result (λ it. (it.1.0.before < it.1.0.last) × (it.1.0.last ≤ versions)) }
-    ensures shorter { IfSome result (λ it. length it.1.1.now < length text.now) }
+    ensures within { IfSome result (λ it. (it.1.before < it.1.last) × (it.1.last ≤ versions)) }
+    ensures shorter { IfSome result (λ it. length it.2.now < length text.now) }
 {
     let (line, rest) = before_byte(text, b'\n')?;
     let (name, versions_text) = before_byte(line, b',')?;

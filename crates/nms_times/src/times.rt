@@ -1,5 +1,5 @@
 //! The times of the changes of a tape: `specs/Times`.
-ghost use Rattle.std.specs.Prelude.{◌≡◌, ◌≢◌, ◌+◌, ◌-◌, ◌<◌, ◌≤◌, ◌×◌, length, IfErr, IfOk, MatchOption};
+ghost use Rattle.std.specs.Prelude.{◌≡◌, ◌≢◌, ◌+◌, ◌-◌, ◌<◌, ◌≤◌, ◌^◌, length, IfErr, IfOk, MatchOption};
 ghost use Rattle.std.specs.List.Sorted.{IsNonDecreasing};
 ghost use Rattle.nms_times.specs.Faults.{IsFall};
 ghost use Rattle.nms_times.specs.declared.times_fault.TimesFault.TheVariants.{OtherLength};
