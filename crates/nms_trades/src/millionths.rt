@@ -1,6 +1,7 @@
 //! Prices of up to six decimals: `specs/FinePrice`.
 ghost use Rattle.std.specs.Prelude.{◌≡◌, ◌^◌, ◌<◌, ◌≤◌, ◌++◌, ◌∷◌, IfSome, OnOk, length};
 ghost use Rattle.nms_lines.specs.Numbers.{above_zero};
+ghost use Rattle.nms_units.specs.Digits.{point_in};
 ghost use Rattle.nms_units.specs.Price.{digit_at};
 ghost use Rattle.nms_trades.specs.FinePrice.{fine_decimals, fine_dollars, fine_number, fine_text};
 
@@ -27,7 +28,7 @@ fn number_in(text: &[u8]) -> Option<u64>
     ensures number { result ≡ fine_number text.now }
     ensures high { IfSome result (λ n. n ≤ MOST_MILLIONTHS) }
 {
-    match text.iter().position(|c| *c == b'.') {
+    match point_in(text) {
         None => dollars_in(text),
         Some(point) => {
             let whole = dollars_in(&text[..point])?;
@@ -35,6 +36,14 @@ fn number_in(text: &[u8]) -> Option<u64>
             Some(whole + behind)
         }
     }
+}
+
+/// Where the first point stands.
+fn point_in(text: &[u8]) -> Option<usize>
+    ensures place { result ≡ point_in text.now }
+    ensures within { IfSome result (λ point. point < length text.now) }
+{
+    text.iter().position(|c| *c == b'.')
 }
 
 /// What 1 to 7 digits write as dollars, in 1/1,000,000 dollar.

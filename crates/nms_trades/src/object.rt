@@ -62,6 +62,24 @@ pub(crate) fn write_through<W: Write>(
         return Err(ShowFault::NoMemory);
     };
     let (worst, causes) = text.split_at(cut.min(text.len()));
+    write_head(alloc, answers, execution, sums, behind_comma(worst), causes)?;
+    for (side, row) in &finding.passed {
+        if !is_helped(execution, row) {
+            write_passed(alloc, answers, text, roster, execution, *side, row)?;
+        }
+    }
+    Ok(())
+}
+
+/// Writes that an execution traded through, with these texts.
+fn write_head<'a, W: Write>(
+    alloc: Global,
+    answers: &mut W,
+    execution: &'a Execution,
+    sums: &Sums,
+    worst: &'a [u8],
+    causes: &'a [u8],
+) -> Result<(), ShowFault> {
     write_object(
         alloc,
         answers,
@@ -70,17 +88,11 @@ pub(crate) fn write_through<W: Write>(
             ("id", Item::Bytes(execution.name.as_slice())),
             ("version", Item::Number(execution.version)),
             ("count", Item::Number(sums.count)),
-            ("worst", Item::Bytes(behind_comma(worst))),
+            ("worst", Item::Bytes(worst)),
             ("shares", Item::Number(u64::from(sums.shares))),
             ("cause", Item::Bytes(causes)),
         ],
-    )?;
-    for (side, row) in &finding.passed {
-        if !is_helped(execution, row) {
-            write_passed(alloc, answers, text, roster, execution, *side, row)?;
-        }
-    }
-    Ok(())
+    )
 }
 
 /// Appends the greatest difference behind a comma, and then the causes. Returns where the causes begin.
@@ -110,6 +122,27 @@ fn write_passed<W: Write>(
     if push_millionths(text, difference(row, execution.millionths)).is_err() {
         return Err(ShowFault::NoMemory);
     }
+    write_row(
+        alloc,
+        answers,
+        roster,
+        execution,
+        side,
+        row,
+        behind_comma(text),
+    )
+}
+
+/// Writes a row, which is so far from the price.
+fn write_row<'a, W: Write>(
+    alloc: Global,
+    answers: &mut W,
+    roster: &'a Roster,
+    execution: &'a Execution,
+    side: Side,
+    row: &Row,
+    by: &'a [u8],
+) -> Result<(), ShowFault> {
     let own = !word_of_own(&execution.part, row.part).is_empty();
     write_object(
         alloc,
@@ -122,7 +155,7 @@ fn write_passed<W: Write>(
             ("price", Item::of_price(row.price)),
             ("shares", Item::Number(u64::from(row.size))),
             ("receipt", Item::Number(row.receipt)),
-            ("by", Item::Bytes(behind_comma(text))),
+            ("by", Item::Bytes(by)),
             ("own", Item::Flag(own)),
         ],
     )

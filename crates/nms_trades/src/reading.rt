@@ -1,5 +1,6 @@
 //! What a record of an execution says: `specs/Reading`.
 ghost use Rattle.std.specs.Prelude.{◌≡◌, IfErr, IfOk, true};
+ghost use Rattle.std.specs.List.{list_all};
 ghost use Rattle.csv.specs.Records.{fields_of};
 ghost use Rattle.nms_trades.specs.Reading.{IsOn, IsReadFrom, deal_in, is_name, is_name_byte, part_of, version_of};
 
@@ -57,7 +58,14 @@ pub(crate) fn read_execution(
 fn is_name(text: &[u8]) -> bool
     ensures { result ≡ is_name text.now }
 {
-    !text.is_empty() && text.len() <= MOST_NAME && text.iter().all(|byte| is_name_byte(*byte))
+    !text.is_empty() && text.len() <= MOST_NAME && are_name_bytes(text)
+}
+
+/// Whether each byte may stand in a name.
+fn are_name_bytes(text: &[u8]) -> bool
+    ensures { result ≡ list_all is_name_byte text.now }
+{
+    text.iter().all(|byte| is_name_byte(*byte))
 }
 
 /// A name, copied.

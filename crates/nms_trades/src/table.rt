@@ -183,10 +183,10 @@ fn write_head<W: Write>(form: Form, name: &str, answers: &mut W) -> Result<(), S
 }
 
 /// Writes a count, if there is anything in it.
-fn write_count<W: Write>(
+fn write_count<'a, W: Write>(
     alloc: Global,
-    what: &str,
-    name: Item<'_>,
+    what: &'a str,
+    name: Item<'a>,
     count: &Count,
     form: Form,
     answers: &mut W,
@@ -309,7 +309,10 @@ fn by_shares(alloc: Global, counts: &[Count]) -> Result<Vec<usize>, AllocError> 
 
 /// The name of the symbol at a place.
 fn sym_item(roster: &Roster, place: usize) -> Item<'_> {
-    match Sym::new(place as u16) {
+    let Ok(place) = u16::try_from(place) else {
+        return Item::Absent;
+    };
+    match Sym::new(place) {
         Some(sym) => Item::Text(name_of_sym(roster, sym)),
         None => Item::Absent,
     }
