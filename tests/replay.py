@@ -13,6 +13,7 @@ import os
 import random
 import re
 import resource
+import select
 import shutil
 import signal
 import subprocess
@@ -30,7 +31,7 @@ LETTERS = "ABCDEFGH"
 
 
 class Count:
-    passed = failed = 0
+    passed = failed = silences = 0
 
 
 def check(what, holds, shown=""):
@@ -415,6 +416,7 @@ def refused_words(program, tool):
         ("two clients on one input", ["--feed", "A=a", "--feed", "B=b", "--client", "i,o", "--client", "i,p"], "a path is given to two clients, or to a client and --tape"),
         ("answers to the tape", ["--feed", "A=a", "--feed", "B=b", "--client", "i,t"], "a path is given to two clients, or to a client and --tape"),
         ("a client with one path", ["--feed", "A=a", "--feed", "B=b", "--client", "i"], "--client takes IN,OUT: two paths, with no comma in them"),
+        *((f"silence for {word or 'nothing'}", ["--feed", "A=a", "--feed", "B=b", f"--stale={word}"], "--stale takes whole seconds, from 1 to 86400") for word in ("", "0", "86401", "-1", "+5", "1.5", "5s", "9" * 30)),
         ("more clients than desks", ["--feed", "A=a", "--feed", "B=b", *(it for n in "123" for it in ("--client", f"i{n},o{n}"))], "more clients than the setup has desks"),
     )
     for what, words, said in usages:
@@ -486,6 +488,9 @@ def refused_records(program, tool):
         check(it.what, status == 6 and "nms_serve: feed A: 60000 records, 40000 refused" in lines, (status, errors[-300:]))
         check(f"{it.what}: the first is reported", reports[:1] == ["nms_serve: A:1: L3"], reports[:3])
         check(f"{it.what}: at most 10 a second", len(reports) <= 10 * (seconds + 2), (len(reports), seconds))
+    with Failing(program, tool, "a million refused records") as it:
+        status, _, errors = end_of(it.what, it.room.start(*it.words(it.room.write("a", b"?\n" * 1_000_000))))
+        check(it.what, status == 6 and "nms_serve: feed A: 1000000 records, 1000000 refused\n" in errors, (status, errors[-300:]))
     with Failing(program, tool, "a refused record of a strict run") as it:
         feed = it.room.write("a", GOOD + b"Q,Y,ABC,A,1,1,1,1\n" + OTHER)
         it.ends(it.room.start(*it.words(feed, it.room.fifo("b"), "--strict"), stdin=subprocess.PIPE), 6, "E5: A:2: L9")
@@ -504,6 +509,232 @@ def seen(started, version, most=10):
         if ask(started, b"N,0,ABC\n").startswith(b"BEST,0,ABC,%d," % version):
             return True
     return False
+
+
+class Heard(threading.Thread):
+    """The lines of a run on standard error, as they come."""
+
+    def __init__(self, started):
+        super().__init__(daemon=True)
+        self.started, self.lines = started, []
+        self.start()
+
+    def run(self):
+        for line in self.started.stderr:
+            self.lines.append(line.decode().removeprefix("nms_serve: ").rstrip("\n"))
+
+    def has(self, line, times=1, most=10):
+        """Whether a line came so often, in time."""
+        end = time.monotonic() + most
+        while self.lines.count(line) < times and time.monotonic() < end:
+            time.sleep(0.005)
+        return self.lines.count(line) == times
+
+    def ends(self, what, status, most=20):
+        """Whether the run ends with this status."""
+        try:
+            got = self.started.wait(most)
+        except subprocess.TimeoutExpired:
+            self.started.kill()
+            got = "not done"
+        self.join(10)
+        return check(f"{what}: it ends", got == status, (got, self.lines[-9:]))
+
+
+def answer_in(started, seconds):
+    """The next answer of a run, if it comes in time."""
+    ready, _, _ = select.select([started.stdout], [], [], seconds)
+    return started.stdout.readline() if ready else None
+
+
+FROM_B = GOOD.replace(b"N", b"Y", 1)
+
+
+def held_requests(program, tool):
+    """With --wait requests are held until each feed has sent a change or ended; the first answer has these changes."""
+    for strict in ([], ["--strict"]):
+        with Failing(program, tool, f"held requests {strict}") as it:
+            fifos = it.room.fifo("a"), it.room.fifo("b")
+            started = it.room.start(*it.words(*fifos, "--wait", *strict), stdin=subprocess.PIPE, bufsize=0)
+            started.stdin.write(b"N,0,ABC\n")
+            with open(fifos[0], "wb", buffering=0) as feed:
+                feed.write(GOOD + OTHER)
+                check(f"{it.what}: one feed is not all", answer_in(started, 0.3) is None)
+                with open(fifos[1], "wb", buffering=0) as other:
+                    other.write(FROM_B[:-1])
+                    check(f"{it.what}: half a line is no change", answer_in(started, 0.1) is None)
+                    other.write(b"\n")
+                    answer = answer_in(started, 10)
+                    check(f"{it.what}: all have sent", (answer or b"").startswith(b"BEST,0,ABC,3,"), answer)
+            started.stdin.close()
+            Heard(started).ends(it.what, 0)
+    with Failing(program, tool, "held requests, and a feed that ends") as it:
+        fifos = it.room.fifo("a"), it.room.fifo("b")
+        started = it.room.start(*it.words(*fifos, "--wait"), stdin=subprocess.PIPE, bufsize=0)
+        started.stdin.write(b"N,0,ABC\n")
+        started.stdin.close()
+        with open(fifos[0], "wb", buffering=0) as feed:
+            feed.write(GOOD)
+            with open(fifos[1], "wb", buffering=0) as other:
+                other.write(b"?\n")
+                check(f"{it.what}: a refused record is no change", answer_in(started, 0.2) is None)
+            answer = answer_in(started, 10)
+            check(it.what, (answer or b"").startswith(b"BEST,0,ABC,1,"), answer)
+        Heard(started).ends(it.what, 6)
+    with Failing(program, tool, "held requests, and feeds without changes") as it:
+        asks = it.room.write("in", b"N,0,ABC\n")
+        started = it.room.start(*it.words("/dev/null", "/dev/null", "--wait", "--client", f"{asks},{it.room.path('out')}"))
+        Heard(started).ends(it.what, 0)
+        with open(it.room.path("out"), "rb") as file:
+            answer = file.read()
+        check(it.what, answer.startswith(b"BEST,0,ABC,0,"), answer)
+    for turn in range(5):
+        with Failing(program, tool, f"held requests, and a feed at full speed, turn {turn}") as it:
+            feed, asks = it.room.write("a", (GOOD + OTHER) * 40_000), it.room.write("in", b"N,0,ABC\n")
+            fifo, out = it.room.fifo("b"), it.room.path("out")
+            started = it.room.start(*it.words(feed, fifo, "--wait", "--client", f"{asks},{out}"))
+            time.sleep(0.01 * turn)
+            with open(fifo, "wb", buffering=0) as other:
+                other.write(FROM_B)
+            Heard(started).ends(it.what, 0)
+            with open(it.tape, "rb") as tape, open(out, "rb") as file:
+                place, version = [line[:3] for line in tape].index(b"Q,Y"), version_of(file.read())
+            check(f"{it.what}: its version has the other feed's change", version is not None and version > place, (version, place))
+    with Failing(program, tool, "held requests, and a fault") as it:
+        feed = it.room.write("a", GOOD + b"?\n")
+        started = it.room.start(*it.words(feed, it.room.fifo("b"), "--wait", "--strict"), stdin=subprocess.PIPE)
+        started.stdin.write(b"N,0,ABC\n")
+        started.stdin.flush()
+        it.ends(started, 6, "E5: A:2: L1")
+
+
+def silent_feeds(program, tool):
+    """With --stale a silent feed is reported once a silence, and again when it speaks; an idle run takes no time."""
+    with Failing(program, tool, "silent feeds") as it:
+        fifos = it.room.fifo("a"), it.room.fifo("b")
+        started = it.room.start(*it.words(*fifos, "--stale", "1"), stdin=subprocess.PIPE)
+        heard, began = Heard(started), time.monotonic()
+        with open(fifos[0], "wb", buffering=0) as feed:
+            feed.write(GOOD)
+            check(f"{it.what}: one that nothing opens", heard.has("feed B: silent for 1 s"), heard.lines)
+            check(f"{it.what}: one that says no more", heard.has("feed A: silent for 1 s"), heard.lines)
+            check(f"{it.what}: in time", 0.9 < time.monotonic() - began < 6, time.monotonic() - began)
+            time.sleep(1.3)
+            check(f"{it.what}: once", len(heard.lines) == 2, heard.lines)
+            feed.write(b"?\n")
+            check(f"{it.what}: a refused record breaks a silence", heard.has("feed A: speaks again"), heard.lines)
+            check(f"{it.what}: the next silence", heard.has("feed A: silent for 1 s", 2), heard.lines)
+            feed.write(GOOD)
+            check(f"{it.what}: a change breaks it", heard.has("feed A: speaks again", 2), heard.lines)
+        time.sleep(1.3)
+        check(f"{it.what}: a feed that ended is not silent", heard.lines.count("feed A: silent for 1 s") == 2, heard.lines)
+        open(fifos[1], "wb").close()
+        started.stdin.close()
+        heard.ends(it.what, 6)
+        check(f"{it.what}: the other feed was silent once", heard.lines.count("feed B: silent for 1 s") == 1 and "feed B: speaks again" not in heard.lines, heard.lines)
+    with Failing(program, tool, "silent feeds, and a fault") as it:
+        started = it.room.start(*it.words(it.room.write("a", b"?\n"), it.room.fifo("b"), "--stale", "86400", "--strict"), stdin=subprocess.PIPE)
+        it.ends(started, 6, "E5: A:1: L1")
+    with Failing(program, tool, "an idle run") as it:
+        fifos = it.room.fifo("a"), it.room.fifo("b")
+        started = it.room.start(*it.words(*fifos, "--stale", "1", "--keep", "--wait"), stdin=subprocess.PIPE)
+        for fifo in fifos:
+            with open(fifo, "wb", buffering=0) as feed:
+                feed.write(GOOD if fifo == fifos[0] else FROM_B)
+        before, began = time_of(started.pid), time.monotonic()
+        time.sleep(1.5)
+        share = (time_of(started.pid) - before) / (time.monotonic() - began)
+        check(f"{it.what}: its share of a processor", share < 0.02, share)
+        started.stdin.close()
+        Heard(started).ends(it.what, 0)
+    Count.silences += 1
+
+
+def time_of(pid):
+    """The seconds of processor that a process took, to 0.01."""
+    with open(f"/proc/{pid}/stat", encoding="ascii") as file:
+        fields = file.read().rsplit(")", 1)[1].split()
+    return (int(fields[11]) + int(fields[12])) / os.sysconf("SC_CLK_TCK")
+
+
+def kept_feeds(program, tool):
+    """With --keep a FIFO waits for its next writer, until its writer has left and all clients have ended."""
+    with Failing(program, tool, "a kept feed") as it:
+        fifo = it.room.fifo("a")
+        started = it.room.start(*it.words(fifo, "/dev/null", "--keep"), stdin=subprocess.PIPE)
+        heard = Heard(started)
+        with open(fifo, "wb", buffering=0) as feed:
+            feed.write(GOOD + OTHER[:-9])
+        check(f"{it.what}: a half line is refused as its writer leaves", heard.has("A:2: L1"), heard.lines)
+        with open(fifo, "wb", buffering=0) as feed:
+            feed.write(OTHER)
+            check(f"{it.what}: the next writer's first line", seen(started, 2))
+        for _ in range(200):
+            with open(fifo, "wb", buffering=0) as feed:
+                feed.write(GOOD)
+        check(f"{it.what}: writers that come and go", seen(started, 202))
+        started.stdin.close()
+        heard.ends(it.what, 6, 5)
+        check(f"{it.what}: its summary", "feed A: 203 records, 1 refused" in heard.lines, heard.lines)
+        it.tape_is(b"".join(stood(line) for line in [GOOD, OTHER] + [GOOD] * 200))
+    with Failing(program, tool, "a kept feed with a writer, when the clients end") as it:
+        fifo = it.room.fifo("a")
+        started = it.room.start(*it.words(fifo, "/dev/null", "--keep"), stdin=subprocess.PIPE)
+        heard = Heard(started)
+        with open(fifo, "wb", buffering=0) as feed:
+            feed.write(GOOD)
+            check(f"{it.what}: it is read", seen(started, 1))
+            started.stdin.close()
+            time.sleep(0.2)
+            check(f"{it.what}: the run goes on", started.poll() is None)
+            feed.write(OTHER)
+        heard.ends(it.what, 0, 5)
+        it.tape_is(stood(GOOD) + stood(OTHER))
+    with Failing(program, tool, "a kept feed that is a file") as it:
+        started = it.room.start(*it.words(it.room.write("a", GOOD), "/dev/null", "--keep", "--wait"), stdin=subprocess.PIPE)
+        check(f"{it.what}: it is read once", seen(started, 1) and not seen(started, 2, 0.2))
+        started.stdin.close()
+        Heard(started).ends(it.what, 0, 5)
+    for what, text, status, said in (
+        ("a half line of a kept feed, strict", GOOD + OTHER[:-9], 6, "E5: A:2: L1"),
+        ("a kept feed that waits, and a tape that is full", GOOD * 4, 7, "E7: the tape is full"),
+    ):
+        with Failing(program, tool, what, SETUP.replace("1000000", "3")) as it:
+            fifos = it.room.fifo("a"), it.room.fifo("b")
+            started = it.room.start(*it.words(*fifos, "--keep", "--strict", "--stale", "9", "--wait"), stdin=subprocess.PIPE)
+            for fifo, line in ((fifos[1], b""), (fifos[0], text)):
+                with open(fifo, "wb", buffering=0) as feed:
+                    feed.write(line)
+            it.ends(started, status, said)
+
+
+def stood(line):
+    """A change of these tests as it stands on the tape."""
+    return re.sub(rb"(\.\d\d),", rb"\g<1>00,", line)
+
+
+def written_first(program, tool):
+    """A batch is seen by no client before it is in the tape's file: while the tape can't be written, no version rises."""
+    for blocked in ("tape", "tape.published"):
+        with Failing(program, tool, f"a batch that can't be written to {blocked}") as it:
+            fifo, end = it.room.fifo("a"), os.open(it.room.fifo(blocked), os.O_RDWR)
+            started = it.room.start(*it.words(fifo), stdin=subprocess.PIPE)
+            with open(fifo, "wb", buffering=0) as feed:
+                feed.write(GOOD)
+                check(f"{it.what}: one that can", seen(started, 1))
+                os.set_blocking(end, False)
+                try:
+                    while os.write(end, b"." * 4096):
+                        pass
+                except BlockingIOError:
+                    pass
+                feed.write(OTHER)
+                check(f"{it.what}: it is not published", not seen(started, 2, 0.3))
+                while not seen(started, 2, 0.05):
+                    os.read(end, 1 << 20)
+            started.stdin.close()
+            Heard(started).ends(it.what, 0)
+            os.close(end)
 
 
 def torn_feeds(program, tool):
@@ -551,21 +782,22 @@ def signals(program, tool):
             time.sleep(0.01)
         status, _, errors = end_of(it.what, started)
         check(it.what, status == 0 and "nms_serve: feed A: 100000 records, 0 refused\n" in errors, (status, errors))
-    for number in (signal.SIGTERM, signal.SIGINT, signal.SIGKILL):
-        for turn in range(7):
-            with Failing(program, tool, f"{number.name} at full speed") as it:
-                feed, asks = it.room.write("a", (GOOD + OTHER) * 400_000), it.room.write("in", b"N,0,ABC\nO,0,B,ABC,300,10.02\n" * 100_000)
-                started = it.room.start(*it.words(feed, "/dev/null", "--client", f"{asks},{it.room.path('out')}"))
-                time.sleep(0.02 + 0.015 * turn)
-                started.send_signal(number)
-                started.communicate()
-                ended = {0, -number}
-                check(f"{it.what}: its status", started.returncode in ended, started.returncode)
-                for name in ("tape", "tape.published", "out"):
-                    if os.path.exists(it.room.path(name)):
-                        with open(it.room.path(name), "rb") as file:
-                            text = file.read()
-                        check(f"{it.what}: {name} has whole lines", not text or text.endswith(b"\n"), text[-200:])
+    with Failing(program, tool, "signals") as texts:
+        feed, asks = texts.room.write("a", (GOOD + OTHER) * 400_000), texts.room.write("in", b"N,0,ABC\nO,0,B,ABC,300,10.02\n" * 100_000)
+        for number in (signal.SIGTERM, signal.SIGINT, signal.SIGKILL):
+            for turn in range(20):
+                with Failing(program, tool, f"{number.name} at full speed, turn {turn}") as it:
+                    started = it.room.start(*it.words(feed, "/dev/null", "--client", f"{asks},{it.room.path('out')}"))
+                    time.sleep(0.02 + 0.005 * turn)
+                    started.send_signal(number)
+                    started.communicate()
+                    ended = {0, -number}
+                    check(f"{it.what}: its status", started.returncode in ended, started.returncode)
+                    for name in ("tape", "tape.published", "out"):
+                        if os.path.exists(it.room.path(name)):
+                            with open(it.room.path(name), "rb") as file:
+                                text = file.read()
+                            check(f"{it.what}: {name} has whole lines", not text or text.endswith(b"\n"), text[-200:])
 
 
 def little_memory(program, tool):
@@ -596,10 +828,14 @@ def main():
     else:
         program, tool = map(os.path.abspath, sys.argv[1:3])
         runs, seed = int((sys.argv[3:] or [20])[0]), int((sys.argv[4:] or [611])[0])
-        for part in (refused_words, failing_paths, full_tape, refused_records, torn_feeds, signals, little_memory):
+        waiting = threading.Thread(target=silent_feeds, args=(program, tool))
+        waiting.start()
+        for part in (refused_words, failing_paths, full_tape, refused_records, torn_feeds, held_requests, kept_feeds, written_first, signals, little_memory):
             part(program, tool)
         for number in range(runs):
             run_at_random(seed + number, program, tool)
+        waiting.join()
+        check("silent feeds were tested to their end", Count.silences == 1)
     print(f"{Count.passed} passed, {Count.failed} failed")
     return 1 if Count.failed else 0
 

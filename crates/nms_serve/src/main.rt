@@ -7,7 +7,7 @@ mod setting_up;
 mod telling;
 
 use nms_serve_words::{Request, WordsFault, read_words};
-use nms_serving::Run;
+use nms_serving::{Run, Ways};
 use opening::serve_request;
 use program_fault::ProgramFault;
 use setting_up::read_setup_of;
@@ -50,7 +50,13 @@ fn answer_request<R: Threads + Wait + Sync>(rt: &R, host: &HostRuntime, request:
         Ok(setup) => setup,
         Err(fault) => return tell_fault(host, &fault),
     };
-    let run = Run::new(&setup, request.strict);
+    let ways = Ways {
+        strict: request.strict,
+        keep: request.keep,
+        wait: request.wait,
+        stale: request.stale,
+    };
+    let run = Run::new(&setup, ways);
     match serve_request(rt, host, &run, &setup, request) {
         Ok(status) => status,
         Err(fault) => tell_fault(host, &fault),

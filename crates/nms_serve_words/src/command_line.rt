@@ -10,7 +10,10 @@ pub(crate) fn serve_command<'a>(alloc: Global) -> Result<Command<'a>, AllocError
         .arg(feed_arg(alloc))?
         .arg(client_arg(alloc))?
         .arg(tape_arg(alloc))?
-        .arg(strict_arg(alloc))
+        .arg(strict_arg(alloc))?
+        .arg(keep_arg(alloc))?
+        .arg(wait_arg(alloc))?
+        .arg(stale_arg(alloc))
 }
 
 /// The command line without its options.
@@ -66,4 +69,28 @@ fn strict_arg<'a>(alloc: Global) -> Arg<'a> {
         .long("strict")
         .action(ArgAction::SetTrue)
         .help("Ends the run at the first record of a feed that is refused")
+}
+
+/// The flag `--keep`.
+fn keep_arg<'a>(alloc: Global) -> Arg<'a> {
+    Arg::new(alloc, "keep")
+        .long("keep")
+        .action(ArgAction::SetTrue)
+        .help("Reads a feed's FIFO on after its writer left, until all clients have ended")
+}
+
+/// The flag `--wait`.
+fn wait_arg<'a>(alloc: Global) -> Arg<'a> {
+    Arg::new(alloc, "wait")
+        .long("wait")
+        .action(ArgAction::SetTrue)
+        .help("Holds requests until each feed has sent a change or ended")
+}
+
+/// The option `--stale SECONDS`.
+fn stale_arg<'a>(alloc: Global) -> Arg<'a> {
+    Arg::new(alloc, "stale")
+        .long("stale")
+        .value_name("SECONDS")
+        .help("Warns on standard error of a feed without a record for so long, 1 to 86400")
 }

@@ -6,6 +6,9 @@ use clap::error::ErrorKind;
 use clap::{ArgMatches, Error};
 use std::alloc::{AllocError, Global};
 
+/// The most seconds of `--stale`: a day. This product's own rule.
+const MOST_SECONDS: u32 = 86_400;
+
 /// Reads the words that follow the program's name.
 ///
 /// `Parser` has the parser's text, of a fault or of the help or the version that was asked for. The other faults name what
@@ -45,8 +48,38 @@ fn request_in(alloc: Global, matches: &ArgMatches<'_>) -> Result<Request, WordsF
         feeds,
         clients,
         tape: String::from_str(alloc, tape)?,
-        strict: matches.get_str("strict") == Some("true"),
+        strict: is_flagged(matches, "strict"),
+        keep: is_flagged(matches, "keep"),
+        wait: is_flagged(matches, "wait"),
+        stale: stale_in(matches)?,
     })
+}
+
+/// Whether the matches hold the flag. The parser gives it the text `true` or `false`.
+fn is_flagged(matches: &ArgMatches<'_>, name: &str) -> bool {
+    matches.get_str(name) == Some("true")
+}
+
+/// The seconds of `--stale`, if it was given.
+fn stale_in(matches: &ArgMatches<'_>) -> Result<Option<u32>, WordsFault> {
+    match matches.get_str("stale") {
+        Some(value) => match seconds_of(value) {
+            Some(seconds) => Ok(Some(seconds)),
+            None => Err(WordsFault::StaleForm),
+        },
+        None => Ok(None),
+    }
+}
+
+/// The seconds that a value of `--stale` says: digits alone, a number from 1 to 86,400.
+fn seconds_of(value: &str) -> Option<u32> {
+    if !value.bytes().all(|byte| byte.is_ascii_digit()) {
+        return None;
+    }
+    match value.parse::<u32>() {
+        Ok(seconds) if 1 <= seconds && seconds <= MOST_SECONDS => Some(seconds),
+        _ => None,
+    }
 }
 
 /// The text of an option's value, if it has one.

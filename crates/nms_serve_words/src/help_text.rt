@@ -12,6 +12,9 @@ pub(crate) const AFTER_HELP: &str =
 Without --client, requests come from standard input and answers go to standard
 output. Beside the tape's file, FILE.published has its length at each publishing.
 
+With --keep a feed's FIFO is at its end when its writer has left and all clients
+have ended: until then it waits for its next writer.
+
 Requests, one a line, as in scripts:
   N,DESK,SYM                                 the best bid and offer
   E,DESK,SYM,PRICE                           what a trade at the price trades through

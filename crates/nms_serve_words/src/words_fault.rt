@@ -23,6 +23,9 @@ pub enum WordsFault {
     /// Two clients have the same input, or one path is written to twice: by two clients, or by a client and the tape.
     #[error("usage: a path is given to two clients, or to a client and --tape")]
     PathTwice,
+    /// The value of `--stale` is not a whole number from 1 to 86,400, in digits alone.
+    #[error("usage: --stale takes whole seconds, from 1 to 86400")]
+    StaleForm,
 }
 
 impl WordsFault {
@@ -33,7 +36,8 @@ impl WordsFault {
             | WordsFault::FeedForm
             | WordsFault::FeedTwice
             | WordsFault::ClientForm
-            | WordsFault::PathTwice => 2,
+            | WordsFault::PathTwice
+            | WordsFault::StaleForm => 2,
             WordsFault::NoMemory => 5,
         }
     }

@@ -1,1 +1,2 @@
+mod KeeperFacts
 mod OpeningFacts

@@ -55,7 +55,7 @@ pub(crate) fn serve_client<R: Threads + Wait + Sync>(
             None
         }
     };
-    means.run.end_stream();
+    means.run.end_client();
     ClientEnd { number, counts }
 }
 
@@ -109,8 +109,8 @@ fn opened(run: &Run<'_>, outcome: io::Result<File>, stream: Stream) -> Result<Fi
     }
 }
 
-/// Answers the requests of a stream.
-fn answer_from<R, S: Read + Drop, W: Write + Drop>(
+/// Answers the requests of a stream, once they are held no longer.
+fn answer_from<R: Wait, S: Read + Drop, W: Write + Drop>(
     means: &Means<'_, R>,
     number: u8,
     desk: &mut Desk,
@@ -120,6 +120,7 @@ fn answer_from<R, S: Read + Drop, W: Write + Drop>(
     requires sizes { desk.old.sizes ≡ sizes_of means.now.run.now.setup.now.roster }
 {
     let run = means.run;
+    run.pass_gate(means.rt);
     let mut answers = Guarded::new(answers, run);
     match answer_stream(
         means.alloc,

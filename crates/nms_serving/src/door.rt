@@ -1,4 +1,7 @@
 //! Paths that threads open, read and write, and how a thread ends that waits at a FIFO.
+ghost use Rattle.std.specs.Prelude.{◌≡◌};
+ghost use Rattle.nms_serving.specs.Streams.{path_of};
+
 use crate::run::Run;
 use std::alloc::Global;
 use std::fs::{File, OpenOptions};
@@ -28,7 +31,9 @@ pub struct Door<'a> {
 
 impl<'a> Door<'a> {
     /// Of a path.
-    pub fn new(path: &'a str) -> Self {
+    pub fn new(path: &'a str) -> Self
+        ensures { path_of result ≡ path.now }
+    {
         Door { path }
     }
 
@@ -50,10 +55,15 @@ impl<'a> Door<'a> {
         how.open(files, self.path)
     }
 
+    /// Whether there is a FIFO, or a pipe without a name.
+    pub(crate) fn is_fifo(&self, host: &HostRuntime) -> bool {
+        is_fifo(host, self.path)
+    }
+
     /// Wakes the thread of the run that waits here at a FIFO, if one does. Another thread does that, which is left behind
     /// when the process ends: it opens both ends of the FIFO and gives it a line feed, or takes what is in it.
     pub(crate) fn wake<R: Threads>(&self, rt: &R, host: &HostRuntime, alloc: Global, side: Side) {
-        if !is_fifo(host, self.path) {
+        if !self.is_fifo(host) {
             return;
         }
         let Ok(path) = String::from_str(alloc, self.path) else {

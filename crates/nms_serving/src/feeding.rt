@@ -12,7 +12,13 @@ use crate::watcher::Watcher;
 use nms_feed::Sender;
 use nms_feeds::{FeedCounts, send_stream};
 use nms_quote::Feed;
+use std::fs::File;
 use std::sync::Wait;
+use std::thread;
+use std::time::Duration;
+
+/// How long a feed rests before it looks for the next writer of its FIFO, in milliseconds. This product's own rule.
+const REST: u64 = 10;
 
 /// What a feed's thread came to.
 #[derive(Clone, Copy, Drop)]
@@ -37,11 +43,12 @@ pub(crate) fn feed_all<R: Wait>(
         Ok(()) => {}
         Err(fault) => means.run.fail(fault),
     }
-    means.run.end_stream();
+    means.run.end_feed(feed);
     FeedEnd { feed, counts }
 }
 
-/// Opens a feed's path, and sends the changes of its stream.
+/// Opens a feed's path, and sends the changes of its stream. A FIFO whose writer left is read on, if the run goes on so:
+/// this end stays open, so that no writer finds it closed. What a writer left without its line feed is refused before.
 fn read_feed<R: Wait>(
     means: &Means<'_, R>,
     door: &Door<'_>,
@@ -52,17 +59,42 @@ fn read_feed<R: Wait>(
     requires counted { IsCounted sender.old.sent counts.old }
 {
     let run = means.run;
-    let Ok(file) = door.open_to_read(means.host, run) else {
+    let Ok(mut file) = door.open_to_read(means.host, run) else {
         return Err(ServeFault::NotOpened(Stream::Feed(feed)));
     };
+    let is_kept = run.ways.keep && door.is_fifo(means.host);
     let watcher = Watcher::new(means.host, run);
+    for _ in 0..u64::MAX {
+        // Clients are looked at before the stream: what was written before they ended is still read.
+        let is_last = !is_kept || run.is_closing();
+        read_writer(means, &mut file, &watcher, counts, sender)?;
+        if is_last {
+            return Ok(());
+        }
+        thread::sleep(means.host, Duration::from_millis(REST));
+    }
+    Ok(())
+}
+
+/// Sends the changes of a stream until its writers have left.
+fn read_writer<R: Wait>(
+    means: &Means<'_, R>,
+    file: &mut File,
+    watcher: &Watcher<'_>,
+    counts: &mut FeedCounts,
+    sender: &mut Sender,
+) -> Result<(), ServeFault>
+    requires counted { IsCounted sender.old.sent counts.old }
+    ensures counted { IsCounted sender.new.sent counts.new }
+{
+    let (run, feed) = (means.run, sender.feed());
     match send_stream(
         means.rt,
         means.alloc,
         run.setup,
-        run.strict,
+        run.ways.strict,
         Guarded::new(file, run),
-        &watcher,
+        watcher,
         counts,
         sender,
     ) {

@@ -1,4 +1,9 @@
 //! Streams of a run, at which a thread ends when the run does.
+ghost use Rattle.std.specs.Prelude.{◌≡◌, None};
+ghost use Rattle.std.specs.Io.{ReadsAtMost};
+ghost use Rattle.std.specs.Io.KnownBytes.{ReadConsumes};
+ghost use Rattle.nms_serving.specs.Streams.{GivesOrEnds, stream_of};
+
 use crate::run::Run;
 use std::io;
 use std::io::{ErrorKind, Read, Write};
@@ -12,13 +17,19 @@ pub struct Guarded<'a, F> {
 
 impl<'a, F> Guarded<'a, F> {
     /// Over a stream of the run.
-    pub fn new(stream: F, run: &'a Run<'a>) -> Self {
+    pub fn new(stream: F, run: &'a Run<'a>) -> Self
+        ensures { stream_of result ≡ stream }
+    {
         Guarded { stream, run }
     }
 }
 
 impl<F: Read> Read for Guarded<'_, F> {
-    fn read(&mut self, buf: &mut [u8]) -> io::Result<usize> {
+    fn read(&mut self, buf: &mut [u8]) -> io::Result<usize>
+        ensures bound { ReadsAtMost result buf.new }
+        ensures bytes { ReadConsumes None None result buf.new }
+        ensures given { GivesOrEnds (F.remaining (stream_of self.old)) (F.remaining (stream_of self.new)) result buf.new }
+    {
         if self.run.is_stopped() {
             return Ok(0);
         }
@@ -29,6 +40,10 @@ impl<F: Read> Read for Guarded<'_, F> {
 }
 
 impl<F: Write> Write for Guarded<'_, F> {
+    ghost use Rattle.nms_serving.specs.Streams.{stream_of};
+
+    ghost contents = { λ guarded. F.contents (stream_of guarded) };
+
     fn write(&mut self, buf: &[u8]) -> io::Result<usize> {
         if self.run.is_stopped() {
             return Err(io::Error::from(ErrorKind::BrokenPipe));

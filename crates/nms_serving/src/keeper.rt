@@ -1,7 +1,8 @@
 //! The taker's side of the board: each batch of changes is on the tape's file before it is published.
-ghost use Rattle.std.specs.Prelude.{◌≡◌, ◌++◌, ◌∷◌, [], drop, length, OnErr, OnOk};
+ghost use Rattle.std.specs.Prelude.{◌≡◌, ◌+◌, ◌<◌, ◌≤◌, ◌++◌, ◌∷◌, [], drop, length, OnErr, OnOk};
 ghost use Rattle.std.specs.Io.KnownBytes.{Appends};
 ghost use Rattle.nms_change_text.specs.ChangeText.{changes_text};
+ghost use Rattle.nms_serving.specs.Lengths.{length_line};
 ghost use Rattle.nms_versions.specs.Published.{changes, committed};
 ghost use Rattle.nms_versions.specs.Taped.{tape_of};
 
@@ -13,8 +14,7 @@ use nms_change_text::append_changes;
 use nms_lines::write_text;
 use nms_quote::{Change, Roster};
 use nms_versions::{AppendFault, Publisher};
-use std::alloc::Global;
-use std::io;
+use std::alloc::{AllocError, Global};
 use std::io::Write;
 use std::sync::Wait;
 
@@ -32,6 +32,7 @@ pub(crate) struct Keeper<'a, X: Write, Y: Write> {
     published: u64,
     publishings: u64,
     ghost counted: { published ≡ length (changes publisher.published) },
+    ghost often: { publishings ≤ published },
 }
 
 impl<'a, X: Write, Y: Write> Keeper<'a, X, Y> {
@@ -57,18 +58,26 @@ impl<'a, X: Write, Y: Write> Keeper<'a, X, Y> {
     }
 
     /// How many changes were taken in.
-    pub(crate) fn changes(&self) -> u64 {
+    pub(crate) fn changes(&self) -> u64
+        ensures { result ≡ length (tape_of self.now.publisher) }
+    {
         self.publisher.tape().len() as u64
     }
 
-    /// How often changes were published.
-    pub(crate) fn publishings(&self) -> u64 {
+    /// How often changes were published, each time at least one.
+    #[tactic(auto, using(crate::proofs::KeeperFacts::published_within))]
+    pub(crate) fn publishings(&self) -> u64
+        ensures { result ≤ length (tape_of self.now.publisher) }
+    {
         self.publishings
     }
 
     /// How many changes wait to be published.
-    pub(crate) fn waiting(&self) -> u64 {
-        self.changes().saturating_sub(self.published)
+    #[tactic(auto, using(crate::proofs::KeeperFacts::published_within))]
+    pub(crate) fn waiting(&self) -> u64
+        ensures { result + self.now.published ≡ length (tape_of self.now.publisher) }
+    {
+        self.changes() - self.published
     }
 
     /// Takes a change in, and publishes after each 64.
@@ -99,8 +108,10 @@ impl<'a, X: Write, Y: Write> Keeper<'a, X, Y> {
     }
 
     /// Writes what is waiting to the tape's file, and the tape's length to the file beside it, and then publishes it. If
-    /// either can't be written, nothing is published.
+    /// either can't be written, nothing is published: so both writes have ended well before any desk sees the changes.
     pub(crate) fn publish<R: Wait>(&mut self, rt: &R) -> Result<(), ServeFault>
+        requires some { self.old.published < length (tape_of self.old.publisher) }
+        ensures listed { OnOk result (Appends (Y.contents self.old.lengths) (Y.contents self.new.lengths) (length_line (length (tape_of self.old.publisher)))) }
         ensures recorded { OnOk result (Appends (X.contents self.old.tape) (X.contents self.new.tape) (changes_text self.old.roster.now (drop self.old.published (tape_of self.old.publisher)))) }
         ensures published { OnOk result (changes self.new.publisher.published ≡ tape_of self.old.publisher) }
         ensures unpublished { OnErr result (self.new.publisher ≡ self.old.publisher) }
@@ -111,13 +122,14 @@ impl<'a, X: Write, Y: Write> Keeper<'a, X, Y> {
         }
         self.publisher.publish(rt);
         self.published = self.publisher.receipt().version();
-        self.publishings = self.publishings.saturating_add(1);
+        self.publishings += 1;
         Ok(())
     }
 
     /// Writes what is waiting to the tape's file, and the tape's length to the file beside it.
     fn record(&mut self) -> Result<(), ServeFault>
-        ensures same { self.new.publisher ≡ self.old.publisher }
+        ensures same { (self.new.publisher ≡ self.old.publisher) × (self.new.published ≡ self.old.published) × (self.new.publishings ≡ self.old.publishings) }
+        ensures listed { OnOk result (Appends (Y.contents self.old.lengths) (Y.contents self.new.lengths) (length_line (length (tape_of self.old.publisher)))) }
         ensures recorded { OnOk result (Appends (X.contents self.old.tape) (X.contents self.new.tape) (changes_text self.old.roster.now (drop self.old.published (tape_of self.old.publisher)))) }
     {
         let tape = self.publisher.tape();
@@ -129,7 +141,10 @@ impl<'a, X: Write, Y: Write> Keeper<'a, X, Y> {
         if write_text(&mut self.tape, &self.text).is_err() {
             return Err(ServeFault::NotWritten(Stream::Tape));
         }
-        if write_length(&mut self.lengths, tape.len() as u64).is_err() {
+        if set_length_line(&mut self.text, tape.len() as u64).is_err() {
+            return Err(ServeFault::NoMemory);
+        }
+        if write_text(&mut self.lengths, &self.text).is_err() {
             return Err(ServeFault::NotWritten(Stream::Lengths));
         }
         Ok(())
@@ -154,7 +169,7 @@ impl<'a, X: Write, Y: Write> Keeper<'a, X, Y> {
     }
 }
 
-/// The changes of a tape after the first so many.
+/// The changes of a tape after those that were published.
 fn batch_of(tape: &[Change], published: u64) -> &[Change]
     ensures { result.now ≡ drop published tape.now }
 {
@@ -162,14 +177,13 @@ fn batch_of(tape: &[Change], published: u64) -> &[Change]
     &tape[from..]
 }
 
-/// Writes a length, and the end of its line.
-fn write_length<Y: Write>(lengths: &mut Y, length: u64) -> io::Result<()> {
-    let mut line = [b'\n'; 24];
+/// Makes a text the line of a length.
+fn set_length_line(text: &mut Vec<u8>, length: u64) -> Result<(), AllocError>
+    ensures { OnOk result (text.new.items ≡ length_line length) }
+{
+    text.clear();
     let mut digits = Buffer::new();
-    let text = digits.format(length).as_bytes();
-    let Some(room) = line.get_mut(..text.len()) else {
-        return Ok(());
-    };
-    room.copy_from_slice(text);
-    write_text(lengths, line.get(..text.len() + 1).unwrap_or(&[]))
+    text.extend_from_slice(digits.format(length).as_bytes())?;
+    text.push(b'\n')?;
+    Ok(())
 }

@@ -11,9 +11,12 @@ mod report;
 mod run;
 mod serve_fault;
 mod serving;
+mod silence;
 mod stream;
 mod taking;
+mod voice;
 mod watcher;
+mod watching;
 
 /// The most changes of a batch: the taker publishes after so many, or when none is waiting. This product's own rule.
 pub const MOST_BATCH: u64 = 64;
@@ -22,9 +25,10 @@ pub use client::{ClientEnd, ClientStreams};
 pub use door::Door;
 pub use feeding::FeedEnd;
 pub use guarded::Guarded;
-pub use report::Refused;
-pub use run::Run;
+pub use report::{Heard, Refused};
+pub use run::{Run, Ways};
 pub use serve_fault::ServeFault;
 pub use serving::{Means, Served, serve};
+pub use silence::Notice;
 pub use stream::{Stream, letter_of};
 pub use taking::Doors;

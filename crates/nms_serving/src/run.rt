@@ -1,34 +1,70 @@
 //! What all threads of a run share.
+ghost use Rattle.std.specs.Prelude.{◌≡◌};
+
 use crate::serve_fault::ServeFault;
+use crate::voice::Voices;
 use nms_fees::Setup;
+use nms_quote::Feed;
 use std::sync::atomic::{AtomicBool, AtomicU64, Ordering};
 use std::sync::{OnceLock, Wait};
 use std::thread::Parker;
+use std::time::Duration;
 
-/// What all threads of a run share: the setup, how many streams are left, the first fault, and the bell that wakes the
-/// taker. No proof rests on it.
+/// How a run goes on.
+#[derive(Clone, Copy, Debug, PartialEq, Eq)]
+pub struct Ways {
+    /// A refused record of a feed ends the run.
+    pub strict: bool,
+    /// A feed's FIFO is read on after its writer left, until all clients have ended.
+    pub keep: bool,
+    /// Requests are held until each feed has sent a change or ended.
+    pub wait: bool,
+    /// After how many seconds without a record a feed is reported as silent, if at all.
+    pub stale: Option<u32>,
+}
+
+/// What all threads of a run share: the setup, how many streams are left, what is known of each feed, the first fault,
+/// and the bell that wakes the taker. No proof rests on it.
 #[derive(Drop)]
 pub struct Run<'a> {
     pub(crate) setup: &'a Setup,
-    /// Whether a refused record of a feed ends the run.
-    pub(crate) strict: bool,
+    pub(crate) ways: Ways,
     /// How many feeds and clients have begun and not ended.
     left: AtomicU64,
+    /// How many of them are clients.
+    clients: AtomicU64,
+    /// How many feeds have begun, and have neither sent a change nor ended.
+    unheard: AtomicU64,
+    /// What is known of each feed.
+    pub(crate) voices: Voices,
+    /// 0 while requests are held.
+    gate: AtomicU64,
     fault: OnceLock<ServeFault>,
     is_stopped: AtomicBool,
+    is_done: AtomicBool,
     bell: Parker,
+    /// Wakes the thread that looks for silent feeds.
+    end_bell: Parker,
 }
 
 impl<'a> Run<'a> {
-    /// A run of which nothing has begun. If it is strict, a refused record of a feed ends it.
-    pub fn new(setup: &'a Setup, strict: bool) -> Self {
+    /// A run of which nothing has begun.
+    pub fn new(setup: &'a Setup, ways: Ways) -> Self
+        ensures { (result.setup.now ≡ setup.now) × (result.ways ≡ ways) }
+    {
         Run {
             setup,
-            strict,
+            ways,
             left: AtomicU64::new(0),
+            clients: AtomicU64::new(0),
+            unheard: AtomicU64::new(0),
+            voices: Voices::new(),
+            gate: AtomicU64::new(u64::from(!ways.wait)),
             fault: OnceLock::new(),
             is_stopped: AtomicBool::new(false),
+            is_done: AtomicBool::new(false),
             bell: Parker::new(),
+            end_bell: Parker::new(),
         }
     }
 
@@ -41,6 +77,7 @@ impl<'a> Run<'a> {
     pub(crate) fn fail(&self, fault: ServeFault) {
         let _first = self.fault.try_set(fault);
         self.is_stopped.store(true, Ordering::SeqCst);
+        self.open_gate();
         self.bell.unpark();
     }
 
@@ -49,9 +86,43 @@ impl<'a> Run<'a> {
         self.is_stopped.load(Ordering::SeqCst)
     }
 
-    /// A feed or a client begins.
-    pub(crate) fn begin_stream(&self) {
+    /// A feed begins.
+    pub(crate) fn begin_feed(&self) {
         self.left.fetch_add(1, Ordering::SeqCst);
+        self.unheard.fetch_add(1, Ordering::SeqCst);
+    }
+
+    /// A client begins.
+    pub(crate) fn begin_client(&self) {
+        self.left.fetch_add(1, Ordering::SeqCst);
+        self.clients.fetch_add(1, Ordering::SeqCst);
+    }
+
+    /// A change of a feed was sent.
+    pub(crate) fn note_change(&self, feed: Feed) {
+        self.voices.of(feed).speak();
+        self.note_begun(feed);
+        self.bell.unpark();
+    }
+
+    /// A feed has sent a change, or ended.
+    fn note_begun(&self, feed: Feed) {
+        if self.voices.of(feed).begin() {
+            self.unheard.fetch_sub(1, Ordering::SeqCst);
+        }
+    }
+
+    /// A feed has ended.
+    pub(crate) fn end_feed(&self, feed: Feed) {
+        self.voices.of(feed).end();
+        self.note_begun(feed);
+        self.end_stream();
+    }
+
+    /// A client has ended.
+    pub(crate) fn end_client(&self) {
+        self.clients.fetch_sub(1, Ordering::SeqCst);
+        self.end_stream();
     }
 
     /// A feed or a client has ended.
@@ -65,13 +136,56 @@ impl<'a> Run<'a> {
         self.left.load(Ordering::SeqCst) == 0
     }
 
-    /// Wakes the taker.
-    pub(crate) fn ring(&self) {
-        self.bell.unpark();
+    /// Whether no FIFO is read on after its writer left: all clients have ended, or a fault ends the run.
+    pub(crate) fn is_closing(&self) -> bool {
+        self.is_stopped() || self.clients.load(Ordering::SeqCst) == 0
     }
 
-    /// Sleeps until the bell rings, or rang since the last sleep.
+    /// Whether each feed has sent a change or ended.
+    pub(crate) fn have_feeds_begun(&self) -> bool {
+        self.unheard.load(Ordering::SeqCst) == 0
+    }
+
+    /// Whether requests are held.
+    pub(crate) fn is_gate_shut(&self) -> bool {
+        self.gate.load(Ordering::SeqCst) == 0
+    }
+
+    /// Holds requests no longer.
+    pub(crate) fn open_gate(&self) {
+        self.gate.store(1, Ordering::SeqCst);
+        self.gate.wake_all();
+    }
+
+    /// Waits until requests are held no longer.
+    pub(crate) fn pass_gate<R: Wait>(&self, rt: &R) {
+        for _ in rt.forever() {
+            if !self.is_gate_shut() {
+                return;
+            }
+            self.gate.park(rt, 0);
+        }
+        unreachable!()
+    }
+
+    /// The taker sleeps until the bell rings, or rang since the last sleep.
     pub(crate) fn sleep<R: Wait>(&self, rt: &R) {
         self.bell.park(rt);
+    }
+
+    /// All feeds and clients have ended.
+    pub(crate) fn finish(&self) {
+        self.is_done.store(true, Ordering::SeqCst);
+        self.end_bell.unpark();
+    }
+
+    /// Whether all feeds and clients have ended.
+    pub(crate) fn is_done(&self) -> bool {
+        self.is_done.load(Ordering::SeqCst)
+    }
+
+    /// Sleeps for a time, or until all feeds and clients have ended.
+    pub(crate) fn rest<R: Wait>(&self, rt: &R, time: Duration) {
+        self.end_bell.park_timeout(rt, time);
     }
 }

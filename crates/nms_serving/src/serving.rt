@@ -1,5 +1,5 @@
 //! The threads of a run: one for each feed and each client, and the caller's, which takes.
-ghost use Rattle.std.specs.Prelude.{◌≡◌, ◌<◌, ℕ, [], length, slice_index_or};
+ghost use Rattle.std.specs.Prelude.{◌≡◌, ◌<◌, ℕ, [], length, slice_index_or, IfErr};
 ghost use Rattle.std.specs.List.{AllByRecursion};
 ghost use Rattle.nms_quote.specs.Roster.{sizes_of};
 ghost use Rattle.nms_versions.specs.Taped.{Knowing};
@@ -11,6 +11,7 @@ use crate::keeper::Keeper;
 use crate::run::Run;
 use crate::serve_fault::ServeFault;
 use crate::taking::{Doors, take_all};
+use crate::watching::watch_feeds;
 use nms_feed::{Sender, Taker, open_lane};
 use nms_versions::{Desk, open_tape};
 use std::alloc::Global;
@@ -56,14 +57,16 @@ pub struct Served {
 /// the run (`Run::fault`). What the feeds send is taken, written to the tape's file and published meanwhile. All threads
 /// have ended when it returns.
 ///
-/// There is a door for each feed of the setup, in order, and there are no more clients than desks. `NotBegun` if no board
-/// was opened.
+/// There is a door for each feed of the setup, in order; clients beyond the desks of the setup are not served. `NotBegun`
+/// if no board was opened. No other fault is returned: those of a run that began are `Run::fault`.
 pub fn serve<R: Threads + Wait + Sync, X: Write + Drop, Y: Write + Drop>(
     means: &Means<'_, R>,
     doors: &Doors<'_>,
     tape: X,
     lengths: Y,
-) -> Result<Served, ServeFault> {
+) -> Result<Served, ServeFault>
+    ensures begun { IfErr result (λ fault. fault ≡ ServeFault.NotBegun) }
+{
     let setup = means.run.setup;
     let Ok((senders, taker)) = open_lane(means.alloc, setup.queue(), setup.feeds()) else {
         return Err(ServeFault::NotBegun);
@@ -124,9 +127,12 @@ fn run_threads<'s, E, R: Threads + Wait + Sync, X: Write, Y: Write>(
     } = ends;
     let mut feeds = Vec::new(means.alloc);
     let mut clients = Vec::new(means.alloc);
-    start_feeds(scope, means, doors.feeds, senders, &mut feeds);
+    // All clients have begun before the first feed looks whether they have ended.
     start_clients(scope, means, doors.clients, desks, &mut clients);
+    start_feeds(scope, means, doors.feeds, senders, &mut feeds);
+    start_watch(scope, means);
     take_all(means, doors, keeper, &mut taker);
+    means.run.finish();
     Served {
         feeds: join_all(means, feeds),
         clients: join_all(means, clients),
@@ -165,7 +171,7 @@ fn start_feed<'s, E, R: Wait + Sync>(
     requires fresh { sender.sent ≡ [] }
 {
     let run = means.run;
-    run.begin_stream();
+    run.begin_feed();
     let started = scope.spawn(
         move || -> FeedEnd
             requires fresh { sender.sent ≡ [] }
@@ -189,7 +195,11 @@ fn start_clients<'s, E, R: Threads + Wait + Sync>(
         let Some(streams) = clients.get(usize::from(number)) else {
             return;
         };
-        number = number.saturating_add(1);
+        let Some(next) = number.checked_add(1) else {
+            means.run.fail(ServeFault::NotBegun);
+            return;
+        };
+        number = next;
         start_client(scope, means, number, streams, desk, handles);
     }
 }
@@ -206,13 +216,23 @@ fn start_client<'s, E, R: Threads + Wait + Sync>(
     requires sizes { desk.sizes ≡ sizes_of means.now.run.now.setup.now.roster }
 {
     let run = means.run;
-    run.begin_stream();
+    run.begin_client();
     let started = scope.spawn(
         move || -> ClientEnd
             requires sizes { desk.sizes ≡ sizes_of means.now.run.now.setup.now.roster }
         { serve_client(means, number, streams, desk) },
     );
     keep(run, started.ok(), handles);
+}
+
+/// Starts the thread that reports silent feeds, if the run has one. The scope waits for its end.
+fn start_watch<'s, E, R: Wait + Sync>(scope: &'s Scope<'s, E>, means: &'s Means<'s, R>) {
+    let Some(seconds) = means.run.ways.stale else {
+        return;
+    };
+    if scope.spawn(move || watch_feeds(means, seconds)).is_err() {
+        means.run.fail(ServeFault::NotBegun);
+    }
 }
 
 /// Keeps the handle of a thread that was started. If it was not, or there is no memory for its handle, the run ends.

@@ -1,4 +1,7 @@
 //! The streams of a run, as faults name them.
+ghost use Rattle.std.specs.Prelude.{◌≡◌};
+ghost use Rattle.nms_fees.specs.Places.{letter_of};
+
 use nms_quote::Feed;
 use std::fmt;
 
@@ -30,7 +33,9 @@ impl fmt::Display for Stream {
 }
 
 /// The letter of a feed.
-pub fn letter_of(feed: Feed) -> &'static str {
+pub fn letter_of(feed: Feed) -> &'static str
+    ensures { result.now ≡ letter_of feed }
+{
     match feed {
         Feed::A => "A",
         Feed::B => "B",

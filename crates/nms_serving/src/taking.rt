@@ -18,7 +18,7 @@ pub struct Doors<'a> {
 }
 
 /// Takes the changes that the feeds send, and publishes them after each 64 and when none is waiting, until all feeds and
-/// clients have ended. After a fault it takes them for nothing, so that no feed waits for room.
+/// clients have ended. Requests that are held go on once the first change of each feed is published. After a fault it takes them for nothing, so that no feed waits for room.
 pub(crate) fn take_all<R: Threads + Wait + Sync, X: Write, Y: Write>(
     means: &Means<'_, R>,
     doors: &Doors<'_>,
@@ -30,6 +30,10 @@ pub(crate) fn take_all<R: Threads + Wait + Sync, X: Write, Y: Write>(
     for _ in means.rt.forever() {
         // The run is looked at before the lane: what a stream sent before its end is still found.
         let is_over = run.is_over();
+        if run.is_gate_shut() && run.have_feeds_begun() {
+            take_waiting(means, keeper, taker);
+            run.open_gate();
+        }
         if run.is_stopped() && !are_woken {
             wake_all(means, doors);
             are_woken = true;
@@ -44,6 +48,20 @@ pub(crate) fn take_all<R: Threads + Wait + Sync, X: Write, Y: Write>(
         run.sleep(means.rt);
     }
     unreachable!()
+}
+
+/// Takes all that was sent before the call, and publishes it: what the lane holds, which has as many places as the queue.
+fn take_waiting<R: Wait, X: Write, Y: Write>(
+    means: &Means<'_, R>,
+    keeper: &mut Keeper<'_, X, Y>,
+    taker: &mut Taker,
+) {
+    for _ in 0..means.run.setup.queue() {
+        if !take_one(means, keeper, taker) {
+            break;
+        }
+    }
+    publish(means, keeper);
 }
 
 /// Takes a change, if there is one, and returns whether there was.

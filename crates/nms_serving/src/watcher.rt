@@ -10,7 +10,7 @@ use std::time::Clock;
 /// The most refused records of a feed that are reported in a second. This product's own rule.
 const MOST_REPORTS: u64 = 10;
 
-/// Wakes the taker for each change of a feed that was sent, and reports refused records on standard error, at most 10 in a
+/// Wakes the taker for each change of a feed that was sent, notes that the feed speaks, and reports refused records on standard error, at most 10 in a
 /// second of the clock. No proof rests on it.
 #[derive(Drop)]
 pub(crate) struct Watcher<'a> {
@@ -45,11 +45,12 @@ impl<'a> Watcher<'a> {
 }
 
 impl FeedWatch for Watcher<'_> {
-    fn sent(&self, _feed: Feed) {
-        self.run.ring();
+    fn sent(&self, feed: Feed) {
+        self.run.note_change(feed);
     }
 
     fn refused(&self, feed: Feed, number: u64, fault: LineFault) {
+        self.run.voices.of(feed).speak();
         if self.may_report() {
             let _ = self.host.eprintln(Refused {
                 feed,

@@ -1,0 +1,17 @@
+-- What the parts of a run are made of, and what a guarded stream gives. This product's own rule.
+use Rattle.std.specs.Prelude.{ℕ, ◌≡◌, ◌⊎◌, List, Option, Result, Ok}
+use Rattle.std.specs.Io.KnownBytes.{ReadConsumes}
+use Rattle.nms_serving.specs.declared.door.Door.{Door}
+use Rattle.nms_serving.specs.declared.guarded.Guarded.{Guarded}
+
+-- the path of a door
+abbrev pub path_of : Door → List ℕ
+path_of door = door.path.now
+
+-- the stream that is guarded
+abbrev pub stream_of : {F : Type 0} → Guarded F → F
+stream_of guarded = guarded.stream
+
+-- a read gave what the stream gave, or the end
+abbrev pub GivesOrEnds : {E : Type 0} → Option (List ℕ) → Option (List ℕ) → Result ℕ E → List ℕ → Type 0
+GivesOrEnds old new result buf = (result ≡ Ok 0) ⊎ ReadConsumes old new result buf

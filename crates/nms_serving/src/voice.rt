@@ -1,0 +1,82 @@
+//! What the threads of a run know of each feed.
+use nms_quote::{Feed, MOST_FEEDS};
+use std::sync::atomic::{AtomicBool, Ordering};
+
+/// What the threads of a run know of one feed.
+#[derive(Drop)]
+pub(crate) struct Voice {
+    /// It has sent a change, or ended.
+    has_begun: AtomicBool,
+    /// A record of it came since it was last listened to.
+    has_spoken: AtomicBool,
+    /// It has ended.
+    has_ended: AtomicBool,
+}
+
+impl Voice {
+    /// Of a feed that nothing is known of yet.
+    pub(crate) fn new() -> Self {
+        Voice {
+            has_begun: AtomicBool::new(false),
+            has_spoken: AtomicBool::new(false),
+            has_ended: AtomicBool::new(false),
+        }
+    }
+
+    /// A change of the feed was sent, or the feed ended. Returns whether it is the first time.
+    pub(crate) fn begin(&self) -> bool {
+        !self.has_begun.load(Ordering::SeqCst) && !self.has_begun.swap(true, Ordering::SeqCst)
+    }
+
+    /// A record of the feed came.
+    pub(crate) fn speak(&self) {
+        if !self.has_spoken.load(Ordering::SeqCst) {
+            self.has_spoken.store(true, Ordering::SeqCst);
+        }
+    }
+
+    /// Whether a record came since the last call.
+    pub(crate) fn listen(&self) -> bool {
+        self.has_spoken.swap(false, Ordering::SeqCst)
+    }
+
+    /// The feed has ended.
+    pub(crate) fn end(&self) {
+        self.has_ended.store(true, Ordering::SeqCst);
+    }
+
+    /// Whether the feed has ended.
+    pub(crate) fn has_ended(&self) -> bool {
+        self.has_ended.load(Ordering::SeqCst)
+    }
+}
+
+/// What the threads of a run know of each feed.
+#[derive(Drop)]
+pub(crate) struct Voices {
+    /// By the feed's place.
+    each: [Voice; MOST_FEEDS as usize],
+}
+
+impl Voices {
+    /// Of feeds that nothing is known of yet.
+    pub(crate) fn new() -> Self {
+        Voices {
+            each: [
+                Voice::new(),
+                Voice::new(),
+                Voice::new(),
+                Voice::new(),
+                Voice::new(),
+                Voice::new(),
+                Voice::new(),
+                Voice::new(),
+            ],
+        }
+    }
+
+    /// That of a feed.
+    pub(crate) fn of(&self, feed: Feed) -> &Voice {
+        &self.each[usize::from(feed.place())]
+    }
+}
