@@ -10,7 +10,7 @@ page a line of four spaces and `./nms_review WORDS` is a call, or one of `./nms_
 behind it is what it writes, with the words `status N` in the text between them where N is not 0. Beside these the program
 meets a closed output, one whose reader has gone, records of a million bytes, records whose fields and lists are longer than
 any that is right, byte order marks before quotes, each byte of a file once, a setup of many symbols, streams of several
-pieces, a day with more versions than a picture has columns, an import of examples/import/, and one of 100,000 random rows
+pieces, a day with more versions than a picture has columns, imports of examples/import/, and one of 100,000 random rows
 that tests/import_judge.py compares with a plain converter. It writes a line for each difference, and last
 `N passed, M failed`; status 1 where one failed.
 """
@@ -320,21 +320,23 @@ TRIALS = [
 ]
 
 
-def imported(program):
-    """The three files, the counts and the refused rows that an import of examples/import/taq.txt makes."""
-    given = os.path.join(HERE, "import")
-    with tempfile.TemporaryDirectory(prefix="nms-") as room:
-        out = os.path.join(room, "day")
-        words = ["import", "taq.toml", "taq.txt", "--out", out, "--setup", "../market.toml"]
-        ran = called(program, words, capture_output=True, cwd=given)
-        came = {"counts": ran.stdout, "errors": ran.stderr}
-        for name in ("changes", "times", "symbols"):
-            with open(f"{out}.{name}", "rb") as file:
-                came[name] = file.read()
-    must(ran.returncode == 0, f"status {ran.returncode}, {ran.stderr!r}")
-    for name, text in came.items():
-        with open(os.path.join(given, f"taq.{name}"), "rb") as file:
-            must(file.read() == text, f"taq.{name}: {text!r}")
+def imported(name):
+    """The three files, the counts and the refused rows that an import of a layout of examples/import makes."""
+    def trial(program):
+        given = os.path.join(HERE, "import")
+        with tempfile.TemporaryDirectory(prefix="nms-") as room:
+            out = os.path.join(room, "day")
+            words = ["import", f"{name}.toml", f"{name}.txt", "--out", out, "--setup", "../market.toml"]
+            ran = called(program, words, capture_output=True, cwd=given)
+            came = {"counts": ran.stdout, "errors": ran.stderr}
+            for end in ("changes", "times", "symbols"):
+                with open(f"{out}.{end}", "rb") as file:
+                    came[end] = file.read()
+        must(ran.returncode == 0, f"status {ran.returncode}, {ran.stderr!r}")
+        for end, text in came.items():
+            with open(os.path.join(given, f"{name}.{end}"), "rb") as file:
+                must(file.read() == text, f"{name}.{end}: {text!r}")
+    return f"trial: imported {name}", trial
 
 
 def judged(program):
@@ -351,7 +353,7 @@ def unnamed():
 
 
 def main(program, tool):
-    others = [("trial: imported", imported), ("trial: judged", judged)]
+    others = [*map(imported, ("taq", "databento-mbp1", "lobster")), ("trial: judged", judged)]
     runs = [*stored(), *page(tool), *(in_room(*it) for it in TRIALS), *others]
 
     def run(named):
