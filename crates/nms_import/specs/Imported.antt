@@ -1,5 +1,6 @@
 -- What is written of the rows of a vendor's file. This product's own rule.
-use Rattle.std.specs.Prelude.{ℕ, ◌+◌, ◌/◌, List, [], ◌∷◌, ◌++◌, length, map, filter, filter_map, flat_map, Option, Some, None, Result, Ok, Err}
+use Rattle.std.specs.Prelude.{ℕ, ◌+◌, ◌/◌, List, [], ◌∷◌, ◌++◌, length, map, filter, filter_map, flat_map}
+use Rattle.std.specs.Prelude.{Option, Some, None, Result, Ok, Err}
 use Rattle.nms_units.specs.Money.{three_digits}
 use Rattle.nms_quote.specs.Roster.{Listing}
 use Rattle.nms_lines.specs.Layout.{Record}

@@ -84,11 +84,14 @@ without_z text =
 abbrev pub point_and_fraction : List ℕ → Option ℕ
 point_and_fraction text = if is_empty text then Some 0 else (if get_or text 0 0 == 46 then fraction (drop 1 text) else None)
 
+abbrev pub second_at : List ℕ → Option ℕ
+second_at text = both (both (hours_at text) (minutes_at text)) (seconds_at text)
+
+abbrev pub after_seconds : List ℕ → Option ℕ
+after_seconds text = point_and_fraction (without_z (drop 19 text))
+
 abbrev pub iso_number : List ℕ → Option ℕ
-iso_number text =
-    if has_marks text
-    then both (both (both (hours_at text) (minutes_at text)) (seconds_at text)) (point_and_fraction (without_z (drop 19 text)))
-    else None
+iso_number text = if has_marks text then both (second_at text) (after_seconds text) else None
 
 -- ---- all forms
 

@@ -1,9 +1,9 @@
 //! Times of day: `specs/Times` and `specs/Imported`.
-ghost use Rattle.std.specs.Prelude.{◌≡◌, ◌++◌, ◌∷◌, [], ◌<◌, ◌≤◌, ◌+◌, length, true, IfSome, OnOk};
-ghost use Rattle.nms_units.specs.Digits.{by_point};
-ghost use Rattle.nms_units.specs.Price.{digit_at};
+ghost use Rattle.std.specs.Prelude.{◌≡◌, ◌++◌, ◌∷◌, [], ◌<◌, ◌≤◌, ◌+◌, length, true, IfSome, OnOk, Some};
+ghost use Rattle.nms_units.specs.Digits.{by_point, point_in};
+ghost use Rattle.nms_units.specs.Price.{both, digit_at};
 ghost use Rattle.nms_import.specs.Mapping.{time_of};
-ghost use Rattle.nms_import.specs.Times.{clock_at, clock_digits, clock_number, clock_of, fraction, has_marks, hours_at, is_clock, iso_number, minutes_at, nanoseconds, only_if, point_and_fraction, seconds, seconds_and_fraction, seconds_at, seconds_number, two_at, whole_seconds, without_z};
+ghost use Rattle.nms_import.specs.Times.{after_seconds, clock_at, clock_digits, clock_number, clock_of, fraction, has_marks, hours_at, is_clock, iso_number, minutes_at, nanoseconds, only_if, point_and_fraction, seconds, second_at, seconds_and_fraction, seconds_at, seconds_number, two_at, whole_seconds, without_z};
 ghost use Rattle.nms_import.specs.Imported.{times_text};
 
 use crate::cause::Cause;
@@ -126,7 +126,7 @@ fn seconds_in(text: &[u8]) -> Option<u64>
 fn any_seconds_in(text: &[u8]) -> Option<u64>
     ensures { result ≡ by_point seconds_and_fraction text.now (whole_seconds text.now) }
 {
-    match text.iter().position(|c| *c == b'.') {
+    match point_in(text) {
         None => whole_seconds(text),
         Some(point) => {
             let whole = whole_seconds(&text[..point])?;
@@ -134,6 +134,14 @@ fn any_seconds_in(text: &[u8]) -> Option<u64>
             Some(whole + behind)
         }
     }
+}
+
+/// Where the first point stands.
+fn point_in(text: &[u8]) -> Option<usize>
+    ensures place { result ≡ point_in text.now }
+    ensures within { IfSome result (λ point. point < length text.now) }
+{
+    text.iter().position(|c| *c == b'.')
 }
 
 /// Up to five digits, as nanoseconds.
@@ -152,9 +160,41 @@ fn iso_in(text: &[u8]) -> Option<u64>
     if !has_marks(text) {
         return None;
     }
-    let (hours, minutes, seconds) = (hours_at(text)?, minutes_at(text)?, seconds_at(text)?);
-    let after = point_and_fraction(without_z(&text[19..]))?;
-    Some(hours + minutes + seconds + after)
+    let second = second_at(text)?;
+    plus(second, after_seconds(text))
+}
+
+/// Hours, minutes and seconds, as nanoseconds.
+fn second_at(text: &[u8]) -> Option<u64>
+    requires { 19 ≤ length text.now }
+    ensures second { result ≡ second_at text.now }
+    ensures high { IfSome result (λ n. n < 300000000000000) }
+{
+    let hours = hours_at(text)?;
+    let minutes = minutes_at(text)?;
+    let seconds = seconds_at(text)?;
+    Some(hours + minutes + seconds)
+}
+
+/// What stands after the seconds, as nanoseconds.
+fn after_seconds(text: &[u8]) -> Option<u64>
+    requires { 19 ≤ length text.now }
+    ensures after { result ≡ after_seconds text.now }
+    ensures high { IfSome result (λ n. n < 1000000000000000000) }
+{
+    point_and_fraction(without_z(&text[19..]))
+}
+
+/// A number and one that may be absent.
+fn plus(number: u64, other: Option<u64>) -> Option<u64>
+    requires small { number < 300000000000000 }
+    requires few { IfSome other (λ n. n < 1000000000000000000) }
+    ensures { result ≡ both (Some number) other }
+{
+    match other {
+        Some(other) => Some(number + other),
+        None => None,
+    }
 }
 
 /// Whether there are 19 bytes, with what stands between the digits of the time of day.

@@ -28,7 +28,8 @@ returns-then-not-branch g c = record {
   written = λ config bytes seen reads.
       let had = c.loop-done.invariant.1 config bytes seen reads in
       let none : c.in_ok-next_row.field-0 ≡ false = cc in
-      (had.0, c.in_ok-next_row.ensures.end config bytes (seen ++ had.0) had.1 (ap (λ (b : Bool). Ok b) none), had.2, had.3, had.4, had.5, had.6);
+      let end = c.in_ok-next_row.ensures.end config bytes (seen ++ had.0) had.1 (ap (λ (b : Bool). Ok b) none) in
+      (had.0, end, had.2, had.3, had.4, had.5, had.6);
 }
 
 pub loop-done-preserved : goal.loop-done-preserved
