@@ -27,7 +27,7 @@ from trials import Trial, Wrong, compare, run
 ROOM = os.path.join(EXAMPLES, "review")
 # The pages whose calls run, the mappings of examples/import/, and the programs that judge random files.
 PAGES = ("docs/REVIEW.md", "docs/TRADES.md")
-IMPORTS = ("taq",)
+IMPORTS = ("taq", "databento-mbp1", "lobster")
 JUDGES = ("import_judge.py", "times_judge.py", "trades_judge.py")
 # Memory within which a file of two hundred million bytes is explained: it must not grow with the file, but with the longest
 # record alone.

@@ -1,11 +1,12 @@
 #!/usr/bin/env python3
-"""Compares `nms_review import` with a plain converter written here, on random rows of a vendor's quotes.
+"""Compares `nms_review import` with a plain converter written here, on random rows of vendors' quotes.
 
     tests/import_judge.py PROGRAM [ROWS [SEED]]
 
-ROWS is 100,000 if it is not given. The rows are of the layout of examples/import/taq.toml, in two files, with a share of
-them wrong in each way that a row can be. The three files that are written, and the counts, must be those of the converter.
-Prints the seed, and at a difference the row. Ends with status 1 at a difference.
+ROWS is 100,000 if it is not given, shared by the layouts of LAYOUTS: those of examples/import/, and some of them with another
+form of times or another word for rows of which one side alone is manual. The rows stand in two files, with a share of them
+wrong in each way that a row can be. The files that are written, and the counts, must be those of the converter. Prints the
+seed, and at a difference the layout and the line. Ends with status 1 at a difference.
 """
 import os
 import random
@@ -13,15 +14,67 @@ import re
 import subprocess
 import sys
 import tempfile
+from dataclasses import dataclass, field
 
 HERE = os.path.dirname(os.path.realpath(__file__))
-MAP = os.path.join(HERE, "../examples/import/taq.toml")
+MAPS = os.path.join(HERE, "../examples/import")
 SETUP = os.path.join(HERE, "../examples/market.toml")
-NAMES = ("Time|Exchange|Symbol|Bid_Price|Bid_Size|Offer_Price|Offer_Size|Quote_Condition|Sequence_Number|National_BBO_Ind|"
-         "FINRA_BBO_Indicator|FINRA_ADF_MPID_Indicator|Quote_Cancel_Correction|Source_Of_Quote").split("|")
-STATES = {"A": "CR CO CW NR NY NO", "M": "CH NH NU", "H": "CD CI CJ CK CM CP CS CV NI", "": "CC CL CN NL NN NZ"}
+TAQ = ("Time|Exchange|Symbol|Bid_Price|Bid_Size|Offer_Price|Offer_Size|Quote_Condition|Sequence_Number|National_BBO_Ind|"
+       "FINRA_BBO_Indicator|FINRA_ADF_MPID_Indicator|Quote_Cancel_Correction|Source_Of_Quote").split("|")
+DATABENTO = ("ts_recv,ts_event,rtype,publisher_id,instrument_id,action,side,depth,price,size,flags,ts_in_delta,sequence,bid_px_00,"
+             "ask_px_00,bid_sz_00,ask_sz_00,bid_ct_00,ask_ct_00,symbol").split(",")
+STATES = {"A": "CR CO CW NR NY NO", "M": "CH NH NU", "H": "CD CI CJ CK CM CP CS CV NI", "": "CC CL CN NL NN NZ", "half": "CA CB CE CF NA NB"}
 STATE = {word: state for state, words in STATES.items() for word in words.split()}
 LAST = "END|20240102|"
+
+
+@dataclass
+class Layout:
+    """A layout: its mapping, with what is replaced in it, and what the converter has to know of it."""
+    name: str
+    mapping: str
+    share: int
+    names: list
+    # The column of each thing that is read; what is fixed stands in `fixed`.
+    columns: dict
+    header: bool = True
+    delimiter: str = "|"
+    edits: list = field(default_factory=list)
+    fixed: dict = field(default_factory=dict)
+    form: str = "HHMMSSn"
+    zone: int = 0
+    unit: str = "dollars"
+    none: tuple = ("", "0", "0.00")
+    lot: int = 1
+    names_of: dict = field(default_factory=dict)
+    same: bool = True
+    half: str = "refuse"
+    states: bool = True
+    end: str = ""
+
+
+TAQ_COLUMNS = {"time": 0, "participant": 1, "symbol": 2, "bid": 3, "bid_size": 4, "offer": 5, "offer_size": 6, "condition": 7, "skip": 12,
+               "source": 13}
+
+
+def taq(name, share, edits=(), **more):
+    """The layout of NYSE Daily TAQ, with edits of its mapping."""
+    return Layout(name, "taq.toml", share, TAQ, TAQ_COLUMNS, edits=list(edits), lot=100, names_of={"T": "Q"}, end="END", **more)
+
+
+LAYOUTS = [
+    taq("taq", 30),
+    taq("taq, both sides manual", 8, [('half = "refuse"', 'half = "manual"')], half="manual"),
+    taq("taq, both sides automated", 8, [('half = "refuse"', 'half = "automated"')], half="automated"),
+    taq("taq, iso", 14, [('form = "HHMMSSn"', 'form = "iso"\nzone_offset = "+0530"')], form="iso", zone=19800),
+    taq("taq, iso without a zone", 6, [('form = "HHMMSSn"', 'form = "iso"')], form="iso"),
+    Layout("databento", "databento-mbp1.toml", 20, DATABENTO, {"time": 0, "participant": 3, "symbol": 19, "bid": 13, "bid_size": 15, "offer": 14,
+           "offer_size": 16}, delimiter=",", form="unix_ns", zone=68400, unit="1e-9", none=("", "9223372036854775807"),
+           names_of={"2": "Q"}, same=False, states=False),
+    Layout("lobster", "lobster.toml", 14, ["field"] * 10, {"time": 0, "bid": 8, "bid_size": 9, "offer": 6, "offer_size": 7}, header=False, delimiter=",",
+           fixed={"participant": "Q", "symbol": "AAPL"}, form="seconds", unit="1e-4", none=("", "9999999999", "-9999999999"),
+           same=True, states=False),
+]
 
 
 def roster():
@@ -32,26 +85,37 @@ def roster():
     return re.findall(r'^name = "(.*)"', parts, re.M), re.findall(r'^name = "(.*)"', syms, re.M)
 
 
-def price_of(text):
-    """A price in 1/10,000 dollar, None for none; ValueError if it is none of the form."""
-    if text in ("", "0", "0.00"):
+def price_of(layout, text):
+    """A price in 1/10,000 dollar, None for none; ValueError if it is none of the unit."""
+    if text in layout.none:
         return None
-    if not re.fullmatch(r"[0-9]{1,7}(\.[0-9]{1,4})?", text):
+    forms = {"dollars": r"[0-9]{1,7}(\.[0-9]{1,4})?", "1e-4": "[0-9]{1,11}", "1e-9": "[0-9]{1,19}"}
+    if not re.fullmatch(forms[layout.unit], text):
         raise ValueError
-    whole, _, after = text.partition(".")
-    return int(whole) * 10000 + int((after + "0000")[:4]) or None
+    if layout.unit == "dollars":
+        whole, _, after = text.partition(".")
+        number = int(whole) * 10000 + int((after + "0000")[:4])
+    elif layout.unit == "1e-4":
+        number = int(text)
+    else:
+        number, rest = divmod(int(text), 100000)
+        if rest:
+            raise ValueError
+    if number > 99999999999:
+        raise ValueError
+    return number or None
 
 
-def side_of(price, size):
+def side_of(layout, price, size):
     """The two fields of a side, or the cause why there are none."""
     try:
-        price = price_of(price)
+        price = price_of(layout, price)
     except ValueError:
         return "bad price"
     if size == "":
         shares = 0
-    elif re.fullmatch("[0-9]{1,9}", size) and int(size) * 100 <= 999999999:
-        shares = int(size) * 100
+    elif re.fullmatch("[0-9]{1,9}", size) and int(size) * layout.lot <= 999999999:
+        shares = int(size) * layout.lot
     else:
         return "bad size"
     if shares == 0:
@@ -61,70 +125,129 @@ def side_of(price, size):
     return (f"{price // 10000}.{price % 10000:04},{shares}",)
 
 
-def time_of(text):
+def clock(layout, nanos):
+    """The 15 digits of nanoseconds after a midnight, in the layout's zone."""
+    second, nano = (nanos // 10 ** 9 + layout.zone) % 86400, nanos % 10 ** 9
+    return f"{second // 3600:02}{second // 60 % 60:02}{second % 60:02}{nano:09}"
+
+
+def time_of(layout, text):
     """A time of 15 digits, or None."""
-    if not re.fullmatch("[0-9]{6,15}", text):
+    if layout.form == "HHMMSSn":
+        if not re.fullmatch("[0-9]{6,15}", text):
+            return None
+        text = text.ljust(15, "0")
+        return text if int(text[:2]) < 24 and int(text[2:4]) < 60 and int(text[4:6]) < 60 else None
+    if layout.form == "unix_ns":
+        return clock(layout, int(text)) if re.fullmatch("[0-9]{1,19}", text) else None
+    if layout.form == "seconds":
+        found = re.fullmatch(r"([0-9]{1,5})(?:\.([0-9]{1,9}))?", text)
+        if not found or int(found[1]) >= 86400:
+            return None
+        return clock(layout, int(found[1]) * 10 ** 9 + int((found[2] or "").ljust(9, "0")))
+    found = re.fullmatch(r".{10}[T ]([0-9]{2}):([0-9]{2}):([0-9]{2})(?:\.([0-9]{1,9}))?Z?", text)
+    if not found or int(found[1]) > 23 or int(found[2]) > 59 or int(found[3]) > 59:
         return None
-    text = text.ljust(15, "0")
-    return text if int(text[:2]) < 24 and int(text[2:4]) < 60 and int(text[4:6]) < 60 else None
+    second = int(found[1]) * 3600 + int(found[2]) * 60 + int(found[3])
+    return clock(layout, second * 10 ** 9 + int((found[4] or "").ljust(9, "0")))
 
 
-def outcome(row, parts, syms):
-    """(record, time, symbol) of a row, or the cause why it makes none."""
-    if row[0] == "END":
-        return "last line of a file"
-    if len(row) < len(NAMES):
-        return "too few columns"
-    it = dict(zip(NAMES, row))
-    if it["Quote_Cancel_Correction"] == "B":
-        return "word to skip"
-    time = time_of(it["Time"])
-    if time is None:
-        return "bad time"
-    part = "Q" if it["Exchange"] == "T" else it["Exchange"]
-    if part not in parts:
-        return "unknown participant"
-    sym = it["Symbol"].replace(" ", ".")
-    if sym not in syms:
-        return "other symbol"
-    state = STATE.get(it["Source_Of_Quote"] + it["Quote_Condition"])
+def state_of(layout, it):
+    """The state, empty for no quotation, and whether one side alone is manual; or the cause why there is none."""
+    if not layout.states:
+        return "A", False
+    state = STATE.get(it["source"] + it["condition"])
     if state is None:
         return "unknown condition"
-    if state == "":
-        return (f"Q,{part},{sym},A,,,,", time, sym)
-    bid = side_of(it["Bid_Price"], it["Bid_Size"])
+    if state != "half":
+        return state, False
+    return "one side manual" if layout.half == "refuse" else (layout.half[0].upper(), True)
+
+
+def outcome(layout, row, parts, syms):
+    """(record, time, symbol, one side alone is manual) of a row, or the cause why it makes none."""
+    if layout.end and row[0] == layout.end:
+        return "last line of a file"
+    if len(row) <= max(layout.columns.values()):
+        return "too few columns"
+    it = {**layout.fixed, **{what: row[place] for what, place in layout.columns.items()}}
+    if it.get("skip") == "B":
+        return "word to skip"
+    time = time_of(layout, it["time"])
+    if time is None:
+        return "bad time"
+    part = layout.names_of.get(it["participant"], it["participant"] if layout.same else None)
+    if part not in parts:
+        return "unknown participant"
+    sym = it["symbol"].replace(" ", ".")
+    if sym not in syms:
+        return "other symbol"
+    state = state_of(layout, it)
+    if isinstance(state, str):
+        return state
+    if state[0] == "":
+        return (f"Q,{part},{sym},A,,,,", time, sym, False)
+    bid = side_of(layout, it["bid"], it["bid_size"])
     if isinstance(bid, str):
         return bid
-    offer = side_of(it["Offer_Price"], it["Offer_Size"])
+    offer = side_of(layout, it["offer"], it["offer_size"])
     if isinstance(offer, str):
         return offer
-    return (f"Q,{part},{sym},{state},{bid[0]},{offer[0]}", time, sym)
+    return (f"Q,{part},{sym},{state[0]},{bid[0]},{offer[0]}", time, sym, state[1])
 
 
-def random_row(dice, parts, syms):
+def random_time(layout, dice):
+    """A time of the layout's form, and wrong ones."""
+    second, nano = dice.randrange(86400), f"{dice.randrange(10 ** 9):09}"
+    parts = f"{second // 3600:02}", f"{second // 60 % 60:02}", f"{second % 60:02}"
+    if layout.form == "HHMMSSn":
+        return "".join(parts) + nano[:dice.choice([9, 9, 9, 0, 3, 6])], \
+            ["", "12345", "240000000000000", "126000000", "120060", "1200001234567890", "12:00:00", "09300a000"]
+    if layout.form == "unix_ns":
+        return f"{dice.randrange(20000) * 86400 + second}{nano}", \
+            ["", "0", "9999999999999999999", "10000000000000000000", "18446744073709551615", "-1", "1.5", "2024-01-02"]
+    point = dice.choice(["", "." + nano[:dice.randrange(1, 10)]])
+    if layout.form == "seconds":
+        return f"{second}{point}", ["", "86400", "86399.999999999", "86400.000000000", "1.", ".5", "1.0000000000", "100000", "000001", "-1", "1.5.5"]
+    day = f"2024-01-02{dice.choice('T ')}"
+    return f"{day}{':'.join(parts)}{point}{dice.choice(['', 'Z'])}", \
+        ["", day + "24:00:00", day + "12:60:00", day + "12:00:60Z", day + "12:00", day + "12:00:00.", day + "12:00:00.Z", day + "1a:00:00",
+         day + "12:00:00.1234567890", day + "12:00:00ZZ", day + "12:00:00+00:00", day + "12-00:00", day + "12:00-00", "2024-01-02_12:00:00", day + "23:59:59.999999999Z"]
+
+
+def random_price(layout, dice, number):
+    """A price of the layout's unit."""
+    if layout.unit == "1e-4":
+        return str(number)
+    if layout.unit == "1e-9":
+        return str(number * 100000)
+    text = f"{number // 10000}.{number % 10000:04}"
+    return dice.choice([text, text.rstrip("0").rstrip("."), text])
+
+
+def random_row(layout, dice, parts, syms):
     """A row, now and then a wrong one."""
     def maybe(right, wrong, one_in=60):
         return dice.choice(wrong) if dice.randrange(one_in) == 0 else right
     middle = dice.randrange(1, 4000000)
-    def price(n):
-        text = f"{n // 10000}.{n % 10000:04}"
-        return dice.choice([text, text.rstrip("0").rstrip("."), text])
-    row = dict.fromkeys(NAMES, "")
-    second = dice.randrange(34200, 57600)
-    clock = f"{second // 3600:02}{second // 60 % 60:02}{second % 60:02}"
-    nine = f"{dice.randrange(10 ** 9):09}"
-    row["Time"] = maybe(clock + nine[:dice.choice([9, 9, 9, 0, 3, 6])],
-                        ["", "12345", "240000000000000", "126000000", "120060", "1200001234567890", "12:00:00", "09300a000"])
-    row["Exchange"] = maybe(dice.choice(parts + ["T"]), ["", "?", "W", "QQ"])
-    row["Symbol"] = maybe(dice.choice(syms).replace(".", " "), ["", "MSFT", "ZVZZT", "BRK B PR", "ABCDEFGHI", "aapl"], 20)
-    row["Bid_Price"] = maybe(price(middle), ["", "0", "0.00", "0.0000", "1.23456", "12345678", "-1", "1e3", ".5", "1."])
-    row["Bid_Size"] = maybe(str(dice.choice([0, 1, 1, 2, 5, 40])), ["", "00", "1234567890", "9999999", "10000000", "1.0", " 1"])
-    row["Offer_Price"] = maybe(price(middle + dice.randrange(1, 500)), ["", "0", "9999999.9999", "10.00005", "x"])
-    row["Offer_Size"] = maybe(str(dice.choice([0, 1, 1, 3, 7])), ["", "10000000", "-1"])
-    row["Quote_Condition"] = maybe("R", list("OWHDICLNAEFYZ") + [""], 8)
-    row["Source_Of_Quote"] = maybe(dice.choice("CN"), ["", "X"], 200)
-    row["Quote_Cancel_Correction"] = maybe("", ["A", "B", "C"], 50)
-    fields = [row[name] for name in NAMES] + dice.choice([[], [], ["more"]])
+    lots = [1, 2, 5, 40] if layout.lot > 1 else [1, 100, 250, 4000]
+    it = {
+        "time": maybe(*random_time(layout, dice)),
+        "participant": maybe(dice.choice(parts + ["T"]) if layout.same else "2", ["", "?", "W", "QQ", "Q", "39"]),
+        "symbol": maybe(dice.choice(syms).replace(".", " " if layout.lot > 1 else "."), ["", "MSFT", "ZVZZT", "BRK B PR", "ABCDEFGHI", "aapl"], 20),
+        "bid": maybe(random_price(layout, dice, middle), ["", "0", "0.00", "0.0000", "1.23456", "12345678", "-1", "1e3", ".5", "1.", *layout.none,
+                                                          "9999900001", "9999999999999900000", "10000000000000000", "123456789012"]),
+        "bid_size": maybe(str(dice.choice([0, *lots])), ["", "00", "1234567890", "9999999", "10000000", "1.0", " 1"]),
+        "offer": maybe(random_price(layout, dice, middle + dice.randrange(1, 500)), ["", "0", "9999999.9999", "10.00005", "x", *layout.none]),
+        "offer_size": maybe(str(dice.choice([0, *lots])), ["", "10000000", "-1"]),
+        "condition": maybe("R", list("OWHDICLNAEFYZB") + [""], 8),
+        "source": maybe(dice.choice("CN"), ["", "X"], 200),
+        "skip": maybe("", ["A", "B", "C"], 50),
+    }
+    fields = [""] * len(layout.names)
+    for what, place in layout.columns.items():
+        fields[place] = it[what]
+    fields += dice.choice([[], [], ["more"]])
     if dice.randrange(300) == 0:
         fields = fields[:dice.randrange(1, len(fields))]
         # One empty field is a blank line, which is no row.
@@ -133,57 +256,86 @@ def random_row(dice, parts, syms):
     return fields
 
 
-def main():
-    """Runs the program on random rows."""
-    program, rows, seed = sys.argv[1], int((sys.argv + [100000])[2] if len(sys.argv) > 2 else 100000), \
-        int(sys.argv[3]) if len(sys.argv) > 3 else random.randrange(1 << 30)
-    print(f"seed {seed}, {rows} rows")
-    dice = random.Random(seed)
-    parts, syms = roster()
-    made = [random_row(dice, parts, syms) for _ in range(rows)]
-    with tempfile.TemporaryDirectory() as room:
-        files = [os.path.join(room, name) for name in ("one.txt", "two.txt")]
-        halves = [made[:rows // 2] + [(LAST + "1").split("|")], made[rows // 2:]]
-        for path, half in zip(files, halves):
-            end = dice.choice(["\n", "\r\n"])
-            with open(path, "w", encoding="utf-8", newline="") as file:
-                file.write(end.join("|".join(row) for row in [NAMES] + half) + end)
-        out = os.path.join(room, "out")
-        ran = subprocess.run([program, "import", MAP, *files, "--out", out, "--setup", SETUP], capture_output=True, check=False)
-        got = {}
-        for name in ("changes", "times", "symbols"):
-            with open(f"{out}.{name}", encoding="utf-8") as file:
-                got[name] = file.read().splitlines()
-    wanted = {"changes": [], "times": [], "symbols": []}
-    counts, spans = {}, {}
-    for half in halves:
-        for row in half:
-            made_of = outcome(row, parts, syms)
-            if isinstance(made_of, str):
-                counts[made_of] = counts.get(made_of, 0) + 1
-                continue
-            wanted["changes"].append(made_of[0])
-            wanted["times"].append(made_of[1])
-            version = len(wanted["changes"])
-            spans[made_of[2]] = (spans.get(made_of[2], (version,))[0], version)
-    wanted["symbols"] = [f"{sym},{spans[sym][0]},{spans[sym][1]}" for sym in syms if sym in spans]
+def files_of(layout, dice, rows, room):
+    """The rows in two files, and the rows of both with their last lines."""
+    half = len(rows) // 2
+    first = rows[:half] + ([(LAST + "1").split("|")] if layout.end else [])
+    paths = [os.path.join(room, name) for name in ("one.txt", "two.txt")]
+    for path, part in zip(paths, (first, rows[half:])):
+        end = dice.choice(["\n", "\r\n"])
+        with open(path, "w", encoding="utf-8", newline="") as file:
+            file.write(end.join(layout.delimiter.join(row) for row in ([layout.names] if layout.header else []) + part) + end)
+    return paths, first + rows[half:]
+
+
+def wanted_of(layout, rows, parts, syms):
+    """What the converter writes, by the end of the file's name."""
+    changes, times, counts, spans, halves = [], [], {}, {}, 0
+    for row in rows:
+        made_of = outcome(layout, row, parts, syms)
+        if isinstance(made_of, str):
+            counts[made_of] = counts.get(made_of, 0) + 1
+            continue
+        record, time, sym, half = made_of
+        changes.append(record)
+        times.append(time)
+        halves += half
+        spans[sym] = (spans.get(sym, (len(changes),))[0], len(changes))
     skips = ("last line of a file", "word to skip", "other symbol")
-    order = ("too few columns", "bad time", "unknown participant", "unknown symbol", "unknown condition", "bad price", "bad size",
+    order = ("too few columns", "bad time", "unknown participant", "unknown symbol", "unknown condition", "one side manual", "bad price", "bad size",
              "shares without a price", *skips)
     said = [f"{counts[why]} {'skipped' if why in skips else 'refused'}: {why}" for why in order if why in counts]
+    if halves:
+        said.append(f"{halves} changes: one side manual, both made {layout.half}")
     skipped = sum(counts.get(why, 0) for why in skips)
-    refused = sum(counts.values()) - skipped
-    said.append(f"{rows + 1} rows = {len(wanted['changes'])} changes + {refused} refused + {skipped} skipped")
-    wanted["counts"], got["counts"] = said, ran.stdout.decode().splitlines()
+    said.append(f"{len(rows)} rows = {len(changes)} changes + {sum(counts.values()) - skipped} refused + {skipped} skipped")
+    return {"changes": changes, "times": times, "counts": said,
+            "symbols": [f"{sym},{spans[sym][0]},{spans[sym][1]}" for sym in syms if sym in spans]}
+
+
+def judge(program, layout, dice, rows):
+    """Runs the program on random rows of a layout. Returns whether it wrote what the converter writes."""
+    parts, syms = roster()
+    made = [random_row(layout, dice, parts, syms) for _ in range(rows)]
+    with tempfile.TemporaryDirectory() as room:
+        with open(os.path.join(MAPS, layout.mapping), encoding="utf-8") as file:
+            text = file.read()
+        for old, new in layout.edits:
+            assert text.count(old) == 1, (layout.name, old)
+            text = text.replace(old, new)
+        mapping = os.path.join(room, "map.toml")
+        with open(mapping, "w", encoding="utf-8") as file:
+            file.write(text)
+        paths, given = files_of(layout, dice, made, room)
+        out = os.path.join(room, "out")
+        ran = subprocess.run([program, "import", mapping, *paths, "--out", out, "--setup", SETUP], capture_output=True, check=False)
+        got = {"counts": ran.stdout.decode().splitlines()}
+        for name in ("changes", "times", "symbols"):
+            try:
+                with open(f"{out}.{name}", encoding="utf-8") as file:
+                    got[name] = file.read().splitlines()
+            except OSError:
+                got[name] = ["no file"]
+    wanted = wanted_of(layout, given, parts, syms)
     for name, lines in wanted.items():
         if lines != got[name]:
             at = next((i for i, pair in enumerate(zip(lines, got[name])) if pair[0] != pair[1]), min(len(lines), len(got[name])))
-            print(f"{name}: line {at + 1}: wanted {lines[at:at + 1]}, got {got[name][at:at + 1]}")
+            print(f"{layout.name}: {name}: line {at + 1}: wanted {lines[at:at + 1]}, got {got[name][at:at + 1]}")
             print(ran.stderr.decode()[-2000:])
-            return 1
-    print(f"equal: {said[-1]}; status {ran.returncode}")
-    return 0
+            return False
+    print(f"{layout.name}: equal: {wanted['counts'][-1]}; status {ran.returncode}")
+    return True
+
+
+def main(program, rows="100000", seed=None):
+    """Runs the program on random rows of each layout."""
+    seed = int(seed) if seed else random.randrange(1 << 30)
+    print(f"seed {seed}, {rows} rows")
+    dice = random.Random(seed)
+    whole = sum(layout.share for layout in LAYOUTS)
+    good = [judge(program, layout, dice, int(rows) * layout.share // whole) for layout in LAYOUTS]
+    return 0 if all(good) else 1
 
 
 if __name__ == "__main__":
-    sys.exit(main())
+    sys.exit(main(*sys.argv[1:]))

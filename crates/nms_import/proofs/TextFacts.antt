@@ -1,9 +1,9 @@
 -- What is written of the rows so far and of one more.
 use Rattle.std.proofs.Common.{ℕ, ◌≡◌, ◌+◌, List, [], ◌∷◌, ◌++◌, Option, Some, None, length, map, sym, ap, subst, ◌∙◌, length-append}
-use Rattle.std.specs.Prelude.{flat_map, Ok}
+use Rattle.std.specs.Prelude.{filter, flat_map, Ok}
 use Rattle.std.proofs.lemmas.List.{append-nil, map-append}
 use Rattle.std.proofs.lemmas.List.Concat.{flat_map-append}
-use Rattle.std.proofs.lemmas.List.Elements.{filter_map-append}
+use Rattle.std.proofs.lemmas.List.Elements.{filter-append, filter_map-append}
 use Rattle.std.specs.Io.KnownBytes.{Appends}
 use Rattle.csv.proofs.WriteFacts.{appends-more}
 use Rattle.nms_quote.specs.Roster.{Listing}
@@ -14,7 +14,7 @@ use Rattle.nms_import.specs.declared.column.Columns.{Columns}
 use Rattle.nms_import.specs.declared.entry.Entry.{Entry}
 use Rattle.nms_import.specs.declared.meanings.Meanings.{Meanings}
 use Rattle.nms_import.specs.Mapping.{entry_of}
-use Rattle.nms_import.specs.Imported.{accepted, entry_in, imported_changes, imported_times, time_line, times_text}
+use Rattle.nms_import.specs.Imported.{accepted, entry_in, imported_changes, imported_times, one_sided, time_line, times_text}
 
 -- the entries of the rows and of one more
 entries_more : (columns : Columns) (mapping : Meanings) (roster : Listing) (rows : List Record) (row : Record)
@@ -72,6 +72,16 @@ pub accepted_more : (columns : Columns) (mapping : Meanings) (roster : Listing) 
 accepted_more columns mapping roster rows row =
     ap length (entries_more columns mapping roster rows row)
     ∙ length-append (accepted columns mapping roster rows) (accepted columns mapping roster (row ∷ []))
+
+pub one_sided_more : (columns : Columns) (mapping : Meanings) (roster : Listing) (rows : List Record) (row : Record)
+    → one_sided columns mapping roster (rows ++ row ∷ [])
+    ≡ one_sided columns mapping roster rows + one_sided columns mapping roster (row ∷ [])
+one_sided_more columns mapping roster rows row =
+    let before = accepted columns mapping roster rows in
+    let one = accepted columns mapping roster (row ∷ []) in
+    ap (λ (es : List Entry). length (filter (λ entry. entry.one_sided) es)) (entries_more columns mapping roster rows row)
+    ∙ ap length (filter-append (λ (entry : Entry). entry.one_sided) before one)
+    ∙ length-append (filter (λ (entry : Entry). entry.one_sided) before) (filter (λ (entry : Entry). entry.one_sided) one)
 
 -- nothing was written
 pub none_written : (old : Option (List ℕ)) → Appends old old []

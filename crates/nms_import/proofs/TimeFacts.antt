@@ -2,7 +2,7 @@
 use Rattle.std.proofs.Common.{ℕ, ◌≡◌, ◌≤◌, ◌+◌, ◌-◌, false, List, length, take, drop, arith, nat_lt, Some, refl, sym}
 use Rattle.std.proofs.lemmas.List.{length-drop, take_all}
 use Rattle.std.proofs.lemmas.Bool.Decides.{nat_tests}
-use Rattle.nms_import.specs.Mapping.{clock_number, nanoseconds, seconds}
+use Rattle.nms_import.specs.Times.{clock_number, nanoseconds, seconds}
 
 -- as many bytes as are left are all that are left
 pub rest_of : (text : List ℕ) (done : ℕ) → take (length text - done) (drop done text) ≡ drop done text

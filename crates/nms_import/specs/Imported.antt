@@ -1,5 +1,6 @@
 -- What is written of the rows of a vendor's file. This product's own rule.
-use Rattle.std.specs.Prelude.{ℕ, ◌+◌, ◌/◌, List, [], ◌∷◌, ◌++◌, map, filter_map, flat_map, Option, Some, None, Result, Ok, Err}
+use Rattle.std.specs.Prelude.{ℕ, ◌+◌, ◌/◌, List, [], ◌∷◌, ◌++◌, length, map, filter, filter_map, flat_map}
+use Rattle.std.specs.Prelude.{Option, Some, None, Result, Ok, Err}
 use Rattle.nms_units.specs.Money.{three_digits}
 use Rattle.nms_quote.specs.Roster.{Listing}
 use Rattle.nms_lines.specs.Layout.{Record}
@@ -38,11 +39,19 @@ times_text times = flat_map time_line times
 abbrev pub imported_times : Columns → Meanings → Listing → List Record → List ℕ
 imported_times columns mapping roster rows = times_text (map (λ entry. entry.time) (accepted columns mapping roster rows))
 
+-- how many of them have a condition that makes one side alone manual
+abbrev pub one_sided : Columns → Meanings → Listing → List Record → ℕ
+one_sided columns mapping roster rows = length (filter (λ entry. entry.one_sided) (accepted columns mapping roster rows))
+
+-- the rows that made a change
+abbrev pub changes_in : Tally → ℕ
+changes_in tally = tally.wholes + tally.halves
+
 -- the rows that were refused, of all causes
 abbrev pub refused_in : Tally → ℕ
 refused_in tally =
     tally.too_few_columns + tally.bad_time + tally.unknown_participant + tally.unknown_symbol + tally.unknown_condition
-    + tally.bad_price + tally.bad_size + tally.half_side
+    + tally.one_sided + tally.bad_price + tally.bad_size + tally.half_side
 
 -- the rows that were skipped, of all causes
 abbrev pub skipped_in : Tally → ℕ
@@ -50,4 +59,4 @@ skipped_in tally = tally.trailer + tally.listed + tally.other_symbol
 
 -- all rows
 abbrev pub rows_in : Tally → ℕ
-rows_in tally = tally.changes + refused_in tally + skipped_in tally
+rows_in tally = changes_in tally + refused_in tally + skipped_in tally

@@ -1,18 +1,19 @@
 -- What a mapping makes of a row of a vendor's file: a change and its time, or the first cause why it makes none. This
 -- product's own rule.
-use Rattle.std.specs.Prelude.{ℕ, ◌*◌, ◌-◌, ◌/◌, ◌%◌, ◌^◌, ◌==◌, ◌&&◌, ◌||◌, Bool, true, false, List, [], ◌∷◌, length, map}
+use Rattle.std.specs.Prelude.{ℕ, ◌*◌, ◌/◌, ◌%◌, ◌==◌, ◌&&◌, ◌||◌, Bool, true, false, List, [], ◌∷◌, length, map}
 use Rattle.std.specs.Prelude.{take, drop, position, slice_get}
 use Rattle.std.specs.Prelude.{nat_le, nat_lt, Option, Some, None, option_map, Result, Ok, Err, if◌then◌else◌}
 use Rattle.std.specs.List.{list_any}
 use Rattle.std.specs.Str.{bytes_eq}
 use Rattle.nms_units.specs.Digits.{number_in}
-use Rattle.nms_units.specs.Price.{both, price_number}
+use Rattle.nms_units.specs.Price.{price_number}
 use Rattle.nms_units.specs.declared.TheConstants.{MOST_PRICE, MOST_SHARES}
 use Rattle.nms_quote.specs.Content.{Content}
 use Rattle.nms_quote.specs.Roster.{Listing, place_in}
 use Rattle.nms_quote.specs.declared.change.Change.{Change}
 use Rattle.nms_quote.specs.declared.change.Change.TheVariants as change
-use Rattle.nms_quote.specs.declared.side_quote.QState.TheVariants.{Automated}
+use Rattle.nms_quote.specs.declared.side_quote.QState.{QState}
+use Rattle.nms_quote.specs.declared.side_quote.QState.TheVariants.{Automated, Manual}
 use Rattle.nms_quote.specs.declared.side_quote.Side.{Side}
 use Rattle.nms_quote.specs.declared.side_quote.Side.TheVariants.{Bid, Offer}
 use Rattle.nms_lines.specs.Layout.{Record, field}
@@ -23,6 +24,8 @@ use Rattle.nms_import.specs.declared.column.Column.{Column}
 use Rattle.nms_import.specs.declared.column.Column.TheVariants as column
 use Rattle.nms_import.specs.declared.column.Columns.{Columns}
 use Rattle.nms_import.specs.declared.entry.Entry.{Entry}
+use Rattle.nms_import.specs.declared.meanings.Half.{Half}
+use Rattle.nms_import.specs.declared.meanings.Half.TheVariants as half
 use Rattle.nms_import.specs.declared.meanings.Meaning.{Meaning}
 use Rattle.nms_import.specs.declared.meanings.Meaning.TheVariants as meaning
 use Rattle.nms_import.specs.declared.meanings.Meanings.{Meanings}
@@ -32,6 +35,7 @@ use Rattle.nms_import.specs.declared.meanings.Renamed.{Renamed}
 use Rattle.nms_import.specs.declared.meanings.Replaced.{Replaced}
 use Rattle.nms_import.specs.declared.meanings.Said.{Said}
 use Rattle.nms_import.specs.declared.meanings.Word.{Word}
+use Rattle.nms_import.specs.Times.{clock_of}
 
 infixl 10 ◌>>=◌
 -- the first cause, from left to right
@@ -110,31 +114,9 @@ side_of mapping side price shares = do
 
 -- ---- times
 
--- digits after the second, up to nine, as nanoseconds
-abbrev pub nanoseconds : List ℕ → Option ℕ
-nanoseconds text = if is_empty text then Some 0 else option_map (λ n. n * 10 ^ (9 - length text)) (number_in 9 text)
-
--- six digits, before nine others
-abbrev pub seconds : List ℕ → Option ℕ
-seconds text = option_map (λ n. n * 1000000000) (number_in 6 text)
-
--- HHMMSS and the digits after it as one number of 15 digits, HHMMSSnnnnnnnnn
-abbrev pub clock_number : List ℕ → Option ℕ
-clock_number text =
-    if nat_lt (length text) 6 then None
-    else both (seconds (take 6 text)) (nanoseconds (drop 6 text))
-
--- hours below 24, minutes and seconds below 60
-abbrev pub is_clock : ℕ → Bool
-is_clock t = nat_lt (t / 10000000000000) 24 && nat_lt (t / 100000000000 % 100) 60 && nat_lt (t / 1000000000 % 100) 60
-
-abbrev pub clock_within : Option ℕ → Result ℕ Cause
-clock_within None = Err cause.BadTime
-clock_within (Some t) = if is_clock t then Ok t else Err cause.BadTime
-
 -- a time of day
-abbrev pub time_of : List ℕ → Result ℕ Cause
-time_of text = clock_within (clock_number text)
+abbrev pub time_of : Meanings → List ℕ → Result ℕ Cause
+time_of mapping text = or_stop (clock_of mapping.time_form mapping.zone text) cause.BadTime
 
 -- ---- names
 
@@ -189,12 +171,30 @@ abbrev pub meaning_of : Meanings → (first second : List ℕ) → Result Meanin
 meaning_of mapping first second =
     or_stop (said_at mapping.said.items (position (λ it. is_joined first second it.word.items) mapping.said.items)) cause.UnknownCondition
 
+-- no record says that one side alone is manual: the row is refused, or both sides are in the state that the mapping chose
+abbrev pub half_state : Half → Side → Result (Option QState) Cause
+half_state half.Refuse side = Err (cause.OneSided side)
+half_state half.Manual side = Ok (Some Manual)
+half_state half.Automated side = Ok (Some Automated)
+
+-- the state of both sides, None for no quotation
+abbrev pub state_of : Meanings → Meaning → Result (Option QState) Cause
+state_of mapping meaning.Nothing = Ok None
+state_of mapping (meaning.Quoted state) = Ok (Some state)
+state_of mapping (meaning.ManualSide side) = half_state mapping.half side
+
+-- one side alone is manual
+abbrev pub is_one_sided : Meaning → Bool
+is_one_sided meaning.Nothing = false
+is_one_sided (meaning.Quoted state) = false
+is_one_sided (meaning.ManualSide side) = true
+
 -- ---- rows
 
--- both sides, as far as the condition has any
-abbrev pub change_of : Columns → Meanings → Record → (part sym : ℕ) → Meaning → Result Change Cause
-change_of columns mapping row part sym meaning.Nothing = Ok (change.Quote part sym Automated None None)
-change_of columns mapping row part sym (meaning.Quoted state) = do
+-- both sides, as far as there is a quotation
+abbrev pub change_of : Columns → Meanings → Record → (part sym : ℕ) → Option QState → Result Change Cause
+change_of columns mapping row part sym None = Ok (change.Quote part sym Automated None None)
+change_of columns mapping row part sym (Some state) = do
   bid ← side_of mapping Bid (column_text columns.bid row) (column_text columns.bid_size row)
   offer ← side_of mapping Offer (column_text columns.offer row) (column_text columns.offer_size row)
   Ok (change.Quote part sym state bid offer)
@@ -205,9 +205,10 @@ entry_of columns mapping roster row = do
   inside ← stop_if (is_listed mapping.ends.items (field row 0)) cause.Trailer
   whole ← stop_if (nat_lt (length row) columns.width) cause.TooFewColumns
   wanted ← stop_if (is_listed mapping.skips.items (column_text columns.skip row)) cause.Listed
-  time ← time_of (column_text columns.time row)
+  time ← time_of mapping (column_text columns.time row)
   part ← participant_of mapping roster (column_text columns.participant row)
   sym ← or_stop (symbol_in mapping roster (column_text columns.symbol row)) (no_symbol mapping)
   means ← meaning_of mapping (column_text columns.source row) (column_text columns.condition row)
-  said ← change_of columns mapping row part sym means
-  Ok (record { time = time; change = said })
+  state ← state_of mapping means
+  said ← change_of columns mapping row part sym state
+  Ok (record { time = time; change = said; one_sided = is_one_sided means })

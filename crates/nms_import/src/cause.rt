@@ -1,7 +1,7 @@
 //! Why a row makes no change.
 use nms_quote::Side;
 
-/// Why a row makes no change: the first that holds, in this order. The first eight refuse the row, the others skip it.
+/// Why a row makes no change: the first that holds, in this order. The first nine refuse the row, the others skip it.
 #[derive(Clone, Copy, Debug, PartialEq, Eq)]
 pub enum Cause {
     /// Fewer columns than the mapping names.
@@ -14,6 +14,8 @@ pub enum Cause {
     UnknownSymbol,
     /// The mapping lists no such condition.
     UnknownCondition,
+    /// The condition makes this side alone manual, which no record can say, and the mapping refuses such rows.
+    OneSided(Side),
     /// The price of a side is not of the mapping's unit, or above 9,999,999.9999 dollars.
     BadPrice(Side),
     /// The size of a side is not 1 to 9 digits, or more than 999,999,999 shares.
@@ -37,6 +39,7 @@ impl Cause {
             | Cause::UnknownParticipant
             | Cause::UnknownSymbol
             | Cause::UnknownCondition
+            | Cause::OneSided(_)
             | Cause::BadPrice(_)
             | Cause::BadSize(_)
             | Cause::HalfSide(_) => false,

@@ -8,4 +8,6 @@ pub struct Entry {
     pub time: u64,
     /// Both sides of a participant's quotation in a symbol, and their state.
     pub change: Change,
+    /// Whether the row's condition makes one side alone manual: the change has the state that the mapping chose.
+    pub one_sided: bool,
 }

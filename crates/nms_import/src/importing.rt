@@ -7,7 +7,7 @@ ghost use Rattle.nms_quote.specs.Roster.{holds, sizes_of};
 ghost use Rattle.nms_lines.specs.Layout.{Record};
 ghost use Rattle.nms_lines.specs.Text.{text_of};
 ghost use Rattle.nms_change_text.specs.ChangeText.{change_record};
-ghost use Rattle.nms_import.specs.Imported.{accepted, imported_changes, imported_times, rows_in, times_text};
+ghost use Rattle.nms_import.specs.Imported.{accepted, changes_in, imported_changes, imported_times, one_sided, rows_in, times_text};
 ghost use Rattle.nms_import.specs.Rows.{AreAllRows, RowsFrom};
 
 use crate::column::Columns;
@@ -68,7 +68,8 @@ pub fn import_rows<R: Read, C: Write, T: Write, E: Write>(
         × Appends (C.contents changes.old) (C.contents changes.new) (imported_changes columns.now meanings.now roster.now rows)
         × Appends (T.contents times.old) (T.contents times.new) (imported_times columns.now meanings.now roster.now rows)
         × (rows_in tally.new ≡ rows_in tally.old + length rows)
-        × (tally.new.changes ≡ tally.old.changes + length (accepted columns.now meanings.now roster.now rows))) }
+        × (changes_in tally.new ≡ changes_in tally.old + length (accepted columns.now meanings.now roster.now rows))
+        × (tally.new.halves ≡ tally.old.halves + one_sided columns.now meanings.now roster.now rows)) }
 {
     let Some(sums) = tally.sums() else {
         return Err(ImportFault::TooLong);
@@ -102,12 +103,14 @@ fn import_row<C: Write, T: Write, E: Write>(
     ensures times { OnOk result (Appends (T.contents times.old) (T.contents times.new)
         (imported_times columns.now meanings.now roster.now (fields_of work.old.row ∷ []))) }
     ensures rows { OnOk result (rows_in tally.new ≡ rows_in tally.old + 1) }
-    ensures counted { OnOk result (tally.new.changes
-        ≡ tally.old.changes + length (accepted columns.now meanings.now roster.now (fields_of work.old.row ∷ []))) }
+    ensures counted { OnOk result (changes_in tally.new
+        ≡ changes_in tally.old + length (accepted columns.now meanings.now roster.now (fields_of work.old.row ∷ []))) }
+    ensures halves { OnOk result (tally.new.halves
+        ≡ tally.old.halves + one_sided columns.now meanings.now roster.now (fields_of work.old.row ∷ [])) }
 {
     match read_row(columns, meanings, roster, &work.row, &mut work.scratch)? {
         Ok(entry) => {
-            tally.count_change();
+            tally.count_change(entry.one_sided);
             write_entry(roster, &entry, &mut work.text, changes, times)?;
             if notes.note(roster, &entry)? {
                 told.tell_fall(columns, &work.row);

@@ -171,8 +171,10 @@ impl<'a> MapTable<'a> {
     /// What a value says of a column.
     fn source(self, key: &str, value: &Value, header: bool) -> Result<Source, MapFault> {
         if let Some(number) = value.as_integer() {
-            return match usize::try_from(number) {
-                Ok(number) if 1 <= number && number <= MOST_COLUMNS => Ok(Source::Number(number)),
+            return match u16::try_from(number) {
+                Ok(number) if 1 <= number && number <= MOST_COLUMNS => {
+                    Ok(Source::Place(number - 1))
+                }
                 _ => Err(self.bad(key, column_expected(header))),
             };
         }
@@ -203,7 +205,7 @@ impl<'a> MapTable<'a> {
 }
 
 /// The most columns of a file.
-const MOST_COLUMNS: usize = 1000;
+const MOST_COLUMNS: u16 = 1000;
 
 const WORDS: &str = "an array of texts, as [\"R\", \"O\"]";
 

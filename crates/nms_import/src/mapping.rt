@@ -1,4 +1,6 @@
 //! A mapping: how a vendor's file is laid out, which columns are read, and what their texts mean.
+ghost use Rattle.std.specs.Prelude.{◌<◌, IfSome};
+
 use crate::column::{Column, Columns};
 use crate::map_fault::MapFault;
 use crate::meanings::Meanings;
@@ -30,8 +32,8 @@ pub enum Order {
 /// What a mapping says of a column.
 #[derive(Drop)]
 pub enum Source {
-    /// Its number, from 1.
-    Number(usize),
+    /// Its place, from 0.
+    Place(u16),
     /// Its name in the first row.
     Named(Vec<u8>),
     /// The same text in every row.
@@ -74,36 +76,53 @@ impl Mapping {
     /// `NoColumn` is the first key of the table `column` whose name the row lacks.
     pub fn columns(&self, alloc: Global, names: &ByteRecord) -> Result<Columns, MapFault> {
         let all = &self.sources;
-        let mut columns = Columns {
-            width: 0,
-            time: place_of(alloc, &all.time, "time", names)?,
-            participant: place_of(alloc, &all.participant, "participant", names)?,
-            symbol: place_of(alloc, &all.symbol, "symbol", names)?,
-            bid: place_of(alloc, &all.bid, "bid", names)?,
-            bid_size: place_of(alloc, &all.bid_size, "bid_size", names)?,
-            offer: place_of(alloc, &all.offer, "offer", names)?,
-            offer_size: place_of(alloc, &all.offer_size, "offer_size", names)?,
-            source: place_of(alloc, &all.source, "condition", names)?,
-            condition: place_of(alloc, &all.condition, "condition", names)?,
-            skip: place_of(alloc, &all.skip, "skip", names)?,
-        };
-        columns.width = width_of(&columns);
-        Ok(columns)
+        let mut width = 0;
+        let time = place_of(alloc, &all.time, "time", names, &mut width)?;
+        let participant = place_of(alloc, &all.participant, "participant", names, &mut width)?;
+        let symbol = place_of(alloc, &all.symbol, "symbol", names, &mut width)?;
+        let bid = place_of(alloc, &all.bid, "bid", names, &mut width)?;
+        let bid_size = place_of(alloc, &all.bid_size, "bid_size", names, &mut width)?;
+        let offer = place_of(alloc, &all.offer, "offer", names, &mut width)?;
+        let offer_size = place_of(alloc, &all.offer_size, "offer_size", names, &mut width)?;
+        let source = place_of(alloc, &all.source, "condition", names, &mut width)?;
+        let condition = place_of(alloc, &all.condition, "condition", names, &mut width)?;
+        let skip = place_of(alloc, &all.skip, "skip", names, &mut width)?;
+        Ok(Columns {
+            width,
+            time,
+            participant,
+            symbol,
+            bid,
+            bid_size,
+            offer,
+            offer_size,
+            source,
+            condition,
+            skip,
+        })
     }
 }
 
-/// Where a column stands.
+/// Where a column stands. `width` becomes so great that a row with so many columns has it.
 fn place_of(
     alloc: Global,
     source: &Source,
     key: &'static str,
     names: &ByteRecord,
+    width: &mut usize,
 ) -> Result<Column, MapFault> {
     match source {
-        Source::Number(number) => Ok(Column::At(number.saturating_sub(1))),
+        Source::Place(place) => {
+            let place = usize::from(*place);
+            *width = (*width).max(place + 1);
+            Ok(Column::At(place))
+        }
         Source::Fixed(text) => Ok(Column::Fixed(Vec::from_slice(alloc, text)?)),
         Source::Named(name) => match named(names, name) {
-            Some(place) => Ok(Column::At(place)),
+            Some(place) => {
+                *width = (*width).max(place + 1);
+                Ok(Column::At(place))
+            }
             None => Err(no_column(alloc, key)),
         },
     }
@@ -115,33 +134,13 @@ fn no_column(alloc: Global, key: &str) -> MapFault {
 }
 
 /// The place of the first column of that name.
-fn named(names: &ByteRecord, name: &[u8]) -> Option<usize> {
+fn named(names: &ByteRecord, name: &[u8]) -> Option<usize>
+    ensures { IfSome result (λ place. place < 18446744073709551615) }
+{
     for place in 0..names.len() {
         if names.get(place) == Some(name) {
             return Some(place);
         }
     }
     None
-}
-
-/// How many columns a row needs.
-fn width_of(columns: &Columns) -> usize {
-    let mut width = 0;
-    for column in [
-        &columns.time,
-        &columns.participant,
-        &columns.symbol,
-        &columns.bid,
-        &columns.bid_size,
-        &columns.offer,
-        &columns.offer_size,
-        &columns.source,
-        &columns.condition,
-        &columns.skip,
-    ] {
-        if let Column::At(place) = column {
-            width = width.max(place.saturating_add(1));
-        }
-    }
-    width
 }

@@ -2,9 +2,11 @@
 use crate::map_fault::MapFault;
 use crate::map_table::{MapTable, keep};
 use crate::mapping::{FileForm, Mapping, Order, Sources};
-use crate::meanings::{Meaning, Meanings, PriceUnit, Renamed, Replaced, Said, Word};
-use nms_quote::QState;
-use nms_units::MOST_LOT;
+use crate::meanings::{
+    Half, Meaning, Meanings, PriceUnit, Renamed, Replaced, Said, TimeForm, Word,
+};
+use nms_quote::{QState, Side};
+use nms_units::{MOST_LOT, parse_digits};
 use std::alloc::Global;
 use toml::Table;
 
@@ -40,10 +42,11 @@ pub fn read_mapping(alloc: Global, text: &str) -> Result<Mapping, MapFault> {
 
 /// The line of a text on which a byte stands, from 1.
 fn line_at(text: &str, place: usize) -> u64 {
+    let bytes = text.as_bytes();
     let mut line = 1u64;
-    for byte in text.as_bytes().iter().take(place) {
-        if *byte == b'\n' {
-            line = line.saturating_add(1);
+    for at in 0..place.min(bytes.len()) {
+        if bytes[at] == b'\n' {
+            line += 1;
         }
     }
     line
@@ -59,8 +62,8 @@ fn mapping_of(alloc: Global, document: &Table) -> Result<Mapping, MapFault> {
     }
     let (file, ends) = file_of(alloc, document)?;
     let sources = sources_of(alloc, document, file.header)?;
-    let order = order_of(alloc, document)?;
-    let meanings = meanings_of(alloc, document, ends)?;
+    let (time_form, zone, order) = times_of(alloc, document)?;
+    let meanings = meanings_of(alloc, document, ends, time_form, zone)?;
     Ok(Mapping {
         file,
         order,
@@ -137,38 +140,87 @@ fn sources_of(alloc: Global, document: &Table, header: bool) -> Result<Sources, 
     })
 }
 
-/// The table `time`.
-fn order_of(alloc: Global, document: &Table) -> Result<Order, MapFault> {
+/// The table `time`: the form, the zone in seconds, and the order of the rows.
+fn times_of(alloc: Global, document: &Table) -> Result<(TimeForm, u32, Order), MapFault> {
     let table = MapTable::of(
         alloc,
         document,
         "time",
-        &["form", "order"],
-        "one of form, order",
+        &["form", "zone_offset", "order"],
+        "one of form, zone_offset, order",
     )?;
-    let form = "\"HHMMSSn\": six digits and up to nine after them";
-    match table.text("form", form)? {
-        None | Some("HHMMSSn") => {}
-        Some(_) => return Err(table.bad("form", form)),
-    }
+    let expected = "\"HHMMSSn\", \"seconds\", \"unix_ns\" or \"iso\"";
+    let form = match table.text("form", expected)? {
+        None | Some("HHMMSSn") => TimeForm::Clock,
+        Some("seconds") => TimeForm::Seconds,
+        Some("unix_ns") => TimeForm::UnixNanoseconds,
+        Some("iso") => TimeForm::Iso,
+        Some(_) => return Err(table.bad("form", expected)),
+    };
+    let zone = zone_of(table, form)?;
     let expected = "\"given\", \"symbol\" or \"free\"";
     match table.text("order", expected)? {
-        None | Some("given") => Ok(Order::Given),
-        Some("symbol") => Ok(Order::Symbol),
-        Some("free") => Ok(Order::Free),
+        None | Some("given") => Ok((form, zone, Order::Given)),
+        Some("symbol") => Ok((form, zone, Order::Symbol)),
+        Some("free") => Ok((form, zone, Order::Free)),
         Some(_) => Err(table.bad("order", expected)),
     }
 }
 
+/// The seconds by which a time is moved on, over midnight: 68,400 for `-0500`.
+fn zone_of(table: MapTable<'_>, form: TimeForm) -> Result<u32, MapFault> {
+    let expected = "a sign and HHMM, as \"-0500\", beside form = \"unix_ns\" or \"iso\"";
+    let Some(text) = table.text("zone_offset", expected)? else {
+        return Ok(0);
+    };
+    match (form, zone_in(text.as_bytes())) {
+        (TimeForm::UnixNanoseconds | TimeForm::Iso, Some(zone)) => Ok(zone),
+        (TimeForm::UnixNanoseconds | TimeForm::Iso, None) => Err(table.bad(
+            "zone_offset",
+            expected,
+        )),
+        (TimeForm::Clock | TimeForm::Seconds, _) => Err(table.bad("zone_offset", expected)),
+    }
+}
+
+/// The seconds that a sign and HHMM say.
+fn zone_in(text: &[u8]) -> Option<u32> {
+    let [sign, digits @ ..] = text else {
+        return None;
+    };
+    if digits.len() != 4 {
+        return None;
+    }
+    let number = u32::try_from(parse_digits(digits, 4)?).ok()?;
+    let (hours, minutes) = (number / 100, number % 100);
+    if hours > 23 || minutes > 59 {
+        return None;
+    }
+    let seconds = hours * 3600 + minutes * 60;
+    match *sign {
+        b'+' => Some(seconds),
+        b'-' => Some((86_400 - seconds) % 86_400),
+        _ => None,
+    }
+}
+
 /// What the texts of a file mean.
-fn meanings_of(alloc: Global, document: &Table, ends: Vec<Word>) -> Result<Meanings, MapFault> {
+fn meanings_of(
+    alloc: Global,
+    document: &Table,
+    ends: Vec<Word>,
+    time_form: TimeForm,
+    zone: u32,
+) -> Result<Meanings, MapFault> {
     let (price_unit, no_price) = prices_of(alloc, document)?;
     let size_unit = size_of(alloc, document)?;
     let (names, same) = names_of(alloc, document)?;
     let (replaced, skips_symbols) = symbols_of(alloc, document)?;
-    let said = said_of(alloc, document)?;
+    let (said, half) = states_of(alloc, document)?;
     let skip = MapTable::of(alloc, document, "skip", &["words"], "words")?;
     Ok(Meanings {
+        time_form,
+        zone,
         price_unit,
         no_price,
         size_unit,
@@ -177,6 +229,7 @@ fn meanings_of(alloc: Global, document: &Table, ends: Vec<Word>) -> Result<Meani
         replaced,
         skips_symbols,
         said,
+        half,
         ends,
         skips: skip.words("words")?,
     })
@@ -280,32 +333,52 @@ fn symbols_of(alloc: Global, document: &Table) -> Result<(Vec<Replaced>, bool), 
     }
 }
 
-/// The table `state`. Without it the empty condition alone is one, and it is automated.
-fn said_of(alloc: Global, document: &Table) -> Result<Vec<Said>, MapFault> {
+/// The table `state`: the conditions, and what becomes of a row of which one side alone is manual. Without the table the
+/// empty condition alone is one, and it is automated.
+fn states_of(alloc: Global, document: &Table) -> Result<(Vec<Said>, Half), MapFault> {
     let table = MapTable::of(
         alloc,
         document,
         "state",
-        &["automated", "manual", "halted", "none"],
-        "one of automated, manual, halted, none",
+        &[
+            "automated",
+            "manual",
+            "manual_bid",
+            "manual_offer",
+            "halted",
+            "none",
+            "half",
+        ],
+        "one of automated, manual, manual_bid, manual_offer, halted, none, half",
     )?;
     let mut said = Vec::new(alloc);
     if table.members().is_none() {
         let word = Vec::new(alloc);
         let meaning = Meaning::Quoted(QState::Automated);
         keep(&mut said, Said { word, meaning })?;
-        return Ok(said);
+        return Ok((said, Half::Refuse));
     }
     for (key, meaning) in [
         ("automated", Meaning::Quoted(QState::Automated)),
         ("manual", Meaning::Quoted(QState::Manual)),
+        ("manual_bid", Meaning::ManualSide(Side::Bid)),
+        ("manual_offer", Meaning::ManualSide(Side::Offer)),
         ("halted", Meaning::Quoted(QState::Halted)),
         ("none", Meaning::Nothing),
     ] {
         for word in table.words(key)? {
             let word = word.text;
+            if said.iter().any(|it| it.word == word) {
+                return Err(table.bad(key, "conditions that stand in no other list, and once"));
+            }
             keep(&mut said, Said { word, meaning })?;
         }
     }
-    Ok(said)
+    let expected = "\"refuse\", \"manual\" or \"automated\"";
+    match table.text("half", expected)? {
+        None | Some("refuse") => Ok((said, Half::Refuse)),
+        Some("manual") => Ok((said, Half::Manual)),
+        Some("automated") => Ok((said, Half::Automated)),
+        Some(_) => Err(table.bad("half", expected)),
+    }
 }

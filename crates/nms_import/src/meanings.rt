@@ -1,5 +1,5 @@
 //! What the texts of a file mean: `specs/Mapping`.
-use nms_quote::QState;
+use nms_quote::{QState, Side};
 
 /// What a price counts.
 #[derive(Clone, Copy, Debug, PartialEq, Eq)]
@@ -12,6 +12,30 @@ pub enum PriceUnit {
     Nanodollars,
 }
 
+/// How a time of day is written. All but the first are moved on by the mapping's zone.
+#[derive(Clone, Copy, Debug, PartialEq, Eq)]
+pub enum TimeForm {
+    /// `HHMMSSn`: six digits and up to nine after them.
+    Clock,
+    /// `seconds`: seconds after midnight, 1 to 5 digits, and at most a point with 1 to 9 digits.
+    Seconds,
+    /// `unix_ns`: nanoseconds since 1970, 1 to 19 digits.
+    UnixNanoseconds,
+    /// `iso`: a date, `T` or a blank, `HH:MM:SS`, at most a point with 1 to 9 digits, and at most a `Z`.
+    Iso,
+}
+
+/// What becomes of a row whose condition makes one side alone manual.
+#[derive(Clone, Copy, Debug, PartialEq, Eq)]
+pub enum Half {
+    /// It is refused.
+    Refuse,
+    /// Both sides are manual.
+    Manual,
+    /// Both sides are automated.
+    Automated,
+}
+
 /// What the condition of a row means.
 #[derive(Clone, Copy, Debug, PartialEq, Eq)]
 pub enum Meaning {
@@ -19,6 +43,8 @@ pub enum Meaning {
     Quoted(QState),
     /// There is no quotation on either side.
     Nothing,
+    /// This side alone is manual, and the other automated.
+    ManualSide(Side),
 }
 
 /// A word of a list.
@@ -58,6 +84,10 @@ pub struct Said {
 /// What the texts of a file mean.
 #[derive(Drop)]
 pub struct Meanings {
+    /// How a time is written.
+    pub time_form: TimeForm,
+    /// By how many seconds a time is moved on, over midnight: 68,400 for a zone of `-0500`.
+    pub zone: u32,
     /// What a price counts.
     pub price_unit: PriceUnit,
     /// The words that stand for no price.
@@ -74,6 +104,8 @@ pub struct Meanings {
     pub skips_symbols: bool,
     /// The conditions.
     pub said: Vec<Said>,
+    /// What becomes of a row of which one side alone is manual.
+    pub half: Half,
     /// The words that a last line begins with.
     pub ends: Vec<Word>,
     /// The words by which a row is skipped.

@@ -2,12 +2,12 @@
 ghost use Rattle.std.specs.Prelude.{◌≡◌, ◌<◌, true, length, map, IfOk, IfSome, OnOk};
 ghost use Rattle.csv.specs.Records.{fields_of};
 ghost use Rattle.nms_quote.specs.Roster.{Sizes, holds, sizes_of};
-ghost use Rattle.nms_import.specs.Mapping.{change_of, column_text, entry_of, meaning_of, no_symbol, participant_of, replaced, symbol_in};
+ghost use Rattle.nms_import.specs.Mapping.{change_of, column_text, entry_of, half_state, is_one_sided, meaning_of, no_symbol, participant_of, replaced, state_of, symbol_in};
 
 use crate::cause::Cause;
 use crate::column::Columns;
 use crate::entry::Entry;
-use crate::meanings::{Meaning, Meanings, Replaced};
+use crate::meanings::{Half, Meaning, Meanings, Replaced};
 use crate::number::side_in;
 use crate::time::time_in;
 use crate::words::{is_listed, name_of, place_said};
@@ -91,7 +91,7 @@ fn entry_with(
     if is_listed(&meanings.skips, columns.skip.text(row)) {
         return Err(Cause::Listed);
     }
-    let time = time_in(columns.time.text(row))?;
+    let time = time_in(meanings, columns.time.text(row))?;
     let part = participant_in(meanings, roster, columns.participant.text(row))?;
     let Some(sym) = sym else {
         return Err(no_symbol(meanings));
@@ -101,8 +101,13 @@ fn entry_with(
         columns.source.text(row),
         columns.condition.text(row),
     )?;
-    let change = change_in(columns, meanings, row, part, sym, meaning)?;
-    Ok(Entry { time, change })
+    let state = state_of(meanings, meaning)?;
+    let change = change_in(columns, meanings, row, part, sym, state)?;
+    Ok(Entry {
+        time,
+        change,
+        one_sided: is_one_sided(meaning),
+    })
 }
 
 /// The participant that a word of the file names.
@@ -140,27 +145,59 @@ fn meaning_in(meanings: &Meanings, first: &[u8], second: &[u8]) -> Result<Meanin
     }
 }
 
-/// The change of a row that has this meaning.
+/// The state of both sides, `None` for no quotation.
+fn state_of(meanings: &Meanings, meaning: Meaning) -> Result<Option<QState>, Cause>
+    ensures { result ≡ state_of meanings.now meaning }
+{
+    match meaning {
+        Meaning::Nothing => Ok(None),
+        Meaning::Quoted(state) => Ok(Some(state)),
+        Meaning::ManualSide(side) => half_state(meanings.half, side),
+    }
+}
+
+/// The state of both sides of a row of which one side alone is manual.
+fn half_state(half: Half, side: Side) -> Result<Option<QState>, Cause>
+    ensures { result ≡ half_state half side }
+{
+    match half {
+        Half::Refuse => Err(Cause::OneSided(side)),
+        Half::Manual => Ok(Some(QState::Manual)),
+        Half::Automated => Ok(Some(QState::Automated)),
+    }
+}
+
+/// Whether one side alone is manual.
+fn is_one_sided(meaning: Meaning) -> bool
+    ensures { result ≡ is_one_sided meaning }
+{
+    match meaning {
+        Meaning::Nothing | Meaning::Quoted(_) => false,
+        Meaning::ManualSide(_) => true,
+    }
+}
+
+/// The change of a row whose sides are in this state; `None` is no quotation.
 fn change_in(
     columns: &Columns,
     meanings: &Meanings,
     row: &ByteRecord,
     part: Part,
     sym: Sym,
-    meaning: Meaning,
+    state: Option<QState>,
 ) -> Result<Change, Cause>
-    ensures change { result ≡ change_of columns.now meanings.now (fields_of row.now) part sym meaning }
+    ensures change { result ≡ change_of columns.now meanings.now (fields_of row.now) part sym state }
     ensures there { (sizes : Sizes) → part < sizes.parts → sym < length sizes.lots → IfOk result (λ change. holds sizes change ≡ true) }
 {
-    match meaning {
-        Meaning::Nothing => Ok(Change::Quote {
+    match state {
+        None => Ok(Change::Quote {
             part,
             sym,
             state: QState::Automated,
             bid: None,
             offer: None,
         }),
-        Meaning::Quoted(state) => {
+        Some(state) => {
             let bid = side_in(
                 meanings,
                 Side::Bid,

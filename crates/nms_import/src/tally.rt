@@ -1,6 +1,6 @@
 //! How many rows had each outcome: `specs/Imported`.
-ghost use Rattle.std.specs.Prelude.{◌≡◌, ◌<◌, ◌+◌, IfSome};
-ghost use Rattle.nms_import.specs.Imported.{refused_in, rows_in, skipped_in};
+ghost use Rattle.std.specs.Prelude.{◌≡◌, ◌<◌, ◌+◌, IfSome, if◌then◌else◌};
+ghost use Rattle.nms_import.specs.Imported.{changes_in, refused_in, rows_in, skipped_in};
 
 use crate::cause::Cause;
 
@@ -10,8 +10,10 @@ pub const MOST_ROWS: u64 = 1_000_000_000_000;
 /// How many rows had each outcome.
 #[derive(Clone, Copy, Debug, PartialEq, Eq)]
 pub struct Tally {
-    /// Rows that made a change.
-    pub changes: u64,
+    /// Rows that made a change, but for the next ones.
+    pub wholes: u64,
+    /// Rows that made a change, and of which one side alone is manual: no record says that.
+    pub halves: u64,
     /// Refused: fewer columns than the mapping names.
     pub too_few_columns: u64,
     /// Refused: no time of day.
@@ -22,6 +24,8 @@ pub struct Tally {
     pub unknown_symbol: u64,
     /// Refused: a condition that the mapping does not list.
     pub unknown_condition: u64,
+    /// Refused: a condition that makes one side alone manual.
+    pub one_sided: u64,
     /// Refused: a price that is none.
     pub bad_price: u64,
     /// Refused: a size that is none.
@@ -53,15 +57,18 @@ impl Tally {
     /// No rows.
     pub fn none() -> Tally
         ensures rows { rows_in result ≡ 0 }
-        ensures changes { result.changes ≡ 0 }
+        ensures changes { changes_in result ≡ 0 }
+        ensures halves { result.halves ≡ 0 }
     {
         Tally {
-            changes: 0,
+            wholes: 0,
+            halves: 0,
             too_few_columns: 0,
             bad_time: 0,
             unknown_participant: 0,
             unknown_symbol: 0,
             unknown_condition: 0,
+            one_sided: 0,
             bad_price: 0,
             bad_size: 0,
             half_side: 0,
@@ -72,19 +79,25 @@ impl Tally {
     }
 
     /// Counts a row that made a change.
-    pub(crate) fn count_change(&mut self)
+    pub(crate) fn count_change(&mut self, one_sided: bool)
         requires { rows_in self.old < 1000000000000 }
         ensures rows { rows_in self.new ≡ rows_in self.old + 1 }
-        ensures changes { self.new.changes ≡ self.old.changes + 1 }
+        ensures changes { changes_in self.new ≡ changes_in self.old + 1 }
+        ensures halves { self.new.halves ≡ self.old.halves + (if one_sided then 1 else 0) }
     {
-        self.changes += 1;
+        if one_sided {
+            self.halves += 1;
+        } else {
+            self.wholes += 1;
+        }
     }
 
     /// Counts a row that made none.
     pub(crate) fn count_cause(&mut self, cause: Cause)
         requires { rows_in self.old < 1000000000000 }
         ensures rows { rows_in self.new ≡ rows_in self.old + 1 }
-        ensures changes { self.new.changes ≡ self.old.changes }
+        ensures changes { changes_in self.new ≡ changes_in self.old }
+        ensures halves { self.new.halves ≡ self.old.halves }
     {
         match cause {
             Cause::TooFewColumns => self.too_few_columns += 1,
@@ -92,6 +105,7 @@ impl Tally {
             Cause::UnknownParticipant => self.unknown_participant += 1,
             Cause::UnknownSymbol => self.unknown_symbol += 1,
             Cause::UnknownCondition => self.unknown_condition += 1,
+            Cause::OneSided(_) => self.one_sided += 1,
             Cause::BadPrice(_) => self.bad_price += 1,
             Cause::BadSize(_) => self.bad_size += 1,
             Cause::HalfSide(_) => self.half_side += 1,
@@ -105,7 +119,7 @@ impl Tally {
     /// only of more than 2^64 - 1 rows.
     pub fn sums(&self) -> Option<Sums>
         ensures rows { IfSome result (λ sums. sums.rows ≡ rows_in self.now) }
-        ensures parts { IfSome result (λ sums. (sums.changes ≡ self.now.changes) × (sums.refused ≡ refused_in self.now) × (sums.skipped ≡ skipped_in self.now)) }
+        ensures parts { IfSome result (λ sums. (sums.changes ≡ changes_in self.now) × (sums.refused ≡ refused_in self.now) × (sums.skipped ≡ skipped_in self.now)) }
         ensures whole { IfSome result (λ sums. sums.rows ≡ sums.changes + sums.refused + sums.skipped) }
     {
         let refused = self
@@ -114,6 +128,7 @@ impl Tally {
             .checked_add(self.unknown_participant)?
             .checked_add(self.unknown_symbol)?
             .checked_add(self.unknown_condition)?
+            .checked_add(self.one_sided)?
             .checked_add(self.bad_price)?
             .checked_add(self.bad_size)?
             .checked_add(self.half_side)?;
@@ -121,10 +136,11 @@ impl Tally {
             .trailer
             .checked_add(self.listed)?
             .checked_add(self.other_symbol)?;
-        let rows = self.changes.checked_add(refused)?.checked_add(skipped)?;
+        let changes = self.wholes.checked_add(self.halves)?;
+        let rows = changes.checked_add(refused)?.checked_add(skipped)?;
         Some(Sums {
             rows,
-            changes: self.changes,
+            changes,
             refused,
             skipped,
         })

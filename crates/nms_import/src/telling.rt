@@ -2,6 +2,7 @@
 use crate::cause::Cause;
 use crate::column::{Column, Columns};
 use crate::import_fault::ImportFault;
+use crate::meanings::Half;
 use crate::noting::{Notes, line_of};
 use crate::tally::{Sums, Tally};
 use csv::ByteRecord;
@@ -83,8 +84,8 @@ fn show<'x, E: Write>(
     sentence: &'x str,
 ) {
     let place = match column {
-        Some(Column::At(place)) => (*place as u64).saturating_add(1),
-        Some(Column::Fixed(_)) | None => 0,
+        Some(Column::At(place)) if *place < row.len() => (*place + 1) as u64,
+        Some(Column::At(_) | Column::Fixed(_)) | None => 0,
     };
     let text = column.map_or(b"".as_slice(), |column| column.text(row));
     let items = [
@@ -114,7 +115,7 @@ fn column_of(columns: &Columns, cause: Cause) -> Option<&Column> {
         Cause::BadTime => Some(&columns.time),
         Cause::UnknownParticipant => Some(&columns.participant),
         Cause::UnknownSymbol | Cause::OtherSymbol => Some(&columns.symbol),
-        Cause::UnknownCondition => Some(&columns.condition),
+        Cause::UnknownCondition | Cause::OneSided(_) => Some(&columns.condition),
         Cause::BadPrice(Side::Bid) | Cause::HalfSide(Side::Bid) => Some(&columns.bid),
         Cause::BadPrice(Side::Offer) | Cause::HalfSide(Side::Offer) => Some(&columns.offer),
         Cause::BadSize(Side::Bid) => Some(&columns.bid_size),
@@ -131,6 +132,8 @@ fn sentence_of(cause: Cause) -> &'static str {
         Cause::UnknownParticipant => "a participant that is not on the roster",
         Cause::UnknownSymbol | Cause::OtherSymbol => "a symbol that is not on the roster",
         Cause::UnknownCondition => "a condition that the mapping does not list",
+        Cause::OneSided(Side::Bid) => "a condition that makes the bid alone manual",
+        Cause::OneSided(Side::Offer) => "a condition that makes the offer alone manual",
         Cause::BadPrice(Side::Bid) => "no price of the bid in the mapping's unit",
         Cause::BadPrice(Side::Offer) => "no price of the offer in the mapping's unit",
         Cause::BadSize(Side::Bid) => "no size of the bid, or one above 999,999,999 shares",
@@ -142,20 +145,28 @@ fn sentence_of(cause: Cause) -> &'static str {
     }
 }
 
-/// Writes the counts: a line for each cause that came, and last the sum.
-pub fn write_tally<W: Write>(out: &mut W, tally: &Tally, sums: &Sums) -> Result<(), ImportFault> {
+/// Writes the counts: a line for each cause that came, one for the changes that say less than their rows, and last the
+/// sum.
+pub fn write_tally<W: Write>(
+    out: &mut W,
+    half: Half,
+    tally: &Tally,
+    sums: &Sums,
+) -> Result<(), ImportFault> {
     for (count, what) in [
         (tally.too_few_columns, "refused: too few columns"),
         (tally.bad_time, "refused: bad time"),
         (tally.unknown_participant, "refused: unknown participant"),
         (tally.unknown_symbol, "refused: unknown symbol"),
         (tally.unknown_condition, "refused: unknown condition"),
+        (tally.one_sided, "refused: one side manual"),
         (tally.bad_price, "refused: bad price"),
         (tally.bad_size, "refused: bad size"),
         (tally.half_side, "refused: shares without a price"),
         (tally.trailer, "skipped: last line of a file"),
         (tally.listed, "skipped: word to skip"),
         (tally.other_symbol, "skipped: other symbol"),
+        (tally.halves, halves_are(half)),
     ] {
         if count > 0 {
             line(
@@ -177,6 +188,15 @@ pub fn write_tally<W: Write>(out: &mut W, tally: &Tally, sums: &Sums) -> Result<
             Item::Text(" skipped"),
         ],
     )
+}
+
+/// What became of rows of which one side alone is manual.
+fn halves_are(half: Half) -> &'static str {
+    match half {
+        Half::Refuse => "changes: one side manual",
+        Half::Manual => "changes: one side manual, both made manual",
+        Half::Automated => "changes: one side manual, both made automated",
+    }
 }
 
 /// Writes a line for each symbol that has changes: its name, and the versions after its first and its last change.

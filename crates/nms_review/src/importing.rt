@@ -6,7 +6,7 @@ use crate::screen::Screen;
 use crate::source::Source;
 use nms_fees::Setup;
 use nms_import::{
-    Guard, ImportFault, MapFault, Mapping, Notes, Tally, Told, Work, import_rows, next_row,
+    Guard, Half, ImportFault, MapFault, Mapping, Notes, Tally, Told, Work, import_rows, next_row,
     open_rows, read_mapping, write_symbols, write_tally,
 };
 use nms_review_words::Request;
@@ -83,7 +83,8 @@ where
             return Ok(Ending::SetupRefused);
         }
     }
-    finish(rt, setup, request, &mut job, answers)
+    let half = mapping.meanings.half;
+    finish(rt, setup, request, half, &mut job, answers)
 }
 
 /// Makes changes of one file. Returns whether it has the columns that the mapping names; else that is told.
@@ -140,6 +141,7 @@ fn finish<T, W: Write>(
     rt: &T,
     setup: &Setup,
     request: &Request,
+    half: Half,
     job: &mut Job<'_, T::File>,
     answers: &mut W,
 ) -> Result<Ending, Fault>
@@ -154,7 +156,7 @@ where
     let Some(sums) = job.tally.sums() else {
         return Err(fault_in(ImportFault::TooLong, FILES));
     };
-    write_tally(answers, &job.tally, &sums).map_err(|fault| fault_in(fault, 0))?;
+    write_tally(answers, half, &job.tally, &sums).map_err(|fault| fault_in(fault, 0))?;
     match Guard::of(&sums, &job.notes) {
         Some(guard) => Err(Fault::of(guard.code(), 7, About::Nothing)),
         None => Ok(Ending::Done),

@@ -1,10 +1,11 @@
--- `import_rows`: all that it promises and the turns of its loop, by `changes_on`, `times_on` and `accepted_more`.
+-- `import_rows`: all that it promises and the turns of its loop, by `changes_on`, `times_on`,
+-- `accepted_more` and `one_sided_more`.
 use Rattle.std.proofs.Common.{◌≡◌, ◌+◌, ◌++◌, ◌∷◌, [], List, Bool, true, false, Ok, ap, arith, sym, subst, ◌∙◌, append_assoc, length-append}
 use Rattle.std.proofs.lemmas.List.{append-nil}
 use Rattle.csv.specs.Records.{fields_of}
 use Rattle.nms_lines.specs.Layout.{Record}
 use Rattle.nms_import.specs.Rows.{RowsFrom}
-use Rattle.nms_import.proofs.TextFacts.{accepted_more, changes_on, none_written, times_on}
+use Rattle.nms_import.proofs.TextFacts.{accepted_more, changes_on, none_written, one_sided_more, times_on}
 use Rattle.nms_import.proofs.importing.import_rows.Goals as goal
 
 pub loop-done-init : goal.loop-done-init
@@ -18,6 +19,7 @@ loop-done-init g c = (
     none_written (g.T.Write.contents c.args.times.now),
     omega arith,
     omega arith,
+    omega arith,
   ),
 )
 
@@ -26,7 +28,8 @@ returns-then-not-branch g c = record {
   written = λ config bytes seen reads.
       let had = c.loop-done.invariant.1 config bytes seen reads in
       let none : c.in_ok-next_row.field-0 ≡ false = cc in
-      (had.0, c.in_ok-next_row.ensures.end config bytes (seen ++ had.0) had.1 (ap (λ (b : Bool). Ok b) none), had.2, had.3, had.4, had.5);
+      let end = c.in_ok-next_row.ensures.end config bytes (seen ++ had.0) had.1 (ap (λ (b : Bool). Ok b) none) in
+      (had.0, end, had.2, had.3, had.4, had.5, had.6);
 }
 
 pub loop-done-preserved : goal.loop-done-preserved
@@ -50,6 +53,12 @@ loop-done-preserved g c = (
           c.in_ok-import_row.ensures.counted,
           had.5,
           accepted_more c.args.columns.now c.args.meanings.now c.args.roster.now had.0 row,
+        ),
+        omega (
+          arith,
+          c.in_ok-import_row.ensures.halves,
+          had.6,
+          one_sided_more c.args.columns.now c.args.meanings.now c.args.roster.now had.0 row,
         ),
       ),
 )

@@ -3,7 +3,7 @@ use Rattle.std.proofs.Common.{ℕ, ◌≡◌, ◌+◌, ◌++◌, List, Option, l
 use Rattle.std.specs.Io.KnownBytes.{Appends}
 use Rattle.csv.specs.declared.parser.Config.{Config}
 use Rattle.nms_lines.specs.Layout.{Record}
-use Rattle.nms_import.specs.Imported.{accepted, imported_changes, imported_times, rows_in}
+use Rattle.nms_import.specs.Imported.{accepted, changes_in, imported_changes, imported_times, one_sided, rows_in}
 use Rattle.nms_import.specs.Rows.{RowsFrom}
 use Rattle.nms_import.proofs.importing.import_rows.Given as goal
 
@@ -15,4 +15,5 @@ invariant-loop-done g l = (rows_in l.tally ≡ l.done)
     × Appends (g.C.Write.contents l.fn.changes) (g.C.Write.contents l.changes) (imported_changes l.columns l.meanings l.roster rows)
     × Appends (g.T.Write.contents l.fn.times) (g.T.Write.contents l.times) (imported_times l.columns l.meanings l.roster rows)
     × (rows_in l.tally ≡ rows_in l.fn.tally + length rows)
-    × (l.tally.changes ≡ l.fn.tally.changes + length (accepted l.columns l.meanings l.roster rows)))
+    × (changes_in l.tally ≡ changes_in l.fn.tally + length (accepted l.columns l.meanings l.roster rows))
+    × (l.tally.halves ≡ l.fn.tally.halves + one_sided l.columns l.meanings l.roster rows))

@@ -1,6 +1,6 @@
 -- `clock_in`: all that it promises, by `clock_of`.
 use Rattle.std.proofs.Common.{rules, ap, ◌∙◌}
-use Rattle.nms_import.specs.Mapping.{nanoseconds}
+use Rattle.nms_import.specs.Times.{nanoseconds}
 use Rattle.nms_import.proofs.TimeFacts.{clock_of, rest_of}
 use Rattle.nms_import.proofs.time.clock_in.Goals as goal
 
