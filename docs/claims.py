@@ -6,8 +6,8 @@
 
 A part stands between the lines `<!-- made: NAME -->` and `<!-- end -->` of a page. In docs/CLAIMS.md a part is a crate's public
 functions: the first sentence of the comment without its CFR section (docs/RULES.md has them), the names of the clauses, and the
-fault. In docs/ARCHITECTURE.md it is the words: each public type with its file and the first sentence of its comment, up to the colon
-of a long one.
+fault. In docs/ARCHITECTURE.md it is the words: each public type of the crates below nms_tool, with its file and the first sentence of
+its comment, up to the colon of a long one.
 """
 import functools
 import os
@@ -226,11 +226,21 @@ def in_short(sentence):
     return (sentence.split(": ")[0] if len(sentence.split()) > MOST_WORDS else sentence).rstrip(".")
 
 
+def below(crate):
+    """The crates of this repository that a crate stands on."""
+    found, stands_on = set(), crates()
+    for it in stands_on[crate].split():
+        if it in stands_on and it not in found:
+            found |= {it} | below(it)
+    return found
+
+
 def words():
-    """The part of ARCHITECTURE.md on the public types, but for faults, the words of a call and the structs of include/nms.h."""
-    text = "|Type|File in `src/`|What it is|\n|---|---|---|\n"
-    for crate in tree().values():
-        shown = [it for it in crate.types.values() if not is_fault(it.name) and not it.name.startswith("Nms") and not crate.name.endswith("_words")]
+    """The part of ARCHITECTURE.md on the public types of the product's crates, those below nms_tool, but for faults and the
+    words of a call."""
+    text, product = "|Type|File in `src/`|What it is|\n|---|---|---|\n", below("nms_tool")
+    for crate in (it for it in tree().values() if it.name in product and not it.name.endswith("_words")):
+        shown = [it for it in crate.types.values() if not is_fault(it.name)]
         text += f"|**`{crate.name}`**|||\n" if shown else ""
         text += "".join(f"|`{it.name}`|`{it.file}`|{in_short(it.says)}|\n" for it in shown)
     return text
