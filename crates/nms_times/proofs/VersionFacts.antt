@@ -14,8 +14,8 @@ prefix_len-mono p q weaker [] = omega arith
 prefix_len-mono p q weaker (x ∷ xs) = by_test (p x) refl (prefix_len-mono p q weaker xs)
   where
     by_test : (b : Bool) → p x ≡ b → prefix_len p xs ≤ prefix_len q xs → prefix_len p (x ∷ xs) ≤ prefix_len q (x ∷ xs)
-    by_test true yes more = let too : q x ≡ true = weaker x yes in rw (yes, too) (omega arith)
-    by_test false no more = rw no (omega arith)
+    by_test true passes more = let too : q x ≡ true = weaker x passes in rw (passes, too) (omega arith)
+    by_test false fails more = rw fails (omega arith)
 
 -- the point that a bisection finds is that number
 pub at_point : {X : Type 0} (p : X → Bool) (xs : List X) (n : ℕ) → n ≤ length xs

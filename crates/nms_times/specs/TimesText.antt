@@ -1,6 +1,6 @@
 -- The text of times: a line for each change, of 16 bytes, or of 32 with the row of the source. This product's own rule.
-use Rattle.std.specs.Prelude.{ℕ, ◌≡◌, ◌+◌, ◌-◌, ◌*◌, ◌/◌, ◌<◌, ◌==◌, ◌&&◌, ◌||◌, Bool, List, take, drop, length, slice_index, nat_le, nat_lt}
-use Rattle.std.specs.Prelude.{Option, Some, None, IsSome, if◌then◌else◌}
+use Rattle.std.specs.Prelude.{ℕ, ◌≡◌, ◌+◌, ◌-◌, ◌*◌, ◌/◌, ◌<◌, ◌==◌, ◌&&◌, ◌||◌, Bool, List, take, drop, length}
+use Rattle.std.specs.Prelude.{slice_index, nat_le, nat_lt, Option, Some, None, IsSome, if◌then◌else◌}
 use Rattle.std.specs.Char.{is_ascii_digit}
 use Rattle.std.specs.List.{list_all}
 use Rattle.nms_units.specs.Digits.{number_in}

@@ -11,4 +11,4 @@ returns-clause-version c =
     let point =
     IsPartitionPoint-from_clause (λ x. leb x c.args.time) _ _ c.partition_point-found.ensures.partitioned parted
     (λ a r q k. search rules) in
-    rw at_point (λ x. leb x c.args.time) times c.partition_point-found.result c.partition_point-found.ensures.bound point 0 refl
+    rw (at_point (λ x. leb x c.args.time) times c.partition_point-found.result c.partition_point-found.ensures.bound point 0) refl
