@@ -10,10 +10,11 @@ page a line of four spaces and `./nms_review WORDS` is a call, or one of `./nms_
 behind it is what it writes, with the words `status N` in the text between them where N is not 0. Beside these the program
 meets a closed output, one whose reader has gone, records of a million bytes, records whose fields and lists are longer than
 any that is right, byte order marks before quotes, each byte of a file once, a setup of many symbols, streams of several
-pieces, a day with more versions than a picture has columns, an import of examples/import/, and one of 100,000 random rows
-that tests/import_judge.py compares with a plain converter. It writes a line for each difference, and last
+pieces, a day with more versions than a picture has columns, an import of examples/import/, one of 100,000 random rows
+that tests/import_judge.py compares with a plain converter, and a day of examples/real_day/. It writes a line for each difference, and last
 `N passed, M failed`; status 1 where one failed.
 """
+import gzip
 import os
 import re
 import resource
@@ -343,6 +344,65 @@ def judged(program):
     must(ran.returncode == 0, f"{ran.stdout.decode()}{ran.stderr.decode()}"[-2000:])
 
 
+def real_day(program):
+    """A made day of three letters by examples/real_day/day.sh: two jobs write what one writes, the shards show of each symbol
+    what one file of all letters shows, and a call after a failed one does what is left."""
+    place = os.path.join(HERE, "real_day")
+    with tempfile.TemporaryDirectory(prefix="nms-") as room:
+        def day(out, jobs, status=0):
+            env = dict(os.environ, NMS_REVIEW=program)
+            ran = called("bash", [os.path.join(place, "day.sh"), room, os.path.join(room, out), jobs], capture_output=True, env=env)
+            must((ran.returncode == 0) == (status == 0), f"{out}: status {ran.returncode}, {ran.stderr!r}")
+            found = []
+            for name in ("day.csv", "counts") if status == 0 else ():
+                with open(os.path.join(room, out, name), encoding="ascii") as file:
+                    found.append(file.read())
+            return found
+        called(sys.executable, [os.path.join(place, "make_day.py"), room], check=True)
+        lines, counts = day("two", "2")
+        must([lines, counts] == day("one", "1"), "one job writes another day than two")
+        must(counts == "6003 rows = 6000 changes + 0 refused + 3 skipped\n", counts)
+        lines = [line.split(",") for line in lines.splitlines()[1:]]
+        must(len(lines) > 1000 and [it[0] for it in lines] == sorted(it[0] for it in lines), f"{len(lines)} lines, or not by time")
+        must(lines == sorted(lines, key=lambda it: (it[0], it[1], int(it[2]))), "lines of one time are not by letter and version")
+        for letter in "ABC":
+            with open(os.path.join(room, "two", f"{letter}.times"), encoding="ascii") as file:
+                times = file.read().split()
+            must(all(it[0] == times[int(it[2]) - 1] for it in lines if it[1] == letter), f"{letter}: a line has not its version's time")
+        # The whole: all letters in one tape, under one setup. A line but for its time, its letter and its version.
+        out = os.path.join(room, "whole")
+        setup, text = f"{out}.toml", ""
+        for letter in "ABC":
+            with open(os.path.join(room, "two", f"{letter}.toml"), encoding="utf-8") as file:
+                own = file.read()
+            text += own if letter == "A" else own[own.index("[[symbol]]"):]
+        with open(setup, "w", encoding="utf-8") as file:
+            file.write(text)
+        names = [os.path.join(room, f"SPLITS_US_ALL_BBO_{letter}_20240102") for letter in "ABC"]
+        for name in names:
+            with gzip.open(f"{name}.gz") as packed, open(f"{out}.txt", "ab") as file:
+                file.write(b"".join(packed.readlines()[0 if name == names[0] else 1:-1]))
+        words = ["import", os.path.join(HERE, "import/taq.toml"), f"{out}.txt", "--out", out, "--setup", setup]
+        called(program, words, capture_output=True, check=True)
+        whole = called(program, ["stream", f"{out}.changes", "--setup", setup], capture_output=True, check=True)
+        whole = [line.split(",")[1:] for line in whole.stdout.decode().splitlines()[1:]]
+        for symbol in {it[0] for it in whole}:
+            must([it for it in whole if it[0] == symbol] == [it[3:] for it in lines if it[3] == symbol], f"{symbol}: a shard shows other rows")
+        must(len(whole) == len(lines), f"{len(whole)} lines, and not {len(lines)}")
+        # A file that is no gzip: the others are done, and nothing is merged. Once it is mended the rest is done.
+        path = f"{names[1]}.gz"
+        with open(path, "rb") as file:
+            right = file.read()
+        with open(path, "wb") as file:
+            file.write(right[:1000])
+        day("torn", "2", 1)
+        at = os.path.join(room, "torn")
+        must(sorted(it for it in os.listdir(at) if it.endswith((".day", ".csv"))) == ["A.day", "C.day"], f"{sorted(os.listdir(at))}")
+        with open(path, "wb") as file:
+            file.write(right)
+        must(day("torn", "2") == day("two", "2"), "what was left is not what was missing")
+
+
 def unnamed():
     """The files of the folder that the page does not name."""
     with open(os.path.join(TOP, "docs/REVIEW.md"), encoding="utf-8") as file:
@@ -351,7 +411,7 @@ def unnamed():
 
 
 def main(program, tool):
-    others = [("trial: imported", imported), ("trial: judged", judged)]
+    others = [("trial: imported", imported), ("trial: judged", judged), ("trial: real day", real_day)]
     runs = [*stored(), *page(tool), *(in_room(*it) for it in TRIALS), *others]
 
     def run(named):
