@@ -11,11 +11,12 @@ behind it is what it writes, with the words `status N` in the text between them 
 meets a closed output, one whose reader has gone, records of a million bytes, records whose fields and lists are longer than
 any that is right, byte order marks before quotes, each byte of a file once, a setup of many symbols, streams of several
 pieces, a day with more versions than a picture has columns, an import of examples/import/, one of 100,000 random rows
-that tests/import_judge.py compares with a plain converter, and a day of examples/real_day/. It writes a line for each difference, and last
+that tests/import_judge.py compares with a plain converter, a day of examples/real_day/, and vendors' national bests. It writes a line for each difference, and last
 `N passed, M failed`; status 1 where one failed.
 """
 import gzip
 import os
+import random
 import re
 import resource
 import subprocess
@@ -403,6 +404,56 @@ def real_day(program):
         must(day("torn", "2") == day("two", "2"), "what was left is not what was missing")
 
 
+NATIONAL = ["--map", "nbbo.toml", "--times", "taq.times", "--setup", "../market.toml"]
+
+
+def compared(program):
+    """The vendor's national bests of examples/import/: one file agrees, and one differs in each way."""
+    given = os.path.join(HERE, "import")
+    for name, status in (("nbbo", 0), ("nbbo_differs", 4)):
+        ran = called(program, ["compare", "taq.changes", f"{name}.txt", *NATIONAL], capture_output=True, cwd=given)
+        with open(os.path.join(given, f"{name}.out"), "rb") as file:
+            must((ran.returncode, ran.stdout, ran.stderr) == (status, file.read(), b""), f"{name}: {ran.returncode}, {ran.stdout!r}, {ran.stderr!r}")
+
+
+def compared_day(program):
+    """The lines of `stream` of a made letter as a vendor's rows, by symbol and time, some of them altered: each alteration is
+    found, with its line, and nothing else."""
+    place, dice = os.path.join(HERE, "real_day"), random.Random(55)
+    with tempfile.TemporaryDirectory(prefix="nms-") as room:
+        env = dict(os.environ, NMS_REVIEW=program)
+        called(sys.executable, [os.path.join(place, "make_day.py"), room, "3000", "A"], check=True)
+        called("bash", [os.path.join(place, "day.sh"), room, room, "1"], check=True, env=env, capture_output=True)
+        with open(os.path.join(room, "A.day"), encoding="ascii") as file:
+            lines = sorted((line.rstrip("\n").split(",") for line in file), key=lambda it: int(it[2]))
+        rows, wanted, counts = ["Time|Symbol|" + "|".join(f"Best_{side}_{it}" for side in ("Bid", "Offer") for it in ("Exchange", "Price", "Size"))], [], {}
+        for line in lines:
+            sides = [line[5:8], line[8:11]]
+            what, side = dice.choice(["equal"] * 9 + ["other price", "other size", "other venue", "refused"]), dice.choice(sides)
+            if side[0] == "":
+                what = "equal"
+            if what == "other price":
+                side[1] = f"{float(side[1]) + 0.01:.4f}"
+            elif what == "other size":
+                side[2] = str(int(side[2]) + 100)
+            elif what == "other venue":
+                side[0] = "A" if side[0] != "A" else "B"
+            elif what == "refused":
+                side[1] += "1"
+            counts[what] = counts.get(what, 0) + 1
+            rows.append("|".join([line[0], line[3], *(it for part, price, size in sides for it in (part, price, size and str(int(size) // 100)))]))
+            if what != "equal":
+                wanted.append(f"day.nbbo:{len(rows)}: " + ("refused" if what == "refused" else f"version {line[2]}: {line[3]}: {what}"))
+        with open(os.path.join(room, "day.nbbo"), "w", encoding="ascii") as file:
+            file.write("\n".join(rows) + "\n")
+        words = ["compare", "A.changes", "day.nbbo", "--map", os.path.join(HERE, "import/nbbo.toml"), "--times", "A.times", "--setup", "A.toml"]
+        ran = called(program, words, capture_output=True, cwd=room)
+        came = [re.sub(r"(refused).*", r"\1", it) for it in ran.stdout.decode().splitlines() if it.startswith("day.nbbo:")]
+        must(len(wanted) > 100 and came == wanted[:100], f"{len(wanted)} alterations, {next((it for it in zip(came, wanted) if it[0] != it[1]), len(came))}")
+        found = {what: int(count) for count, what in re.findall(r"^(\d+) ([a-z ]+)$", ran.stdout.decode(), re.M) if int(count)}
+        must((ran.returncode, found) == (4, {**counts, "rows": len(lines)}), f"{ran.returncode}, {found}, and not {counts}")
+
+
 def unnamed():
     """The files of the folder that the page does not name."""
     with open(os.path.join(TOP, "docs/REVIEW.md"), encoding="utf-8") as file:
@@ -411,7 +462,8 @@ def unnamed():
 
 
 def main(program, tool):
-    others = [("trial: imported", imported), ("trial: judged", judged), ("trial: real day", real_day)]
+    others = [("trial: imported", imported), ("trial: judged", judged), ("trial: real day", real_day), ("trial: compared", compared),
+              ("trial: compared day", compared_day)]
     runs = [*stored(), *page(tool), *(in_room(*it) for it in TRIALS), *others]
 
     def run(named):

@@ -30,6 +30,10 @@ pub(crate) enum About {
     Feed,
     /// The value of `--plan`.
     Plan,
+    /// The value of `--map`.
+    Map,
+    /// The value of `--times`.
+    Times,
 }
 
 impl Fault {

@@ -65,6 +65,8 @@ fn request_in(alloc: Global, matches: &ArgMatches<'_>) -> Result<Request, AllocE
         setup: value_text(alloc, inner, "setup")?,
         feed: value_text(alloc, inner, "feed")?,
         plan: value_text(alloc, inner, "plan")?,
+        map: value_text(alloc, inner, "map")?,
+        times: value_text(alloc, inner, "times")?,
         out: value_text(alloc, inner, "out")?,
         json: inner.get_str("json") == Some("true"),
     })

@@ -22,6 +22,8 @@ pub enum Sub {
     Draw,
     /// Makes changes of a vendor's files. Its own words are `MAP` and one or more of `FILE`.
     Import,
+    /// Compares a vendor's national bests with those of a file of changes. Its own words are `CHANGES` and `NBBO`.
+    Compare,
 }
 
 /// What kind of file is explained.
@@ -213,9 +215,29 @@ static IMPORT: [Word; 4] = [
     SETUP,
 ];
 
+static COMPARE: [Word; 5] = [
+    CHANGES,
+    Word {
+        name: "NBBO",
+        help: "The vendor's file of national best bids and offers",
+        form: WordForm::Needed,
+    },
+    Word {
+        name: "map",
+        help: "The file of the mapping: how the vendor's file is laid out",
+        form: WordForm::NeededValue("MAP"),
+    },
+    Word {
+        name: "times",
+        help: "The file of the changes' times, as `import` writes it",
+        form: WordForm::NeededValue("TIMES"),
+    },
+    SETUP,
+];
+
 impl Sub {
     /// Each of them.
-    pub(crate) const ALL: [Sub; 9] = [
+    pub(crate) const ALL: [Sub; 10] = [
         Sub::Explain,
         Sub::Tape,
         Sub::At,
@@ -225,6 +247,7 @@ impl Sub {
         Sub::Why,
         Sub::Draw,
         Sub::Import,
+        Sub::Compare,
     ];
 
     /// The word that asks for it.
@@ -239,6 +262,7 @@ impl Sub {
             Sub::Why => "why",
             Sub::Draw => "draw",
             Sub::Import => "import",
+            Sub::Compare => "compare",
         }
     }
 
@@ -257,6 +281,7 @@ impl Sub {
                 "Says why a plan is as it is: its rows, what it takes, and what each cut shows",
             Sub::Draw => "Draws a symbol's day as one SVG",
             Sub::Import => "Makes a file of changes of a vendor's files, by a mapping",
+            Sub::Compare => "Compares a vendor's national bests with those of a file of changes",
         }
     }
 
@@ -272,6 +297,7 @@ impl Sub {
             Sub::Why => WHY.as_slice(),
             Sub::Draw => DRAW.as_slice(),
             Sub::Import => IMPORT.as_slice(),
+            Sub::Compare => COMPARE.as_slice(),
         }
     }
 
