@@ -24,11 +24,17 @@ is_nothing None None = true
 is_nothing None (Some offer) = false
 is_nothing (Some bid) offer = false
 
+-- both, or neither
+abbrev pub alike : Bool → Bool → Bool
+alike true other = other
+alike false true = false
+alike false false = true
+
 -- without a counterpart if one of the two has no side at all and the other one has; else the first that differs: a price,
 -- a displayed size, a venue
 abbrev pub finding_of : Quoted → National → Finding
 finding_of ours theirs =
-    if is_nothing ours.bid ours.offer == is_nothing theirs.bid theirs.offer then
+    if alike (is_nothing ours.bid ours.offer) (is_nothing theirs.bid theirs.offer) then
     (if both_agree (λ row best. row.price == best.price) ours theirs then
     (if both_agree (λ row best. row.size == best.shares) ours theirs then
     (if both_agree (λ row best. row.part == best.part) ours theirs then finding.Equal else finding.OtherVenue)

@@ -36,7 +36,7 @@ keys_read order (change ∷ changes) text =
     option_map (key_in order (place_of change)) (time_in text) ∷ keys_read order changes (drop 16 text)
 
 -- the version at a key: how many changes stand before the first that is later, which are all if none is
-unfoldable pub version_by : (keys : List ℕ) → ℕ → ℕ
+abbrev pub version_by : (keys : List ℕ) → ℕ → ℕ
 version_by keys key = position_or_len (λ k. nat_lt key k) keys
 
 -- a board that has gone along a tape as far as a key

@@ -46,6 +46,8 @@ pub fn read_national(
     ensures national { IfOk result (λ outcome. outcome ≡ national_of bids.now offers.now meanings.now roster.now (fields_of row.now)) }
     ensures there { IfOk result (λ outcome. IfOk outcome (λ theirs. theirs.sym < length roster.now.syms)) }
 {
+    // Moving sides takes a mention of their type: the prover has to have seen it.
+    let _seen: Option<SideQuote> = None;
     let bid = match read_row(bids, meanings, roster, row, scratch)? {
         Ok(bid) => bid,
         Err(cause) => return Ok(Err(cause)),

@@ -69,60 +69,82 @@ impl<'a, W: Write> Shown<'a, W> {
         }
         self.left -= 1;
         let ours = quoted_on(board, theirs.sym);
-        let head = [
-            Item::Bytes(self.file.as_bytes()),
-            Item::Text(":"),
-            Item::Number(line_of(row)),
-            Item::Text(": version "),
-            Item::Number(board.applied()),
-            Item::Text(": "),
-            Item::Text(name_of_sym(roster, theirs.sym)),
-            Item::Text(": "),
-            Item::Text(what),
-        ];
-        write_line(self.out, Form::Text { colours: false }, &head)?;
-        self.show_sides(
+        show_head(
+            self.out,
+            self.file,
+            name_of_sym(roster, theirs.sym),
+            line_of(row),
+            board.applied(),
+            what,
+        )?;
+        show_sides(
+            self.out,
             "    theirs: ",
             roster,
             &told_of(&theirs.bid),
             &told_of(&theirs.offer),
         )?;
-        self.show_sides(
+        show_sides(
+            self.out,
             "    ours:   ",
             roster,
             &row_told(&ours.bid),
             &row_told(&ours.offer),
         )
     }
+}
 
-    /// Shows a bid and an offer.
-    fn show_sides(
-        &mut self,
-        before: &'static str,
-        roster: &Roster,
-        bid: &Option<Told>,
-        offer: &Option<Told>,
-    ) -> Result<(), CompareFault> {
-        let (bid_part, bid_price, bid_size, bid_gap) = items_of(roster, bid);
-        let (offer_part, offer_price, offer_size, offer_gap) = items_of(roster, offer);
-        let items = [
-            Item::Text(before),
-            Item::Text("bid "),
-            bid_part,
-            bid_gap,
-            bid_price,
-            bid_gap,
-            bid_size,
-            Item::Text("; offer "),
-            offer_part,
-            offer_gap,
-            offer_price,
-            offer_gap,
-            offer_size,
-        ];
-        write_line(self.out, Form::Text { colours: false }, &items)?;
-        Ok(())
-    }
+/// Shows where a row stands, its version and its symbol, and what is found.
+fn show_head<'x, W: Write>(
+    out: &mut W,
+    file: &'x str,
+    symbol: &'x str,
+    line: u64,
+    version: u64,
+    what: &'x str,
+) -> Result<(), CompareFault> {
+    let items = [
+        Item::Bytes(file.as_bytes()),
+        Item::Text(":"),
+        Item::Number(line),
+        Item::Text(": version "),
+        Item::Number(version),
+        Item::Text(": "),
+        Item::Text(symbol),
+        Item::Text(": "),
+        Item::Text(what),
+    ];
+    write_line(out, Form::Text { colours: false }, &items)?;
+    Ok(())
+}
+
+/// Shows a bid and an offer.
+fn show_sides<'x, W: Write>(
+    out: &mut W,
+    before: &'x str,
+    roster: &'x Roster,
+    bid: &Option<Told>,
+    offer: &Option<Told>,
+) -> Result<(), CompareFault> {
+    let (bid_part, bid_price, bid_size, bid_gap) = items_of(roster, bid);
+    let (offer_part, offer_price, offer_size, offer_gap) = items_of(roster, offer);
+    let items = [
+        Item::Text(before),
+        Item::Text("bid "),
+        bid_part,
+        bid_gap,
+        bid_price,
+        bid_gap,
+        bid_size,
+        Item::Text("; offer "),
+        offer_part,
+        offer_gap,
+        offer_price,
+        offer_gap,
+        offer_size,
+    ];
+    write_line(out, Form::Text { colours: false }, &items)?;
+    Ok(())
 }
 
 /// A side as it is shown.

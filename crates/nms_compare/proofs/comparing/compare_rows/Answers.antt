@@ -1,24 +1,25 @@
 -- `compare_rows`: all that it promises and the turns of its loop, by `counts_more`.
-use Rattle.std.proofs.Common.{◌≡◌, ◌+◌, ◌++◌, ◌∷◌, [], List, Bool, true, false, Ok, ap, arith, sym, refl, subst, ◌∙◌}
+use Rattle.std.proofs.Common.{◌≡◌, ◌+◌, ◌++◌, ◌∷◌, [], List, Bool, true, false, Ok, ap, arith, sym, subst, ◌∙◌}
 use Rattle.std.proofs.Common.{append_assoc, length-append}
 use Rattle.std.proofs.lemmas.List.{append-nil}
 use Rattle.csv.specs.Records.{fields_of}
 use Rattle.nms_lines.specs.Layout.{Record}
 use Rattle.nms_import.specs.Rows.{RowsFrom}
+use Rattle.nms_compare.specs.Compared.{rows_in}
 use Rattle.nms_compare.proofs.CountFacts.{counts_more}
 use Rattle.nms_compare.proofs.comparing.compare_rows.Goals as goal
 
 pub loop-done-init : goal.loop-done-init
 loop-done-init g c = (
-  omega arith,
+  ap rows_in c.none-counts.ensures,
   c.in_ok-walk.ensures.sizes,
   c.in_ok-walk.ensures.walks,
   λ config bytes seen reads. (
     [],
     subst (λ (rows : List Record). RowsFrom {R = g.row.R.Denot} config g.R.Read.remaining c.args.reader.now bytes rows)
         (sym (append-nil seen)) reads,
-    refl,
-    refl,
+    c.none-counts.ensures,
+    ap rows_in c.none-counts.ensures,
   ),
 )
 
