@@ -1,4 +1,3 @@
 mod CountFacts
 mod StandingFacts
 mod QuotedFacts
-mod WalkFacts

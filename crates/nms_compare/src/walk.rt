@@ -1,10 +1,10 @@
 //! A board that goes along a tape, as far as the rows of a vendor's file have come: `specs/Standing`.
-ghost use Rattle.std.specs.Prelude.{◌≡◌, ℕ, ◌<◌, ◌≤◌, All, IfOk, List, length, true};
+ghost use Rattle.std.specs.Prelude.{◌≡◌, ℕ, ◌<◌, ◌≤◌, All, IfOk, IfSome, List, length, nat_lt, position, true};
 ghost use Rattle.nms_quote.specs.Roster.{holds, sizes_of};
 ghost use Rattle.nms_quote.specs.Tape.{Tape, version};
 ghost use Rattle.nms_quote.specs.declared.TheConstants.{MOST_CHANGES};
 ghost use Rattle.nms_compare.specs.Finding.{finding_of};
-ghost use Rattle.nms_compare.specs.Standing.{Walks, version_by};
+ghost use Rattle.nms_compare.specs.Standing.{IsAt, Walks, version_by};
 ghost use Rattle.nms_stream.specs.Quoted.{quoted_at};
 
 use crate::finding::{Finding, find_between};
@@ -35,8 +35,7 @@ pub(crate) fn open_walk(
     ensures walks { IfOk result (Walks changes.now keys.now) }
 {
     let mut board = Boards::new(alloc, roster)?;
-    let (first, _) = changes.split_at(count_not_later(keys, 0));
-    board.apply_all(first);
+    move_to(&mut board, changes, count_not_later(keys, 0));
     Ok(Walk { board, key: 0 })
 }
 
@@ -53,10 +52,28 @@ pub(crate) fn walk_to(walk: &mut Walk, changes: &[Change], keys: &[u64], key: u6
 {
     let at = walk.board.applied() as usize;
     let (_, keys_left) = keys.split_at(at);
-    let (version, _) = changes.split_at(at + count_not_later(keys_left, key));
-    let (_, later) = version.split_at(at);
-    walk.board.apply_all(later);
+    move_to(
+        &mut walk.board,
+        changes,
+        at + count_not_later(keys_left, key),
+    );
     walk.key = key;
+}
+
+/// Moves a board on to a version of the changes.
+fn move_to(board: &mut Boards, changes: &[Change], version: usize)
+    requires held { All (λ change. holds board.old.sizes change ≡ true) changes.now }
+    requires few { length changes.now ≤ MOST_CHANGES }
+    requires within { version ≤ length changes.now }
+    requires behind { board.old.applied ≤ version }
+    requires at { IsAt changes.now board.old }
+    ensures at { IsAt changes.now board.new }
+    ensures moved { board.new.applied ≡ version }
+    ensures sizes { board.new.sizes ≡ board.old.sizes }
+{
+    let (version, _) = changes.split_at(version);
+    let (_, later) = version.split_at(board.applied() as usize);
+    board.apply_all(later);
 }
 
 /// How many keys stand at the beginning that are no later than a key.
@@ -64,10 +81,18 @@ fn count_not_later(keys: &[u64], key: u64) -> usize
     ensures count { result ≡ version_by keys.now key }
     ensures within { result ≤ length keys.now }
 {
-    match keys.iter().position(|each| *each > key) {
+    match first_later(keys, key) {
         Some(place) => place,
         None => keys.len(),
     }
+}
+
+/// The place of the first key that is later than a key.
+fn first_later(keys: &[u64], key: u64) -> Option<usize>
+    ensures place { result ≡ position (λ k. nat_lt key k) keys.now }
+    ensures within { IfSome result (λ place. place < length keys.now) }
+{
+    keys.iter().position(|each| *each > key)
 }
 
 /// What is found of a national best on the version where the walk stands.

@@ -12,5 +12,5 @@ returns c = λ tape keys walks.
     c.find_between.ensures
     ∙ ap (λ (ours : Quoted). finding_of ours c.args.theirs.now)
     (c.quoted_on.ensures.best
-    ∙ quoted_stands c.args.walk.now.board (version c.args.walk.now.board.applied tape) c.args.theirs.now.sym walks.stands
+    ∙ quoted_stands c.args.walk.now.board (version c.args.walk.now.board.applied tape) c.args.theirs.now.sym walks.board.stands
     ∙ ap (λ n. quoted_at c.args.walk.now.board.sizes (version n tape) c.args.theirs.now.sym) walks.at)
