@@ -1,5 +1,6 @@
 -- The version at a key, from that of an earlier key on.
-use Rattle.std.proofs.Common.{◌≡◌, ℕ, ◌+◌, ◌≤◌, Bool, true, false, List, [], ◌∷◌, length, drop, suc, refl, ap, arith, Option, Some, None, cond}
+use Rattle.std.proofs.Common.{◌≡◌, ℕ, ◌+◌, ◌≤◌, Bool, true, false, List, [], ◌∷◌}
+use Rattle.std.proofs.Common.{length, drop, suc, refl, ap, arith, Option, Some, None, cond}
 use Rattle.std.specs.Prelude.{nat_lt, position}
 use Rattle.std.proofs.lemmas.Bool.Decides.{nat_tests}
 use Rattle.nms_compare.specs.Standing.{version_by}
@@ -22,7 +23,7 @@ later_at : (keys : List ℕ) (k key later : ℕ) (is_later : Bool) → nat_lt ke
     → version_by keys later ≡ version_by keys key + version_by (drop (version_by keys key) keys) later
     → version_by (k ∷ keys) later
     ≡ version_by (k ∷ keys) key + version_by (drop (version_by (k ∷ keys) key) (k ∷ keys)) later
-later_at keys k key later true is le more = rw is refl
+later_at keys k key later true is le more = rw is (omega arith)
 later_at keys k key later false is le more =
     let n = version_by keys key in
     let one : 1 + n ≡ suc n = omega arith in
