@@ -209,8 +209,8 @@ def check_codes():
     coded = (row[CELLS] for row in rows(prose("docs/ERRORS.md")) if re.fullmatch(r"[A-Z]\d+", row[CELLS][0]))
     told = [(cells[0], SPAN.findall(cells[1])) for cells in coded]
     for code in sorted(CODES):
-        # Those of an import, of times and of executions are of the reviewer's program alone, whose help names none.
-        if code[0] not in "HIMX":
+        # Those of imports, comparisons, times and executions are of the reviewer's program alone, whose help names none.
+        if code[0] not in "HIJMX":
             check(helped.count(code) == 1, "the help", f"{code} stands there {helped.count(code)} times")
         check([it for it, _ in told].count(code) == 1, "docs/ERRORS.md", f"{code} has {[it for it, _ in told].count(code)} rows")
     for code in helped:

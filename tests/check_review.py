@@ -13,7 +13,9 @@ any that is right, byte order marks before quotes, each byte of a file once, a s
 pieces, a day with more versions than a picture has columns, the imports of examples/import/, and the random files that
 the judges JUDGES compare with a plain slow program.
 """
+import gzip
 import os
+import random
 import re
 import resource
 import subprocess
@@ -28,7 +30,7 @@ ROOM = os.path.join(EXAMPLES, "review")
 # The pages whose calls run, the mappings of examples/import/, and the programs that judge random files.
 PAGES = ("docs/REVIEW.md", "docs/TRADES.md")
 IMPORTS = ("taq", "databento-mbp1", "lobster")
-JUDGES = ("import_judge.py", "times_judge.py", "trades_judge.py")
+JUDGES = ("import_judge.py", "times_judge.py", "trades_judge.py", "day_judge.py")
 # Memory within which a file of two hundred million bytes is explained: it must not grow with the file, but with the longest
 # record alone.
 LITTLE = 256 << 20

@@ -41,6 +41,8 @@ pub(crate) enum About {
     Symbol,
     /// The value of `--version`.
     Version,
+    /// The value of `--map`.
+    Map,
 }
 
 impl Fault {

@@ -195,7 +195,11 @@ fn show_told<T: Eprint>(rt: &T, told: &mut Told<'_, Vec<u8>>) {
 }
 
 /// Tells on standard error why a mapping is refused: its table, its key and what is expected there.
-fn tell_map_fault<'x, T>(rt: &T, file: &'x str, fault: &'x MapFault) -> Result<Ending, Fault>
+pub(crate) fn tell_map_fault<'x, T>(
+    rt: &T,
+    file: &'x str,
+    fault: &'x MapFault,
+) -> Result<Ending, Fault>
 where
     T: AllocGlobal + Eprint,
 {

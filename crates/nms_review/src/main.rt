@@ -3,6 +3,7 @@
 
 mod answers;
 mod call;
+mod comparing;
 mod explaining;
 mod fault;
 mod files;

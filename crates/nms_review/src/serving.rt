@@ -1,5 +1,6 @@
 //! What each subcommand does: its words are read, its files opened, and a library's call answers.
 use crate::call::{ended, form_of, has_word, no_sym, sym_at, version_of};
+use crate::comparing::serve_compare;
 use crate::explaining::serve_explain;
 use crate::fault::{About, Fault};
 use crate::files::{open_word, read_file, setup_of, word_at};
@@ -62,6 +63,7 @@ where
         Sub::Import => serve_import(rt, screen, setup, request, answers),
         Sub::When => serve_when(rt, screen, request, answers),
         Sub::Trades => serve_trades(rt, screen, setup, request, answers),
+        Sub::Compare => serve_compare(rt, screen, setup, request, answers),
     }
 }
 

@@ -5,7 +5,7 @@ use nms_show::{Form, Item, ShowFault, write_line};
 use std::io::{ErrorKind, Write};
 
 /// What each code says, of those that end a request. Where a record stands, `explain` tells.
-static SENTENCES: [(&'static str, &'static str); 34] = [
+static SENTENCES: [(&'static str, &'static str); 37] = [
     ("E1", "it could not be read"),
     ("E2", "the output could not be written"),
     ("E3", "it has more than 10,000,000 records"),
@@ -36,6 +36,15 @@ static SENTENCES: [(&'static str, &'static str); 34] = [
         "no row shows a round lot on either side: are the sizes lots, and not shares?",
     ),
     ("I3", "times fall, though the mapping says that they do not"),
+    ("J1", "it has not one time for each change"),
+    (
+        "J2",
+        "a change is before an earlier one, in the order that the mapping gives",
+    ),
+    (
+        "J3",
+        "a row is before an earlier one, in the order that the mapping gives",
+    ),
     (
         "L1",
         "the first refused record is of no kind that is read there",
@@ -157,6 +166,7 @@ fn word_of(about: About, request: &Request) -> &str {
         About::Symbols => request.symbols.as_ref(),
         About::Symbol => request.symbol.as_ref(),
         About::Version => request.version.as_ref(),
+        About::Map => request.map.as_ref(),
     };
     match word {
         Some(word) => word.as_str(),

@@ -65,6 +65,7 @@ fn request_in(alloc: Global, matches: &ArgMatches<'_>) -> Result<Request, AllocE
         setup: value_text(alloc, inner, "setup")?,
         feed: value_text(alloc, inner, "feed")?,
         plan: value_text(alloc, inner, "plan")?,
+        map: value_text(alloc, inner, "map")?,
         out: value_text(alloc, inner, "out")?,
         times: value_text(alloc, inner, "times")?,
         symbols: value_text(alloc, inner, "symbols")?,

@@ -9,14 +9,14 @@ pub(crate) const ABOUT: &str =
 /// The end of the help.
 pub(crate) const AFTER_HELP: &str = "Each subcommand also takes:
       --setup <FILE>  The file of the setup, in place of the built-in one (but for when)
-      --json          Prints one JSON object a line (but for tape, opening, draw and import)
+      --json          Prints one JSON object a line (but for tape, opening, draw, import and compare)
 
 Exit statuses:
   0  done, and nothing was refused or doubted; or help or the version was asked for
   1  a file or stream could not be read or written
   2  the words were refused
   3  the setup or the mapping was refused
-  4  a plan is not confirmed
+  4  a plan is not confirmed, or a vendor's national best differs
   5  out of memory
   6  an input record, a plan or a length was refused
   7  files were imported, and the counts or the times say that something is wrong

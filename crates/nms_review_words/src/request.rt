@@ -14,6 +14,8 @@ pub struct Request {
     pub feed: Option<String>,
     /// The file that `--plan` names.
     pub plan: Option<String>,
+    /// The file that `--map` names.
+    pub map: Option<String>,
     /// The name that `--out` gives to the files that are written.
     pub out: Option<String>,
     /// The file that `--times` names.

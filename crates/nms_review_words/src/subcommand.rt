@@ -26,6 +26,8 @@ pub enum Sub {
     When,
     /// Judges a file of executions. Its own words are `CHANGES` and `EXECUTIONS`.
     Trades,
+    /// Compares a vendor's national bests with those of a file of changes. Its own words are `CHANGES` and `NBBO`.
+    Compare,
 }
 
 /// What kind of file is explained.
@@ -280,11 +282,32 @@ static TRADES: [Word; 5] = [
     },
     SETUP,
     JSON,
+    JSON,
+];
+
+static COMPARE: [Word; 5] = [
+    CHANGES,
+    Word {
+        name: "NBBO",
+        help: "The vendor's file of national best bids and offers",
+        form: WordForm::Needed,
+    },
+    Word {
+        name: "map",
+        help: "The file of the mapping: how the vendor's file is laid out",
+        form: WordForm::NeededValue("MAP"),
+    },
+    Word {
+        name: "times",
+        help: "The file of the changes' times, as `import` writes it",
+        form: WordForm::NeededValue("TIMES"),
+    },
+    SETUP,
 ];
 
 impl Sub {
     /// Each of them.
-    pub(crate) const ALL: [Sub; 11] = [
+    pub(crate) const ALL: [Sub; 12] = [
         Sub::Explain,
         Sub::Tape,
         Sub::At,
@@ -296,6 +319,7 @@ impl Sub {
         Sub::Import,
         Sub::When,
         Sub::Trades,
+        Sub::Compare,
     ];
 
     /// The word that asks for it.
@@ -312,6 +336,7 @@ impl Sub {
             Sub::Import => "import",
             Sub::When => "when",
             Sub::Trades => "trades",
+            Sub::Compare => "compare",
         }
     }
 
@@ -332,6 +357,7 @@ impl Sub {
             Sub::Import => "Makes a file of changes of a vendor's files, by a mapping",
             Sub::When => "Finds versions by time, or the time of a version",
             Sub::Trades => "Says which executions traded through a protected quotation, and whose",
+            Sub::Compare => "Compares a vendor's national bests with those of a file of changes",
         }
     }
 
@@ -349,6 +375,7 @@ impl Sub {
             Sub::Import => IMPORT.as_slice(),
             Sub::When => WHEN.as_slice(),
             Sub::Trades => TRADES.as_slice(),
+            Sub::Compare => COMPARE.as_slice(),
         }
     }
 

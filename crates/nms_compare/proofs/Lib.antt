@@ -1,0 +1,3 @@
+mod CountFacts
+mod StandingFacts
+mod QuotedFacts

@@ -1,0 +1,4 @@
+pub mod National
+pub mod Finding
+pub mod Standing
+pub mod Compared

@@ -1,0 +1,95 @@
+//! Why a comparison ended early.
+use nms_board::BoardFault;
+use nms_import::ImportFault;
+use nms_show::ShowFault;
+use std::alloc::AllocError;
+use thiserror::Error;
+
+/// Why a comparison ended early.
+#[derive(Clone, Copy, Debug, Drop, PartialEq, Eq, Error)]
+pub enum CompareFault {
+    /// E1: the vendor's file could not be read.
+    #[error("E1: a file could not be read")]
+    ReadFault,
+    /// E2: the output could not be written.
+    #[error("E2: the output could not be written")]
+    WriteFault,
+    /// E3: more than 1,000,000,000,000 rows.
+    #[error("E3: there are more than 1,000,000,000,000 rows")]
+    TooLong,
+    /// E4: out of memory.
+    #[error("E4: out of memory")]
+    NoMemory,
+    /// B1: out of memory for the board.
+    #[error("B1: out of memory for the board")]
+    Board,
+    /// J1: the file of times has not one line of 15 digits and a line feed for each change.
+    #[error("J1: the times are not those of the changes")]
+    NotTheTimes,
+    /// J2: a change is before an earlier one, in the order that the mapping gives.
+    #[error("J2: the changes are not in the order of the mapping")]
+    ChangesFall,
+    /// J3: a row is before an earlier one, in the order that the mapping gives.
+    #[error("J3: the rows are not in the order of the mapping")]
+    RowsFall,
+}
+
+impl CompareFault {
+    /// Its code: `E1` to `E4`, `B1`, or `J1` to `J3`.
+    pub fn code(self) -> &'static str {
+        match self {
+            CompareFault::ReadFault => "E1",
+            CompareFault::WriteFault => "E2",
+            CompareFault::TooLong => "E3",
+            CompareFault::NoMemory => "E4",
+            CompareFault::Board => "B1",
+            CompareFault::NotTheTimes => "J1",
+            CompareFault::ChangesFall => "J2",
+            CompareFault::RowsFall => "J3",
+        }
+    }
+
+    /// The exit status: 1 for a file, 5 for memory, 6 for times, an order or too many rows.
+    pub fn status(self) -> u8 {
+        match self {
+            CompareFault::ReadFault | CompareFault::WriteFault => 1,
+            CompareFault::NoMemory | CompareFault::Board => 5,
+            CompareFault::TooLong
+            | CompareFault::NotTheTimes
+            | CompareFault::ChangesFall
+            | CompareFault::RowsFall => 6,
+        }
+    }
+}
+
+impl From<AllocError> for CompareFault {
+    fn from(_error: AllocError) -> CompareFault {
+        CompareFault::NoMemory
+    }
+}
+
+impl From<BoardFault> for CompareFault {
+    fn from(_error: BoardFault) -> CompareFault {
+        CompareFault::Board
+    }
+}
+
+impl From<ImportFault> for CompareFault {
+    fn from(fault: ImportFault) -> CompareFault {
+        match fault {
+            ImportFault::ReadFault => CompareFault::ReadFault,
+            ImportFault::WriteFault => CompareFault::WriteFault,
+            ImportFault::TooLong => CompareFault::TooLong,
+            ImportFault::NoMemory => CompareFault::NoMemory,
+        }
+    }
+}
+
+impl From<ShowFault> for CompareFault {
+    fn from(fault: ShowFault) -> CompareFault {
+        match fault {
+            ShowFault::WriteFault => CompareFault::WriteFault,
+            ShowFault::NoMemory => CompareFault::NoMemory,
+        }
+    }
+}

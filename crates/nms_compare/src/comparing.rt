@@ -1,0 +1,130 @@
+//! The rows of a vendor's file, compared one after another: `specs/Compared`.
+ghost use Rattle.std.specs.Prelude.{◌≡◌, ℕ, ◌++◌, ◌<◌, ◌≤◌, All, List, Option, length, true, IfOk, OnOk};
+ghost use Rattle.csv.specs.Records.{fields_of};
+ghost use Rattle.csv.specs.declared.parser.Config.{Config};
+ghost use Rattle.nms_quote.specs.Roster.{holds, sizes_of};
+ghost use Rattle.nms_quote.specs.declared.TheConstants.{MOST_CHANGES};
+ghost use Rattle.nms_lines.specs.Layout.{Record};
+ghost use Rattle.nms_import.specs.Rows.{AreAllRows, RowsFrom};
+ghost use Rattle.nms_compare.specs.Compared.{counts_of, found_of, rows_in};
+ghost use Rattle.nms_compare.specs.Standing.{Walks};
+
+use crate::compare_fault::CompareFault;
+use crate::counts::Counts;
+use crate::finding::Finding;
+use crate::keys::{TIMES, key_of};
+use crate::national::read_national;
+use crate::showing::Shown;
+use crate::walk::{Walk, find_on, open_walk, walk_to};
+use csv::{ByteRecord, Reader};
+use nms_import::{Cause, Columns, Meanings, Order, next_row};
+use nms_quote::{Change, Roster};
+use std::alloc::Global;
+use std::io::{Read, Write};
+
+/// The most rows of a comparison.
+const MOST_ROWS: u64 = 1_000_000_000_000;
+
+/// How a vendor's rows are read.
+#[derive(Drop)]
+pub struct Vendor {
+    /// The columns, with the venue of the best bid as the participant.
+    pub bids: Columns,
+    /// The columns, with the venue of the best offer as the participant.
+    pub offers: Columns,
+    /// What the texts mean.
+    pub meanings: Meanings,
+    /// The order of the rows, and of the changes.
+    pub order: Order,
+}
+
+/// Compares the rows that a reader still has with the best bids and offers of a tape, each on the version that stands at it,
+/// and counts each by its finding. The first 100 that are not equal are shown.
+///
+/// `RowsFall` comes if a row is before an earlier one, in the vendor's order. After an error a first part of what is shown
+/// was written. The writer is not flushed.
+pub fn compare_rows<R: Read, W: Write>(
+    alloc: Global,
+    vendor: &Vendor,
+    roster: &Roster,
+    changes: &[Change],
+    keys: &[u64],
+    reader: &mut Reader<R>,
+    shown: &mut Shown<'_, W>,
+) -> Result<Counts, CompareFault>
+    requires held { All (λ change. holds (sizes_of roster.now) change ≡ true) changes.now }
+    requires few { length changes.now ≤ MOST_CHANGES }
+    requires each { length keys.now ≡ length changes.now }
+    ensures counted { (config : Config) (bytes : Option (List ℕ)) (seen : List Record) → RowsFrom config R.remaining reader.old bytes seen
+        → IfOk result (λ counts. (rows : List Record) × AreAllRows config bytes (seen ++ rows)
+        × (counts ≡ counts_of vendor.now roster.now changes.now keys.now rows) × (rows_in counts ≡ length rows)) }
+{
+    let mut walk = open_walk(alloc, roster, changes, keys)?;
+    let mut row = ByteRecord::new(alloc);
+    let mut scratch = Vec::new(alloc);
+    let mut counts = Counts::none();
+    for done in 0..MOST_ROWS {
+        if !next_row(reader, &mut row)? {
+            return Ok(counts);
+        }
+        let found = find_row(
+            vendor,
+            roster,
+            changes,
+            keys,
+            &row,
+            &mut scratch,
+            &mut walk,
+            shown,
+        )?;
+        counts.count(found);
+    }
+    Err(CompareFault::TooLong)
+}
+
+/// What is found of a row, on the version that stands at it.
+fn find_row<W: Write>(
+    vendor: &Vendor,
+    roster: &Roster,
+    changes: &[Change],
+    keys: &[u64],
+    row: &ByteRecord,
+    scratch: &mut Vec<u8>,
+    walk: &mut Walk,
+    shown: &mut Shown<'_, W>,
+) -> Result<Result<Finding, Cause>, CompareFault>
+    requires held { All (λ change. holds (sizes_of roster.now) change ≡ true) changes.now }
+    requires few { length changes.now ≤ MOST_CHANGES }
+    requires each { length keys.now ≡ length changes.now }
+    requires sizes { walk.old.board.sizes ≡ sizes_of roster.now }
+    requires walks { Walks changes.now keys.now walk.old }
+    ensures sizes { OnOk result (walk.new.board.sizes ≡ sizes_of roster.now) }
+    ensures walks { OnOk result (Walks changes.now keys.now walk.new) }
+    ensures found { IfOk result (λ found. found ≡ found_of vendor.now roster.now changes.now keys.now (fields_of row.now)) }
+{
+    let theirs = match read_national(
+        &vendor.bids,
+        &vendor.offers,
+        &vendor.meanings,
+        roster,
+        row,
+        scratch,
+    )? {
+        Ok(theirs) => theirs,
+        Err(cause) => {
+            shown.show_cause(row, cause)?;
+            return Ok(Err(cause));
+        }
+    };
+    if theirs.time >= TIMES {
+        return Err(CompareFault::RowsFall);
+    }
+    let key = key_of(vendor.order, theirs.sym.get(), theirs.time);
+    if key < walk.key {
+        return Err(CompareFault::RowsFall);
+    }
+    walk_to(walk, changes, keys, key);
+    let finding = find_on(walk, &theirs);
+    shown.show_finding(roster, row, &walk.board, &theirs, finding)?;
+    Ok(Ok(finding))
+}

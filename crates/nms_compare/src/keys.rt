@@ -1,0 +1,88 @@
+//! Where changes and rows stand in the order of a file: `specs/Standing`.
+ghost use Rattle.std.specs.Prelude.{◌≡◌, ◌<◌, ◌≤◌, length, IfOk, IfSome, OnSome};
+ghost use Rattle.nms_quote.specs.declared.TheConstants.{MOST_SYMBOLS};
+ghost use Rattle.nms_compare.specs.Standing.{key_in, place_of, time_in};
+
+use crate::compare_fault::CompareFault;
+use nms_import::Order;
+use nms_quote::Change;
+use nms_units::parse_digits;
+use std::alloc::Global;
+
+/// The greatest time and one more: a symbol's part of a key counts these.
+pub(crate) const TIMES: u64 = 1_000_000_000_000_000;
+
+/// The keys of the changes of a file, whose times are the lines of a text: 15 digits each, and a line feed.
+///
+/// `NotTheTimes` comes if the text has not one such line for each change, `ChangesFall` if a change is before an earlier
+/// one.
+pub fn keys_of(
+    alloc: Global,
+    order: Order,
+    changes: &[Change],
+    times: &[u8],
+) -> Result<Vec<u64>, CompareFault>
+    ensures each { IfOk result (λ keys. length keys.items ≡ length changes.now) }
+{
+    let mut keys = Vec::with_capacity(alloc, changes.len())?;
+    let mut rest = times;
+    let mut last = 0;
+    for change in changes {
+        let Some(time) = time_in(rest) else {
+            return Err(CompareFault::NotTheTimes);
+        };
+        let key = key_of(order, place_of(change), time);
+        if key < last {
+            return Err(CompareFault::ChangesFall);
+        }
+        if keys.push(key).is_err() {
+            return Err(CompareFault::NoMemory);
+        }
+        last = key;
+        rest = &rest[16..];
+    }
+    if rest.is_empty() {
+        Ok(keys)
+    } else {
+        Err(CompareFault::NotTheTimes)
+    }
+}
+
+/// Where something of a symbol stands in the order of a file, at a time of at most 15 digits.
+pub fn key_of(order: Order, place: u16, time: u64) -> u64
+    requires place { place < MOST_SYMBOLS }
+    requires time { time < 1000000000000000 }
+    ensures key { result ≡ key_in order place time }
+{
+    match order {
+        Order::Given | Order::Free => time,
+        Order::Symbol => u64::from(place) * TIMES + time,
+    }
+}
+
+/// The place of a change's symbol; 0 of a withdrawal.
+fn place_of(change: &Change) -> u16
+    ensures place { result ≡ place_of change.now }
+    ensures within { result < MOST_SYMBOLS }
+{
+    match *change {
+        Change::Quote { sym, .. } | Change::State { sym, .. } | Change::Lot { sym, .. } =>
+            sym.get(),
+        Change::Withdraw { .. } => 0,
+    }
+}
+
+/// The time that a text begins with: 15 digits and a line feed.
+fn time_in(text: &[u8]) -> Option<u64>
+    ensures time { result ≡ time_in text.now }
+    ensures within { IfSome result (λ time. time < 1000000000000000) }
+    ensures line { OnSome result (16 ≤ length text.now) }
+{
+    if text.len() < 16 || text[15] != b'\n' {
+        return None;
+    }
+    match parse_digits(&text[..15], 15) {
+        Some(time) => Some(time),
+        None => None,
+    }
+}

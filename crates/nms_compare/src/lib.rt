@@ -1,0 +1,22 @@
+//! A vendor's own national best bids and offers beside those of a tape: each row of the vendor has one finding, on the
+//! version that stands at it by time.
+#![tactic(auto)]
+
+mod compare_fault;
+mod comparing;
+mod counts;
+mod finding;
+mod keys;
+mod national;
+mod national_mapping;
+mod showing;
+mod walk;
+
+pub use compare_fault::CompareFault;
+pub use comparing::{Vendor, compare_rows};
+pub use counts::{Counts, write_counts};
+pub use finding::{Finding, find_between};
+pub use keys::{key_of, keys_of};
+pub use national::{Best, National, read_national};
+pub use national_mapping::{NationalMapping, read_national_mapping};
+pub use showing::Shown;

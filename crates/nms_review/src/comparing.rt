@@ -1,0 +1,156 @@
+//! The subcommand `compare`: a vendor's own national bests beside those of a file of changes.
+use crate::call::ended;
+use crate::fault::{About, Fault};
+use crate::files::{open_word, read_file, word_at};
+use crate::importing::tell_map_fault;
+use crate::screen::Screen;
+use crate::source::Source;
+use nms_compare::{
+    CompareFault, NationalMapping, Shown, compare_rows, keys_of, read_national_mapping,
+    write_counts,
+};
+use nms_fees::Setup;
+use nms_files::read_changes;
+use nms_import::{MapFault, Work, next_row, open_rows};
+use nms_quote::Change;
+use nms_review_words::Request;
+use nms_show::Ending;
+use std::alloc::Global;
+use std::io::Write;
+use std::rt::Files;
+use std::str;
+use std::time::Clock;
+
+/// The place of the word of the changes, and of that of the vendor's file.
+const CHANGES: usize = 0;
+
+const NATIONAL: usize = 1;
+
+/// Compares a vendor's national bests with those of a file of changes. It is doubted if a row differs or is malformed.
+pub(crate) fn serve_compare<T, W: Write>(
+    rt: &T,
+    screen: Screen,
+    setup: &Setup,
+    request: &Request,
+    answers: &mut W,
+) -> Result<Ending, Fault>
+where
+    T: AllocGlobal + Clock + Eprint + Files,
+{
+    let name = text_of(&request.map);
+    let text = read_file(rt, name, About::Map)?;
+    let mapping = match mapping_of(rt.alloc(), &text) {
+        Ok(mapping) => mapping,
+        Err(fault) => return tell_map_fault(rt, name, &fault),
+    };
+    let times = read_file(rt, text_of(&request.times), About::Times)?;
+    let file = open_word(rt, request, CHANGES)?;
+    let mut source = Source::new(rt, screen, file);
+    let read = match read_changes(rt.alloc(), setup, &mut source) {
+        Ok(changes) => Ok(changes),
+        Err(fault) => Err(Fault::of(fault.code(), fault.status(), About::Word(CHANGES))),
+    };
+    source.clear();
+    let changes = match (read, source.failed()) {
+        (Ok(changes), _) => changes,
+        (Err(fault), Some(error)) if fault.code == "E1" => {
+            return Err(Fault::unread(error, fault.about));
+        }
+        (Err(fault), _) => return Err(fault),
+    };
+    compare_file(
+        rt, screen, setup, request, mapping, &changes, &times, answers,
+    )
+}
+
+/// Compares the rows of the vendor's file.
+fn compare_file<T, W: Write>(
+    rt: &T,
+    screen: Screen,
+    setup: &Setup,
+    request: &Request,
+    mapping: NationalMapping,
+    changes: &[Change],
+    times: &[u8],
+    answers: &mut W,
+) -> Result<Ending, Fault>
+where
+    T: AllocGlobal + Clock + Eprint + Files,
+{
+    let alloc = rt.alloc();
+    let keys = keys_of(alloc, mapping.order(), changes, times).map_err(fault_in)?;
+    let file = open_word(rt, request, NATIONAL)?;
+    let form = mapping.file();
+    let mut reader = open_rows(
+        alloc,
+        form.delimiter,
+        form.quotes,
+        Source::new(rt, screen, file),
+    );
+    let mut work = Work::new(alloc);
+    if form.header {
+        next_row(&mut reader, &mut work.row).map_err(|fault| Fault::of(
+            fault.code(),
+            fault.status(),
+            About::Word(NATIONAL),
+        ))?;
+    }
+    let vendor = match mapping.vendor(alloc, &work.row) {
+        Ok(vendor) => vendor,
+        Err(fault) => return tell_map_fault(rt, word_at(request, NATIONAL), &fault),
+    };
+    let mut shown = Shown::new(answers, word_at(request, NATIONAL));
+    let compared = compare_rows(
+        alloc,
+        &vendor,
+        setup.roster(),
+        changes,
+        &keys,
+        &mut reader,
+        &mut shown,
+    );
+    let mut source = reader.into_inner();
+    let ending = match compared {
+        Ok(counts) => {
+            write_counts(answers, &counts).map_err(fault_in)?;
+            if counts.has_doubts() {
+                Ok(Ending::Doubted)
+            } else {
+                Ok(Ending::Done)
+            }
+        }
+        Err(fault) => Err(fault_in(fault)),
+    };
+    ended(&mut source, ending)
+}
+
+/// The mapping that a text says.
+fn mapping_of(alloc: Global, text: &[u8]) -> Result<NationalMapping, MapFault> {
+    match str::from_utf8(text) {
+        Ok(text) => read_national_mapping(alloc, text),
+        Err(_) => Err(MapFault::NotToml { line: 1 }),
+    }
+}
+
+/// The text of an option that the parser asks for.
+fn text_of(option: &Option<String>) -> &str {
+    match option {
+        Some(text) => text.as_str(),
+        None => "",
+    }
+}
+
+/// A fault of a comparison, in the file that it is about.
+fn fault_in(fault: CompareFault) -> Fault {
+    let about = match fault {
+        CompareFault::NotTheTimes => About::Times,
+        CompareFault::ChangesFall => About::Word(CHANGES),
+        CompareFault::ReadFault
+        | CompareFault::WriteFault
+        | CompareFault::TooLong
+        | CompareFault::NoMemory
+        | CompareFault::Board
+        | CompareFault::RowsFall => About::Word(NATIONAL),
+    };
+    Fault::of(fault.code(), fault.status(), about)
+}

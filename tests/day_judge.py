@@ -1,0 +1,142 @@
+#!/usr/bin/env python3
+"""Runs a made day of examples/real_day/, and compares vendors' national bests with it.
+
+    tests/day_judge.py PROGRAM      PROGRAM is nms_review
+
+The day is run by two jobs and by one, its parts are set beside one tape of all of them, and a torn file is mended. The rows
+that `compare` gets are those of `stream`, some of them altered; each alteration must be found, and nothing else. A line
+for each difference, and last `N passed, M failed`; status 1 at a difference.
+"""
+import gzip
+import os
+import random
+import re
+import subprocess
+import sys
+import tempfile
+
+from stored import EXAMPLES, MOST
+from trials import Trial, Wrong, run
+
+
+def called(program, words, **how):
+    return subprocess.run([program, *words], stdin=subprocess.DEVNULL, timeout=MOST, **how)
+
+
+def must(holds, what):
+    if not holds:
+        raise Wrong(what)
+
+
+def real_day(program):
+    """A made day of three letters by examples/real_day/day.sh: two jobs write what one writes, the shards show of each symbol
+    what one file of all letters shows, and a call after a failed one does what is left."""
+    place = os.path.join(EXAMPLES, "real_day")
+    with tempfile.TemporaryDirectory(prefix="nms-") as room:
+        def day(out, jobs, status=0):
+            env = dict(os.environ, NMS_REVIEW=program)
+            ran = called("bash", [os.path.join(place, "day.sh"), room, os.path.join(room, out), jobs], capture_output=True, env=env)
+            must((ran.returncode == 0) == (status == 0), f"{out}: status {ran.returncode}, {ran.stderr!r}")
+            found = []
+            for name in ("day.csv", "counts") if status == 0 else ():
+                with open(os.path.join(room, out, name), encoding="ascii") as file:
+                    found.append(file.read())
+            return found
+        called(sys.executable, [os.path.join(place, "make_day.py"), room], check=True)
+        lines, counts = day("two", "2")
+        must([lines, counts] == day("one", "1"), "one job writes another day than two")
+        must(counts == "6003 rows = 6000 changes + 0 refused + 3 skipped\n", counts)
+        lines = [line.split(",") for line in lines.splitlines()[1:]]
+        must(len(lines) > 1000 and [it[0] for it in lines] == sorted(it[0] for it in lines), f"{len(lines)} lines, or not by time")
+        must(lines == sorted(lines, key=lambda it: (it[0], it[1], int(it[2]))), "lines of one time are not by letter and version")
+        for letter in "ABC":
+            with open(os.path.join(room, "two", f"{letter}.times"), encoding="ascii") as file:
+                times = file.read().split()
+            must(all(it[0] == times[int(it[2]) - 1] for it in lines if it[1] == letter), f"{letter}: a line has not its version's time")
+        # The whole: all letters in one tape, under one setup. A line but for its time, its letter and its version.
+        out = os.path.join(room, "whole")
+        setup, text = f"{out}.toml", ""
+        for letter in "ABC":
+            with open(os.path.join(room, "two", f"{letter}.toml"), encoding="utf-8") as file:
+                own = file.read()
+            text += own if letter == "A" else own[own.index("[[symbol]]"):]
+        with open(setup, "w", encoding="utf-8") as file:
+            file.write(text)
+        names = [os.path.join(room, f"SPLITS_US_ALL_BBO_{letter}_20240102") for letter in "ABC"]
+        for name in names:
+            with gzip.open(f"{name}.gz") as packed, open(f"{out}.txt", "ab") as file:
+                file.write(b"".join(packed.readlines()[0 if name == names[0] else 1:-1]))
+        words = ["import", os.path.join(EXAMPLES, "import/taq.toml"), f"{out}.txt", "--out", out, "--setup", setup]
+        called(program, words, capture_output=True, check=True)
+        whole = called(program, ["stream", f"{out}.changes", "--setup", setup], capture_output=True, check=True)
+        whole = [line.split(",")[1:] for line in whole.stdout.decode().splitlines()[1:]]
+        for symbol in {it[0] for it in whole}:
+            must([it for it in whole if it[0] == symbol] == [it[3:] for it in lines if it[3] == symbol], f"{symbol}: a shard shows other rows")
+        must(len(whole) == len(lines), f"{len(whole)} lines, and not {len(lines)}")
+        # A file that is no gzip: the others are done, and nothing is merged. Once it is mended the rest is done.
+        path = f"{names[1]}.gz"
+        with open(path, "rb") as file:
+            right = file.read()
+        with open(path, "wb") as file:
+            file.write(right[:1000])
+        day("torn", "2", 1)
+        at = os.path.join(room, "torn")
+        must(sorted(it for it in os.listdir(at) if it.endswith((".day", ".csv"))) == ["A.day", "C.day"], f"{sorted(os.listdir(at))}")
+        with open(path, "wb") as file:
+            file.write(right)
+        must(day("torn", "2") == day("two", "2"), "what was left is not what was missing")
+
+
+NATIONAL = ["--map", "nbbo.toml", "--times", "taq.times", "--setup", "../market.toml"]
+
+
+def compared(program):
+    """The vendor's national bests of examples/import/: one file agrees, and one differs in each way."""
+    given = os.path.join(EXAMPLES, "import")
+    for name, status in (("nbbo", 0), ("nbbo_differs", 4)):
+        ran = called(program, ["compare", "taq.changes", f"{name}.txt", *NATIONAL], capture_output=True, cwd=given)
+        with open(os.path.join(given, f"{name}.out"), "rb") as file:
+            must((ran.returncode, ran.stdout, ran.stderr) == (status, file.read(), b""), f"{name}: {ran.returncode}, {ran.stdout!r}, {ran.stderr!r}")
+
+
+def compared_day(program):
+    """The lines of `stream` of a made letter as a vendor's rows, by symbol and time, some of them altered: each alteration is
+    found, with its line, and nothing else."""
+    place, dice = os.path.join(EXAMPLES, "real_day"), random.Random(55)
+    with tempfile.TemporaryDirectory(prefix="nms-") as room:
+        env = dict(os.environ, NMS_REVIEW=program)
+        called(sys.executable, [os.path.join(place, "make_day.py"), room, "3000", "A"], check=True)
+        called("bash", [os.path.join(place, "day.sh"), room, room, "1"], check=True, env=env, capture_output=True)
+        with open(os.path.join(room, "A.day"), encoding="ascii") as file:
+            lines = sorted((line.rstrip("\n").split(",") for line in file), key=lambda it: int(it[2]))
+        rows, wanted, counts = ["Time|Symbol|" + "|".join(f"Best_{side}_{it}" for side in ("Bid", "Offer") for it in ("Exchange", "Price", "Size"))], [], {}
+        for line in lines:
+            sides = [line[5:8], line[8:11]]
+            what, side = dice.choice(["equal"] * 9 + ["other price", "other size", "other venue", "refused"]), dice.choice(sides)
+            if side[0] == "":
+                what = "equal"
+            if what == "other price":
+                side[1] = f"{float(side[1]) + 0.01:.4f}"
+            elif what == "other size":
+                side[2] = str(int(side[2]) + 100)
+            elif what == "other venue":
+                side[0] = "A" if side[0] != "A" else "B"
+            elif what == "refused":
+                side[1] += "1"
+            counts[what] = counts.get(what, 0) + 1
+            rows.append("|".join([line[0], line[3], *(it for part, price, size in sides for it in (part, price, size and str(int(size) // 100)))]))
+            if what != "equal":
+                wanted.append(f"day.nbbo:{len(rows)}: " + ("refused" if what == "refused" else f"version {line[2]}: {line[3]}: {what}"))
+        with open(os.path.join(room, "day.nbbo"), "w", encoding="ascii") as file:
+            file.write("\n".join(rows) + "\n")
+        words = ["compare", "A.changes", "day.nbbo", "--map", os.path.join(EXAMPLES, "import/nbbo.toml"), "--times", "A.times", "--setup", "A.toml"]
+        ran = called(program, words, capture_output=True, cwd=room)
+        came = [re.sub(r"(refused).*", r"\1", it) for it in ran.stdout.decode().splitlines() if it.startswith("day.nbbo:")]
+        must(len(wanted) > 100 and came == wanted[:100], f"{len(wanted)} alterations, {next((it for it in zip(came, wanted) if it[0] != it[1]), len(came))}")
+        found = {what: int(count) for count, what in re.findall(r"^(\d+) ([a-z ]+)$", ran.stdout.decode(), re.M) if int(count)}
+        must((ran.returncode, found) == (4, {**counts, "rows": len(lines)}), f"{ran.returncode}, {found}, and not {counts}")
+
+
+if __name__ == "__main__":
+    TRIALS = [("a made day", real_day), ("stored national bests", compared), ("altered national bests", compared_day)]
+    sys.exit(run("review", [Trial(name, trial, (os.path.realpath(sys.argv[1]),)) for name, trial in TRIALS]))
