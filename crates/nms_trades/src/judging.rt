@@ -205,9 +205,7 @@ fn judge_turns(
         → OnOk result (AreAnswered (sizes_of roster.now) changes.now executions.now answers.new.items) }
 {
     for turn in turns {
-        judge_turn(
-            alloc, roster, changes, board, executions, turn.place, answers,
-        )?;
+        judge_turn(alloc, roster, changes, board, executions, turn, answers)?;
     }
     Ok(())
 }
