@@ -178,7 +178,7 @@ def objects_of(answers):
     for lines in answers:
         head = lines[0].split(",")
         if head[0] == "REFUSED":
-            yield {"what": "refused", "line": int(head[1]), "column": int(head[2]), "code": head[3]}
+            yield {"what": "refused", "record": int(head[1]), "column": int(head[2]), "code": head[3]}
         elif head[0] == "CLEAN":
             yield {"what": "clean", "id": head[1], "version": int(head[2])}
         else:

@@ -2,7 +2,7 @@
 use Rattle.std.proofs.Common.{◌≡◌, ◌≢◌, ◌<◌, ◌+◌, ◌++◌, ◌∷◌, ℕ, [], List, Contains, Option, Some, slice_get, length, take, get_or}
 use Rattle.std.proofs.Common.{arith, inl, inr, subst, sym, ap, ◌∙◌, refl}
 use Rattle.std.proofs.lemmas.Bool.{cases_eq, cases_lt}
-use Rattle.std.proofs.lemmas.List.{take_more}
+use Rattle.std.proofs.lemmas.List.{get_or_default, take_more}
 use Rattle.std.proofs.lemmas.List.Elements.{Contains-append_left, Contains-push, Contains-push_cases}
 use Rattle.std.proofs.lemmas.List.Sorted.{Contains-permutation}
 use Rattle.std.proofs.lemmas.Option.{slice_get_within}
@@ -52,6 +52,17 @@ answered_more sizes tape executions old new turns k turn within is own others be
           subst (λ (t : Turn). IsAnswered sizes tape execution (slice_get new t.place)) last
           (own execution (ap (λ (t : Turn). slice_get executions t.place) last ∙ at))
     ]
+
+-- the same of the turn that is read
+pub answered_next : (sizes : Sizes) (tape : Tape) (executions : List Execution) (old new : List (Option Finding)) (turns : List Turn)
+    (k : ℕ) (d : Turn) → k < length turns
+    → ((execution : Execution) → slice_get executions (get_or turns k d).place ≡ Some execution
+    → IsAnswered sizes tape execution (slice_get new (get_or turns k d).place))
+    → ((other : ℕ) → other ≢ (get_or turns k d).place → slice_get new other ≡ slice_get old other)
+    → AreAnsweredIn sizes tape executions old (take k turns) → AreAnsweredIn sizes tape executions new (take (k + 1) turns)
+answered_next sizes tape executions old new turns k d within own others before =
+    answered_more sizes tape executions old new turns k (get_or turns k d) within (get_or_default turns k d (get_or turns k d) within) own
+    others before
 
 -- where each execution had its turn, each has its finding
 pub answered_all : (sizes : Sizes) (tape : Tape) (executions : List Execution) (answers : List (Option Finding)) (turns : List Turn)

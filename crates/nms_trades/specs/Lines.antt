@@ -10,9 +10,9 @@ use Rattle.nms_trades.specs.Faults.{code_of, column_of}
 use Rattle.nms_trades.specs.declared.execution.Execution.{Execution}
 use Rattle.nms_trades.specs.declared.execution_file.Refusal.{Refusal}
 
--- a record that is refused: its line, the column and the code
+-- a record that is refused: its number, the column and the code
 abbrev pub refusal_record : Refusal → Record
-refusal_record refusal = codes "REFUSED" ∷ decimal refusal.line ∷ decimal (column_of refusal.fault) ∷ code_of refusal.fault ∷ []
+refusal_record refusal = codes "REFUSED" ∷ decimal refusal.number ∷ decimal (column_of refusal.fault) ∷ code_of refusal.fault ∷ []
 
 -- an execution that traded through nothing
 abbrev pub clean_record : Execution → Record

@@ -19,8 +19,8 @@ pub enum Deal {
 /// An execution, as a record gives it.
 #[derive(Drop)]
 pub struct Execution {
-    /// The line on which its record begins, from 1.
-    pub line: u64,
+    /// The number of its record, from 1.
+    pub number: u64,
     /// The name that the record gives it.
     pub name: ArrayVec<u8, MOST_NAME>,
     /// The symbol that was traded.

@@ -13,8 +13,8 @@ use std::io::Read;
 /// A record that is refused.
 #[derive(Clone, Copy, Debug, PartialEq, Eq)]
 pub(crate) struct Refusal {
-    /// The line on which it begins, from 1.
-    pub(crate) line: u64,
+    /// The number of the record, from 1. A blank line is no record.
+    pub(crate) number: u64,
     /// Why it is refused.
     pub(crate) fault: TradeFault,
 }
@@ -26,7 +26,7 @@ pub(crate) struct Records {
     pub(crate) refused: Vec<Refusal>,
 }
 
-/// Reads all executions of a file. One that is refused does not stop the others. There are so many changes.
+/// Reads all executions of a file. One that is refused does not stop the others. `changes` is the number of changes of the file.
 pub(crate) fn read_executions<R: Read + Drop>(
     alloc: Global,
     roster: &Roster,
@@ -58,9 +58,9 @@ fn take_records<R: Read>(
     requires { All (IsOn roster.now changes) records.old.executions.items }
     ensures { All (IsOn roster.now changes) records.new.executions.items }
 {
-    for _ in 0..u64::MAX {
+    for number in 1..u64::MAX {
         match read_next(reader, row) {
-            Ok(true) => take_record(row, roster, changes, records)?,
+            Ok(true) => take_record(row, roster, changes, number, records)?,
             Ok(false) => return Ok(()),
             Err(fault) => return Err(fault),
         }
@@ -69,32 +69,24 @@ fn take_records<R: Read>(
     Err(RecordFault::Failed)
 }
 
-/// Takes one record.
+/// Takes the record of a number.
 fn take_record(
     row: &ByteRecord,
     roster: &Roster,
     changes: u64,
+    number: u64,
     records: &mut Records,
 ) -> Result<(), RecordFault>
     requires { All (IsOn roster.now changes) records.old.executions.items }
     ensures { All (IsOn roster.now changes) records.new.executions.items }
 {
-    let line = line_of(row);
-    let is_pushed = match read_execution(row, roster, changes, line) {
+    let is_pushed = match read_execution(row, roster, changes, number) {
         Ok(execution) => records.executions.push(execution).is_ok(),
-        Err(fault) => records.refused.push(Refusal { line, fault }).is_ok(),
+        Err(fault) => records.refused.push(Refusal { number, fault }).is_ok(),
     };
     if is_pushed {
         Ok(())
     } else {
         Err(RecordFault::NoMemory)
-    }
-}
-
-/// The line on which a record begins, from 1.
-fn line_of(row: &ByteRecord) -> u64 {
-    match row.position() {
-        Some(position) => position.line(),
-        None => 0,
     }
 }

@@ -174,7 +174,7 @@ pub fn judge_all(
     }
 }
 
-/// So many executions with no finding yet.
+/// A list of `count` executions with no finding yet.
 fn no_answers(alloc: Global, count: usize) -> Result<Vec<Option<Finding>>, AllocError>
     ensures { IfOk result (λ answers. length answers.items ≡ count) }
 {
@@ -205,9 +205,7 @@ fn judge_turns(
         → OnOk result (AreAnswered (sizes_of roster.now) changes.now executions.now answers.new.items) }
 {
     for turn in turns {
-        judge_turn(
-            alloc, roster, changes, board, executions, turn.place, answers,
-        )?;
+        judge_turn(alloc, roster, changes, board, executions, turn, answers)?;
     }
     Ok(())
 }

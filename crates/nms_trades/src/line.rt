@@ -19,7 +19,7 @@ pub(crate) fn append_refusal(out: &mut Vec<u8>, refusal: &Refusal) -> Result<(),
     ensures { OnOk result (out.new.items ≡ out.old.items ++ text_of (refusal_record refusal.now ∷ [])) }
 {
     out.extend_from_slice(b"REFUSED")?;
-    push_number(out, refusal.line)?;
+    push_number(out, refusal.number)?;
     push_number(out, refusal.fault.column())?;
     push_text(out, refusal.fault.code())?;
     end_record(out)

@@ -29,7 +29,7 @@ pub(crate) fn write_answers<W: Write>(
             alloc,
             records,
             refused,
-            execution.line,
+            execution.number,
             form,
             &mut text,
             answers,
@@ -42,19 +42,19 @@ pub(crate) fn write_answers<W: Write>(
     Ok(())
 }
 
-/// Writes the refused records from a place on that stand before a line. Returns the place of the next one.
+/// Writes the refused records from a place on that stand before a record. Returns the place of the next one.
 fn write_refused<W: Write>(
     alloc: Global,
     records: &Records,
     first: usize,
-    line: u64,
+    number: u64,
     form: Form,
     text: &mut Vec<u8>,
     answers: &mut W,
 ) -> Result<usize, TradesFault> {
     for place in first..records.refused.len() {
         let refusal = &records.refused[place];
-        if refusal.line >= line {
+        if refusal.number >= number {
             return Ok(place);
         }
         write_one(alloc, refusal, form, text, answers)?;

@@ -23,7 +23,7 @@ pub(crate) fn write_refusal<W: Write>(
         answers,
         &[
             ("what", Item::Text("refused")),
-            ("line", Item::Number(refusal.line)),
+            ("record", Item::Number(refusal.number)),
             ("column", Item::Number(refusal.fault.column())),
             ("code", Item::Text(refusal.fault.code())),
         ],

@@ -13,12 +13,12 @@ use nms_lines::{ByteRecord, field_at, some_shares_of};
 use nms_quote::{Part, Roster};
 use nms_units::parse_digits;
 
-/// What a record says, or the first fault of it. There are so many changes.
+/// What a record says, or the first fault of it. `changes` is the number of changes of the file.
 pub(crate) fn read_execution(
     row: &ByteRecord,
     roster: &Roster,
     changes: u64,
-    line: u64,
+    number: u64,
 ) -> Result<Execution, TradeFault>
     ensures on { IfOk result (IsOn roster.now changes) }
     ensures read { IfOk result (IsReadFrom roster.now changes (fields_of row.now)) }
@@ -42,7 +42,7 @@ pub(crate) fn read_execution(
     let part = part_in(field_at(row, 7), roster)?;
     let claims = claims_in(field_at(row, 8), roster).ok_or(TradeFault::BadFlags)?;
     Ok(Execution {
-        line,
+        number,
         name: name_of(field_at(row, 1)),
         sym,
         millionths,

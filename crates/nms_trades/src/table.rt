@@ -151,7 +151,7 @@ fn rate_of(all: &Count) -> Item<'static> {
 }
 
 /// So many 1/1,000,000 dollar as money.
-fn money_of(millionths: i128) -> Item<'static> {
+fn money_of<'a>(millionths: i128) -> Item<'a> {
     match millionths.checked_mul(1000) {
         Some(nanodollars) => Item::of_money(Money::new(nanodollars)),
         None => Item::Absent,
@@ -167,18 +167,16 @@ fn write_head<W: Write>(form: Form, name: &str, answers: &mut W) -> Result<(), S
     write_row(
         answers,
         form,
-        &columns_of(
-            Item::Strong(name),
-            [
-                Item::Strong("executions"),
-                Item::Strong("through"),
-                Item::Strong("no cause"),
-                Item::Strong("rows"),
-                Item::Strong("shares"),
-                Item::Strong("dollars"),
-                Item::Strong("worst"),
-            ],
-        ),
+        &[
+            column(Item::Strong(name), 18, false),
+            column(Item::Strong("executions"), 10, true),
+            column(Item::Strong("through"), 8, true),
+            column(Item::Strong("no cause"), 8, true),
+            column(Item::Strong("rows"), 8, true),
+            column(Item::Strong("shares"), 12, true),
+            column(Item::Strong("dollars"), 20, true),
+            column(Item::Strong("worst"), 16, true),
+        ],
     )
 }
 
@@ -212,31 +210,20 @@ fn write_count<'a, W: Write>(
             ],
         );
     }
-    let items = [
-        Item::Number(count.executions),
-        Item::Number(count.through),
-        Item::Number(count.open),
-        Item::Number(count.rows),
-        Item::Number(count.shares),
-        dollars,
-        worst,
-    ];
-    write_row(answers, form, &columns_of(name, items))
-}
-
-/// The columns of a row.
-fn columns_of<'a>(name: Item<'a>, items: [Item<'a>; 7]) -> [Column<'a>; 8] {
-    let [executions, through, open, rows, shares, dollars, worst] = items;
-    [
-        column(name, 18, false),
-        column(executions, 10, true),
-        column(through, 8, true),
-        column(open, 8, true),
-        column(rows, 8, true),
-        column(shares, 12, true),
-        column(dollars, 20, true),
-        column(worst, 16, true),
-    ]
+    write_row(
+        answers,
+        form,
+        &[
+            column(name, 18, false),
+            column(Item::Number(count.executions), 10, true),
+            column(Item::Number(count.through), 8, true),
+            column(Item::Number(count.open), 8, true),
+            column(Item::Number(count.rows), 8, true),
+            column(Item::Number(count.shares), 12, true),
+            column(dollars, 20, true),
+            column(worst, 16, true),
+        ],
+    )
 }
 
 fn column(item: Item<'_>, width: usize, right: bool) -> Column<'_> {

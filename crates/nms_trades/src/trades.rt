@@ -1,4 +1,9 @@
 //! A file of executions, judged on a file of changes.
+ghost use Rattle.std.specs.Prelude.{◌≡◌, ◌≤◌, All, length, true};
+ghost use Rattle.nms_quote.specs.Roster.{holds, sizes_of};
+ghost use Rattle.nms_quote.specs.declared.TheConstants.{MOST_CHANGES};
+ghost use Rattle.nms_trades.specs.Reading.{IsOn};
+
 use crate::execution_file::{Records, read_executions};
 use crate::judging::judge_all;
 use crate::lines::write_answers;
@@ -54,7 +59,11 @@ fn judge_records<W: Write>(
     form: Form,
     layout: Layout,
     answers: &mut W,
-) -> Result<Ending, TradesFault> {
+) -> Result<Ending, TradesFault>
+    requires held { All (λ change. holds (sizes_of setup.now.roster) change ≡ true) changes.now }
+    requires few { length changes.now ≤ MOST_CHANGES }
+    requires on { All (IsOn setup.now.roster (length changes.now)) records.now.executions.items }
+{
     let roster = setup.roster();
     let findings = judge_all(alloc, roster, changes, &records.executions)?;
     match layout {

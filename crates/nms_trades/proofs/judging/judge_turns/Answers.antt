@@ -1,19 +1,19 @@
--- `judge_turns`: one turn more, by `answered_more`; at the end, by `answered_all`.
+-- `judge_turns`: one turn more, by `answered_next`; at the end, by `answered_all`.
 use Rattle.std.proofs.Common.{ap, sym, subst, take, length, ◌≡◌, List, arith}
 use Rattle.std.proofs.lemmas.List.{take_all}
 use Rattle.nms_quote.specs.Roster.{sizes_of}
 use Rattle.nms_trades.specs.Turns.{AreAnsweredIn}
 use Rattle.nms_trades.specs.declared.order.Turn.{Turn}
-use Rattle.nms_trades.proofs.TurnFacts.{answered_all, answered_more}
+use Rattle.nms_trades.proofs.TurnFacts.{answered_all, answered_next}
 use Rattle.nms_trades.proofs.judging.judge_turns.Goals as goal
 
 pub loop-turn-preserved : goal.loop-turn-preserved
 loop-turn-preserved c = record {
   at = c.in_ok-judge_turn.ensures.at;
   places = c.in_ok-judge_turn.ensures.places;
-  answered = answered_more (sizes_of c.args.roster.now) c.args.changes.now c.args.executions.now c.loop-turn.answers.items
-      c.judge_turn.new.answers.items c.args.turns.now c.loop-turn.turn-index c.loop-turn-item.result c.loop-turn-test.true
-      c.loop-turn-item.is c.in_ok-judge_turn.ensures.own c.in_ok-judge_turn.ensures.others c.loop-turn.invariant.answered;
+  answered = answered_next (sizes_of c.args.roster.now) c.args.changes.now c.args.executions.now c.loop-turn.answers.items
+      c.judge_turn.new.answers.items c.args.turns.now c.loop-turn.turn-index (record { version = 0; place = 0 }) c.loop-turn-test.true
+      c.in_ok-judge_turn.ensures.own c.in_ok-judge_turn.ensures.others c.loop-turn.invariant.answered;
 }
 
 pub returns-clause-answered : goal.returns-clause-answered
