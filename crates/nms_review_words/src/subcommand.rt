@@ -282,7 +282,6 @@ static TRADES: [Word; 5] = [
     },
     SETUP,
     JSON,
-    JSON,
 ];
 
 static COMPARE: [Word; 5] = [
