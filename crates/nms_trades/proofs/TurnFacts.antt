@@ -1,6 +1,6 @@
 -- One more turn: it stands among the turns, and what was found before it stays.
 use Rattle.std.proofs.Common.{◌≡◌, ◌≢◌, ◌<◌, ◌+◌, ◌++◌, ◌∷◌, ℕ, [], List, Contains, Option, Some, slice_get, length, take, get_or}
-use Rattle.std.proofs.Common.{arith, inl, inr, subst, sym, ap, ◌∙◌, refl}
+use Rattle.std.proofs.Common.{arith, inl, inr, subst, sym, ap, ◌∙◌}
 use Rattle.std.proofs.lemmas.Bool.{cases_eq, cases_lt}
 use Rattle.std.proofs.lemmas.List.{get_or_default, take_more}
 use Rattle.std.proofs.lemmas.List.Elements.{Contains-append_left, Contains-push, Contains-push_cases}

@@ -1,5 +1,5 @@
 -- `judge_turns`: one turn more, by `answered_next`; at the end, by `answered_all`.
-use Rattle.std.proofs.Common.{ap, sym, subst, take, length, ◌≡◌, List, arith}
+use Rattle.std.proofs.Common.{subst, take, ◌≡◌, List, arith}
 use Rattle.std.proofs.lemmas.List.{take_all}
 use Rattle.nms_quote.specs.Roster.{sizes_of}
 use Rattle.nms_trades.specs.Turns.{AreAnsweredIn}

@@ -1,5 +1,5 @@
 -- `rows_ranked`: one place more at each turn.
-use Rattle.std.proofs.Common.{◌≡◌, ◌++◌, ◌∙◌, [], List, Option, ℕ, ap, arith, sym}
+use Rattle.std.proofs.Common.{◌++◌, ◌∙◌, [], List, Option, ℕ, ap, arith, sym}
 use Rattle.std.specs.List.{cons_option}
 use Rattle.nms_board.specs.Ranking.{ranked_at}
 use Rattle.nms_board.specs.View.{rows_on}
