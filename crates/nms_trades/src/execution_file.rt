@@ -5,10 +5,14 @@ ghost use Rattle.nms_trades.specs.Reading.{IsOn};
 use crate::execution::Execution;
 use crate::reading::read_execution;
 use crate::trade_fault::TradeFault;
+use crate::trades_fault::TradesFault;
 use nms_lines::{ByteRecord, Reader, RecordFault, open_records, read_next};
 use nms_quote::Roster;
 use std::alloc::Global;
 use std::io::Read;
+
+/// The most records that a file of executions may have.
+const MOST_EXECUTIONS: u64 = 10_000_000;
 
 /// A record that is refused.
 #[derive(Clone, Copy, Debug, PartialEq, Eq)]
@@ -26,13 +30,13 @@ pub(crate) struct Records {
     pub(crate) refused: Vec<Refusal>,
 }
 
-/// Reads all executions of a file. One that is refused does not stop the others. `changes` is the number of changes of the file.
+/// Reads all executions of a file, at most `MOST_EXECUTIONS`. One that is refused does not stop the others. `changes` is the number of changes of the file.
 pub(crate) fn read_executions<R: Read + Drop>(
     alloc: Global,
     roster: &Roster,
     changes: u64,
     source: R,
-) -> Result<Records, RecordFault>
+) -> Result<Records, TradesFault>
     ensures on { IfOk result (λ records. All (IsOn roster.now changes) records.executions.items) }
 {
     let mut reader = open_records(alloc, source);
@@ -54,19 +58,22 @@ fn take_records<R: Read>(
     roster: &Roster,
     changes: u64,
     records: &mut Records,
-) -> Result<(), RecordFault>
+) -> Result<(), TradesFault>
     requires { All (IsOn roster.now changes) records.old.executions.items }
     ensures { All (IsOn roster.now changes) records.new.executions.items }
 {
-    for number in 1..u64::MAX {
+    for number in 1..MOST_EXECUTIONS + 1 {
         match read_next(reader, row) {
             Ok(true) => take_record(row, roster, changes, number, records)?,
             Ok(false) => return Ok(()),
-            Err(fault) => return Err(fault),
+            Err(fault) => return Err(TradesFault::Executions(fault)),
         }
     }
-    // No source has so many records.
-    Err(RecordFault::Failed)
+    match read_next(reader, row) {
+        Ok(true) => Err(TradesFault::TooLong),
+        Ok(false) => Ok(()),
+        Err(fault) => Err(TradesFault::Executions(fault)),
+    }
 }
 
 /// Takes the record of a number.
@@ -76,7 +83,7 @@ fn take_record(
     changes: u64,
     number: u64,
     records: &mut Records,
-) -> Result<(), RecordFault>
+) -> Result<(), TradesFault>
     requires { All (IsOn roster.now changes) records.old.executions.items }
     ensures { All (IsOn roster.now changes) records.new.executions.items }
 {
@@ -87,6 +94,6 @@ fn take_record(
     if is_pushed {
         Ok(())
     } else {
-        Err(RecordFault::NoMemory)
+        Err(TradesFault::Executions(RecordFault::NoMemory))
     }
 }

@@ -28,7 +28,7 @@ pub enum Layout {
 /// Judges each execution of a file on the version of the changes that it names, and writes what is found in the order of the
 /// file: CSV, or an object a line as JSON; or the counts and sums of all.
 ///
-/// Both files are read whole. A record that is refused is written as such and counted. `Refused` if there is one, else
+/// Both files are read whole; executions are at most 10,000,000. A record that is refused is written as such and counted. `Refused` if there is one, else
 /// `Done`. Nothing is flushed.
 pub fn judge_file<C: Read + Drop, E: Read + Drop, W: Write>(
     alloc: Global,
@@ -46,7 +46,7 @@ pub fn judge_file<C: Read + Drop, E: Read + Drop, W: Write>(
     let roster = setup.roster();
     match read_executions(alloc, roster, changes.len() as u64, executions) {
         Ok(records) => judge_records(alloc, setup, &changes, &records, form, layout, answers),
-        Err(fault) => Err(TradesFault::Executions(fault)),
+        Err(fault) => Err(fault),
     }
 }
 
