@@ -21,7 +21,7 @@ OPEN, LENGTH = 34200 * 10 ** 9, 23400 * 10 ** 9
 
 
 def names(count, draw):
-    """So many symbols of three or four letters, in order."""
+    """A number of symbols of three or four letters, in order."""
     found = set()
     while len(found) < count:
         found.add("".join(draw.choice(LETTERS) for _ in range(draw.choice((3, 4)))))

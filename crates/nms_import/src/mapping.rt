@@ -103,7 +103,7 @@ impl Mapping {
     }
 }
 
-/// Where a column stands. `width` becomes so great that a row with so many columns has it.
+/// Where a column stands. A row of at least `width` columns has it, so `width` grows with it.
 fn place_of(
     alloc: Global,
     source: &Source,

@@ -116,7 +116,7 @@ fn start_desk<'s, E, R: Threads + Wait + Sync, G: Gate>(
     }
 }
 
-/// Puts the handle of a worker behind the others. A worker that has no place there is heard out.
+/// Adds the handle of a worker to the others. If there is no room for it, the worker is joined first.
 fn put_handle<R: Threads>(
     rt: &R,
     handles: &mut Vec<PromisedHandle<Desked, DeskJob>>,

@@ -55,7 +55,7 @@ impl Silence {
     }
 }
 
-/// Whether so many milliseconds have passed.
+/// Whether a number of milliseconds has passed.
 fn has_passed(since: u64, now: u64, most: u64) -> bool
     ensures { result ≡ nat_le (since + most) now }
 {

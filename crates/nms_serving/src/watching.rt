@@ -11,7 +11,7 @@ const REST: u64 = 100;
 /// Milliseconds of a second.
 const SECOND: u64 = 1_000;
 
-/// Reports each feed of which no record came for so many seconds, once a silence, and when it speaks again, until all
+/// Reports each feed of which no record came for a number of seconds, once a silence, and when it speaks again, until all
 /// feeds and clients have ended. A feed that has ended is not silent.
 pub(crate) fn watch_feeds<R: Wait>(means: &Means<'_, R>, seconds: u32) {
     let run = means.run;

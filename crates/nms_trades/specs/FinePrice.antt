@@ -8,7 +8,7 @@ use Rattle.nms_units.specs.Price.{both, digit_at}
 abbrev pub fine_dollars : List ℕ → Option ℕ
 fine_dollars text = option_map (λ n. n * 1000000) (number_in 7 text)
 
--- 1 to 6 digits behind the point
+-- 1 to 6 digits after the point
 abbrev pub fine_decimals : List ℕ → Option ℕ
 fine_decimals text = option_map (λ n. n * 10 ^ (6 - length text)) (number_in 6 text)
 

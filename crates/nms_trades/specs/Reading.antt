@@ -30,7 +30,7 @@ deal_in text =
     else (if is_text (codes "B") text then Ok (Some deal.Bought)
     else (if is_text (codes "S") text then Ok (Some deal.Sold) else Err fault.BadSide))
 
--- a version, if there are so many changes
+-- a version, if the file has that many changes
 abbrev pub version_below : ℕ → Option ℕ → Result ℕ TradeFault
 version_below changes None = Err fault.BadVersion
 version_below changes (Some version) = if nat_lt changes version then Err fault.Beyond else Ok version
@@ -47,7 +47,7 @@ part_found (Some part) = Ok (Some part)
 abbrev pub part_of : Listing → List ℕ → Result (Option ℕ) TradeFault
 part_of roster text = if is_text [] text then Ok None else part_found (place_in roster.parts text)
 
--- an execution that a roster and so many changes know
+-- an execution that a roster and a number of changes know
 pub record IsOn (roster : Listing) (changes : ℕ) (execution : Execution) : Type 0 where
   pub sym : execution.sym < length roster.syms
   pub part : IfSome execution.part (λ part. part < length roster.parts)

@@ -55,7 +55,7 @@ fn dollars_in(text: &[u8]) -> Option<u64>
     Some(number * 1_000_000)
 }
 
-/// What 1 to 6 digits write behind the point, in 1/1,000,000 dollar.
+/// What 1 to 6 digits after the point write, in 1/1,000,000 dollar.
 fn decimals_in(text: &[u8]) -> Option<u64>
     ensures number { result ≡ fine_decimals text.now }
     ensures high { IfSome result (λ n. n ≤ 999999) }
@@ -64,7 +64,7 @@ fn decimals_in(text: &[u8]) -> Option<u64>
     Some(number * 10u64.pow(6 - text.len() as u32))
 }
 
-/// Appends a comma and so many millionths of a dollar, with six decimals.
+/// Appends a comma and a number of millionths of a dollar, with six decimals.
 pub(crate) fn push_millionths(out: &mut Vec<u8>, number: u64) -> Result<(), AllocError>
     ensures { OnOk result (out.new.items ≡ out.old.items ++ 44 ∷ fine_text number) }
 {

@@ -95,7 +95,7 @@ fn write_head<'a, W: Write>(
     )
 }
 
-/// Appends the greatest difference behind a comma, and then the causes. Returns where the causes begin.
+/// Appends a comma, the greatest difference, and then the causes. Returns where the causes begin.
 fn append_texts(
     text: &mut Vec<u8>,
     execution: &Execution,

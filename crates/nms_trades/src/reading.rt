@@ -97,7 +97,7 @@ fn deal_in(text: &[u8]) -> Result<Option<Deal>, TradeFault>
     }
 }
 
-/// The version that a text writes, one of so many changes.
+/// The version that a text writes, at most the number of changes.
 fn version_in(text: &[u8], changes: u64) -> Result<u64, TradeFault>
     ensures { result ≡ version_of changes text.now }
 {

@@ -150,7 +150,7 @@ fn rate_of(all: &Count) -> Item<'static> {
     }
 }
 
-/// So many 1/1,000,000 dollar as money.
+/// An amount in 1/1,000,000 dollar as money.
 fn money_of<'a>(millionths: i128) -> Item<'a> {
     match millionths.checked_mul(1000) {
         Some(nanodollars) => Item::of_money(Money::new(nanodollars)),
@@ -230,7 +230,7 @@ fn column(item: Item<'_>, width: usize, right: bool) -> Column<'_> {
     Column { item, width, right }
 }
 
-/// Writes the counts of participants; what stands behind the last one is off an exchange.
+/// Writes the counts of participants; the one after the last is off an exchange.
 fn write_parts<W: Write>(
     alloc: Global,
     roster: &Roster,

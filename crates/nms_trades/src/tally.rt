@@ -90,7 +90,7 @@ pub(crate) struct Tally {
 }
 
 impl Tally {
-    /// Nothing, of so many participants and symbols.
+    /// Nothing, for a number of participants and symbols.
     pub(crate) fn none(alloc: Global, parts: usize, syms: usize) -> Result<Tally, AllocError>
         ensures executions { IfOk result (λ tally. tally.all.executions ≡ 0) }
         ensures through { IfOk result (λ tally. tally.all.through ≡ 0) }
@@ -177,7 +177,7 @@ impl Tally {
     }
 }
 
-/// So many counts of nothing.
+/// A number of counts of nothing.
 fn counts(alloc: Global, count: usize) -> Result<Vec<Count>, AllocError> {
     let mut counts = Vec::with_capacity(alloc, count)?;
     for _ in 0..count {

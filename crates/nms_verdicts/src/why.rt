@@ -26,7 +26,7 @@ use std::io::{Read, Write};
 /// each cut's bound beside the plan's cost.
 ///
 /// `Doubted` where the plan is doubted, else `Done`. A text that is no plan is a fault. With times, which must be as many as the
-/// changes, that of the plan's version is told too. Nothing is flushed.
+/// changes, it shows that of the plan's version too. Nothing is flushed.
 pub fn explain_why<R: Read + Drop, W: Write>(
     alloc: Global,
     setup: &Setup,
