@@ -1,5 +1,5 @@
 //! Callers of these crates as another repository writes them; `docs/CALLING.md` shows all but `again`, which
-//! `examples/hostile.py` runs with memory refused. Here each is called once.
+//! `tests/hostile.py` runs with memory refused. Here each is called once.
 mod again;
 mod machine;
 mod sweeping;

@@ -1,6 +1,6 @@
 //! Runs the examples that come on standard input and writes what each gives, or whether it gives what it says
 //! that it must; where one does not, the program fails at its end. The gate compares what it writes with `stdout`,
-//! byte for byte. `examples/README.md` has the form of the input, and `examples/bundle.sh` makes it.
+//! byte for byte. `tests/README.md` has the form of the input, and `tests/bundle.sh` makes it.
 #![tactic(auto)]
 
 mod breaches;
