@@ -45,16 +45,16 @@ pub(crate) fn tell_plan<W: Write>(
 }
 
 /// The same, but for the quotations that are traded through, where these are named under self-help.
-fn tell_named<W: Write>(
+fn tell_named<'a, W: Write>(
     alloc: Global,
     answers: &mut W,
     form: Form,
     headings: &[Heading],
-    roster: &Roster,
-    number: PlanNumber<'_>,
+    roster: &'a Roster,
+    number: PlanNumber<'a>,
     plan: &Plan,
     verdict: &Verdict,
-    names: &[u8],
+    names: &'a [u8],
 ) -> Result<(), ShowFault> {
     let finding = finding_of(verdict, roster, plan);
     let digits = match number.times {
