@@ -7,7 +7,7 @@ use nms_plan_places::{BreachPlace, DoubtPlace, PassedOver};
 use nms_quote::{Plan, Roster};
 use nms_show::{Form, Item, ShowFault};
 use nms_times::Times;
-use std::alloc::Global;
+use std::alloc::{AllocError, Global};
 use std::io::Write;
 
 /// Which plan of which file it is, and the line that it begins at.
@@ -38,37 +38,34 @@ pub(crate) fn tell_plan<W: Write>(
     if push_named(&mut names, roster, &plan.order).is_err() {
         return Err(ShowFault::NoMemory);
     }
+    let mut time = Vec::new(alloc);
+    if push_time(&mut time, number.times, plan.version).is_err() {
+        return Err(ShowFault::NoMemory);
+    }
     tell_named(
-        alloc, answers, form, headings, roster, number, plan, verdict, &names,
+        alloc, answers, form, headings, roster, number, plan, verdict, &names, &time,
     )?;
     tell_passed(alloc, answers, form, roster, number, plan, verdict)
 }
 
 /// The same, but for the quotations that are traded through, where these are named under self-help.
-fn tell_named<'a, W: Write>(
+fn tell_named<W: Write>(
     alloc: Global,
     answers: &mut W,
     form: Form,
     headings: &[Heading],
-    roster: &'a Roster,
-    number: PlanNumber<'a>,
+    roster: &Roster,
+    number: PlanNumber<'_>,
     plan: &Plan,
     verdict: &Verdict,
-    names: &'a [u8],
+    names: &[u8],
+    time: &[u8],
 ) -> Result<(), ShowFault> {
     let finding = finding_of(verdict, roster, plan);
-    let digits = match number.times {
-        Some(times) => times.time_of(plan.version).map(|time| time.text()),
-        None => None,
-    };
-    let time = match &digits {
-        Some(digits) => Item::Bytes(digits.as_slice()),
-        None => Item::Absent,
-    };
     let sentences = sentences_of(plan, verdict);
     let all = [
         sentences[0],
-        if digits.is_some() {
+        if !time.is_empty() {
             "The last change of that version has the time |time|."
         } else {
             ""
@@ -84,14 +81,36 @@ fn tell_named<'a, W: Write>(
     } else {
         &all[5..]
     };
-    let facts = facts_of(roster, number, plan, verdict, &finding, names, time);
     // Without times there is no key of one.
-    let known = if number.times.is_some() {
-        &facts[..]
-    } else {
-        &facts[..25]
+    let known = if number.times.is_some() { 26 } else { 25 };
+    tell(
+        alloc,
+        answers,
+        form,
+        headings,
+        lines,
+        &facts_of(roster, number, plan, verdict, &finding, names, time)[..known],
+    )
+}
+
+/// Appends the time of a version, if there are times and the version has one.
+fn push_time(out: &mut Vec<u8>, times: Option<&Times>, version: u64) -> Result<(), AllocError> {
+    let Some(times) = times else {
+        return Ok(());
     };
-    tell(alloc, answers, form, headings, lines, known)
+    match times.time_of(version) {
+        Some(time) => out.extend_from_slice(&time.text()),
+        None => Ok(()),
+    }
+}
+
+/// A time as digits; nothing if there are none.
+fn time_item(digits: &[u8]) -> Item<'_> {
+    if digits.is_empty() {
+        Item::Absent
+    } else {
+        Item::Bytes(digits)
+    }
 }
 
 /// What is told of a plan and its verdict.
@@ -102,7 +121,7 @@ fn facts_of<'a>(
     verdict: &Verdict,
     finding: &Finding<'a>,
     names: &'a [u8],
-    time: Item<'a>,
+    time: &'a [u8],
 ) -> [(&'static str, Item<'a>); 26] {
     let order = &plan.order;
     [
@@ -131,7 +150,7 @@ fn facts_of<'a>(
         ("found", finding.found),
         ("expected", finding.expected),
         ("other", finding.other),
-        ("time", time),
+        ("time", time_item(time)),
     ]
 }
 
