@@ -34,6 +34,7 @@ skips cause.BadTime = false
 skips cause.UnknownParticipant = false
 skips cause.UnknownSymbol = false
 skips cause.UnknownCondition = false
+skips (cause.OneSided side) = false
 skips (cause.BadPrice side) = false
 skips (cause.BadSize side) = false
 skips (cause.HalfSide side) = false

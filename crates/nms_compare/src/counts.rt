@@ -103,6 +103,7 @@ fn skips(cause: Cause) -> bool
         | Cause::UnknownParticipant
         | Cause::UnknownSymbol
         | Cause::UnknownCondition
+        | Cause::OneSided(_)
         | Cause::BadPrice(_)
         | Cause::BadSize(_)
         | Cause::HalfSide(_) => false,

@@ -206,6 +206,8 @@ fn phrase_of(cause: Cause) -> &'static str {
         Cause::UnknownParticipant => "a venue that is not on the roster",
         Cause::UnknownSymbol | Cause::OtherSymbol => "a symbol that is not on the roster",
         Cause::UnknownCondition => "a condition that the mapping does not list",
+        Cause::OneSided(Side::Bid) => "a condition that makes the bid alone manual",
+        Cause::OneSided(Side::Offer) => "a condition that makes the offer alone manual",
         Cause::BadPrice(Side::Bid) => "no price of the bid in the mapping's unit",
         Cause::BadPrice(Side::Offer) => "no price of the offer in the mapping's unit",
         Cause::BadSize(Side::Bid) => "no size of the bid, or one above 999,999,999 shares",
