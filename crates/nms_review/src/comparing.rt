@@ -1,4 +1,8 @@
 //! The subcommand `compare`: a vendor's own national bests beside those of a file of changes.
+ghost use Rattle.std.specs.Prelude.{◌≡◌, ◌≤◌, All, length, true};
+ghost use Rattle.nms_quote.specs.Roster.{holds, sizes_of};
+ghost use Rattle.nms_quote.specs.declared.TheConstants.{MOST_CHANGES};
+
 use crate::call::ended;
 use crate::fault::{About, Fault};
 use crate::files::{open_word, read_file, word_at};
@@ -46,25 +50,21 @@ where
     let times = read_file(rt, text_of(&request.times), About::Times)?;
     let file = open_word(rt, request, CHANGES)?;
     let mut source = Source::new(rt, screen, file);
-    let read = match read_changes(rt.alloc(), setup, &mut source) {
-        Ok(changes) => Ok(changes),
-        Err(fault) => Err(Fault::of(fault.code(), fault.status(), About::Word(CHANGES))),
-    };
+    let read = read_changes(rt.alloc(), setup, &mut source);
     source.clear();
-    let changes = match (read, source.failed()) {
-        (Ok(changes), _) => changes,
-        (Err(fault), Some(error)) if fault.code == "E1" => {
-            return Err(Fault::unread(error, fault.about));
-        }
-        (Err(fault), _) => return Err(fault),
-    };
-    compare_file(
-        rt, screen, setup, request, mapping, &changes, &times, answers,
-    )
+    match read {
+        Ok(changes) => compare_changes(
+            rt, screen, setup, request, mapping, &changes, &times, answers,
+        ),
+        Err(fault) => ended(
+            &mut source,
+            Err(Fault::of(fault.code(), fault.status(), About::Word(CHANGES))),
+        ),
+    }
 }
 
-/// Compares the rows of the vendor's file.
-fn compare_file<T, W: Write>(
+/// Compares the rows of the vendor's file with changes at their times.
+fn compare_changes<T, W: Write>(
     rt: &T,
     screen: Screen,
     setup: &Setup,
@@ -76,9 +76,33 @@ fn compare_file<T, W: Write>(
 ) -> Result<Ending, Fault>
 where
     T: AllocGlobal + Clock + Eprint + Files,
+    requires held { All (λ change. holds (sizes_of setup.now.roster) change ≡ true) changes.now }
+    requires few { length changes.now ≤ MOST_CHANGES }
+{
+    match keys_of(rt.alloc(), mapping.order(), changes, times) {
+        Ok(keys) => compare_file(rt, screen, setup, request, mapping, changes, &keys, answers),
+        Err(fault) => Err(fault_in(fault)),
+    }
+}
+
+/// Compares the rows of the vendor's file with changes that have these keys.
+fn compare_file<T, W: Write>(
+    rt: &T,
+    screen: Screen,
+    setup: &Setup,
+    request: &Request,
+    mapping: NationalMapping,
+    changes: &[Change],
+    keys: &[u64],
+    answers: &mut W,
+) -> Result<Ending, Fault>
+where
+    T: AllocGlobal + Clock + Eprint + Files,
+    requires held { All (λ change. holds (sizes_of setup.now.roster) change ≡ true) changes.now }
+    requires few { length changes.now ≤ MOST_CHANGES }
+    requires each { length keys.now ≡ length changes.now }
 {
     let alloc = rt.alloc();
-    let keys = keys_of(alloc, mapping.order(), changes, times).map_err(fault_in)?;
     let file = open_word(rt, request, NATIONAL)?;
     let form = mapping.file();
     let mut reader = open_rows(
@@ -105,7 +129,7 @@ where
         &vendor,
         setup.roster(),
         changes,
-        &keys,
+        keys,
         &mut reader,
         &mut shown,
     );

@@ -48,7 +48,9 @@ fn check_words(request: &Request) -> Result<(), Fault> {
             return Err(Fault::usage(About::Nothing, "give a TIME, or --version"));
         }
         for place in FIRST..request.words.len() {
-            time_in(word_at(request, place), About::Word(place))?;
+            if TimeOfDay::parse(word_at(request, place).as_bytes()).is_none() {
+                return Err(no_time(About::Word(place)));
+            }
         }
         return check_symbol(request);
     };
@@ -71,12 +73,12 @@ fn check_symbol(request: &Request) -> Result<(), Fault> {
     }
 }
 
-/// The time that a word is.
-pub(crate) fn time_in(word: &str, about: About) -> Result<TimeOfDay, Fault> {
-    TimeOfDay::parse(word.as_bytes()).ok_or(Fault::usage(
+/// The fault of a word that is no time.
+fn no_time(about: About) -> Fault {
+    Fault::usage(
         about,
         "a time is six digits HHMMSS, and up to nine after them",
-    ))
+    )
 }
 
 /// The times of a text.
@@ -107,7 +109,9 @@ pub(crate) fn version_among<T: AllocGlobal + Files>(
     let Some(word) = word_at(request, 0).strip_prefix('@') else {
         return version_of(request);
     };
-    let time = time_in(word, About::Word(0))?;
+    let Some(time) = TimeOfDay::parse(word.as_bytes()) else {
+        return Err(no_time(About::Word(0)));
+    };
     let Some(times) = times else {
         return Err(Fault::usage(About::Word(0), "a time in place of a version needs --times"));
     };
@@ -162,7 +166,9 @@ fn tell_versions<W: Write>(
     answers: &mut W,
 ) -> Result<Ending, Fault> {
     for place in FIRST..request.words.len() {
-        let time = time_in(word_at(request, place), About::Word(place))?;
+        let Some(time) = TimeOfDay::parse(word_at(request, place).as_bytes()) else {
+            return Err(no_time(About::Word(place)));
+        };
         let version = if request.before {
             rising.version_before(time)
         } else {
@@ -203,7 +209,10 @@ fn tell_time<W: Write>(
         None => Item::Absent,
     };
     let row = source_row(text, version);
-    let number = row.map_or(Item::Absent, Item::Number);
+    let number = match row {
+        Some(row) => Item::Number(row),
+        None => Item::Absent,
+    };
     if form.is_json() {
         let members = [
             ("what", Item::Text("time")),
