@@ -10,7 +10,7 @@ ghost use Rattle.nms_lines.specs.Records.{AreAllRecords};
 use crate::plan_record::{PlanHead, cut_in, head_in, is_end, leg_in};
 use crate::plan_text_fault::PlanTextFault;
 use crate::record_fault::RecordFault;
-use crate::record_reading::{open_bare_records, read_next};
+use crate::record_reading::{open_bare_records, open_records, read_next};
 use arrayvec::ArrayVec;
 use csv::{ByteRecord, Reader};
 use nms_quote::{Certificate, Leg, Plan, Roster};
@@ -39,8 +39,11 @@ pub fn read_plan(
         → result ≡ Err PlanTextFault.BadPlanText → plan_in roster.now records ≡ None }
     ensures faults { result ≢ Err PlanTextFault.WriteFault }
 {
+    // A reader has its buffer in it, and each place that holds one takes that of the stack. So this one is moved nowhere:
+    // a program with little memory has no stack beyond its first 128 kB.
+    let mut reader = open_records(alloc, text);
     let mut row = ByteRecord::new(alloc);
-    read_plan_by(alloc, &mut row, text, roster)
+    read_records(&mut reader, &mut row, roster)
 }
 
 /// The same by a row that is there: it takes no memory if the row has room for as many bytes as the text has, and for a
