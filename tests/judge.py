@@ -53,7 +53,7 @@ def case(chance, number):
 
 
 def cases(count, seed=242_600):
-    """The text of so many cases."""
+    """The text of a number of cases."""
     chance = random.Random(seed)
     return "== setup\n" + "".join(f"{it}\n" for number in range(1, count + 1) for it in case(chance, number))
 
