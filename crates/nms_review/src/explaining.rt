@@ -2,6 +2,7 @@
 use crate::call::{ended, feed_of, form_of, letter_of};
 use crate::fault::{About, Fault};
 use crate::files::{open_word, read_file, setup_of, word_at};
+use crate::importing::{mapping_of, tell_map_fault};
 use crate::screen::Screen;
 use crate::source::Source;
 use nms_explain::{explain_changes, explain_feed, explain_orders, explain_plan, explain_script};
@@ -29,6 +30,7 @@ where
 {
     match Kind::named(word_at(request, 0)) {
         Some(Kind::Setup) => serve_setup(rt, screen, request, answers),
+        Some(Kind::Map) => serve_map(rt, request),
         Some(kind) => {
             let setup = setup_of(rt, request)?;
             serve_kind(rt, screen, &setup, kind, request, answers)
@@ -54,6 +56,20 @@ where
     explain_setup(rt.alloc(), file, &text, form_of(screen, request), answers).map_err(
         |fault| Fault::of(fault.code(), fault.status(), About::Word(FILE)),
     )
+}
+
+/// Says of a mapping's file what is wrong in it.
+fn serve_map<T>(rt: &T, request: &Request) -> Result<Ending, Fault>
+where
+    T: AllocGlobal + Eprint + Files,
+{
+    letter_of(request)?;
+    let file = word_at(request, FILE);
+    let text = read_file(rt, file, About::Word(FILE))?;
+    match mapping_of(rt.alloc(), &text) {
+        Ok(_) => Ok(Ending::Done),
+        Err(fault) => tell_map_fault(rt, file, &fault),
+    }
 }
 
 /// Says of a file of records what is refused in it.
@@ -122,7 +138,7 @@ where
         Kind::Script => explain_script(alloc, setup, file, source, form, answers),
         Kind::Orders => explain_orders(alloc, setup, file, source, form, answers),
         Kind::Feed => explain_feed(alloc, setup, feed, file, source, form, answers),
-        Kind::Changes | Kind::Plan | Kind::Setup => {
+        Kind::Changes | Kind::Plan | Kind::Setup | Kind::Map => {
             explain_changes(alloc, setup, file, source, form, answers)
         }
     };

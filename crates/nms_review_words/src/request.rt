@@ -26,6 +26,22 @@ pub struct Request {
     pub symbol: Option<String>,
     /// The version that `--version` gives, as it was written.
     pub version: Option<String>,
+    /// The file of executions that `--trades` names.
+    pub trades: Option<String>,
+    /// The first version that `--from` gives, as it was written.
+    pub from: Option<String>,
+    /// The last version that `--to` gives, as it was written.
+    pub to: Option<String>,
+    /// The page that `--html` names.
+    pub html: Option<String>,
+    /// The nanoseconds that `--window` gives, as they were written.
+    pub window: Option<String>,
+    /// Whether `--own` was given.
+    pub own: bool,
+    /// Whether `--rows` was given.
+    pub rows: bool,
+    /// Whether `--shards` was given.
+    pub shards: bool,
     /// Whether `--before` was given.
     pub before: bool,
     /// Whether `--json` was given.

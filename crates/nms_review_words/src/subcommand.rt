@@ -45,6 +45,8 @@ pub enum Kind {
     Plan,
     /// A setup.
     Setup,
+    /// A mapping of a vendor's files.
+    Map,
 }
 
 /// A word or an option of a subcommand, with its explanation in the help.
@@ -77,8 +79,8 @@ pub(crate) enum WordForm {
 }
 
 /// The words that name a kind of file.
-pub(crate) static KINDS: [&'static str; 6] = [
-    "script", "changes", "orders", "feed", "plan", "setup",
+pub(crate) static KINDS: [&'static str; 7] = [
+    "script", "changes", "orders", "feed", "plan", "setup", "map",
 ];
 
 const CHANGES: Word = Word {
@@ -204,7 +206,7 @@ static WHY: [Word; 5] = [
     JSON,
 ];
 
-static DRAW: [Word; 4] = [
+static DRAW: [Word; 10] = [
     CHANGES,
     Word {
         name: "SYM",
@@ -213,13 +215,35 @@ static DRAW: [Word; 4] = [
     },
     Word {
         name: "plan",
-        help: "The file of a plan, whose legs are drawn where it was made",
+        help: "The file of a plan, whose legs are drawn at its version",
         form: WordForm::Valued("PLAN"),
     },
+    Word {
+        name: "trades",
+        help: "The file of executions, which are drawn at their versions",
+        form: WordForm::Valued("EXECUTIONS"),
+    },
+    Word {
+        name: "from",
+        help: "The first version drawn; or @ and a time, with --times",
+        form: WordForm::Valued("VERSION"),
+    },
+    Word {
+        name: "to",
+        help: "The last version drawn; or @ and a time, with --times",
+        form: WordForm::Valued("VERSION"),
+    },
+    Word {
+        name: "own",
+        help: "Counts the changes of this symbol alone",
+        form: WordForm::Flag,
+    },
+    TIMES,
+    SYMBOLS,
     SETUP,
 ];
 
-static IMPORT: [Word; 4] = [
+static IMPORT: [Word; 6] = [
     Word {
         name: "MAP",
         help: "The file of the mapping: how the vendor's files are laid out",
@@ -234,6 +258,16 @@ static IMPORT: [Word; 4] = [
         name: "out",
         help: "Writes NAME.changes, NAME.times and NAME.symbols",
         form: WordForm::NeededValue("NAME"),
+    },
+    Word {
+        name: "rows",
+        help: "Writes the number of its row after each time",
+        form: WordForm::Flag,
+    },
+    Word {
+        name: "shards",
+        help: "Writes NAME.1.changes, NAME.2.changes and so on, each with at most 1,000 symbols and its setup",
+        form: WordForm::Flag,
     },
     SETUP,
 ];
@@ -268,7 +302,7 @@ static WHEN: [Word; 7] = [
     JSON,
 ];
 
-static TRADES: [Word; 5] = [
+static TRADES: [Word; 10] = [
     CHANGES,
     Word {
         name: "EXECUTIONS",
@@ -280,6 +314,23 @@ static TRADES: [Word; 5] = [
         help: "Prints counts and sums in place of a line for each execution",
         form: WordForm::Flag,
     },
+    Word {
+        name: "html",
+        help: "Also writes a page for the file: the counts, and each execution that traded through with its picture",
+        form: WordForm::Valued("PAGE"),
+    },
+    Word {
+        name: "window",
+        help: "Judges each execution on all versions within so many nanoseconds of its time, with --times",
+        form: WordForm::Valued("NS"),
+    },
+    Word {
+        name: "before",
+        help: "Judges an execution with a time on the version before it, without the changes of that time",
+        form: WordForm::Flag,
+    },
+    TIMES,
+    SYMBOLS,
     SETUP,
     JSON,
 ];
@@ -394,6 +445,7 @@ impl Kind {
             "feed" => Some(Kind::Feed),
             "plan" => Some(Kind::Plan),
             "setup" => Some(Kind::Setup),
+            "map" => Some(Kind::Map),
             _ => None,
         }
     }
