@@ -1,5 +1,5 @@
 -- A time of day as 15 digits, HHMMSSnnnnnnnnn: hours, minutes, seconds, nanoseconds. This product's own rule.
-use Rattle.std.specs.Prelude.{ℕ, ◌*◌, ◌-◌, ◌/◌, ◌%◌, ◌^◌, ◌==◌, ◌&&◌, Bool, List, ◌++◌, length, take, drop, nat_lt, Option, Some, None}
+use Rattle.std.specs.Prelude.{ℕ, ◌+◌, ◌*◌, ◌-◌, ◌/◌, ◌%◌, ◌^◌, ◌==◌, ◌&&◌, Bool, List, ◌++◌, length, take, drop, nat_lt, Option, Some, None}
 use Rattle.std.specs.Prelude.{option_map, if◌then◌else◌}
 use Rattle.nms_units.specs.Digits.{number_in}
 use Rattle.nms_units.specs.Money.{three_digits}
@@ -34,3 +34,22 @@ abbrev pub time_text : ℕ → List ℕ
 time_text t =
     three_digits (t / 1000000000000) ++ three_digits (t / 1000000000) ++ three_digits (t / 1000000) ++ three_digits (t / 1000)
     ++ three_digits t
+
+-- the nanoseconds of a time since midnight
+abbrev pub since_midnight : ℕ → ℕ
+since_midnight t =
+    t / 10000000000000 * 3600000000000 + t / 100000000000 % 100 * 60000000000 + t / 1000000000 % 100 * 1000000000 + t % 1000000000
+
+-- the time so many nanoseconds after midnight
+abbrev pub clock_at : ℕ → ℕ
+clock_at n =
+    n / 3600000000000 * 10000000000000 + n / 60000000000 % 60 * 100000000000 + n / 1000000000 % 60 * 1000000000 + n % 1000000000
+
+-- the time so many nanoseconds before a time; midnight at the earliest
+abbrev pub earlier_by : ℕ → ℕ → ℕ
+earlier_by nanoseconds t = clock_at (since_midnight t - nanoseconds)
+
+-- the time so many nanoseconds after a time; the last nanosecond of the day at the latest
+abbrev pub later_by : ℕ → ℕ → ℕ
+later_by nanoseconds t =
+    clock_at (if nat_lt (since_midnight t + nanoseconds) 86400000000000 then since_midnight t + nanoseconds else 86399999999999)

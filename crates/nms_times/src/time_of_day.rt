@@ -2,7 +2,7 @@
 ghost use Rattle.std.specs.Prelude.{◌≡◌, ◌<◌, ◌≤◌, true, IfSome, length};
 ghost use Rattle.std.specs.Option.{SomeIff};
 ghost use Rattle.nms_units.specs.Price.{digit_at};
-ghost use Rattle.nms_times.specs.Clock.{clock_number, is_clock, nanoseconds, seconds, time_reading, time_text};
+ghost use Rattle.nms_times.specs.Clock.{clock_at, clock_number, earlier_by, is_clock, later_by, nanoseconds, seconds, since_midnight, time_reading, time_text};
 
 use nms_units::parse_digits;
 use std::marker::Model;
@@ -58,6 +58,41 @@ impl TimeOfDay {
         }
     }
 
+    /// The nanoseconds since midnight.
+    pub fn since_midnight(self) -> u64
+        ensures nanoseconds { result ≡ since_midnight self }
+        ensures high { result < 86400000000000 }
+    {
+        let time = self.get();
+        let (hours, minutes) = (time / 10_000_000_000_000, time / 100_000_000_000 % 100);
+        let (seconds, nanos) = (time / 1_000_000_000 % 100, time % 1_000_000_000);
+        hours * 3_600_000_000_000 + minutes * 60_000_000_000 + seconds * 1_000_000_000 + nanos
+    }
+
+    /// The time so many nanoseconds before it, of the same day: midnight at the earliest.
+    pub fn earlier_by(self, nanoseconds: u64) -> Self
+        ensures { result ≡ earlier_by nanoseconds self }
+    {
+        let since = self.since_midnight();
+        if nanoseconds < since {
+            clock_at(since - nanoseconds)
+        } else {
+            clock_at(0)
+        }
+    }
+
+    /// The time so many nanoseconds after it, of the same day: its last nanosecond at the latest.
+    pub fn later_by(self, nanoseconds: u64) -> Self
+        ensures { result ≡ later_by nanoseconds self }
+    {
+        let since = self.since_midnight();
+        if nanoseconds < DAY - since {
+            clock_at(since + nanoseconds)
+        } else {
+            clock_at(DAY - 1)
+        }
+    }
+
     /// Its 15 digits, HHMMSSnnnnnnnnn.
     pub fn text(self) -> [u8; 15]
         ensures { result ≡ time_text self }
@@ -82,6 +117,26 @@ impl TimeOfDay {
             digit(time, 10),
             digit(time, 1),
         ]
+    }
+}
+
+/// The nanoseconds of a day.
+const DAY: u64 = 86_400_000_000_000;
+
+/// The time so many nanoseconds after midnight.
+fn clock_at(nanoseconds: u64) -> TimeOfDay
+    requires { nanoseconds < 86400000000000 }
+    ensures { result ≡ clock_at nanoseconds }
+{
+    let hours = nanoseconds / 3_600_000_000_000;
+    let minutes = nanoseconds / 60_000_000_000 % 60;
+    let seconds = nanoseconds / 1_000_000_000 % 60;
+    let nanos = nanoseconds % 1_000_000_000;
+    TimeOfDay {
+        digits: hours * 10_000_000_000_000
+            + minutes * 100_000_000_000
+            + seconds * 1_000_000_000
+            + nanos,
     }
 }
 

@@ -6,7 +6,7 @@ use crate::cause::Cause;
 use crate::execution::Execution;
 use crate::execution_file::Records;
 use crate::finding::Finding;
-use crate::tally::{Count, Tally};
+use crate::tally::{Count, HALF_HOURS, Tally};
 use crate::trades_fault::TradesFault;
 use nms_lines::{name_of_part, name_of_sym};
 use nms_quote::{Part, Roster, Sym};
@@ -80,7 +80,8 @@ fn write_tally<W: Write>(
     write_head(form, "traded through", answers)?;
     write_parts(alloc, roster, "passed", &tally.passed, form, answers)?;
     write_head(form, "symbol", answers)?;
-    write_symbols(alloc, roster, &tally.syms, form, answers)
+    write_symbols(alloc, roster, &tally.syms, form, answers)?;
+    write_half_hours(alloc, &tally.half_hours, form, answers)
 }
 
 /// Writes the counts of all.
@@ -282,6 +283,38 @@ fn write_symbols<W: Write>(
         }
     }
     Ok(())
+}
+
+/// Writes the counts of half hours of the day, if any execution has a time.
+fn write_half_hours<W: Write>(
+    alloc: Global,
+    counts: &[Count; HALF_HOURS],
+    form: Form,
+    answers: &mut W,
+) -> Result<(), ShowFault> {
+    if counts.iter().all(|count| count.executions == 0) {
+        return Ok(());
+    }
+    write_head(form, "half hour", answers)?;
+    for place in 0..HALF_HOURS {
+        let name = name_of_half_hour(place as u8);
+        write_count(
+            alloc,
+            "half_hour",
+            Item::Bytes(name.as_slice()),
+            &counts[place],
+            form,
+            answers,
+        )?;
+    }
+    Ok(())
+}
+
+/// When a half hour begins, as `09:30`.
+fn name_of_half_hour(place: u8) -> [u8; 5] {
+    let hour = place / 2;
+    let half = if place % 2 == 0 { b'0' } else { b'3' };
+    [b'0' + hour / 10, b'0' + hour % 10, b':', half, b'0']
 }
 
 /// The places of counts, those with the most shares first.

@@ -1,12 +1,19 @@
-//! How many executions traded through, and how much: of all, by cause, by participant and by symbol.
-ghost use Rattle.std.specs.Prelude.{◌≡◌, ◌+◌, IfOk, IfSome, OnSome};
+//! How many executions traded through, and how much: of all, by cause, by participant, by symbol and by half hour.
+ghost use Rattle.std.specs.Prelude.{◌≡◌, ◌<◌, ◌+◌, IfOk, IfSome, OnSome};
 ghost use Rattle.nms_trades.specs.Counts.{passes_once};
 
 use crate::cause::Cause;
 use crate::execution::Execution;
 use crate::finding::Finding;
 use crate::money_through::{Sums, sums_of, with_row};
+use nms_times::TimeOfDay;
 use std::alloc::{AllocError, Global};
+
+/// The half hours of a day.
+pub(crate) const HALF_HOURS: usize = 48;
+
+/// The nanoseconds of one.
+const HALF_HOUR: u64 = 1_800_000_000_000;
 
 /// How many executions there were, and how much they traded through.
 #[derive(Clone, Copy, Debug, PartialEq, Eq)]
@@ -87,6 +94,8 @@ pub(crate) struct Tally {
     pub(crate) passed: Vec<Count>,
     /// By symbol.
     pub(crate) syms: Vec<Count>,
+    /// By half hour of the day, of executions with a time.
+    pub(crate) half_hours: [Count; HALF_HOURS],
 }
 
 impl Tally {
@@ -101,6 +110,7 @@ impl Tally {
             executed: counts(alloc, parts)?,
             passed: counts(alloc, parts)?,
             syms: counts(alloc, syms)?,
+            half_hours: [Count::none(); HALF_HOURS],
         })
     }
 
@@ -132,6 +142,10 @@ impl Tally {
         }
         if let Some(count) = self.syms.get_mut(usize::from(execution.sym.get())) {
             *count = count.with(finding, is_open, sums)?;
+        }
+        if let Some(time) = execution.time {
+            let half_hour = half_hour_of(time);
+            self.half_hours[half_hour] = self.half_hours[half_hour].with(finding, is_open, sums)?;
         }
         if finding.is_clean() {
             return Some(());
@@ -189,4 +203,11 @@ fn counts(alloc: Global, count: usize) -> Result<Vec<Count>, AllocError> {
 /// Whether a cause applies to an execution as a whole: any but self-help, which takes out rows.
 pub(crate) fn has_cause(execution: &Execution, finding: &Finding) -> bool {
     Cause::ALL.iter().any(|cause| cause.applies(&execution.claims, finding.crossed, false))
+}
+
+/// The place of a time's half hour of the day.
+fn half_hour_of(time: TimeOfDay) -> usize
+    ensures { result < HALF_HOURS }
+{
+    (time.since_midnight() / HALF_HOUR) as usize
 }
