@@ -416,24 +416,36 @@ def random_trade(layout, dice, parts, syms):
 
 
 def judge_trades(program, layout, dice, rows):
-    """Runs the program on random trades of a layout. Returns whether it wrote what the converter writes."""
+    """Runs the program on random trades of a layout. Returns whether it wrote what the converter writes, and `trades` reads it."""
     parts, syms = roster()
     made = [random_trade(layout, dice, parts, syms) for _ in range(rows)]
+    records, counts = [], {}
     with tempfile.TemporaryDirectory() as room:
         paths, given = files_of(layout, dice, made, room)
         ran, got = run_import(program, layout, paths, room, ("executions",))
-    records, counts = [], {}
-    for number, row in enumerate(given, 1):
-        it = trade_outcome(layout, number, row, parts, syms)
-        if isinstance(it, str):
-            counts[it] = counts.get(it, 0) + 1
-        else:
-            records += it
+        for number, row in enumerate(given, 1):
+            it = trade_outcome(layout, number, row, parts, syms)
+            if isinstance(it, str):
+                counts[it] = counts.get(it, 0) + 1
+            else:
+                records += it
+        read = read_back(program, room, got["executions"])
     skips = TRADE_CAUSES[-3:]
     said = [f"{counts[why]} {'skipped' if why in skips else 'refused'}: {why}" for why in TRADE_CAUSES if why in counts]
     skipped = sum(counts.get(why, 0) for why in skips)
     said.append(f"{len(given)} rows = {len(records)} executions + {sum(counts.values()) - skipped} refused + {skipped} skipped")
-    return are_same(layout, {"executions": records, "counts": said}, got, ran)
+    clean = [f"CLEAN,{record.split(',')[1]},0" for record in records]
+    return are_same(layout, {"executions": records, "read": clean, "counts": said}, {**got, "read": read}, ran)
+
+
+def read_back(program, room, records):
+    """What `trades` says of the records on the version of no change, which stands in place of their times."""
+    paths = [os.path.join(room, name) for name in ("no.changes", "read.executions")]
+    for path, text in zip(paths, ("", "".join(re.sub(",@[0-9]{15},", ",0,", record) + "\n" for record in records))):
+        with open(path, "w", encoding="utf-8") as file:
+            file.write(text)
+    ran = subprocess.run([program, "trades", *paths, "--setup", SETUP], capture_output=True, check=False)
+    return ran.stdout.decode().splitlines()
 
 
 def run_import(program, layout, paths, room, names):

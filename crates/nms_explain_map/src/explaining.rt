@@ -54,29 +54,32 @@ fn tell_document<W: Write>(
 ) -> Result<Ending, ShowFault> {
     let mut document = document;
     let kind = Kind::of(&document);
-    let mut faults = 0;
     let mut last = None;
-    for _ in 0..MOST_TOLD {
+    for faults in 0..MOST_TOLD {
         let fault = match first_fault(told.alloc, kind, &document) {
-            None => break,
+            None => return tell_sum(told, faults, answers),
             Some(MapFault::NoMemory) => return Err(ShowFault::NoMemory),
             Some(fault) => fault,
         };
-        let Some(place) = Place::of(&fault) else {
-            break;
-        };
         // What cannot be mended is told once.
-        if is_at(&last, &place) {
-            break;
-        }
+        let place = match Place::of(&fault) {
+            Some(place) if !is_at(&last, &place) => place,
+            Some(_) | None => return tell_sum(told, faults, answers),
+        };
         tell_fault(told, &document, &fault, &place, answers)?;
-        faults += 1;
         if mend(told.alloc, kind, &mut document, &fault, &place).is_err() {
             return Err(ShowFault::NoMemory);
         }
         last = Some(fault);
     }
-    tell_summary(told, faults, answers)?;
+    let more = first_fault(told.alloc, kind, &document).is_some();
+    tell_summary(told, MOST_TOLD, more, answers)?;
+    Ok(Ending::SetupRefused)
+}
+
+/// Tells how many faults there are, and ends.
+fn tell_sum<W: Write>(told: Told<'_>, faults: u64, answers: &mut W) -> Result<Ending, ShowFault> {
+    tell_summary(told, faults, false, answers)?;
     if faults == 0 {
         Ok(Ending::Done)
     } else {

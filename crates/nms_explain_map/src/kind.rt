@@ -1,4 +1,5 @@
 //! The three kinds of mappings, and the first fault of one.
+use crate::telling::members_of;
 use nms_compare::read_national_mapping;
 use nms_import::{MapFault, mapping_of};
 use nms_import_trades::{is_of_trades, trade_mapping_of};
@@ -20,19 +21,36 @@ pub(crate) enum Kind {
 pub(crate) const VENUES: [&'static str; 2] = ["bid_participant", "offer_participant"];
 
 impl Kind {
-    /// What a document is for: trades if it says so, and national bests if it has one of their columns.
+    /// What a document is for: trades if it says so, or has their price and another kind than quotes; national bests if it
+    /// has one of their columns.
     pub(crate) fn of(document: &Table) -> Kind {
-        if is_of_trades(document) {
-            return Kind::Trades;
+        let column = members_of(document, "column");
+        if is_of_trades(document) || has_other_kind(document) && has_any(column, &["price"]) {
+            Kind::Trades
+        } else if has_any(column, &VENUES) {
+            Kind::Bests
+        } else {
+            Kind::Quotes
         }
-        let column = match document.get("column") {
-            Some(column) => column.as_table(),
-            None => None,
-        };
-        match column {
-            Some(members) if VENUES.iter().any(|key| members.contains_key(*key)) => Kind::Bests,
-            Some(_) | None => Kind::Quotes,
-        }
+    }
+}
+
+/// Whether a document names a kind that is not that of quotes.
+fn has_other_kind(document: &Table) -> bool {
+    let Some(file) = members_of(document, "file") else {
+        return false;
+    };
+    match file.get("kind") {
+        Some(kind) => kind.as_str() != Some("quotes"),
+        None => false,
+    }
+}
+
+/// Whether a table has one of the keys.
+fn has_any(members: Option<&Table>, keys: &[&'static str]) -> bool {
+    match members {
+        Some(members) => keys.iter().any(|key| members.contains_key(*key)),
+        None => false,
     }
 }
 

@@ -103,7 +103,7 @@ pub(crate) fn tell_no_toml<'a, W: Write>(
         meant: None,
     };
     tell_refusal(told, &refusal, answers)?;
-    tell_summary(told, 1, answers)?;
+    tell_summary(told, 1, false, answers)?;
     Ok(Ending::SetupRefused)
 }
 
@@ -279,10 +279,11 @@ fn tell_object<W: Write>(
     )
 }
 
-/// Writes how many faults a mapping has.
+/// Writes how many faults of a mapping were told, and whether there are more.
 pub(crate) fn tell_summary<W: Write>(
     told: Told<'_>,
     faults: u64,
+    more: bool,
     answers: &mut W,
 ) -> Result<(), ShowFault> {
     if told.form.is_json() {
@@ -293,6 +294,7 @@ pub(crate) fn tell_summary<W: Write>(
                 ("what", Item::Text("summary")),
                 ("file", Item::Bytes(told.file.as_bytes())),
                 ("faults", Item::Number(faults)),
+                ("more", Item::Flag(more)),
             ],
         );
     }
@@ -300,6 +302,7 @@ pub(crate) fn tell_summary<W: Write>(
         Item::Bytes(told.file.as_bytes()),
         Item::Text(": faults: "),
         Item::Number(faults),
+        Item::Text(if more { ", and there are more" } else { "" }),
     ];
     write_line(answers, told.form, &items)
 }

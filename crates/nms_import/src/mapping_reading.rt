@@ -60,12 +60,7 @@ fn line_at(text: &str, place: usize) -> u64 {
 /// The mapping of a document.
 pub fn mapping_of(alloc: Global, document: &Table) -> Result<Mapping, MapFault> {
     no_others(alloc, document, &TABLES, A_TABLE)?;
-    let (file, ends) = file_of(
-        alloc,
-        document,
-        "quotes",
-        "\"quotes\"; of trades the table `column` has price and shares",
-    )?;
+    let (file, ends) = file_of(alloc, document, "quotes")?;
     let sources = sources_of(alloc, document, file.header)?;
     let (time_form, zone, order) = times_of(alloc, document)?;
     let meanings = meanings_of(alloc, document, ends, time_form, zone)?;
@@ -98,7 +93,6 @@ pub fn file_of(
     alloc: Global,
     document: &Table,
     kind: &'static str,
-    expected: &'static str,
 ) -> Result<(FileForm, Vec<Word>), MapFault> {
     let table = MapTable::of(
         alloc,
@@ -107,6 +101,7 @@ pub fn file_of(
         &["kind", "delimiter", "header", "end", "quotes"],
         "one of kind, delimiter, header, end, quotes",
     )?;
+    let expected = "\"quotes\", or for import \"trades\"";
     match table.text("kind", expected)? {
         Some(said) if said != kind => return Err(table.bad("kind", expected)),
         Some(_) | None => {}

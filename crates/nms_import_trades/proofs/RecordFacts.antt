@@ -60,7 +60,8 @@ counted_on columns mapping roster number next rows row is =
     ap length (records_more columns mapping roster number rows row)
     ∙ length-append (records_from columns mapping roster number rows)
     (records_from columns mapping roster (number + length rows) (row ∷ []))
-    ∙ ap (λ n. length (records_from columns mapping roster number rows) + length (records_from columns mapping roster n (row ∷ []))) (sym is)
+    ∙ ap (λ n. length (records_from columns mapping roster number rows)
+    + length (records_from columns mapping roster n (row ∷ []))) (sym is)
 
 -- nothing was written
 pub none_written : (old : Option (List ℕ)) → Appends old old []

@@ -1,6 +1,7 @@
 -- What is written of the rows of a vendor's trades: `D,id,sym,price,shares,side,when,part,flags` for each that makes an
 -- execution. This product's own rule.
-use Rattle.std.specs.Prelude.{ℕ, ◌+◌, List, [], ◌∷◌, ◌++◌, codes, drop, filter, flat_map, Bool, Option, Some, None, Result, Ok, Err}
+use Rattle.std.specs.Prelude.{ℕ, ◌+◌, List, [], ◌∷◌, ◌++◌, codes, drop, filter, flat_map, Bool, Option, Some, None}
+use Rattle.std.specs.Prelude.{Result, Ok, Err}
 use Rattle.std.specs.Fmt.{decimal}
 use Rattle.nms_quote.specs.Roster.{Listing, part_text, symbol_text}
 use Rattle.nms_lines.specs.Layout.{Record}
@@ -46,7 +47,8 @@ flag_letter flag.OutOfSequence = 90
 
 -- the letters of the flags that are written, each after a plus
 abbrev pub plus_flags : List Claim → List ℕ → Bool → List ℕ
-plus_flags claims condition unexplained = flat_map (λ it. 43 ∷ flag_letter it.flag ∷ []) (filter (is_claimed condition unexplained) claims)
+plus_flags claims condition unexplained =
+    flat_map (λ it. 43 ∷ flag_letter it.flag ∷ []) (filter (is_claimed condition unexplained) claims)
 
 -- the same without the first plus
 abbrev pub flags_text : List Claim → List ℕ → Bool → List ℕ
@@ -68,7 +70,8 @@ record_in columns mapping roster number row (Err why) = []
 abbrev pub records_from : TradeColumns → TradeMeanings → Listing → ℕ → List Record → List Record
 records_from columns mapping roster number [] = []
 records_from columns mapping roster number (row ∷ rows) =
-    record_in columns mapping roster number row (trade_of columns mapping roster row) ++ records_from columns mapping roster (number + 1) rows
+    record_in columns mapping roster number row (trade_of columns mapping roster row)
+    ++ records_from columns mapping roster (number + 1) rows
 
 -- their text
 abbrev pub executions_text : TradeColumns → TradeMeanings → Listing → ℕ → List Record → List ℕ

@@ -27,8 +27,6 @@ static TABLES: [&'static str; 10] = [
 const A_TABLE: &str =
     "one of file, column, price, time, participant, symbol, side, flags, exempt, skip";
 
-const A_KIND: &str = "\"trades\", or \"quotes\" and the columns of quotes";
-
 /// What a mapping says of the columns.
 #[derive(Drop)]
 struct TradeSources {
@@ -113,7 +111,7 @@ pub fn read_trade_mapping(alloc: Global, text: &str) -> Result<TradeMapping, Map
 /// The mapping of trades of a document.
 pub fn trade_mapping_of(alloc: Global, document: &Table) -> Result<TradeMapping, MapFault> {
     no_others(alloc, document, &TABLES, A_TABLE)?;
-    let (file, ends) = file_of(alloc, document, "trades", A_KIND)?;
+    let (file, ends) = file_of(alloc, document, "trades")?;
     let sources = sources_of(alloc, document, file.header)?;
     let common = common_of(alloc, document, ends)?;
     let meanings = meanings_of(alloc, document, common)?;

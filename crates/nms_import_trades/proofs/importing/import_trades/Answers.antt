@@ -1,5 +1,6 @@
 -- `import_trades`: all that it promises and the turns of its loop, by `written_on` and `counted_on`.
-use Rattle.std.proofs.Common.{◌≡◌, ◌+◌, ◌++◌, ◌∷◌, [], List, length, Bool, true, false, Ok, ap, arith, sym, subst, ◌∙◌, append_assoc, length-append}
+use Rattle.std.proofs.Common.{◌≡◌, ◌+◌, ◌++◌, ◌∷◌, [], List, length, Bool, true, false, Ok, ap, arith, sym, subst, ◌∙◌}
+use Rattle.std.proofs.Common.{append_assoc, length-append}
 use Rattle.std.proofs.lemmas.List.{append-nil}
 use Rattle.csv.specs.Records.{fields_of}
 use Rattle.nms_lines.specs.Layout.{Record}
@@ -38,7 +39,8 @@ loop-done-preserved g c = (
       let is_found : c.in_ok-next_row.field-0 ≡ true = cc in
       let row = fields_of c.next_row.new.row in
       let found = c.in_ok-next_row.ensures.found config bytes (seen ++ had.0) had.1 (ap (λ (b : Bool). Ok b) is_found) in
-      let numbered : c.loop-done.done + 1 ≡ rows_in c.args.tally.now + 1 + length had.0 = omega (arith, c.loop-done.invariant.0, had.3) in (
+      let numbered : c.loop-done.done + 1 ≡ rows_in c.args.tally.now + 1 + length had.0 =
+      omega (arith, c.loop-done.invariant.0, had.3) in (
         had.0 ++ row ∷ [],
         subst (λ (rows : List Record). RowsFrom {R = g.row.R.Denot} config g.R.Read.remaining c.next_row.new.reader bytes rows)
             (append_assoc seen had.0 (row ∷ [])) found,
