@@ -1,14 +1,15 @@
 -- What is written of the rows so far and of one more.
 use Rattle.std.proofs.Common.{ℕ, ◌≡◌, ◌+◌, List, [], ◌∷◌, ◌++◌, Option, Some, None, length, refl, sym, ap, subst, ◌∙◌}
 use Rattle.std.proofs.Common.{append_assoc, arith, length-append}
-use Rattle.std.specs.Prelude.{Ok}
+use Rattle.std.specs.Prelude.{Result, Ok, Err, OnOk}
 use Rattle.std.proofs.lemmas.List.{append-nil}
 use Rattle.std.proofs.lemmas.List.Concat.{flat_map-append}
 use Rattle.std.specs.Io.KnownBytes.{Appends}
 use Rattle.csv.proofs.WriteFacts.{appends-more}
 use Rattle.nms_quote.specs.Roster.{Listing}
 use Rattle.nms_lines.specs.Layout.{Record}
-use Rattle.nms_lines.specs.Text.{record_text, text_of}
+use Rattle.nms_lines.specs.Text.{later_fields, record_text, text_of}
+use Rattle.nms_lines.proofs.Offered.{join-append}
 use Rattle.nms_import_trades.specs.declared.trade.Trade.{Trade}
 use Rattle.nms_import_trades.specs.declared.trade_columns.TradeColumns.{TradeColumns}
 use Rattle.nms_import_trades.specs.declared.trade_meanings.TradeMeanings.{TradeMeanings}
@@ -74,3 +75,31 @@ pub one_written : (columns : TradeColumns) (mapping : TradeMeanings) (roster : L
     → Appends old new (text_of (execution_record columns mapping roster number row trade ∷ []))
     → Appends old new (executions_text columns mapping roster number (row ∷ []))
 one_written columns mapping roster number row trade is old new written = rw (sym is) written
+
+-- what follows from the fact on the way out, follows on the way out
+pub on_ok : {A E : Type 0} {P Q : Type 0} (r : Result A E) → (P → Q) → OnOk r P → OnOk r Q
+on_ok (Ok x) f h = f h
+on_ok (Err e) f h = tt
+
+-- one more field before those that follow, each after a comma, and a line feed
+pub field_on : (old : List ℕ) {now new : List ℕ} (field : List ℕ) (fields : Record) → now ≡ old ++ 44 ∷ field
+    → new ≡ now ++ (later_fields fields ++ 10 ∷ []) → new ≡ old ++ (later_fields (field ∷ fields) ++ 10 ∷ [])
+field_on old field fields first next =
+    next ∙ ap (λ (text : List ℕ). text ++ (later_fields fields ++ 10 ∷ [])) first
+    ∙ append_assoc old (44 ∷ field) (later_fields fields ++ 10 ∷ [])
+    ∙ ap (λ (text : List ℕ). old ++ text) (sym (append_assoc (44 ∷ field) (later_fields fields) (10 ∷ [])))
+
+-- the text of a record, in parts
+record_parts : (first : List ℕ) (fields : Record) → text_of ((first ∷ fields) ∷ []) ≡ first ++ (later_fields fields ++ 10 ∷ [])
+record_parts first fields =
+    append-nil (record_text (first ∷ fields))
+    ∙ ap (λ (text : List ℕ). text ++ 10 ∷ []) (join-append first [] fields)
+    ∙ append_assoc first (later_fields fields) (10 ∷ [])
+
+-- the first field before them
+pub record_on : (old : List ℕ) {now new : List ℕ} (first : List ℕ) (fields : Record) → now ≡ old ++ first
+    → new ≡ now ++ (later_fields fields ++ 10 ∷ []) → new ≡ old ++ text_of ((first ∷ fields) ∷ [])
+record_on old first fields begun next =
+    next ∙ ap (λ (text : List ℕ). text ++ (later_fields fields ++ 10 ∷ [])) begun
+    ∙ append_assoc old first (later_fields fields ++ 10 ∷ [])
+    ∙ ap (λ (text : List ℕ). old ++ text) (sym (record_parts first fields))

@@ -1,7 +1,9 @@
 //! The record of an execution: `specs/Executions`.
-ghost use Rattle.std.specs.Prelude.{◌≡◌, ◌++◌, ◌∷◌, [], OnOk};
+ghost use Rattle.std.specs.Prelude.{◌≡◌, ◌++◌, ◌∷◌, [], OnOk, codes};
+ghost use Rattle.std.specs.Fmt.{decimal};
 ghost use Rattle.csv.specs.Records.{fields_of};
-ghost use Rattle.nms_lines.specs.Text.{later_fields, text_of};
+ghost use Rattle.nms_quote.specs.Roster.{symbol_text};
+ghost use Rattle.nms_lines.specs.Text.{text_of};
 ghost use Rattle.nms_import.specs.Imported.{clock_text};
 ghost use Rattle.nms_import.specs.Mapping.{column_text};
 ghost use Rattle.nms_import_trades.specs.Executions.{deal_text, execution_record, flags_text, venue_text};
@@ -14,8 +16,9 @@ use crate::trade_meanings::TradeMeanings;
 use csv::ByteRecord;
 use nms_import::{Column, append_clock};
 use nms_lines::{end_record, name_of_part, name_of_sym, push_number, push_text};
-use nms_quote::{Part, Roster};
+use nms_quote::{Part, Roster, Sym};
 use nms_trades::{Deal, push_millionths};
+use nms_units::Shares;
 use std::alloc::AllocError;
 
 /// Appends the record of an execution that the row of a number makes. `flags` is room that a caller keeps from row to row.
@@ -32,22 +35,23 @@ pub(crate) fn append_execution(
     ensures { OnOk result (out.new.items ≡ out.old.items
         ++ text_of (execution_record columns.now meanings.now roster.now number (fields_of row.now) trade.now ∷ [])) }
 {
-    out.push(b'D')?;
+    push_kind(out)?;
     push_id(out, &columns.id, number, row)?;
-    push_text(out, name_of_sym(roster, trade.sym))?;
+    push_sym(out, roster, trade.sym)?;
     push_millionths(out, trade.millionths)?;
-    push_number(out, u64::from(trade.shares.get()))?;
-    push_text(out, deal_text(trade.deal))?;
+    push_shares(out, trade.shares)?;
+    push_deal(out, trade.deal)?;
     push_when(out, trade.time)?;
-    push_text(out, venue_text(roster, trade.part))?;
-    push_flags(
-        out,
-        meanings,
-        columns.condition.text(row),
-        trade.marked,
-        flags,
-    )?;
+    push_venue(out, roster, trade.part)?;
+    push_flags(out, columns, meanings, row, trade.marked, flags)?;
     end_record(out)
+}
+
+/// Appends the kind of a record.
+fn push_kind(out: &mut Vec<u8>) -> Result<(), AllocError>
+    ensures { OnOk result (out.new.items ≡ out.old.items ++ codes "D") }
+{
+    out.extend_from_slice(b"D")
 }
 
 /// Appends a comma and the name of the execution.
@@ -76,17 +80,48 @@ fn push_when(out: &mut Vec<u8>, time: u64) -> Result<(), AllocError>
     append_clock(out, time)
 }
 
+/// Appends a comma and the symbol.
+fn push_sym(out: &mut Vec<u8>, roster: &Roster, sym: Sym) -> Result<(), AllocError>
+    ensures { OnOk result (out.new.items ≡ out.old.items ++ 44 ∷ symbol_text roster.now sym) }
+{
+    push_text(out, name_of_sym(roster, sym))
+}
+
+/// Appends a comma and the shares.
+fn push_shares(out: &mut Vec<u8>, shares: Shares) -> Result<(), AllocError>
+    ensures { OnOk result (out.new.items ≡ out.old.items ++ 44 ∷ decimal shares) }
+{
+    push_number(out, u64::from(shares.get()))
+}
+
+/// Appends a comma and the side.
+fn push_deal(out: &mut Vec<u8>, deal: Option<Deal>) -> Result<(), AllocError>
+    ensures { OnOk result (out.new.items ≡ out.old.items ++ 44 ∷ deal_text deal) }
+{
+    push_text(out, deal_text(deal))
+}
+
+/// Appends a comma and where it was executed.
+fn push_venue(out: &mut Vec<u8>, roster: &Roster, part: Option<Part>) -> Result<(), AllocError>
+    ensures { OnOk result (out.new.items ≡ out.old.items ++ 44 ∷ venue_text roster.now part) }
+{
+    push_text(out, venue_text(roster, part))
+}
+
 /// Appends a comma and the flags.
 fn push_flags(
     out: &mut Vec<u8>,
+    columns: &TradeColumns,
     meanings: &TradeMeanings,
-    condition: &[u8],
+    row: &ByteRecord,
     marked: bool,
     flags: &mut Vec<u8>,
 ) -> Result<(), AllocError>
-    ensures { OnOk result (out.new.items ≡ out.old.items ++ 44 ∷ flags_text meanings.now.claims.items condition.now marked) }
+    ensures { OnOk result (out.new.items ≡ out.old.items
+        ++ 44 ∷ flags_text meanings.now.claims.items (column_text columns.now.condition (fields_of row.now)) marked) }
 {
     out.push(b',')?;
+    let condition = columns.condition.text(row);
     append_flags(out, &meanings.claims, condition, marked, flags)
 }
 
