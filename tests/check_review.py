@@ -29,7 +29,7 @@ from trials import Trial, Wrong, compare, run
 ROOM = os.path.join(EXAMPLES, "review")
 # The pages whose calls run, the mappings of examples/import/, and the programs that judge random files.
 PAGES = ("docs/REVIEW.md", "docs/TRADES.md")
-IMPORTS = ("taq", "databento-mbp1", "lobster")
+IMPORTS = ("taq", "databento-mbp1", "lobster", "taq-trades")
 JUDGES = ("import_judge.py", "times_judge.py", "trades_judge.py", "day_judge.py")
 # Memory within which a file of two hundred million bytes is explained: it must not grow with the file, but with the longest
 # record alone.
@@ -319,7 +319,7 @@ TRIALS = [
 
 
 def imported(program, mapping):
-    """The three files, the counts and the refused rows that an import of the rows beside a mapping makes."""
+    """The files, the counts and the refused rows that an import of the rows beside a mapping makes."""
     given = os.path.join(EXAMPLES, "import")
     with tempfile.TemporaryDirectory(prefix="nms-") as room:
         out = os.path.join(room, "day")
@@ -327,7 +327,9 @@ def imported(program, mapping):
         ran = called(program, words, capture_output=True, cwd=given)
         must(ran.returncode == 0, f"status {ran.returncode}, {ran.stderr!r}")
         came = {"counts": ran.stdout, "errors": ran.stderr}
-        came |= {name: read(f"{out}.{name}") for name in ("changes", "times", "symbols")}
+        came |= {name.partition(".")[2]: read(room, name) for name in os.listdir(room)}
+    stored_there = {it.partition(".")[2] for it in os.listdir(given) if it.startswith(f"{mapping}.")}
+    must(stored_there - {"toml", "txt"} == set(came), f"it writes {sorted(came)}")
     for name, text in came.items():
         compare(f"{mapping}.{name}", text, read(given, f"{mapping}.{name}"))
 

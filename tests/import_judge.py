@@ -1,10 +1,10 @@
 #!/usr/bin/env python3
-"""Compares `nms_review import` with a plain converter written here, on random rows of vendors' quotes.
+"""Compares `nms_review import` with a plain converter written here, on random rows of vendors' quotes and trades.
 
     tests/import_judge.py PROGRAM [ROWS [SEED]]
 
 ROWS is 100,000 if it is not given, shared by the layouts of LAYOUTS: those of examples/import/, and some of them with another
-form of times or another word for rows of which one side alone is manual. The rows stand in two files, with a share of them
+form of times or another word for rows of which one side alone is manual; and the layouts of trades TRADES. The rows stand in two files, with a share of them
 wrong in each way that a row can be. The files that are written, and the counts, must be those of the converter. Prints the
 seed, and at a difference the layout and the line. Ends with status 1 at a difference.
 """
@@ -298,25 +298,180 @@ def judge(program, layout, dice, rows):
     parts, syms = roster()
     made = [random_row(layout, dice, parts, syms) for _ in range(rows)]
     with tempfile.TemporaryDirectory() as room:
-        with open(os.path.join(MAPS, layout.mapping), encoding="utf-8") as file:
-            text = file.read()
-        for old, new in layout.edits:
-            assert text.count(old) == 1, (layout.name, old)
-            text = text.replace(old, new)
-        mapping = os.path.join(room, "map.toml")
-        with open(mapping, "w", encoding="utf-8") as file:
-            file.write(text)
         paths, given = files_of(layout, dice, made, room)
-        out = os.path.join(room, "out")
-        ran = subprocess.run([program, "import", mapping, *paths, "--out", out, "--setup", SETUP], capture_output=True, check=False)
-        got = {"counts": ran.stdout.decode().splitlines()}
-        for name in ("changes", "times", "symbols"):
-            try:
-                with open(f"{out}.{name}", encoding="utf-8") as file:
-                    got[name] = file.read().splitlines()
-            except OSError:
-                got[name] = ["no file"]
-    wanted = wanted_of(layout, given, parts, syms)
+        ran, got = run_import(program, layout, paths, room, ("changes", "times", "symbols"))
+    return are_same(layout, wanted_of(layout, given, parts, syms), got, ran)
+
+
+# ---- trades
+
+TRADE_NAMES = ("Time|Exchange|Symbol|Sale Condition|Trade Volume|Trade Price|Trade Stop Stock Indicator|Trade Correction Indicator|Sequence Number|"
+               "Trade Id|Source of Trade|Trade Reporting Facility|Participant Timestamp|Trade Reporting Facility TRF Timestamp|"
+               "Trade Through Exempt Indicator").split("|")
+TRADE_COLUMNS = {"time": 0, "participant": 1, "symbol": 2, "condition": 3, "shares": 4, "price": 5, "skip": 7, "id": 9, "exempt": 14}
+# The letters of the flags, in the order in which they are written, and those that are reasons for an exemption.
+FLAGS = {"C": "CNR", "O": "O56", "I": "F", "J": "", "K": "4", "P": "1", "Q": "7", "E": "", "T": "TU", "Z": "LUZ"}
+REASONS = "COIJKPQ"
+NOTHING = "@ ABDEGHIKMPQSVWXY89"
+TRADE_CAUSES = ("too few columns", "bad name", "bad time", "unknown participant", "unknown symbol", "bad price", "bad shares", "unknown side",
+                "unknown condition", "unknown mark", "last line of a file", "word to skip", "other symbol")
+TRADES = [
+    Layout("trades", "taq-trades.toml", 40, TRADE_NAMES, TRADE_COLUMNS, none=(), names_of={"T": "Q", "D": ""}, end="END"),
+    Layout("trades by row, in 1e-9 dollar, with sides", "taq-trades.toml", 30, TRADE_NAMES,
+           {**{what: place for what, place in TRADE_COLUMNS.items() if what not in ("id", "exempt")}, "side": 6},
+           edits=[('id = "Trade Id"', 'side = "Trade Stop Stock Indicator"'), ('exempt = "Trade Through Exempt Indicator"\n', ""),
+                  ('unit = "dollars"', 'unit = "1e-9"'), ('unknown = "skip"', 'unknown = "refuse"\n[side]\nbought = ["B"]\nsold = ["A"]\nneither = ["N"]')],
+           unit="1e-9", none=(), names_of={"T": "Q", "D": ""}, end="END", half="refuse"),
+    Layout("trades in 1e-4 dollar, iso", "taq-trades.toml", 30, TRADE_NAMES, TRADE_COLUMNS,
+           edits=[('unit = "dollars"', 'unit = "1e-4"'), ('form = "HHMMSSn"', 'form = "iso"\nzone_offset = "-0400"'), ('"*" = "same" ', '#')],
+           unit="1e-4", none=(), names_of={"T": "Q", "D": ""}, same=False, form="iso", zone=72000, end="END"),
+]
+
+
+def millionths_of(layout, text):
+    """A price in 1/1,000,000 dollar, None if it is none of the unit."""
+    forms = {"dollars": r"[0-9]{1,7}(\.[0-9]{1,6})?", "1e-4": "[0-9]{1,11}", "1e-9": "[0-9]{1,19}"}
+    if not re.fullmatch(forms[layout.unit], text):
+        return None
+    if layout.unit == "dollars":
+        whole, _, after = text.partition(".")
+        number, rest = int(whole) * 1000000 + int(after.ljust(6, "0")), 0
+    elif layout.unit == "1e-4":
+        number, rest = int(text) * 100, 0
+    else:
+        number, rest = divmod(int(text), 1000)
+    return None if rest or not 0 < number <= 9999999999999 else number
+
+
+def flags_of(condition, marked):
+    """The flags that the letters of a condition claim, and E for a mark that no letter explains."""
+    claimed = [flag for flag, letters in FLAGS.items() if set(letters) & set(condition)]
+    if marked and not set(claimed) & set(REASONS):
+        claimed = [flag for flag in FLAGS if flag in claimed or flag == "E"]
+    return "+".join(claimed)
+
+
+def trade_outcome(layout, number, row, parts, syms):
+    """The record of a row that has a number, in a list, or the cause why it makes none."""
+    if row[0] == layout.end:
+        return "last line of a file"
+    if len(row) <= max(layout.columns.values()):
+        return "too few columns"
+    it = {"id": str(number), "side": "", "exempt": "", **{what: row[place] for what, place in layout.columns.items()}}
+    if it["skip"] in ("07", "08", "10", "11", "12"):
+        return "word to skip"
+    if not re.fullmatch("[A-Za-z0-9._-]{1,32}", it["id"]):
+        return "bad name"
+    time = time_of(layout, it["time"])
+    if time is None:
+        return "bad time"
+    part = layout.names_of.get(it["participant"], it["participant"] if layout.same else None)
+    if part is None or part and part not in parts:
+        return "unknown participant"
+    sym = it["symbol"].replace(" ", ".")
+    if sym not in syms:
+        return "unknown symbol" if "side" in layout.columns else "other symbol"
+    price = millionths_of(layout, it["price"])
+    if price is None:
+        return "bad price"
+    if not re.fullmatch("[0-9]{1,9}", it["shares"]) or int(it["shares"]) == 0:
+        return "bad shares"
+    if it["side"] not in ("", "N", "B", "A"):
+        return "unknown side"
+    if set(it["condition"]) - set(NOTHING + "".join(FLAGS.values())):
+        return "unknown condition"
+    if it["exempt"] not in ("", "0", " ", "1", "X"):
+        return "unknown mark"
+    side, flags = {"B": "B", "A": "S"}.get(it["side"], ""), flags_of(it["condition"], it["exempt"] in ("1", "X"))
+    return [f"D,{it['id']},{sym},{price // 1000000}.{price % 1000000:06},{int(it['shares'])},{side},@{time},{part},{flags}"]
+
+
+def random_trade(layout, dice, parts, syms):
+    """A row of a trade, now and then a wrong one."""
+    def maybe(right, wrong, one_in=60):
+        return dice.choice(wrong) if dice.randrange(one_in) == 0 else right
+    millionths, digits = dice.randrange(1, 400000000), dice.randrange(7)
+    text = f"{millionths // 1000000}.{millionths % 1000000:06}"
+    right = {"dollars": text[:len(text) - 6 + digits].rstrip("."), "1e-4": str(millionths // 100), "1e-9": str(millionths * 1000)}[layout.unit]
+    condition = "".join(dice.choice(it) for it in ("@@@CNR", " F4O567", "  TULZ", " IXWVQ1"))
+    it = {
+        "id": maybe(str(dice.randrange(1, 10 ** dice.choice([1, 5, 20]))), ["", "a" * 32, "a" * 33, "1 2", "a,b", "A.b-c_9", "\u00e9"]),
+        "time": maybe(*random_time(layout, dice)),
+        "participant": maybe(dice.choice([*parts, "T", "D"]) if layout.same else dice.choice("TD"), ["", "?", "W", "QQ", "N"]),
+        "symbol": maybe(dice.choice(syms).replace(".", " "), ["", "MSFT", "ZVZZT", "BRK B PR", "ABCDEFGHI", "aapl"], 20),
+        "price": maybe(right, ["", "0", "0.0", "0.000000", "0.000001", "1.1234567", "12345678", "9999999.999999", "-1", ".5", "1.", "1e3", "99999999999",
+                               "100000000000", "9999999999999000", "10000000000000000", "9999999999999999999", "10000000000000000000", "1001", "1000"], 20),
+        "shares": maybe(str(dice.choice([1, 7, 100, 25000, 999999999])), ["", "0", "00", "007", "1000000000", "1.0", "-1"]),
+        "side": maybe(dice.choice(["A", "B", "N", ""]), ["S", "BB", "a"]),
+        "condition": maybe(condition, ["", "?", "@?", "F", "@F 4", "FTZ", "    ", "2", "\u00e9"], 20),
+        "exempt": maybe(dice.choice("01X "), ["", "2", "Y", "11"], 40),
+        "skip": maybe("00", ["01", "07", "08", "10", "11", "12", ""], 30),
+    }
+    fields = [""] * len(layout.names)
+    for what, place in layout.columns.items():
+        fields[place] = it[what]
+    if dice.randrange(300) == 0:
+        fields = fields[:dice.randrange(2, len(fields))]
+    return fields
+
+
+def judge_trades(program, layout, dice, rows):
+    """Runs the program on random trades of a layout. Returns whether it wrote what the converter writes, and `trades` reads it."""
+    parts, syms = roster()
+    made = [random_trade(layout, dice, parts, syms) for _ in range(rows)]
+    records, counts = [], {}
+    with tempfile.TemporaryDirectory() as room:
+        paths, given = files_of(layout, dice, made, room)
+        ran, got = run_import(program, layout, paths, room, ("executions",))
+        for number, row in enumerate(given, 1):
+            it = trade_outcome(layout, number, row, parts, syms)
+            if isinstance(it, str):
+                counts[it] = counts.get(it, 0) + 1
+            else:
+                records += it
+        read = read_back(program, room, got["executions"])
+    skips = TRADE_CAUSES[-3:]
+    said = [f"{counts[why]} {'skipped' if why in skips else 'refused'}: {why}" for why in TRADE_CAUSES if why in counts]
+    skipped = sum(counts.get(why, 0) for why in skips)
+    said.append(f"{len(given)} rows = {len(records)} executions + {sum(counts.values()) - skipped} refused + {skipped} skipped")
+    clean = [f"CLEAN,{record.split(',')[1]},0" for record in records]
+    return are_same(layout, {"executions": records, "read": clean, "counts": said}, {**got, "read": read}, ran)
+
+
+def read_back(program, room, records):
+    """What `trades` says of the records on the version of no change, which stands in place of their times."""
+    paths = [os.path.join(room, name) for name in ("no.changes", "read.executions")]
+    for path, text in zip(paths, ("", "".join(re.sub(",@[0-9]{15},", ",0,", record) + "\n" for record in records))):
+        with open(path, "w", encoding="utf-8") as file:
+            file.write(text)
+    ran = subprocess.run([program, "trades", *paths, "--setup", SETUP], capture_output=True, check=False)
+    return ran.stdout.decode().splitlines()
+
+
+def run_import(program, layout, paths, room, names):
+    """Runs an import by a layout's mapping with its edits. Returns the run, and the lines of what it wrote."""
+    with open(os.path.join(MAPS, layout.mapping), encoding="utf-8") as file:
+        text = file.read()
+    for old, new in layout.edits:
+        assert text.count(old) == 1, (layout.name, old)
+        text = text.replace(old, new)
+    mapping = os.path.join(room, "map.toml")
+    with open(mapping, "w", encoding="utf-8") as file:
+        file.write(text)
+    out = os.path.join(room, "out")
+    ran = subprocess.run([program, "import", mapping, *paths, "--out", out, "--setup", SETUP], capture_output=True, check=False)
+    got = {"counts": ran.stdout.decode().splitlines()}
+    for name in names:
+        try:
+            with open(f"{out}.{name}", encoding="utf-8") as file:
+                got[name] = file.read().splitlines()
+        except OSError:
+            got[name] = ["no file"]
+    return ran, got
+
+
+def are_same(layout, wanted, got, ran):
+    """Whether the program wrote what the converter writes. Prints the first difference, or the counts."""
     for name, lines in wanted.items():
         if lines != got[name]:
             at = next((i for i, pair in enumerate(zip(lines, got[name])) if pair[0] != pair[1]), min(len(lines), len(got[name])))
@@ -332,8 +487,9 @@ def main(program, rows="100000", seed=None):
     seed = int(seed) if seed else random.randrange(1 << 30)
     print(f"seed {seed}, {rows} rows")
     dice = random.Random(seed)
-    whole = sum(layout.share for layout in LAYOUTS)
+    whole = sum(layout.share for layout in LAYOUTS + TRADES)
     good = [judge(program, layout, dice, int(rows) * layout.share // whole) for layout in LAYOUTS]
+    good += [judge_trades(program, layout, dice, int(rows) * layout.share // whole) for layout in TRADES]
     return 0 if all(good) else 1
 
 

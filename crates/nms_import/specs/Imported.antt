@@ -25,11 +25,15 @@ accepted columns mapping roster rows = filter_map (λ row. entry_in (entry_of co
 abbrev pub imported_changes : Columns → Meanings → Listing → List Record → List ℕ
 imported_changes columns mapping roster rows = changes_text roster (map (λ entry. entry.change) (accepted columns mapping roster rows))
 
--- a time as 15 digits, HHMMSSnnnnnnnnn, and a line feed: 16 bytes
-abbrev pub time_line : ℕ → List ℕ
-time_line t =
+-- a time as 15 digits, HHMMSSnnnnnnnnn
+abbrev pub clock_text : ℕ → List ℕ
+clock_text t =
     three_digits (t / 1000000000000) ++ three_digits (t / 1000000000) ++ three_digits (t / 1000000) ++ three_digits (t / 1000)
-    ++ three_digits t ++ 10 ∷ []
+    ++ three_digits t
+
+-- the same and a line feed: 16 bytes
+abbrev pub time_line : ℕ → List ℕ
+time_line t = clock_text t ++ 10 ∷ []
 
 -- times as text, a line each
 abbrev pub times_text : List ℕ → List ℕ

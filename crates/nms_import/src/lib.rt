@@ -31,11 +31,17 @@ pub use import_fault::ImportFault;
 pub use importing::{Work, import_rows};
 pub use laws::worked_examples;
 pub use map_fault::MapFault;
-pub use mapping::{FileForm, Mapping, Order, Source};
-pub use mapping_reading::read_mapping;
+pub use map_table::{MapTable, keep};
+pub use mapping::{FileForm, Mapping, Order, Source, place_of};
+pub use mapping_reading::{
+    document_of, file_of, form_of, mapping_of, names_of, no_others, read_mapping, symbols_of,
+    unit_of,
+};
 pub use meanings::{Half, Meaning, Meanings, PriceUnit, Renamed, Replaced, Said, TimeForm, Word};
 pub use noting::Notes;
-pub use row::read_row;
+pub use row::{read_row, symbol_in};
 pub use rows::{next_row, open_rows};
 pub use tally::{Sums, Tally};
-pub use telling::{Told, write_symbols, write_tally};
+pub use telling::{Told, show_row, write_symbols, write_tally};
+pub use time::{append_clock, clock_of};
+pub use words::{is_listed, name_of};

@@ -7,7 +7,7 @@ use toml::{Table, Value};
 
 /// A table of a mapping.
 #[derive(Clone, Copy)]
-pub(crate) struct MapTable<'a> {
+pub struct MapTable<'a> {
     alloc: Global,
     name: &'static str,
     members: Option<&'a Table>,
@@ -15,7 +15,7 @@ pub(crate) struct MapTable<'a> {
 
 impl<'a> MapTable<'a> {
     /// The table of that name, which may be absent. It has no other keys than these, if any are given.
-    pub(crate) fn of(
+    pub fn of(
         alloc: Global,
         document: &'a Table,
         name: &'static str,
@@ -48,7 +48,7 @@ impl<'a> MapTable<'a> {
     }
 
     /// The members, none if the table is absent.
-    pub(crate) fn members(self) -> Option<&'a Table> {
+    pub fn members(self) -> Option<&'a Table> {
         self.members
     }
 
@@ -58,16 +58,12 @@ impl<'a> MapTable<'a> {
     }
 
     /// The value at a key is not what is expected.
-    pub(crate) fn bad(self, key: &str, expected: &'static str) -> MapFault {
+    pub fn bad(self, key: &str, expected: &'static str) -> MapFault {
         MapFault::bad_value(self.name, String::from_str(self.alloc, key), expected)
     }
 
     /// The text at a key, if there is one.
-    pub(crate) fn text(
-        self,
-        key: &str,
-        expected: &'static str,
-    ) -> Result<Option<&'a str>, MapFault> {
+    pub fn text(self, key: &str, expected: &'static str) -> Result<Option<&'a str>, MapFault> {
         let Some(value) = self.value(key) else {
             return Ok(None);
         };
@@ -78,7 +74,7 @@ impl<'a> MapTable<'a> {
     }
 
     /// `true` or `false` at a key, `false` if there is none.
-    pub(crate) fn flag(self, key: &str) -> Result<bool, MapFault> {
+    pub fn flag(self, key: &str) -> Result<bool, MapFault> {
         let Some(value) = self.value(key) else {
             return Ok(false);
         };
@@ -89,7 +85,7 @@ impl<'a> MapTable<'a> {
     }
 
     /// The number from 1 to `most` at a key, if there is one.
-    pub(crate) fn number(
+    pub fn number(
         self,
         key: &str,
         most: i64,
@@ -108,7 +104,7 @@ impl<'a> MapTable<'a> {
     }
 
     /// The words at a key, none if it is absent.
-    pub(crate) fn words(self, key: &str) -> Result<Vec<Word>, MapFault> {
+    pub fn words(self, key: &str) -> Result<Vec<Word>, MapFault> {
         let mut words = Vec::new(self.alloc);
         let Some(value) = self.value(key) else {
             return Ok(words);
@@ -127,7 +123,7 @@ impl<'a> MapTable<'a> {
     }
 
     /// The column at a key, if there is one: a number, a name, or a table with the text that stands for it.
-    pub(crate) fn column(self, key: &str, header: bool) -> Result<Option<Source>, MapFault> {
+    pub fn column(self, key: &str, header: bool) -> Result<Option<Source>, MapFault> {
         match self.value(key) {
             Some(value) => Ok(Some(self.source(key, value, header)?)),
             None => Ok(None),
@@ -135,7 +131,7 @@ impl<'a> MapTable<'a> {
     }
 
     /// The column at a key that needs one.
-    pub(crate) fn needed(self, key: &str, header: bool) -> Result<Source, MapFault> {
+    pub fn needed(self, key: &str, header: bool) -> Result<Source, MapFault> {
         match self.column(key, header)? {
             Some(source) => Ok(source),
             None => {
@@ -146,7 +142,7 @@ impl<'a> MapTable<'a> {
     }
 
     /// One or two columns at a key; an absent one is the empty text.
-    pub(crate) fn pair(self, key: &str, header: bool) -> Result<(Source, Source), MapFault> {
+    pub fn pair(self, key: &str, header: bool) -> Result<(Source, Source), MapFault> {
         let Some(value) = self.value(key) else {
             return Ok((self.nothing(), self.nothing()));
         };
@@ -164,7 +160,7 @@ impl<'a> MapTable<'a> {
     }
 
     /// The empty text in every row.
-    pub(crate) fn nothing(self) -> Source {
+    pub fn nothing(self) -> Source {
         Source::Fixed(Vec::new(self.alloc))
     }
 
@@ -237,7 +233,7 @@ fn members_of<'a>(
 }
 
 /// Appends one to a list.
-pub(crate) fn keep<T: Drop>(all: &mut Vec<T>, one: T) -> Result<(), MapFault> {
+pub fn keep<T: Drop>(all: &mut Vec<T>, one: T) -> Result<(), MapFault> {
     match all.push(one) {
         Ok(()) => Ok(()),
         Err(_) => Err(MapFault::NoMemory),

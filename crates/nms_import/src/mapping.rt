@@ -103,8 +103,9 @@ impl Mapping {
     }
 }
 
-/// Where a column stands. A row of at least `width` columns has it, so `width` grows with it.
-fn place_of(
+/// Where the column of a key stands in a file whose first row is `names`. A row of at least `width` columns has it, so
+/// `width` grows with it. `NoColumn` if the row lacks its name.
+pub fn place_of(
     alloc: Global,
     source: &Source,
     key: &'static str,

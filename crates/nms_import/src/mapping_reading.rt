@@ -27,17 +27,22 @@ const A_TABLE: &str = "one of file, column, price, size, time, participant, symb
 
 /// Reads a mapping. The first fault that is found is answered, table by table.
 pub fn read_mapping(alloc: Global, text: &str) -> Result<Mapping, MapFault> {
-    let document = match toml::table_from_str(alloc, text) {
-        Ok(document) => document,
-        Err(error) if error.is_memory() => return Err(MapFault::NoMemory),
+    let document = document_of(alloc, text)?;
+    mapping_of(alloc, &document)
+}
+
+/// The document of a text.
+pub fn document_of(alloc: Global, text: &str) -> Result<Table, MapFault> {
+    match toml::table_from_str(alloc, text) {
+        Ok(document) => Ok(document),
+        Err(error) if error.is_memory() => Err(MapFault::NoMemory),
         Err(error) => {
             let start = error.span().map_or(0, |span| span.start);
-            return Err(MapFault::NotToml {
+            Err(MapFault::NotToml {
                 line: line_at(text, start),
-            });
+            })
         }
-    };
-    mapping_of(alloc, &document)
+    }
 }
 
 /// The line of a text on which a byte stands, from 1.
@@ -53,14 +58,9 @@ fn line_at(text: &str, place: usize) -> u64 {
 }
 
 /// The mapping of a document.
-fn mapping_of(alloc: Global, document: &Table) -> Result<Mapping, MapFault> {
-    for key in document.keys() {
-        if !TABLES.iter().any(|known| *known == key.as_str()) {
-            let key = String::from_str(alloc, key.as_str());
-            return Err(MapFault::unknown("", key, A_TABLE));
-        }
-    }
-    let (file, ends) = file_of(alloc, document)?;
+pub fn mapping_of(alloc: Global, document: &Table) -> Result<Mapping, MapFault> {
+    no_others(alloc, document, &TABLES, A_TABLE)?;
+    let (file, ends) = file_of(alloc, document, "quotes")?;
     let sources = sources_of(alloc, document, file.header)?;
     let (time_form, zone, order) = times_of(alloc, document)?;
     let meanings = meanings_of(alloc, document, ends, time_form, zone)?;
@@ -72,15 +72,40 @@ fn mapping_of(alloc: Global, document: &Table) -> Result<Mapping, MapFault> {
     })
 }
 
-/// The table `file`: the layout, and the words that a last line begins with.
-fn file_of(alloc: Global, document: &Table) -> Result<(FileForm, Vec<Word>), MapFault> {
+/// Refuses a table that is none of these.
+pub fn no_others(
+    alloc: Global,
+    document: &Table,
+    tables: &[&'static str],
+    expected: &'static str,
+) -> Result<(), MapFault> {
+    for key in document.keys() {
+        if !tables.iter().any(|known| *known == key.as_str()) {
+            let key = String::from_str(alloc, key.as_str());
+            return Err(MapFault::unknown("", key, expected));
+        }
+    }
+    Ok(())
+}
+
+/// The table `file` of a mapping of this kind: the layout, and the words that a last line begins with.
+pub fn file_of(
+    alloc: Global,
+    document: &Table,
+    kind: &'static str,
+) -> Result<(FileForm, Vec<Word>), MapFault> {
     let table = MapTable::of(
         alloc,
         document,
         "file",
-        &["delimiter", "header", "end", "quotes"],
-        "one of delimiter, header, end, quotes",
+        &["kind", "delimiter", "header", "end", "quotes"],
+        "one of kind, delimiter, header, end, quotes",
     )?;
+    let expected = "\"quotes\", or for import \"trades\"";
+    match table.text("kind", expected)? {
+        Some(said) if said != kind => return Err(table.bad("kind", expected)),
+        Some(_) | None => {}
+    }
     let expected = "a text of one byte other than a quote and the end of a line, as \"|\"";
     let delimiter = match table.text("delimiter", expected)? {
         None => b',',
@@ -149,6 +174,18 @@ fn times_of(alloc: Global, document: &Table) -> Result<(TimeForm, u32, Order), M
         &["form", "zone_offset", "order"],
         "one of form, zone_offset, order",
     )?;
+    let (form, zone) = form_of(table)?;
+    let expected = "\"given\", \"symbol\" or \"free\"";
+    match table.text("order", expected)? {
+        None | Some("given") => Ok((form, zone, Order::Given)),
+        Some("symbol") => Ok((form, zone, Order::Symbol)),
+        Some("free") => Ok((form, zone, Order::Free)),
+        Some(_) => Err(table.bad("order", expected)),
+    }
+}
+
+/// The form of times, and the zone in seconds.
+pub fn form_of(table: MapTable<'_>) -> Result<(TimeForm, u32), MapFault> {
     let expected = "\"HHMMSSn\", \"seconds\", \"unix_ns\" or \"iso\"";
     let form = match table.text("form", expected)? {
         None | Some("HHMMSSn") => TimeForm::Clock,
@@ -158,13 +195,7 @@ fn times_of(alloc: Global, document: &Table) -> Result<(TimeForm, u32, Order), M
         Some(_) => return Err(table.bad("form", expected)),
     };
     let zone = zone_of(table, form)?;
-    let expected = "\"given\", \"symbol\" or \"free\"";
-    match table.text("order", expected)? {
-        None | Some("given") => Ok((form, zone, Order::Given)),
-        Some("symbol") => Ok((form, zone, Order::Symbol)),
-        Some("free") => Ok((form, zone, Order::Free)),
-        Some(_) => Err(table.bad("order", expected)),
-    }
+    Ok((form, zone))
 }
 
 /// The seconds by which a time is moved on, over midnight: 68,400 for `-0500`.
@@ -244,14 +275,19 @@ fn prices_of(alloc: Global, document: &Table) -> Result<(PriceUnit, Vec<Word>), 
         &["unit", "none"],
         "one of unit, none",
     )?;
-    let expected = "\"dollars\", \"1e-4\" or \"1e-9\"";
-    let unit = match table.text("unit", expected)? {
-        None | Some("dollars") => PriceUnit::Dollars,
-        Some("1e-4") => PriceUnit::TenThousandths,
-        Some("1e-9") => PriceUnit::Nanodollars,
-        Some(_) => return Err(table.bad("unit", expected)),
-    };
+    let unit = unit_of(table)?;
     Ok((unit, table.words("none")?))
+}
+
+/// What a price counts.
+pub fn unit_of(table: MapTable<'_>) -> Result<PriceUnit, MapFault> {
+    let expected = "\"dollars\", \"1e-4\" or \"1e-9\"";
+    match table.text("unit", expected)? {
+        None | Some("dollars") => Ok(PriceUnit::Dollars),
+        Some("1e-4") => Ok(PriceUnit::TenThousandths),
+        Some("1e-9") => Ok(PriceUnit::Nanodollars),
+        Some(_) => Err(table.bad("unit", expected)),
+    }
 }
 
 /// The table `size`: the shares of a unit. It has no default: a wrong one is wrong by a hundred, and looks right.
@@ -274,7 +310,7 @@ fn size_of(alloc: Global, document: &Table) -> Result<u32, MapFault> {
 }
 
 /// The table `participant`: the names that are listed, and whether any other word is its own name.
-fn names_of(alloc: Global, document: &Table) -> Result<(Vec<Renamed>, bool), MapFault> {
+pub fn names_of(alloc: Global, document: &Table) -> Result<(Vec<Renamed>, bool), MapFault> {
     let table = MapTable::of(alloc, document, "participant", &[], "")?;
     let expected = "the participant's name on the roster, as a text";
     let mut names = Vec::new(alloc);
@@ -302,7 +338,7 @@ fn names_of(alloc: Global, document: &Table) -> Result<(Vec<Renamed>, bool), Map
 }
 
 /// The table `symbol`: what is replaced, and whether unknown symbols are skipped.
-fn symbols_of(alloc: Global, document: &Table) -> Result<(Vec<Replaced>, bool), MapFault> {
+pub fn symbols_of(alloc: Global, document: &Table) -> Result<(Vec<Replaced>, bool), MapFault> {
     let table = MapTable::of(
         alloc,
         document,

@@ -32,8 +32,8 @@ pub fn read_row(
     Ok(entry_with(columns, meanings, roster, row, sym))
 }
 
-/// The symbol that a text names, after what the mapping replaces.
-fn symbol_in(
+/// The symbol that a text names, after what the mapping replaces. `scratch` is room that a caller keeps from row to row.
+pub fn symbol_in(
     meanings: &Meanings,
     roster: &Roster,
     text: &[u8],

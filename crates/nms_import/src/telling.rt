@@ -50,7 +50,7 @@ impl<'a, E: Write> Told<'a, E> {
         } else {
             "refused: "
         };
-        show(
+        show_row(
             &mut self.errors,
             self.file,
             row,
@@ -63,7 +63,7 @@ impl<'a, E: Write> Told<'a, E> {
     /// Shows the first row whose time falls.
     pub(crate) fn tell_fall(&mut self, columns: &Columns, row: &ByteRecord) {
         let sentence = "the first time that is before an earlier one";
-        show(
+        show_row(
             &mut self.errors,
             self.file,
             row,
@@ -74,8 +74,8 @@ impl<'a, E: Write> Told<'a, E> {
     }
 }
 
-/// Shows a row.
-fn show<'x, E: Write>(
+/// Shows a row: its file, line, column and text, and what is said of it. What the writer does not take is dropped.
+pub fn show_row<'x, E: Write>(
     errors: &mut E,
     file: &'x str,
     row: &'x ByteRecord,

@@ -4,7 +4,7 @@ ghost use Rattle.nms_units.specs.Digits.{by_point, point_in};
 ghost use Rattle.nms_units.specs.Price.{both, digit_at};
 ghost use Rattle.nms_import.specs.Mapping.{time_of};
 ghost use Rattle.nms_import.specs.Times.{after_seconds, clock_at, clock_digits, clock_number, clock_of, fraction, has_marks, hours_at, is_clock, iso_number, minutes_at, nanoseconds, only_if, point_and_fraction, seconds, second_at, seconds_and_fraction, seconds_at, seconds_number, two_at, whole_seconds, without_z};
-ghost use Rattle.nms_import.specs.Imported.{times_text};
+ghost use Rattle.nms_import.specs.Imported.{clock_text, times_text};
 
 use crate::cause::Cause;
 use crate::meanings::{Meanings, TimeForm};
@@ -21,8 +21,8 @@ pub(crate) fn time_in(meanings: &Meanings, text: &[u8]) -> Result<u64, Cause>
     }
 }
 
-/// The same in a form, moved on by the seconds of a zone.
-fn clock_of(form: TimeForm, zone: u32, text: &[u8]) -> Option<u64>
+/// A time of day in a form, as digits `HHMMSSnnnnnnnnn`, moved on by the seconds of a zone.
+pub fn clock_of(form: TimeForm, zone: u32, text: &[u8]) -> Option<u64>
     ensures { result ≡ clock_of form zone text.now }
 {
     match form {
@@ -290,6 +290,15 @@ fn point_and_fraction(text: &[u8]) -> Option<u64>
 pub(crate) fn append_time(out: &mut Vec<u8>, time: u64) -> Result<(), AllocError>
     ensures { OnOk result (out.new.items ≡ out.old.items ++ times_text (time ∷ [])) }
 {
+    append_clock(out, time)?;
+    out.push(b'\n')?;
+    Ok(())
+}
+
+/// Appends a time as 15 digits.
+pub fn append_clock(out: &mut Vec<u8>, time: u64) -> Result<(), AllocError>
+    ensures { OnOk result (out.new.items ≡ out.old.items ++ clock_text time) }
+{
     let (hours, seconds) = (time / 1_000_000_000_000, time / 1_000_000_000);
     let (millis, micros) = (time / 1_000_000, time / 1000);
     out.extend_from_slice(&[
@@ -308,7 +317,6 @@ pub(crate) fn append_time(out: &mut Vec<u8>, time: u64) -> Result<(), AllocError
         digit(time, 100),
         digit(time, 10),
         digit(time, 1),
-        b'\n',
     ])
 }
 

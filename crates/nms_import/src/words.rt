@@ -6,7 +6,7 @@ ghost use Rattle.nms_import.specs.Mapping.{is_joined, is_listed, name_of};
 use crate::meanings::{Meanings, Renamed, Said, Word};
 
 /// Whether a text is one of the words.
-pub(crate) fn is_listed(words: &[Word], text: &[u8]) -> bool
+pub fn is_listed(words: &[Word], text: &[u8]) -> bool
     ensures { result ≡ is_listed words.now text.now }
 {
     words.iter().any(|word| is_word(word, text))
@@ -19,7 +19,7 @@ fn is_word(word: &Word, text: &[u8]) -> bool
 }
 
 /// The name on the roster that a word of the file stands for.
-pub(crate) fn name_of<'a>(meanings: &'a Meanings, word: &'a [u8]) -> Option<&'a [u8]>
+pub fn name_of<'a>(meanings: &'a Meanings, word: &'a [u8]) -> Option<&'a [u8]>
     ensures { option_map (λ name. name.now) result ≡ name_of meanings.now word.now }
 {
     match place_of(&meanings.names, word) {

@@ -2,6 +2,7 @@
 use crate::answers::Answers;
 use crate::fault::{About, Fault};
 use crate::files::{open_word, read_file, word_at};
+use crate::importing_trades::{is_trade_map, serve_import_trades};
 use crate::screen::Screen;
 use crate::source::Source;
 use nms_fees::Setup;
@@ -32,6 +33,9 @@ where
     T: AllocGlobal + Clock + Eprint + Files,
 {
     let text = read_file(rt, word_at(request, 0), About::Word(0))?;
+    if is_trade_map(rt.alloc(), &text) {
+        return serve_import_trades(rt, screen, setup, request, &text, answers);
+    }
     match mapping_of(rt.alloc(), &text) {
         Ok(mapping) => import_files(rt, screen, setup, request, &mapping, answers),
         Err(fault) => tell_map_fault(rt, word_at(request, 0), &fault),
@@ -39,7 +43,7 @@ where
 }
 
 /// The mapping that a text says.
-pub(crate) fn mapping_of(alloc: Global, text: &[u8]) -> Result<Mapping, MapFault> {
+fn mapping_of(alloc: Global, text: &[u8]) -> Result<Mapping, MapFault> {
     match str::from_utf8(text) {
         Ok(text) => read_mapping(alloc, text),
         Err(_) => Err(MapFault::NotToml { line: 1 }),
@@ -164,7 +168,7 @@ where
 }
 
 /// A new file of the name that `--out` gives, with this end.
-fn create<T: AllocGlobal + Files>(
+pub(crate) fn create<T: AllocGlobal + Files>(
     rt: &T,
     request: &Request,
     end: &str,
@@ -182,7 +186,8 @@ fn create<T: AllocGlobal + Files>(
     Answers::new(rt.alloc(), file, false).map_err(|_| no_memory())
 }
 
-fn flush<W: Write>(writer: &mut W) -> Result<(), Fault> {
+/// Writes out what is kept back.
+pub(crate) fn flush<W: Write>(writer: &mut W) -> Result<(), Fault> {
     writer.flush().map_err(|_| unwritten())
 }
 
@@ -265,7 +270,7 @@ where
 }
 
 /// A fault of an import, in the file of a word.
-fn fault_in(fault: ImportFault, place: usize) -> Fault {
+pub(crate) fn fault_in(fault: ImportFault, place: usize) -> Fault {
     Fault::of(fault.code(), fault.status(), About::Word(place))
 }
 

@@ -8,6 +8,7 @@ mod explaining;
 mod fault;
 mod files;
 mod importing;
+mod importing_trades;
 mod progress;
 mod screen;
 mod serving;

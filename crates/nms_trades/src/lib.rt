@@ -31,5 +31,7 @@ pub use execution::{Deal, Execution};
 pub use finding::Finding;
 pub use judging::judge_all;
 pub use laws::a_whole_price_decides;
+pub use millionths::{MOST_MILLIONTHS, millionths_in, push_millionths};
+pub use reading::is_name;
 pub use trades::{Layout, judge_file};
 pub use trades_fault::TradesFault;

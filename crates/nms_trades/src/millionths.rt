@@ -10,10 +10,10 @@ use nms_units::parse_digits;
 use std::alloc::AllocError;
 
 /// The highest price in 1/1,000,000 dollar: 9,999,999.999999 dollars.
-pub(crate) const MOST_MILLIONTHS: u64 = 9_999_999_999_999;
+pub const MOST_MILLIONTHS: u64 = 9_999_999_999_999;
 
 /// The price above zero that a text writes, in 1/1,000,000 dollar: 1 to 7 digits, and at most a point with 1 to 6 digits.
-pub(crate) fn millionths_in(text: &[u8]) -> Option<u64>
+pub fn millionths_in(text: &[u8]) -> Option<u64>
     ensures price { result ≡ above_zero (fine_number text.now) }
     ensures high { IfSome result (λ n. n ≤ MOST_MILLIONTHS) }
 {
@@ -65,7 +65,7 @@ fn decimals_in(text: &[u8]) -> Option<u64>
 }
 
 /// Appends a comma and a number of millionths of a dollar, with six decimals.
-pub(crate) fn push_millionths(out: &mut Vec<u8>, number: u64) -> Result<(), AllocError>
+pub fn push_millionths(out: &mut Vec<u8>, number: u64) -> Result<(), AllocError>
     ensures { OnOk result (out.new.items ≡ out.old.items ++ 44 ∷ fine_text number) }
 {
     push_number(out, number / 1_000_000)?;

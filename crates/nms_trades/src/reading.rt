@@ -58,7 +58,7 @@ pub(crate) fn read_execution(
 }
 
 /// Whether a text is a name: 1 to 32 of letters, digits, `.`, `-` and `_`.
-fn is_name(text: &[u8]) -> bool
+pub fn is_name(text: &[u8]) -> bool
     ensures { result ≡ is_name text.now }
 {
     !text.is_empty() && text.len() <= MOST_NAME && are_name_bytes(text)

@@ -1,0 +1,2 @@
+pub mod TradeRow
+pub mod Executions

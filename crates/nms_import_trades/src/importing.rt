@@ -1,0 +1,147 @@
+//! The rows of a file of trades, imported one after another: `specs/Executions`.
+ghost use Rattle.std.specs.Prelude.{◌≡◌, ℕ, ◌++◌, ◌∷◌, ◌+◌, ◌<◌, [], List, Option, length, OnOk};
+ghost use Rattle.std.specs.Io.KnownBytes.{Appends};
+ghost use Rattle.csv.specs.Records.{fields_of};
+ghost use Rattle.csv.specs.declared.parser.Config.{Config};
+ghost use Rattle.nms_lines.specs.Layout.{Record};
+ghost use Rattle.nms_lines.specs.Text.{text_of};
+ghost use Rattle.nms_import.specs.Rows.{AreAllRows, RowsFrom};
+ghost use Rattle.nms_import_trades.specs.Executions.{execution_record, executions_text, records_from, rows_in};
+
+use crate::execution_writing::append_execution;
+use crate::trade::Trade;
+use crate::trade_columns::TradeColumns;
+use crate::trade_meanings::TradeMeanings;
+use crate::trade_row::read_trade;
+use crate::trade_tally::{MOST_ROWS, TradeTally};
+use crate::trade_telling::TradeTold;
+use csv::{ByteRecord, Reader};
+use nms_import::{ImportFault, next_row};
+use nms_lines::write_text;
+use nms_quote::Roster;
+use std::alloc::Global;
+use std::io::{Read, Write};
+
+/// Room that is kept from row to row.
+#[derive(Drop)]
+pub struct TradeWork {
+    /// The row at hand.
+    pub row: ByteRecord,
+    scratch: Vec<u8>,
+    flags: Vec<u8>,
+    text: Vec<u8>,
+}
+
+impl TradeWork {
+    /// Room for a row. It takes no memory before the first.
+    pub fn new(alloc: Global) -> TradeWork {
+        TradeWork {
+            row: ByteRecord::new(alloc),
+            scratch: Vec::new(alloc),
+            flags: Vec::new(alloc),
+            text: Vec::new(alloc),
+        }
+    }
+}
+
+/// Imports the rows of trades that a reader still has: writes the records of the executions that they make, in order, and
+/// counts every outcome. The counts, and the numbers of the rows, go on from those of earlier files.
+///
+/// After an error a first part of the text was written. The writer is not flushed.
+pub fn import_trades<R: Read, W: Write, E: Write>(
+    columns: &TradeColumns,
+    meanings: &TradeMeanings,
+    roster: &Roster,
+    work: &mut TradeWork,
+    reader: &mut Reader<R>,
+    executions: &mut W,
+    told: &mut TradeTold<'_, E>,
+    tally: &mut TradeTally,
+) -> Result<(), ImportFault>
+    ensures written { (config : Config) (bytes : Option (List ℕ)) (seen : List Record) → RowsFrom config R.remaining reader.old bytes seen
+        → OnOk result ((rows : List Record) × AreAllRows config bytes (seen ++ rows)
+        × Appends (W.contents executions.old) (W.contents executions.new) (executions_text columns.now meanings.now roster.now (rows_in tally.old + 1) rows)
+        × (rows_in tally.new ≡ rows_in tally.old + length rows)
+        × (tally.new.executions ≡ tally.old.executions + length (records_from columns.now meanings.now roster.now (rows_in tally.old + 1) rows))) }
+{
+    let Some(sums) = tally.sums() else {
+        return Err(ImportFault::TooLong);
+    };
+    for done in sums.rows..MOST_ROWS {
+        if !next_row(reader, &mut work.row)? {
+            return Ok(());
+        }
+        import_trade(
+            columns,
+            meanings,
+            roster,
+            done + 1,
+            work,
+            executions,
+            told,
+            tally,
+        )?;
+    }
+    Err(ImportFault::TooLong)
+}
+
+/// Imports the row at hand, which has a number.
+fn import_trade<W: Write, E: Write>(
+    columns: &TradeColumns,
+    meanings: &TradeMeanings,
+    roster: &Roster,
+    number: u64,
+    work: &mut TradeWork,
+    executions: &mut W,
+    told: &mut TradeTold<'_, E>,
+    tally: &mut TradeTally,
+) -> Result<(), ImportFault>
+    requires few { rows_in tally.old < 1000000000000 }
+    ensures executions { OnOk result (Appends (W.contents executions.old) (W.contents executions.new)
+        (executions_text columns.now meanings.now roster.now number (fields_of work.old.row ∷ []))) }
+    ensures rows { OnOk result (rows_in tally.new ≡ rows_in tally.old + 1) }
+    ensures counted { OnOk result (tally.new.executions
+        ≡ tally.old.executions + length (records_from columns.now meanings.now roster.now number (fields_of work.old.row ∷ []))) }
+{
+    match read_trade(columns, meanings, roster, &work.row, &mut work.scratch)? {
+        Ok(trade) => {
+            tally.count_execution();
+            write_trade(columns, meanings, roster, number, &trade, work, executions)
+        }
+        Err(cause) => {
+            tally.count_cause(cause);
+            told.tell(columns, &work.row, cause);
+            Ok(())
+        }
+    }
+}
+
+/// Writes the record of an execution that the row at hand makes.
+fn write_trade<W: Write>(
+    columns: &TradeColumns,
+    meanings: &TradeMeanings,
+    roster: &Roster,
+    number: u64,
+    trade: &Trade,
+    work: &mut TradeWork,
+    executions: &mut W,
+) -> Result<(), ImportFault>
+    ensures { OnOk result (Appends (W.contents executions.old) (W.contents executions.new)
+        (text_of (execution_record columns.now meanings.now roster.now number (fields_of work.old.row) trade.now ∷ []))) }
+{
+    work.text.clear();
+    append_execution(
+        &mut work.text,
+        columns,
+        meanings,
+        roster,
+        number,
+        &work.row,
+        trade,
+        &mut work.flags,
+    )?;
+    match write_text(executions, &work.text) {
+        Ok(()) => Ok(()),
+        Err(_) => Err(ImportFault::WriteFault),
+    }
+}

@@ -1,0 +1,31 @@
+//! Vendors' delimited files of trades as executions, by a mapping: what each row makes, the text that is written, and the
+//! counts of every outcome.
+#![tactic(auto)]
+
+mod claim;
+mod condition;
+mod execution_writing;
+mod importing;
+mod trade;
+mod trade_cause;
+mod trade_columns;
+mod trade_map;
+mod trade_meanings;
+mod trade_price;
+mod trade_row;
+mod trade_tally;
+mod trade_telling;
+
+pub use claim::{Claim, Flag};
+pub use importing::{TradeWork, import_trades};
+pub use trade::Trade;
+pub use trade_cause::TradeCause;
+pub use trade_columns::TradeColumns;
+pub use trade_map::{TradeMapping, is_of_trades, read_trade_mapping, trade_mapping_of};
+pub use trade_meanings::TradeMeanings;
+pub use trade_row::read_trade;
+pub use trade_tally::{TradeSums, TradeTally};
+pub use trade_telling::{TradeTold, write_trade_tally};
+
+/// The highest price in 1/1,000,000 dollar, as `trades` reads one: 9,999,999.999999 dollars.
+pub const MOST_MILLIONTHS: u64 = 9_999_999_999_999;

@@ -1,0 +1,23 @@
+//! What an accepted row says.
+use nms_quote::{Part, Sym};
+use nms_trades::Deal;
+use nms_units::Shares;
+
+/// What an accepted row says, but for its name and its condition.
+#[derive(Clone, Copy, Debug, PartialEq, Eq)]
+pub struct Trade {
+    /// The time of day as digits, `HHMMSSnnnnnnnnn`.
+    pub time: u64,
+    /// Where it was executed; `None` off an exchange.
+    pub part: Option<Part>,
+    /// What was traded.
+    pub sym: Sym,
+    /// The price in 1/1,000,000 dollar, at least 1.
+    pub millionths: u64,
+    /// The shares, at least 1.
+    pub shares: Shares,
+    /// Whether it bought or sold, if the row says so.
+    pub deal: Option<Deal>,
+    /// Whether it is marked exempt.
+    pub marked: bool,
+}

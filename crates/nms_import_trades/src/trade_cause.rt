@@ -1,0 +1,52 @@
+//! Why a row makes no execution.
+
+/// Why a row makes no execution: the first that holds, as `specs/TradeRow` orders them. The last three skip the row, the
+/// others refuse it.
+#[derive(Clone, Copy, Debug, PartialEq, Eq)]
+pub enum TradeCause {
+    /// Fewer columns than the mapping names.
+    TooFewColumns,
+    /// The name is not 1 to 32 of letters, digits, `.`, `-` and `_`.
+    BadName,
+    /// The time is not of the mapping's form, or is no time of day.
+    BadTime,
+    /// The participant is not on the roster.
+    UnknownParticipant,
+    /// The symbol is not on the roster, and the mapping refuses such rows.
+    UnknownSymbol,
+    /// The price is not of the mapping's unit, has more than 6 decimals, is zero, or is above 9,999,999.999999 dollars.
+    BadPrice,
+    /// The shares are not 1 to 9 digits, or zero.
+    BadShares,
+    /// The mapping lists no such side.
+    UnknownSide,
+    /// The mapping lists no such letter of a condition.
+    UnknownCondition,
+    /// The mapping lists no such mark of an exempt trade.
+    UnknownMark,
+    /// The mapping's last line of the file, as `END|20240102|..`.
+    Trailer,
+    /// The mapping lists its word among those to skip.
+    Listed,
+    /// The symbol is not on the roster, and the mapping skips such rows.
+    OtherSymbol,
+}
+
+impl TradeCause {
+    /// Whether the row is skipped, and not refused.
+    pub fn skips(self) -> bool {
+        match self {
+            TradeCause::TooFewColumns
+            | TradeCause::BadName
+            | TradeCause::BadTime
+            | TradeCause::UnknownParticipant
+            | TradeCause::UnknownSymbol
+            | TradeCause::BadPrice
+            | TradeCause::BadShares
+            | TradeCause::UnknownSide
+            | TradeCause::UnknownCondition
+            | TradeCause::UnknownMark => false,
+            TradeCause::Trailer | TradeCause::Listed | TradeCause::OtherSymbol => true,
+        }
+    }
+}

@@ -1,0 +1,45 @@
+//! The columns of a file of trades: `specs/TradeRow`.
+ghost use Rattle.std.specs.Prelude.{◌≡◌};
+ghost use Rattle.csv.specs.Records.{fields_of};
+ghost use Rattle.nms_import_trades.specs.TradeRow.{has_name};
+
+use csv::ByteRecord;
+use nms_import::Column;
+use nms_trades::is_name;
+
+/// The columns that a mapping reads, in one file.
+#[derive(Drop)]
+pub struct TradeColumns {
+    /// How many columns a row needs: one more than the greatest place.
+    pub width: usize,
+    /// The name of the execution; `None` for the number of the row.
+    pub id: Option<Column>,
+    /// The time of day.
+    pub time: Column,
+    /// Where it was executed.
+    pub participant: Column,
+    /// What was traded.
+    pub symbol: Column,
+    /// The price.
+    pub price: Column,
+    /// The shares.
+    pub shares: Column,
+    /// Whether it bought or sold.
+    pub side: Column,
+    /// The letters of the condition.
+    pub condition: Column,
+    /// The mark of an exempt trade.
+    pub exempt: Column,
+    /// The text by which a row is skipped.
+    pub skip: Column,
+}
+
+/// Whether a row has a name of an execution.
+pub(crate) fn has_name(id: &Option<Column>, row: &ByteRecord) -> bool
+    ensures { result ≡ has_name id.now (fields_of row.now) }
+{
+    match id {
+        None => true,
+        Some(column) => is_name(column.text(row)),
+    }
+}

@@ -1,0 +1,25 @@
+//! What the texts of a file of trades mean: `specs/TradeRow`.
+use crate::claim::Claim;
+use nms_import::{Meanings, Word};
+
+/// What the texts of a file of trades mean.
+#[derive(Drop)]
+pub struct TradeMeanings {
+    /// Times, the unit of prices, names, symbols, the last line and the words to skip, as of quotes. A participant's name
+    /// may be empty: off an exchange.
+    pub common: Meanings,
+    /// The words for a purchase.
+    pub bought: Vec<Word>,
+    /// The words for a sale.
+    pub sold: Vec<Word>,
+    /// The words for neither.
+    pub neither: Vec<Word>,
+    /// Each flag with the letters of a condition that claim it.
+    pub claims: Vec<Claim>,
+    /// The letters that claim nothing.
+    pub nothing: Vec<u8>,
+    /// The words of a trade that is marked exempt.
+    pub marked: Vec<Word>,
+    /// The words of one that is not.
+    pub unmarked: Vec<Word>,
+}

@@ -1,0 +1,141 @@
+//! What a row of trades makes: `specs/TradeRow`.
+ghost use Rattle.std.specs.Prelude.{◌≡◌, IfOk};
+ghost use Rattle.csv.specs.Records.{fields_of};
+ghost use Rattle.nms_import.specs.Mapping.{column_text, symbol_in};
+ghost use Rattle.nms_import_trades.specs.TradeRow.{deal_of, mark_of, no_symbol, trade_of, venue_of};
+
+use crate::condition::are_known;
+use crate::trade::Trade;
+use crate::trade_cause::TradeCause;
+use crate::trade_columns::{TradeColumns, has_name};
+use crate::trade_meanings::TradeMeanings;
+use crate::trade_price::millionths_of;
+use csv::ByteRecord;
+use nms_import::{Meanings, clock_of, is_listed, name_of, symbol_in};
+use nms_lines::{field_at, some_shares_of};
+use nms_quote::{Part, Roster, Sym};
+use nms_trades::Deal;
+use std::alloc::AllocError;
+
+/// What a row makes: an execution, or the first cause why it makes none. `scratch` is room that a caller keeps from row to
+/// row.
+pub fn read_trade(
+    columns: &TradeColumns,
+    meanings: &TradeMeanings,
+    roster: &Roster,
+    row: &ByteRecord,
+    scratch: &mut Vec<u8>,
+) -> Result<Result<Trade, TradeCause>, AllocError>
+    ensures trade { IfOk result (λ outcome. outcome ≡ trade_of columns.now meanings.now roster.now (fields_of row.now)) }
+{
+    let sym = symbol_in(&meanings.common, roster, columns.symbol.text(row), scratch)?;
+    Ok(trade_with(columns, meanings, roster, row, sym))
+}
+
+/// What a row makes whose symbol was looked for.
+fn trade_with(
+    columns: &TradeColumns,
+    meanings: &TradeMeanings,
+    roster: &Roster,
+    row: &ByteRecord,
+    sym: Option<Sym>,
+) -> Result<Trade, TradeCause>
+    ensures { sym ≡ symbol_in meanings.now.common roster.now (column_text columns.now.symbol (fields_of row.now))
+        → result ≡ trade_of columns.now meanings.now roster.now (fields_of row.now) }
+{
+    let common = &meanings.common;
+    if is_listed(&common.ends, field_at(row, 0)) {
+        return Err(TradeCause::Trailer);
+    }
+    if row.len() < columns.width {
+        return Err(TradeCause::TooFewColumns);
+    }
+    if is_listed(&common.skips, columns.skip.text(row)) {
+        return Err(TradeCause::Listed);
+    }
+    if !has_name(&columns.id, row) {
+        return Err(TradeCause::BadName);
+    }
+    let time = clock_of(common.time_form, common.zone, columns.time.text(row)).ok_or(
+        TradeCause::BadTime,
+    )?;
+    let part = venue_of(meanings, roster, columns.participant.text(row))?;
+    let sym = sym.ok_or(no_symbol(common))?;
+    let millionths = millionths_of(common.price_unit, columns.price.text(row)).ok_or(
+        TradeCause::BadPrice,
+    )?;
+    let shares = some_shares_of(columns.shares.text(row)).ok_or(TradeCause::BadShares)?;
+    let deal = deal_of(meanings, columns.side.text(row))?;
+    if !are_known(meanings, columns.condition.text(row)) {
+        return Err(TradeCause::UnknownCondition);
+    }
+    let marked = mark_of(meanings, columns.exempt.text(row))?;
+    Ok(Trade {
+        time,
+        part,
+        sym,
+        millionths,
+        shares,
+        deal,
+        marked,
+    })
+}
+
+/// Where a trade was executed: `None` off an exchange.
+fn venue_of(
+    meanings: &TradeMeanings,
+    roster: &Roster,
+    word: &[u8],
+) -> Result<Option<Part>, TradeCause>
+    ensures { result ≡ venue_of meanings.now roster.now word.now }
+{
+    let Some(name) = name_of(&meanings.common, word) else {
+        return Err(TradeCause::UnknownParticipant);
+    };
+    if name.is_empty() {
+        return Ok(None);
+    }
+    match roster.find_part(name) {
+        Some(part) => Ok(Some(part)),
+        None => Err(TradeCause::UnknownParticipant),
+    }
+}
+
+/// Why a row makes no execution whose symbol is not on the roster.
+fn no_symbol(meanings: &Meanings) -> TradeCause
+    ensures { result ≡ no_symbol meanings.now }
+{
+    if meanings.skips_symbols {
+        TradeCause::OtherSymbol
+    } else {
+        TradeCause::UnknownSymbol
+    }
+}
+
+/// Whether a trade bought or sold.
+fn deal_of(meanings: &TradeMeanings, text: &[u8]) -> Result<Option<Deal>, TradeCause>
+    ensures { result ≡ deal_of meanings.now text.now }
+{
+    if text.is_empty() || is_listed(&meanings.neither, text) {
+        Ok(None)
+    } else if is_listed(&meanings.bought, text) {
+        Ok(Some(Deal::Bought))
+    } else if is_listed(&meanings.sold, text) {
+        Ok(Some(Deal::Sold))
+    } else {
+        Err(TradeCause::UnknownSide)
+    }
+}
+
+/// Whether a trade is marked exempt.
+fn mark_of(meanings: &TradeMeanings, text: &[u8]) -> Result<bool, TradeCause>
+    ensures { result ≡ mark_of meanings.now text.now }
+{
+    if text.is_empty() || is_listed(&meanings.unmarked, text) {
+        Ok(false)
+    } else if is_listed(&meanings.marked, text) {
+        Ok(true)
+    } else {
+        Err(TradeCause::UnknownMark)
+    }
+}

@@ -1,0 +1,143 @@
+//! How many rows had each outcome: `specs/Executions`.
+ghost use Rattle.std.specs.Prelude.{◌≡◌, ◌<◌, ◌+◌, IfSome};
+ghost use Rattle.nms_import_trades.specs.Executions.{refused_in, rows_in, skipped_in};
+
+use crate::trade_cause::TradeCause;
+
+/// The most rows of an import.
+pub const MOST_ROWS: u64 = 1_000_000_000_000;
+
+/// How many rows had each outcome.
+#[derive(Clone, Copy, Debug, PartialEq, Eq)]
+pub struct TradeTally {
+    /// Rows that made an execution.
+    pub executions: u64,
+    /// Refused: fewer columns than the mapping names.
+    pub too_few_columns: u64,
+    /// Refused: a name that is none.
+    pub bad_name: u64,
+    /// Refused: no time of day.
+    pub bad_time: u64,
+    /// Refused: a participant that is not on the roster.
+    pub unknown_participant: u64,
+    /// Refused: a symbol that is not on the roster.
+    pub unknown_symbol: u64,
+    /// Refused: a price that is none.
+    pub bad_price: u64,
+    /// Refused: shares that are none.
+    pub bad_shares: u64,
+    /// Refused: a side that the mapping does not list.
+    pub unknown_side: u64,
+    /// Refused: a letter that the mapping does not list.
+    pub unknown_condition: u64,
+    /// Refused: a mark that the mapping does not list.
+    pub unknown_mark: u64,
+    /// Skipped: the last line of a file.
+    pub trailer: u64,
+    /// Skipped: a word that the mapping lists.
+    pub listed: u64,
+    /// Skipped: a symbol that is not on the roster.
+    pub other_symbol: u64,
+}
+
+/// The sums of the outcomes.
+#[derive(Clone, Copy, Debug, PartialEq, Eq)]
+pub struct TradeSums {
+    /// All rows.
+    pub rows: u64,
+    /// Those that made an execution.
+    pub executions: u64,
+    /// Those that were refused.
+    pub refused: u64,
+    /// Those that were skipped.
+    pub skipped: u64,
+}
+
+impl TradeTally {
+    /// No rows.
+    pub fn none() -> TradeTally
+        ensures rows { rows_in result ≡ 0 }
+        ensures executions { result.executions ≡ 0 }
+    {
+        TradeTally {
+            executions: 0,
+            too_few_columns: 0,
+            bad_name: 0,
+            bad_time: 0,
+            unknown_participant: 0,
+            unknown_symbol: 0,
+            bad_price: 0,
+            bad_shares: 0,
+            unknown_side: 0,
+            unknown_condition: 0,
+            unknown_mark: 0,
+            trailer: 0,
+            listed: 0,
+            other_symbol: 0,
+        }
+    }
+
+    /// Counts a row that made an execution.
+    pub(crate) fn count_execution(&mut self)
+        requires { rows_in self.old < 1000000000000 }
+        ensures rows { rows_in self.new ≡ rows_in self.old + 1 }
+        ensures executions { self.new.executions ≡ self.old.executions + 1 }
+    {
+        self.executions += 1;
+    }
+
+    /// Counts a row that made none.
+    pub(crate) fn count_cause(&mut self, cause: TradeCause)
+        requires { rows_in self.old < 1000000000000 }
+        ensures rows { rows_in self.new ≡ rows_in self.old + 1 }
+        ensures executions { self.new.executions ≡ self.old.executions }
+    {
+        match cause {
+            TradeCause::TooFewColumns => self.too_few_columns += 1,
+            TradeCause::BadName => self.bad_name += 1,
+            TradeCause::BadTime => self.bad_time += 1,
+            TradeCause::UnknownParticipant => self.unknown_participant += 1,
+            TradeCause::UnknownSymbol => self.unknown_symbol += 1,
+            TradeCause::BadPrice => self.bad_price += 1,
+            TradeCause::BadShares => self.bad_shares += 1,
+            TradeCause::UnknownSide => self.unknown_side += 1,
+            TradeCause::UnknownCondition => self.unknown_condition += 1,
+            TradeCause::UnknownMark => self.unknown_mark += 1,
+            TradeCause::Trailer => self.trailer += 1,
+            TradeCause::Listed => self.listed += 1,
+            TradeCause::OtherSymbol => self.other_symbol += 1,
+        }
+    }
+
+    /// The sums: all rows are those that made an execution, those that were refused and those that were skipped. `None`
+    /// comes only of more than 2^64 - 1 rows.
+    pub fn sums(&self) -> Option<TradeSums>
+        ensures rows { IfSome result (λ sums. sums.rows ≡ rows_in self.now) }
+        ensures parts { IfSome result (λ sums. (sums.executions ≡ self.now.executions) × (sums.refused ≡ refused_in self.now) × (sums.skipped ≡ skipped_in self.now)) }
+        ensures whole { IfSome result (λ sums. sums.rows ≡ sums.executions + sums.refused + sums.skipped) }
+    {
+        let refused = self
+            .too_few_columns
+            .checked_add(self.bad_name)?
+            .checked_add(self.bad_time)?
+            .checked_add(self.unknown_participant)?
+            .checked_add(self.unknown_symbol)?
+            .checked_add(self.bad_price)?
+            .checked_add(self.bad_shares)?
+            .checked_add(self.unknown_side)?
+            .checked_add(self.unknown_condition)?
+            .checked_add(self.unknown_mark)?;
+        let skipped = self
+            .trailer
+            .checked_add(self.listed)?
+            .checked_add(self.other_symbol)?;
+        let executions = self.executions;
+        let rows = executions.checked_add(refused)?.checked_add(skipped)?;
+        Some(TradeSums {
+            rows,
+            executions,
+            refused,
+            skipped,
+        })
+    }
+}

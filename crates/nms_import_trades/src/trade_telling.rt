@@ -1,0 +1,139 @@
+//! What is printed of an import of trades: the rows that make no execution, and the counts.
+use crate::trade_cause::TradeCause;
+use crate::trade_columns::TradeColumns;
+use crate::trade_tally::{TradeSums, TradeTally};
+use csv::ByteRecord;
+use nms_import::{Column, show_row};
+use nms_show::{Form, Item, ShowFault, write_line};
+use std::io::Write;
+
+/// How many rows that make no execution are shown, of all files together.
+const MOST_TOLD: u64 = 100;
+
+/// Where rows that make no execution are shown.
+#[derive(Drop)]
+pub struct TradeTold<'a, E> {
+    /// Where they are shown.
+    pub errors: E,
+    file: &'a str,
+    left: u64,
+}
+
+impl<'a, E: Write> TradeTold<'a, E> {
+    /// On a writer, in no file yet.
+    pub fn new(errors: E) -> TradeTold<'a, E> {
+        TradeTold {
+            errors,
+            file: "",
+            left: MOST_TOLD,
+        }
+    }
+
+    /// Goes on with a file.
+    pub fn enter(&mut self, file: &'a str) {
+        self.file = file;
+    }
+
+    /// Shows a row that makes no execution: its file, line, column and text, and the cause. The first 100 are shown. What
+    /// the writer does not take is dropped: the counts have each row.
+    pub(crate) fn tell(&mut self, columns: &TradeColumns, row: &ByteRecord, cause: TradeCause) {
+        if self.left == 0 || cause == TradeCause::Trailer {
+            return;
+        }
+        self.left -= 1;
+        let what = if cause.skips() {
+            "skipped: "
+        } else {
+            "refused: "
+        };
+        show_row(
+            &mut self.errors,
+            self.file,
+            row,
+            column_of(columns, cause),
+            what,
+            sentence_of(cause),
+        );
+    }
+}
+
+/// The column that a cause is about.
+fn column_of(columns: &TradeColumns, cause: TradeCause) -> Option<&Column> {
+    match cause {
+        TradeCause::TooFewColumns | TradeCause::Trailer => None,
+        TradeCause::BadName => columns.id.as_ref(),
+        TradeCause::BadTime => Some(&columns.time),
+        TradeCause::UnknownParticipant => Some(&columns.participant),
+        TradeCause::UnknownSymbol | TradeCause::OtherSymbol => Some(&columns.symbol),
+        TradeCause::BadPrice => Some(&columns.price),
+        TradeCause::BadShares => Some(&columns.shares),
+        TradeCause::UnknownSide => Some(&columns.side),
+        TradeCause::UnknownCondition => Some(&columns.condition),
+        TradeCause::UnknownMark => Some(&columns.exempt),
+        TradeCause::Listed => Some(&columns.skip),
+    }
+}
+
+/// What a cause says.
+fn sentence_of(cause: TradeCause) -> &'static str {
+    match cause {
+        TradeCause::TooFewColumns => "fewer columns than the mapping names",
+        TradeCause::BadName =>
+            "a name that is not 1 to 32 letters, digits, points, dashes or underscores",
+        TradeCause::BadTime => "no time of day of the mapping's form",
+        TradeCause::UnknownParticipant => "a participant that is not on the roster",
+        TradeCause::UnknownSymbol | TradeCause::OtherSymbol => "a symbol that is not on the roster",
+        TradeCause::BadPrice =>
+            "no price above zero in the mapping's unit, or one of more than 6 decimals",
+        TradeCause::BadShares => "no number of shares from 1 to 999,999,999",
+        TradeCause::UnknownSide => "a side that the mapping does not list",
+        TradeCause::UnknownCondition => "a condition with a letter that the mapping does not list",
+        TradeCause::UnknownMark => "a mark of an exempt trade that the mapping does not list",
+        TradeCause::Trailer => "the last line of the file",
+        TradeCause::Listed => "a word that the mapping skips",
+    }
+}
+
+/// Writes the counts: a line for each cause that came, and last the sum.
+pub fn write_trade_tally<W: Write>(
+    out: &mut W,
+    tally: &TradeTally,
+    sums: &TradeSums,
+) -> Result<(), ShowFault> {
+    for (count, what) in [
+        (tally.too_few_columns, " refused: too few columns"),
+        (tally.bad_name, " refused: bad name"),
+        (tally.bad_time, " refused: bad time"),
+        (tally.unknown_participant, " refused: unknown participant"),
+        (tally.unknown_symbol, " refused: unknown symbol"),
+        (tally.bad_price, " refused: bad price"),
+        (tally.bad_shares, " refused: bad shares"),
+        (tally.unknown_side, " refused: unknown side"),
+        (tally.unknown_condition, " refused: unknown condition"),
+        (tally.unknown_mark, " refused: unknown mark"),
+        (tally.trailer, " skipped: last line of a file"),
+        (tally.listed, " skipped: word to skip"),
+        (tally.other_symbol, " skipped: other symbol"),
+    ] {
+        if count > 0 {
+            line(out, &[Item::Number(count), Item::Text(what)])?;
+        }
+    }
+    line(
+        out,
+        &[
+            Item::Number(sums.rows),
+            Item::Text(" rows = "),
+            Item::Number(sums.executions),
+            Item::Text(" executions + "),
+            Item::Number(sums.refused),
+            Item::Text(" refused + "),
+            Item::Number(sums.skipped),
+            Item::Text(" skipped"),
+        ],
+    )
+}
+
+fn line<W: Write>(out: &mut W, items: &[Item<'_>]) -> Result<(), ShowFault> {
+    write_line(out, Form::Text { colours: false }, items)
+}

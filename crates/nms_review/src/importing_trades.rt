@@ -1,0 +1,171 @@
+//! The subcommand `import` of a mapping of trades: a vendor's files are opened one after another, and what they make is
+//! written to one file.
+use crate::answers::Answers;
+use crate::fault::{About, Fault};
+use crate::files::{open_word, word_at};
+use crate::importing::{create, fault_in, flush, tell_map_fault};
+use crate::screen::Screen;
+use crate::source::Source;
+use nms_fees::Setup;
+use nms_import::{ImportFault, MapFault, document_of, next_row, open_rows};
+use nms_import_trades::{
+    TradeMapping, TradeTally, TradeTold, TradeWork, import_trades, is_of_trades,
+    read_trade_mapping, write_trade_tally,
+};
+use nms_review_words::Request;
+use nms_show::Ending;
+use std::alloc::Global;
+use std::io::Write;
+use std::rt::Files;
+use std::str;
+use std::time::Clock;
+
+/// The place of the first file's word: the mapping stands before it.
+const FILES: usize = 1;
+
+/// Whether a text is a mapping of trades. One that cannot be read is none: as a mapping of quotes it is refused.
+pub(crate) fn is_trade_map(alloc: Global, text: &[u8]) -> bool {
+    let Ok(text) = str::from_utf8(text) else {
+        return false;
+    };
+    match document_of(alloc, text) {
+        Ok(document) => is_of_trades(&document),
+        Err(_) => false,
+    }
+}
+
+/// The mapping of trades that a text says.
+fn trade_map_of(alloc: Global, text: &[u8]) -> Result<TradeMapping, MapFault> {
+    match str::from_utf8(text) {
+        Ok(text) => read_trade_mapping(alloc, text),
+        Err(_) => Err(MapFault::NotToml { line: 1 }),
+    }
+}
+
+/// Makes executions of a vendor's files, by the mapping of a text.
+pub(crate) fn serve_import_trades<T, W: Write>(
+    rt: &T,
+    screen: Screen,
+    setup: &Setup,
+    request: &Request,
+    text: &[u8],
+    answers: &mut W,
+) -> Result<Ending, Fault>
+where
+    T: AllocGlobal + Clock + Eprint + Files,
+{
+    if request.rows || request.shards {
+        return Err(Fault::usage(
+            About::Nothing,
+            "a mapping of trades takes neither --rows nor --shards",
+        ));
+    }
+    match trade_map_of(rt.alloc(), text) {
+        Ok(mapping) => import_trade_files(rt, screen, setup, request, &mapping, answers),
+        Err(fault) => tell_map_fault(rt, word_at(request, 0), &fault),
+    }
+}
+
+/// The file that is written, and what is kept from one of the vendor's files to the next.
+#[derive(Drop)]
+struct TradeJob<'a, F> {
+    executions: Answers<F>,
+    work: TradeWork,
+    told: TradeTold<'a, Vec<u8>>,
+    tally: TradeTally,
+}
+
+/// Makes executions of the files, and tells the counts.
+fn import_trade_files<T, W: Write>(
+    rt: &T,
+    screen: Screen,
+    setup: &Setup,
+    request: &Request,
+    mapping: &TradeMapping,
+    answers: &mut W,
+) -> Result<Ending, Fault>
+where
+    T: AllocGlobal + Clock + Eprint + Files,
+{
+    let alloc = rt.alloc();
+    let mut job = TradeJob {
+        executions: create(rt, request, ".executions")?,
+        work: TradeWork::new(alloc),
+        told: TradeTold::new(Vec::new(alloc)),
+        tally: TradeTally::none(),
+    };
+    for place in FILES..request.words.len() {
+        if !import_trade_file(rt, screen, setup, request, mapping, place, &mut job)? {
+            return Ok(Ending::SetupRefused);
+        }
+    }
+    finish(&mut job, answers)
+}
+
+/// Makes executions of one file. Returns whether it has the columns that the mapping names; else that is told.
+fn import_trade_file<'a, T>(
+    rt: &T,
+    screen: Screen,
+    setup: &Setup,
+    request: &'a Request,
+    mapping: &TradeMapping,
+    place: usize,
+    job: &mut TradeJob<'a, T::File>,
+) -> Result<bool, Fault>
+where
+    T: AllocGlobal + Clock + Eprint + Files,
+{
+    let alloc = rt.alloc();
+    let file = open_word(rt, request, place)?;
+    let source = Source::new(rt, screen, file);
+    let form = mapping.file;
+    let mut reader = open_rows(alloc, form.delimiter, form.quotes, source);
+    job.work.row.clear();
+    if form.header {
+        next_row(&mut reader, &mut job.work.row).map_err(|fault| fault_in(fault, place))?;
+    }
+    let columns = match mapping.columns(alloc, &job.work.row) {
+        Ok(columns) => columns,
+        Err(fault) => {
+            tell_map_fault(rt, word_at(request, place), &fault)?;
+            return Ok(false);
+        }
+    };
+    job.told.enter(word_at(request, place));
+    let imported = import_trades(
+        &columns,
+        &mapping.meanings,
+        setup.roster(),
+        &mut job.work,
+        &mut reader,
+        &mut job.executions,
+        &mut job.told,
+        &mut job.tally,
+    );
+    let mut source = reader.into_inner();
+    source.clear();
+    show_told(rt, &mut job.told);
+    imported.map_err(|fault| fault_in(fault, place))?;
+    Ok(true)
+}
+
+/// Writes what is left and the counts, and says whether most rows were refused.
+fn finish<F: Write, W: Write>(job: &mut TradeJob<'_, F>, answers: &mut W) -> Result<Ending, Fault> {
+    flush(&mut job.executions)?;
+    let Some(sums) = job.tally.sums() else {
+        return Err(fault_in(ImportFault::TooLong, FILES));
+    };
+    write_trade_tally(answers, &job.tally, &sums)?;
+    if sums.refused > sums.rows / 2 {
+        return Err(Fault::of("I1", 7, About::Nothing));
+    }
+    Ok(Ending::Done)
+}
+
+/// Shows the rows that were refused or skipped, on standard error.
+fn show_told<T: Eprint>(rt: &T, told: &mut TradeTold<'_, Vec<u8>>) {
+    if let Ok(text) = str::from_utf8(&told.errors) {
+        let _ = rt.eprint(text);
+    }
+    told.errors.clear();
+}
