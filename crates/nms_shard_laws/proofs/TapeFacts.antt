@@ -7,7 +7,7 @@ use Rattle.std.specs.List.{cons_option, filter_map, range_with_len}
 use Rattle.std.specs.Option.{is_some, option_or}
 use Rattle.std.proofs.lemmas.Bool.{and_from, cases_Bool, cases_lt, false≢true}
 use Rattle.std.proofs.lemmas.Bool.Decides.{nat_tests}
-use Rattle.std.proofs.lemmas.List.{append-nil, length-append}
+use Rattle.std.proofs.lemmas.List.{append-nil}
 use Rattle.std.proofs.lemmas.List.Elements.{All-head, All-tail, filter_map-append}
 use Rattle.nms_quote.specs.Content.{Content}
 use Rattle.nms_quote.specs.Roster.{Sizes, holds}
@@ -31,7 +31,7 @@ use Rattle.nms_board.proofs.Offered.{content_at-push, lot_listed-push, receipt_i
 use Rattle.nms_board.proofs.Offered.{same_content-true, seen_stands, slice_get-replicate_below, stands_after, state_at-push}
 use Rattle.nms_opening.specs.Alike.{ShowAlike, ShowSame, cell_at, held_at, shown_in_order, stands, unnumbered}
 use Rattle.nms_opening.specs.Opening.{HasNothing, OpensSymbol}
-use Rattle.nms_shard_laws.specs.Shards.{HoldsSymbol, IsCut, IsOfShard, of_symbol, said_of_symbol, shows}
+use Rattle.nms_shard_laws.specs.Shards.{IsCut, IsOfShard, of_symbol, said_of_symbol, shows}
 
 -- ---- the relation
 

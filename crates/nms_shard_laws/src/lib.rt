@@ -3,4 +3,6 @@
 
 mod laws;
 
-pub use laws::{a_cut_shows_what_the_whole_shows, a_shard_shows_what_the_whole_shows, worked_examples};
+pub use laws::{
+    a_cut_shows_what_the_whole_shows, a_shard_shows_what_the_whole_shows, worked_examples,
+};
