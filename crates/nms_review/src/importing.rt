@@ -121,6 +121,7 @@ where
         &columns,
         &mapping.meanings,
         setup.roster(),
+        request.rows,
         &mut job.work,
         &mut reader,
         &mut job.changes,
