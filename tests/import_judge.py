@@ -4,9 +4,9 @@
     tests/import_judge.py PROGRAM [ROWS [SEED]]
 
 ROWS is 100,000 if it is not given, shared by the layouts of LAYOUTS: those of examples/import/, and some of them with another
-form of times or another word for rows of which one side alone is manual; and the layouts of trades TRADES. The rows stand in two files, with a share of them
-wrong in each way that a row can be. The files that are written, and the counts, must be those of the converter. Prints the
-seed, and at a difference the layout and the line. Ends with status 1 at a difference.
+form of times or another word for rows of which one side alone is manual; and the layouts of trades TRADES. The rows stand in
+two files, with a share of them wrong in each way that a row can be. The files that are written, and the counts, must be those
+of the converter: also with --rows. Prints the seed, and at a difference the layout and the line. Ends with status 1 at a difference.
 """
 import os
 import random
@@ -268,39 +268,64 @@ def files_of(layout, dice, rows, room):
     return paths, first + rows[half:]
 
 
-def wanted_of(layout, rows, parts, syms):
+def wanted_of(layout, rows, parts, syms, numbers):
     """What the converter writes, by the end of the file's name."""
     changes, times, counts, spans, halves = [], [], {}, {}, 0
-    for row in rows:
+    for number, row in enumerate(rows, 1):
         made_of = outcome(layout, row, parts, syms)
         if isinstance(made_of, str):
             counts[made_of] = counts.get(made_of, 0) + 1
             continue
         record, time, sym, half = made_of
         changes.append(record)
-        times.append(time)
+        times.append(f"{time},{number:015}" if numbers else time)
         halves += half
         spans[sym] = (spans.get(sym, (len(changes),))[0], len(changes))
-    skips = ("last line of a file", "word to skip", "other symbol")
-    order = ("too few columns", "bad time", "unknown participant", "unknown symbol", "unknown condition", "one side manual", "bad price", "bad size",
-             "shares without a price", *skips)
-    said = [f"{counts[why]} {'skipped' if why in skips else 'refused'}: {why}" for why in order if why in counts]
-    if halves:
-        said.append(f"{halves} changes: one side manual, both made {layout.half}")
-    skipped = sum(counts.get(why, 0) for why in skips)
-    said.append(f"{len(rows)} rows = {len(changes)} changes + {sum(counts.values()) - skipped} refused + {skipped} skipped")
-    return {"changes": changes, "times": times, "counts": said,
+    return {"changes": changes, "times": times, "counts": counted(layout, counts, halves, len(rows), len(changes)),
             "symbols": [f"{sym},{spans[sym][0]},{spans[sym][1]}" for sym in syms if sym in spans]}
 
 
-def judge(program, layout, dice, rows):
+SKIPS = ("last line of a file", "word to skip", "other symbol")
+CAUSES = ("too few columns", "bad time", "unknown participant", "unknown symbol", "unknown condition", "one side manual", "bad price", "bad size",
+          "shares without a price", *SKIPS)
+
+
+def counted(layout, counts, halves, rows, changes):
+    """The lines of the counts."""
+    said = [f"{counts[why]} {'skipped' if why in SKIPS else 'refused'}: {why}" for why in CAUSES if why in counts]
+    if halves:
+        said.append(f"{halves} changes: one side manual, both made {layout.half}")
+    skipped = sum(counts.get(why, 0) for why in SKIPS)
+    return said + [f"{rows} rows = {changes} changes + {sum(counts.values()) - skipped} refused + {skipped} skipped"]
+
+
+def lines_of(path):
+    """The lines of a file, or that there is none."""
+    try:
+        with open(path, encoding="utf-8") as file:
+            return file.read().splitlines()
+    except OSError:
+        return ["no file"]
+
+
+def differs(name, wanted, got, ran):
+    """Tells the first line that is another one."""
+    if wanted == got:
+        return False
+    at = next((i for i, pair in enumerate(zip(wanted, got)) if pair[0] != pair[1]), min(len(wanted), len(got)))
+    print(f"{name}: line {at + 1}: wanted {wanted[at:at + 1]}, got {got[at:at + 1]}")
+    print(ran.stderr.decode()[-2000:])
+    return True
+
+
+def judge(program, layout, dice, rows, numbers=False):
     """Runs the program on random rows of a layout. Returns whether it wrote what the converter writes."""
     parts, syms = roster()
     made = [random_row(layout, dice, parts, syms) for _ in range(rows)]
     with tempfile.TemporaryDirectory() as room:
         paths, given = files_of(layout, dice, made, room)
-        ran, got = run_import(program, layout, paths, room, ("changes", "times", "symbols"))
-    return are_same(layout, wanted_of(layout, given, parts, syms), got, ran)
+        ran, got = run_import(program, layout, paths, room, ("changes", "times", "symbols"), ["--rows"] * numbers)
+    return are_same(layout, wanted_of(layout, given, parts, syms, numbers), got, ran)
 
 
 # ---- trades
@@ -448,7 +473,7 @@ def read_back(program, room, records):
     return ran.stdout.decode().splitlines()
 
 
-def run_import(program, layout, paths, room, names):
+def run_import(program, layout, paths, room, names, words=()):
     """Runs an import by a layout's mapping with its edits. Returns the run, and the lines of what it wrote."""
     with open(os.path.join(MAPS, layout.mapping), encoding="utf-8") as file:
         text = file.read()
@@ -459,24 +484,16 @@ def run_import(program, layout, paths, room, names):
     with open(mapping, "w", encoding="utf-8") as file:
         file.write(text)
     out = os.path.join(room, "out")
-    ran = subprocess.run([program, "import", mapping, *paths, "--out", out, "--setup", SETUP], capture_output=True, check=False)
+    ran = subprocess.run([program, "import", mapping, *paths, "--out", out, "--setup", SETUP, *words], capture_output=True, check=False)
     got = {"counts": ran.stdout.decode().splitlines()}
-    for name in names:
-        try:
-            with open(f"{out}.{name}", encoding="utf-8") as file:
-                got[name] = file.read().splitlines()
-        except OSError:
-            got[name] = ["no file"]
+    got.update((name, lines_of(f"{out}.{name}")) for name in names)
     return ran, got
 
 
 def are_same(layout, wanted, got, ran):
     """Whether the program wrote what the converter writes. Prints the first difference, or the counts."""
     for name, lines in wanted.items():
-        if lines != got[name]:
-            at = next((i for i, pair in enumerate(zip(lines, got[name])) if pair[0] != pair[1]), min(len(lines), len(got[name])))
-            print(f"{layout.name}: {name}: line {at + 1}: wanted {lines[at:at + 1]}, got {got[name][at:at + 1]}")
-            print(ran.stderr.decode()[-2000:])
+        if differs(f"{layout.name}: {name}", lines, got[name], ran):
             return False
     print(f"{layout.name}: equal: {wanted['counts'][-1]}; status {ran.returncode}")
     return True
@@ -489,6 +506,7 @@ def main(program, rows="100000", seed=None):
     dice = random.Random(seed)
     whole = sum(layout.share for layout in LAYOUTS + TRADES)
     good = [judge(program, layout, dice, int(rows) * layout.share // whole) for layout in LAYOUTS]
+    good.append(judge(program, LAYOUTS[0], dice, 2000, numbers=True))
     good += [judge_trades(program, layout, dice, int(rows) * layout.share // whole) for layout in TRADES]
     return 0 if all(good) else 1
 

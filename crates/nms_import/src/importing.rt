@@ -7,7 +7,7 @@ ghost use Rattle.nms_quote.specs.Roster.{holds, sizes_of};
 ghost use Rattle.nms_lines.specs.Layout.{Record};
 ghost use Rattle.nms_lines.specs.Text.{text_of};
 ghost use Rattle.nms_change_text.specs.ChangeText.{change_record};
-ghost use Rattle.nms_import.specs.Imported.{accepted, changes_in, imported_changes, imported_times, one_sided, rows_in, times_text};
+ghost use Rattle.nms_import.specs.Imported.{accepted, changes_in, imported_changes, line_of, one_sided, rows_in, written_times};
 ghost use Rattle.nms_import.specs.Rows.{AreAllRows, RowsFrom};
 
 use crate::column::Columns;
@@ -19,7 +19,7 @@ use crate::row::read_row;
 use crate::rows::next_row;
 use crate::tally::{MOST_ROWS, Tally};
 use crate::telling::Told;
-use crate::time::append_time;
+use crate::time::append_line;
 use csv::{ByteRecord, Reader};
 use nms_change_text::append_change;
 use nms_lines::write_text;
@@ -48,13 +48,15 @@ impl Work {
 }
 
 /// Imports the rows that a reader still has: writes the changes of those that make one and their times, in order, and
-/// counts every outcome. The counts go on from those of earlier files.
+/// counts every outcome. The counts go on from those of earlier files. With `numbers` each time has the number of its row,
+/// from 1 in the first file.
 ///
 /// After an error a first part of both texts was written. The writers are not flushed.
 pub fn import_rows<R: Read, C: Write, T: Write, E: Write>(
     columns: &Columns,
     meanings: &Meanings,
     roster: &Roster,
+    numbers: bool,
     work: &mut Work,
     reader: &mut Reader<R>,
     changes: &mut C,
@@ -66,7 +68,7 @@ pub fn import_rows<R: Read, C: Write, T: Write, E: Write>(
     ensures written { (config : Config) (bytes : Option (List ℕ)) (seen : List Record) → RowsFrom config R.remaining reader.old bytes seen
         → OnOk result ((rows : List Record) × AreAllRows config bytes (seen ++ rows)
         × Appends (C.contents changes.old) (C.contents changes.new) (imported_changes columns.now meanings.now roster.now rows)
-        × Appends (T.contents times.old) (T.contents times.new) (imported_times columns.now meanings.now roster.now rows)
+        × Appends (T.contents times.old) (T.contents times.new) (written_times numbers columns.now meanings.now roster.now (rows_in tally.old) rows)
         × (rows_in tally.new ≡ rows_in tally.old + length rows)
         × (changes_in tally.new ≡ changes_in tally.old + length (accepted columns.now meanings.now roster.now rows))
         × (tally.new.halves ≡ tally.old.halves + one_sided columns.now meanings.now roster.now rows)) }
@@ -79,17 +81,29 @@ pub fn import_rows<R: Read, C: Write, T: Write, E: Write>(
             return Ok(());
         }
         import_row(
-            columns, meanings, roster, work, changes, times, notes, told, tally,
+            columns,
+            meanings,
+            roster,
+            numbers,
+            done + 1,
+            work,
+            changes,
+            times,
+            notes,
+            told,
+            tally,
         )?;
     }
     Err(ImportFault::TooLong)
 }
 
-/// Imports the row at hand.
+/// Imports the row at hand, which has this number.
 fn import_row<C: Write, T: Write, E: Write>(
     columns: &Columns,
     meanings: &Meanings,
     roster: &Roster,
+    numbers: bool,
+    number: u64,
     work: &mut Work,
     changes: &mut C,
     times: &mut T,
@@ -98,10 +112,11 @@ fn import_row<C: Write, T: Write, E: Write>(
     tally: &mut Tally,
 ) -> Result<(), ImportFault>
     requires few { rows_in tally.old < 1000000000000 }
+    requires number { number ≡ rows_in tally.old + 1 }
     ensures changes { OnOk result (Appends (C.contents changes.old) (C.contents changes.new)
         (imported_changes columns.now meanings.now roster.now (fields_of work.old.row ∷ []))) }
     ensures times { OnOk result (Appends (T.contents times.old) (T.contents times.new)
-        (imported_times columns.now meanings.now roster.now (fields_of work.old.row ∷ []))) }
+        (written_times numbers columns.now meanings.now roster.now (rows_in tally.old) (fields_of work.old.row ∷ []))) }
     ensures rows { OnOk result (rows_in tally.new ≡ rows_in tally.old + 1) }
     ensures counted { OnOk result (changes_in tally.new
         ≡ changes_in tally.old + length (accepted columns.now meanings.now roster.now (fields_of work.old.row ∷ []))) }
@@ -111,7 +126,15 @@ fn import_row<C: Write, T: Write, E: Write>(
     match read_row(columns, meanings, roster, &work.row, &mut work.scratch)? {
         Ok(entry) => {
             tally.count_change(entry.one_sided);
-            write_entry(roster, &entry, &mut work.text, changes, times)?;
+            write_entry(
+                roster,
+                &entry,
+                numbers,
+                number,
+                &mut work.text,
+                changes,
+                times,
+            )?;
             if notes.note(roster, &entry)? {
                 told.tell_fall(columns, &work.row);
             }
@@ -125,27 +148,29 @@ fn import_row<C: Write, T: Write, E: Write>(
     }
 }
 
-/// Writes the record of a change, and its time.
-fn write_entry<C: Write, T: Write>(
+/// Writes a change and its time. `text` is room that a caller keeps from row to row.
+pub fn write_entry<C: Write, T: Write>(
     roster: &Roster,
     entry: &Entry,
+    numbers: bool,
+    number: u64,
     text: &mut Vec<u8>,
     changes: &mut C,
     times: &mut T,
 ) -> Result<(), ImportFault>
     ensures changes { OnOk result (Appends (C.contents changes.old) (C.contents changes.new) (text_of (change_record roster.now entry.now.change ∷ []))) }
-    ensures times { OnOk result (Appends (T.contents times.old) (T.contents times.new) (times_text (entry.now.time ∷ []))) }
+    ensures times { OnOk result (Appends (T.contents times.old) (T.contents times.new) (line_of numbers number entry.now.time)) }
 {
     text.clear();
     append_change(text, roster, &entry.change)?;
     give(changes, text)?;
     text.clear();
-    append_time(text, entry.time)?;
+    append_line(text, numbers, number, entry.time)?;
     give(times, text)
 }
 
-/// Gives a writer a text.
-fn give<W: Write>(writer: &mut W, text: &[u8]) -> Result<(), ImportFault>
+/// Gives a writer a text. `WriteFault` comes if the writer fails.
+pub fn give<W: Write>(writer: &mut W, text: &[u8]) -> Result<(), ImportFault>
     ensures { OnOk result (Appends (W.contents writer.old) (W.contents writer.new) text.now) }
 {
     match write_text(writer, text) {

@@ -33,8 +33,13 @@ pub struct Notes {
 impl Notes {
     /// Of no rows.
     pub fn new(alloc: Global, roster: &Roster, order: Order) -> Result<Notes, AllocError> {
-        let mut spans = Vec::with_capacity(alloc, roster.syms())?;
-        for _ in 0..roster.syms() {
+        Notes::of_symbols(alloc, roster.syms(), order)
+    }
+
+    /// Of no rows, with room for that many symbols.
+    pub fn of_symbols(alloc: Global, symbols: usize, order: Order) -> Result<Notes, AllocError> {
+        let mut spans = Vec::with_capacity(alloc, symbols)?;
+        for _ in 0..symbols {
             spans.push(None)?;
         }
         Ok(Notes {
@@ -67,9 +72,16 @@ impl Notes {
         &self.spans
     }
 
+    /// Begins with another symbol in the first place of the roster.
+    pub fn begin_symbol(&mut self) {
+        if let Some(span) = self.spans.get_mut(0) {
+            *span = None;
+        }
+    }
+
     /// Notes an accepted row, and returns whether its time is the first that falls. `TooLong` comes after 2^64 - 1
     /// changes.
-    pub(crate) fn note(&mut self, roster: &Roster, entry: &Entry) -> Result<bool, ImportFault> {
+    pub fn note(&mut self, roster: &Roster, entry: &Entry) -> Result<bool, ImportFault> {
         let Some(version) = self.changes.checked_add(1) else {
             return Err(ImportFault::TooLong);
         };

@@ -32,7 +32,7 @@ pub fn read_row(
     Ok(entry_with(columns, meanings, roster, row, sym))
 }
 
-/// The symbol that a text names, after what the mapping replaces. `scratch` is room that a caller keeps from row to row.
+/// The symbol that a text names. What the mapping makes of the text is left in `scratch`.
 pub fn symbol_in(
     meanings: &Meanings,
     roster: &Roster,
@@ -40,13 +40,14 @@ pub fn symbol_in(
     scratch: &mut Vec<u8>,
 ) -> Result<Option<Sym>, AllocError>
     ensures symbol { IfOk result (λ sym. sym ≡ symbol_in meanings.now roster.now text.now) }
+    ensures text { OnOk result (scratch.new.items ≡ map (replaced meanings.now.replaced.items) text.now) }
     ensures there { IfOk result (λ sym. IfSome sym (λ place. place < length roster.now.syms)) }
 {
     replace(&meanings.replaced, text, scratch)?;
     Ok(roster.find_sym(scratch))
 }
 
-/// A text with each byte that is replaced.
+/// A text with each byte that is replaced, in place of what `out` had.
 fn replace(pairs: &[Replaced], text: &[u8], out: &mut Vec<u8>) -> Result<(), AllocError>
     ensures { OnOk result (out.new.items ≡ map (replaced pairs.now) text.now) }
 {
@@ -69,8 +70,8 @@ fn replaced(pairs: &[Replaced], c: u8) -> u8
     c
 }
 
-/// What a row makes whose symbol was looked for.
-fn entry_with(
+/// What a row makes. Its symbol was looked for on the roster by `symbol_in`.
+pub fn entry_with(
     columns: &Columns,
     meanings: &Meanings,
     roster: &Roster,

@@ -32,6 +32,8 @@ pub struct Tally {
     pub bad_size: u64,
     /// Refused: shares without a price.
     pub half_side: u64,
+    /// Refused: a symbol that comes back after its end, if the rows are sorted by symbol.
+    pub returned: u64,
     /// Skipped: the last line of a file.
     pub trailer: u64,
     /// Skipped: a word that the mapping lists.
@@ -72,6 +74,7 @@ impl Tally {
             bad_price: 0,
             bad_size: 0,
             half_side: 0,
+            returned: 0,
             trailer: 0,
             listed: 0,
             other_symbol: 0,
@@ -79,7 +82,7 @@ impl Tally {
     }
 
     /// Counts a row that made a change.
-    pub(crate) fn count_change(&mut self, one_sided: bool)
+    pub fn count_change(&mut self, one_sided: bool)
         requires { rows_in self.old < 1000000000000 }
         ensures rows { rows_in self.new ≡ rows_in self.old + 1 }
         ensures changes { changes_in self.new ≡ changes_in self.old + 1 }
@@ -93,7 +96,7 @@ impl Tally {
     }
 
     /// Counts a row that made none.
-    pub(crate) fn count_cause(&mut self, cause: Cause)
+    pub fn count_cause(&mut self, cause: Cause)
         requires { rows_in self.old < 1000000000000 }
         ensures rows { rows_in self.new ≡ rows_in self.old + 1 }
         ensures changes { changes_in self.new ≡ changes_in self.old }
@@ -115,6 +118,17 @@ impl Tally {
         }
     }
 
+    /// Counts a row whose symbol came back after its end.
+    pub fn count_returned(&mut self)
+        requires { rows_in self.old < 1000000000000 }
+        ensures rows { rows_in self.new ≡ rows_in self.old + 1 }
+        ensures changes { changes_in self.new ≡ changes_in self.old }
+        ensures halves { self.new.halves ≡ self.old.halves }
+        ensures returned { self.new.returned ≡ self.old.returned + 1 }
+    {
+        self.returned += 1;
+    }
+
     /// The sums: all rows are those that made a change, those that were refused and those that were skipped. `None` comes
     /// only of more than 2^64 - 1 rows.
     pub fn sums(&self) -> Option<Sums>
@@ -131,7 +145,8 @@ impl Tally {
             .checked_add(self.one_sided)?
             .checked_add(self.bad_price)?
             .checked_add(self.bad_size)?
-            .checked_add(self.half_side)?;
+            .checked_add(self.half_side)?
+            .checked_add(self.returned)?;
         let skipped = self
             .trailer
             .checked_add(self.listed)?

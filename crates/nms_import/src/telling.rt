@@ -40,7 +40,7 @@ impl<'a, E: Write> Told<'a, E> {
 
     /// Shows a row that makes no change: its file, line, column and text, and the cause. The first 100 are shown. What
     /// the writer does not take is dropped: the counts have each row.
-    pub(crate) fn tell(&mut self, columns: &Columns, row: &ByteRecord, cause: Cause) {
+    pub fn tell(&mut self, columns: &Columns, row: &ByteRecord, cause: Cause) {
         if self.left == 0 || cause == Cause::Trailer {
             return;
         }
@@ -60,8 +60,24 @@ impl<'a, E: Write> Told<'a, E> {
         );
     }
 
+    /// Shows a row whose symbol came back after its end, as `tell` shows others.
+    pub fn tell_returned(&mut self, columns: &Columns, row: &ByteRecord) {
+        if self.left == 0 {
+            return;
+        }
+        self.left -= 1;
+        show(
+            &mut self.errors,
+            self.file,
+            row,
+            Some(&columns.symbol),
+            "refused: ",
+            "a symbol that comes back after its end",
+        );
+    }
+
     /// Shows the first row whose time falls.
-    pub(crate) fn tell_fall(&mut self, columns: &Columns, row: &ByteRecord) {
+    pub fn tell_fall(&mut self, columns: &Columns, row: &ByteRecord) {
         let sentence = "the first time that is before an earlier one";
         show_row(
             &mut self.errors,
@@ -163,6 +179,7 @@ pub fn write_tally<W: Write>(
         (tally.bad_price, "refused: bad price"),
         (tally.bad_size, "refused: bad size"),
         (tally.half_side, "refused: shares without a price"),
+        (tally.returned, "refused: symbol after its end"),
         (tally.trailer, "skipped: last line of a file"),
         (tally.listed, "skipped: word to skip"),
         (tally.other_symbol, "skipped: other symbol"),

@@ -4,7 +4,7 @@ ghost use Rattle.nms_units.specs.Digits.{by_point, point_in};
 ghost use Rattle.nms_units.specs.Price.{both, digit_at};
 ghost use Rattle.nms_import.specs.Mapping.{time_of};
 ghost use Rattle.nms_import.specs.Times.{after_seconds, clock_at, clock_digits, clock_number, clock_of, fraction, has_marks, hours_at, is_clock, iso_number, minutes_at, nanoseconds, only_if, point_and_fraction, seconds, second_at, seconds_and_fraction, seconds_at, seconds_number, two_at, whole_seconds, without_z};
-ghost use Rattle.nms_import.specs.Imported.{clock_text, times_text};
+ghost use Rattle.nms_import.specs.Imported.{fifteen_digits, line_of, numbered_line, times_text};
 
 use crate::cause::Cause;
 use crate::meanings::{Meanings, TimeForm};
@@ -286,8 +286,63 @@ fn point_and_fraction(text: &[u8]) -> Option<u64>
     }
 }
 
+/// Appends the line of a time. With `numbers` it has the number of the row. After an error nothing was appended.
+pub fn append_line(out: &mut Vec<u8>, numbers: bool, row: u64, time: u64) -> Result<(), AllocError>
+    ensures { OnOk result (out.new.items ≡ out.old.items ++ line_of numbers row time) }
+{
+    if numbers {
+        append_numbered(out, row, time)
+    } else {
+        append_time(out, time)
+    }
+}
+
+/// Appends a time as 15 digits, a comma, the number of its row as 15 digits, and a line feed.
+fn append_numbered(out: &mut Vec<u8>, row: u64, time: u64) -> Result<(), AllocError>
+    ensures { OnOk result (out.new.items ≡ out.old.items ++ numbered_line row time) }
+{
+    let (hours, seconds) = (time / 1_000_000_000_000, time / 1_000_000_000);
+    let (millis, micros) = (time / 1_000_000, time / 1000);
+    let (trillions, billions) = (row / 1_000_000_000_000, row / 1_000_000_000);
+    let (millions, thousands) = (row / 1_000_000, row / 1000);
+    out.extend_from_slice(&[
+        digit(hours, 100),
+        digit(hours, 10),
+        digit(hours, 1),
+        digit(seconds, 100),
+        digit(seconds, 10),
+        digit(seconds, 1),
+        digit(millis, 100),
+        digit(millis, 10),
+        digit(millis, 1),
+        digit(micros, 100),
+        digit(micros, 10),
+        digit(micros, 1),
+        digit(time, 100),
+        digit(time, 10),
+        digit(time, 1),
+        b',',
+        digit(trillions, 100),
+        digit(trillions, 10),
+        digit(trillions, 1),
+        digit(billions, 100),
+        digit(billions, 10),
+        digit(billions, 1),
+        digit(millions, 100),
+        digit(millions, 10),
+        digit(millions, 1),
+        digit(thousands, 100),
+        digit(thousands, 10),
+        digit(thousands, 1),
+        digit(row, 100),
+        digit(row, 10),
+        digit(row, 1),
+        b'\n',
+    ])
+}
+
 /// Appends a time as 15 digits and a line feed.
-pub(crate) fn append_time(out: &mut Vec<u8>, time: u64) -> Result<(), AllocError>
+fn append_time(out: &mut Vec<u8>, time: u64) -> Result<(), AllocError>
     ensures { OnOk result (out.new.items ≡ out.old.items ++ times_text (time ∷ [])) }
 {
     append_clock(out, time)?;
@@ -297,7 +352,7 @@ pub(crate) fn append_time(out: &mut Vec<u8>, time: u64) -> Result<(), AllocError
 
 /// Appends a time as 15 digits.
 pub fn append_clock(out: &mut Vec<u8>, time: u64) -> Result<(), AllocError>
-    ensures { OnOk result (out.new.items ≡ out.old.items ++ clock_text time) }
+    ensures { OnOk result (out.new.items ≡ out.old.items ++ fifteen_digits time) }
 {
     let (hours, seconds) = (time / 1_000_000_000_000, time / 1_000_000_000);
     let (millis, micros) = (time / 1_000_000, time / 1000);

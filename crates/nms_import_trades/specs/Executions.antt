@@ -6,7 +6,7 @@ use Rattle.std.specs.Fmt.{decimal}
 use Rattle.nms_quote.specs.Roster.{Listing, part_text, symbol_text}
 use Rattle.nms_lines.specs.Layout.{Record}
 use Rattle.nms_lines.specs.Text.{text_of}
-use Rattle.nms_import.specs.Imported.{clock_text}
+use Rattle.nms_import.specs.Imported.{fifteen_digits}
 use Rattle.nms_import.specs.Mapping.{column_text}
 use Rattle.nms_trades.specs.FinePrice.{fine_text}
 use Rattle.nms_trades.specs.declared.execution.Deal.{Deal}
@@ -58,7 +58,7 @@ flags_text claims condition marked = drop 1 (plus_flags claims condition (lacks_
 abbrev pub execution_record : TradeColumns → TradeMeanings → Listing → ℕ → Record → Trade → Record
 execution_record columns mapping roster number row trade =
     codes "D" ∷ id_text columns.id number row ∷ symbol_text roster trade.sym ∷ fine_text trade.millionths ∷ decimal trade.shares
-    ∷ deal_text trade.deal ∷ (64 ∷ clock_text trade.time) ∷ venue_text roster trade.part
+    ∷ deal_text trade.deal ∷ (64 ∷ fifteen_digits trade.time) ∷ venue_text roster trade.part
     ∷ flags_text mapping.claims.items (column_text columns.condition row) trade.marked ∷ []
 
 -- one record, or none

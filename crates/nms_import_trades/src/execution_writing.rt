@@ -4,7 +4,7 @@ ghost use Rattle.std.specs.Fmt.{decimal};
 ghost use Rattle.csv.specs.Records.{fields_of};
 ghost use Rattle.nms_quote.specs.Roster.{symbol_text};
 ghost use Rattle.nms_lines.specs.Text.{text_of};
-ghost use Rattle.nms_import.specs.Imported.{clock_text};
+ghost use Rattle.nms_import.specs.Imported.{fifteen_digits};
 ghost use Rattle.nms_import.specs.Mapping.{column_text};
 ghost use Rattle.nms_import_trades.specs.Executions.{deal_text, execution_record, flags_text, venue_text};
 ghost use Rattle.nms_import_trades.specs.TradeRow.{id_text};
@@ -74,7 +74,7 @@ fn push_id(
 
 /// Appends a comma, `@` and a time.
 fn push_when(out: &mut Vec<u8>, time: u64) -> Result<(), AllocError>
-    ensures { OnOk result (out.new.items ≡ out.old.items ++ 44 ∷ 64 ∷ clock_text time) }
+    ensures { OnOk result (out.new.items ≡ out.old.items ++ 44 ∷ 64 ∷ fifteen_digits time) }
 {
     out.extend_from_slice(b",@")?;
     append_clock(out, time)

@@ -125,6 +125,7 @@ where
         &columns,
         &mapping.meanings,
         setup.roster(),
+        request.rows,
         &mut job.work,
         &mut reader,
         &mut job.changes,

@@ -1,11 +1,14 @@
 -- `import_rows`: all that it promises and the turns of its loop, by `changes_on`, `times_on`,
 -- `accepted_more` and `one_sided_more`.
-use Rattle.std.proofs.Common.{◌≡◌, ◌+◌, ◌++◌, ◌∷◌, [], List, Bool, true, false, Ok, ap, arith, sym, subst, ◌∙◌, append_assoc, length-append}
+use Rattle.std.proofs.Common.{ℕ, ◌≡◌, ◌+◌, ◌++◌, ◌∷◌, [], List, Bool, true, false, Ok, ap, arith, sym, subst, ◌∙◌}
+use Rattle.std.proofs.Common.{append_assoc, length-append}
 use Rattle.std.proofs.lemmas.List.{append-nil}
+use Rattle.std.specs.Io.KnownBytes.{Appends}
 use Rattle.csv.specs.Records.{fields_of}
 use Rattle.nms_lines.specs.Layout.{Record}
+use Rattle.nms_import.specs.Imported.{rows_in, written_times}
 use Rattle.nms_import.specs.Rows.{RowsFrom}
-use Rattle.nms_import.proofs.TextFacts.{accepted_more, changes_on, none_written, one_sided_more, times_on}
+use Rattle.nms_import.proofs.TextFacts.{accepted_more, changes_on, no_times, none_written, one_sided_more, times_on}
 use Rattle.nms_import.proofs.importing.import_rows.Goals as goal
 
 pub loop-done-init : goal.loop-done-init
@@ -16,7 +19,8 @@ loop-done-init g c = (
     subst (λ (rows : List Record). RowsFrom {R = g.row.R.Denot} config g.R.Read.remaining c.args.reader.now bytes rows)
         (sym (append-nil seen)) reads,
     none_written (g.C.Write.contents c.args.changes.now),
-    none_written (g.T.Write.contents c.args.times.now),
+    no_times c.args.numbers c.args.columns.now c.args.meanings.now c.args.roster.now (rows_in c.args.tally.now)
+        (g.T.Write.contents c.args.times.now),
     omega arith,
     omega arith,
     omega arith,
@@ -45,8 +49,12 @@ loop-done-preserved g c = (
             (append_assoc seen had.0 (row ∷ [])) found,
         changes_on c.args.columns.now c.args.meanings.now c.args.roster.now had.0 row (g.C.Write.contents c.args.changes.now)
             (g.C.Write.contents c.loop-done.changes) (g.C.Write.contents c.import_row.new.changes) had.2 c.in_ok-import_row.ensures.changes,
-        times_on c.args.columns.now c.args.meanings.now c.args.roster.now had.0 row (g.T.Write.contents c.args.times.now)
-            (g.T.Write.contents c.loop-done.times) (g.T.Write.contents c.import_row.new.times) had.3 c.in_ok-import_row.ensures.times,
+        times_on c.args.numbers c.args.columns.now c.args.meanings.now c.args.roster.now (rows_in c.args.tally.now) had.0 row
+            (g.T.Write.contents c.args.times.now) (g.T.Write.contents c.loop-done.times)
+            (g.T.Write.contents c.import_row.new.times) had.3
+            (subst (λ (n : ℕ). Appends (g.T.Write.contents c.loop-done.times) (g.T.Write.contents c.import_row.new.times)
+            (written_times c.args.numbers c.args.columns.now c.args.meanings.now c.args.roster.now n (row ∷ []))) had.4
+            c.in_ok-import_row.ensures.times),
         omega (arith, c.in_ok-import_row.ensures.rows, had.4, length-append had.0 (row ∷ [])),
         omega (
           arith,

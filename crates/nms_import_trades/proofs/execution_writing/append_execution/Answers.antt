@@ -4,7 +4,7 @@ use Rattle.std.specs.Prelude.{codes}
 use Rattle.std.specs.Fmt.{decimal}
 use Rattle.csv.specs.Records.{fields_of}
 use Rattle.nms_quote.specs.Roster.{symbol_text}
-use Rattle.nms_import.specs.Imported.{clock_text}
+use Rattle.nms_import.specs.Imported.{fifteen_digits}
 use Rattle.nms_import.specs.Mapping.{column_text}
 use Rattle.nms_trades.specs.FinePrice.{fine_text}
 use Rattle.nms_import_trades.specs.Executions.{deal_text, flags_text, venue_text}
@@ -21,7 +21,7 @@ returns c =
     let price : List ℕ = fine_text trade.millionths in
     let shares : List ℕ = decimal trade.shares in
     let dealt : List ℕ = deal_text trade.deal in
-    let timed : List ℕ = 64 ∷ clock_text trade.time in
+    let timed : List ℕ = 64 ∷ fifteen_digits trade.time in
     let venue : List ℕ = venue_text c.args.roster.now trade.part in
     let flags : List ℕ =
     flags_text c.args.meanings.now.claims.items (column_text c.args.columns.now.condition row) trade.marked in
