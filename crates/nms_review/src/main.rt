@@ -4,10 +4,12 @@
 mod answers;
 mod call;
 mod comparing;
+mod drawing;
 mod explaining;
 mod fault;
 mod files;
 mod importing;
+mod paging;
 mod progress;
 mod screen;
 mod serving;

@@ -2,6 +2,7 @@
 use crate::call::{ended, form_of};
 use crate::fault::{About, Fault};
 use crate::files::open_word;
+use crate::paging::serve_page;
 use crate::screen::Screen;
 use crate::source::Source;
 use nms_fees::Setup;
@@ -28,6 +29,9 @@ pub(crate) fn serve_trades<T, W: Write>(
 where
     T: AllocGlobal + Clock + Eprint + Files,
 {
+    if let Some(path) = &request.html {
+        return serve_page(rt, screen, setup, request, path.as_str(), answers);
+    }
     let changes = open_word(rt, request, CHANGES)?;
     let executions = open_word(rt, request, EXECUTIONS)?;
     let mut changes = Source::new(rt, screen, changes);

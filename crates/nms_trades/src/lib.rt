@@ -24,10 +24,16 @@ mod trade_fault;
 mod trades;
 mod trades_fault;
 
+pub use cause::Cause;
 pub use claims::Claims;
 pub use execution::{Deal, Execution};
+pub use execution_file::{Records, Refusal, read_executions};
 pub use finding::Finding;
 pub use judging::judge_all;
 pub use laws::a_whole_price_decides;
+pub use lines::write_answers;
+pub use money_through::{Sums, difference, is_helped, sums_of};
+pub use table::write_table;
+pub use trade_fault::TradeFault;
 pub use trades::{Layout, judge_file};
 pub use trades_fault::TradesFault;
