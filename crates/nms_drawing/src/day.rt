@@ -266,11 +266,8 @@ fn add_columns(day: &mut Day, start: u64, end: u64, moment: &Moment) -> Result<(
 fn add_stretch(day: &mut Day, stretch: Stretch) -> Result<(), AllocError> {
     count(day, &stretch)?;
     let joined = match day.last {
-        Some(last) if goes_on(&last, &stretch) => Stretch {
-            from: last.from,
-            ..stretch
-        },
-        _ => stretch,
+        Some(last) => joined_with(last, stretch),
+        None => stretch,
     };
     day.last = Some(joined);
     if joined.from == stretch.from {
@@ -282,9 +279,18 @@ fn add_stretch(day: &mut Day, stretch: Stretch) -> Result<(), AllocError> {
     Ok(())
 }
 
-/// Whether a stretch goes on with another one.
-fn goes_on(last: &Stretch, next: &Stretch) -> bool {
-    last.crossed == next.crossed && last.to.checked_add(1) == Some(next.from)
+/// A stretch with the one before it, if it goes on with that.
+fn joined_with(last: Stretch, next: Stretch) -> Stretch {
+    let from = if last.crossed == next.crossed && last.to.checked_add(1) == Some(next.from) {
+        last.from
+    } else {
+        next.from
+    };
+    Stretch {
+        crossed: next.crossed,
+        from,
+        to: next.to,
+    }
 }
 
 /// Counts the versions of a stretch. There are no more than a number holds.

@@ -1,5 +1,5 @@
 //! What is found of a plan on its own version: its verdict, and the quotations that it passed over.
-ghost use Rattle.std.specs.Prelude.{◌≤◌, All, length, true};
+ghost use Rattle.std.specs.Prelude.{◌≡◌, ◌≤◌, All, length, true};
 ghost use Rattle.nms_quote.specs.Roster.{holds, sizes_of};
 ghost use Rattle.nms_quote.specs.declared.TheConstants.{MOST_CHANGES};
 
@@ -136,7 +136,7 @@ fn is_worst(plan: &Plan, leg: &Leg) -> bool {
 }
 
 /// What is doubtful, in words.
-pub(crate) fn why_of(doubt: Doubt) -> &'static str {
+pub(crate) fn why_of(doubt: &Doubt) -> &'static str {
     match doubt {
         Doubt::Breach(breach) => why_broken(breach),
         Doubt::NotMost => "more shares can be filled",
@@ -149,7 +149,7 @@ pub(crate) fn why_of(doubt: Doubt) -> &'static str {
 }
 
 /// What breaks a plan, in words.
-fn why_broken(breach: Breach) -> &'static str {
+fn why_broken(breach: &Breach) -> &'static str {
     match breach {
         Breach::OtherVersion => "it is of another version",
         Breach::OtherOrder => "it is for another order",

@@ -46,12 +46,12 @@ const FRAME: &str =
 <text text-anchor=\"end\" font-size=\"18\" x=\"142\" y=\"699\">locked</text>";
 
 /// How each market is drawn in its own strip: below what, and with which hatching.
-const CROSSED: (&str, &str) = (
+const CROSSED: (&'static str, &'static str) = (
     "<rect y=\"651\" height=\"24\" x=\"",
     "\" fill=\"url(#crossed)\"/>",
 );
 
-const LOCKED: (&str, &str) = (
+const LOCKED: (&'static str, &'static str) = (
     "<rect y=\"681\" height=\"24\" x=\"",
     "\" fill=\"url(#locked)\"/>",
 );
@@ -125,7 +125,7 @@ fn write_strip<W: Write>(
     day: &Day,
     scale: &Scale,
     crossed: bool,
-    look: (&str, &str),
+    look: (&'static str, &'static str),
     answers: &mut W,
 ) -> Result<(), ShowFault> {
     let mut begun = None;
@@ -154,7 +154,7 @@ fn write_strip<W: Write>(
 
 /// Hatches columns side by side. A narrow one is made three wide, so that it is seen.
 fn write_hatching<W: Write>(
-    look: (&str, &str),
+    look: (&'static str, &'static str),
     scale: &Scale,
     from: u64,
     to: u64,

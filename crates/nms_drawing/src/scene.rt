@@ -156,8 +156,8 @@ fn write_side<W: Write>(
     scene: &Scene,
     prices: &Prices,
     side: Side,
-    width: &str,
-    colour: &str,
+    width: &'static str,
+    colour: &'static str,
     answers: &mut W,
 ) -> Result<(), ShowFault> {
     put(

@@ -74,8 +74,8 @@ pub(crate) fn write_heading<W: Write>(
 /// Writes what is drawn.
 fn write_named<W: Write>(
     subject: &Subject<'_>,
-    begun: &str,
-    ended: &str,
+    begun: &'static str,
+    ended: &'static str,
     answers: &mut W,
 ) -> Result<(), ShowFault> {
     put(
@@ -228,14 +228,24 @@ fn write_times<W: Write>(
     last: TimeOfDay,
     answers: &mut W,
 ) -> Result<(), ShowFault> {
-    let (first, last) = (clock_of(first, 1), clock_of(last, 1));
+    let first = clock_of(first, 1);
+    let last = clock_of(last, 1);
+    write_between(first.bytes(), last.bytes(), answers)
+}
+
+/// Writes the times of the axis, as they are shown.
+fn write_between<'a, W: Write>(
+    first: &'a [u8],
+    last: &'a [u8],
+    answers: &mut W,
+) -> Result<(), ShowFault> {
     put(
         answers,
         &[
             Item::Text("The axis has the time of day: the changes are from "),
-            Item::Bytes(first.bytes()),
+            Item::Bytes(first),
             Item::Text(" to "),
-            Item::Bytes(last.bytes()),
+            Item::Bytes(last),
             Item::Text("."),
         ],
     )
@@ -358,18 +368,10 @@ fn write_verdict<W: Write>(
     judged: &Judged,
     answers: &mut W,
 ) -> Result<(), ShowFault> {
-    let Some(doubt) = judged.doubt else {
+    let Some(doubt) = &judged.doubt else {
         return put(answers, &[Item::Text(CONFIRMED)]);
     };
-    let (space, breach) = match doubt {
-        Doubt::Breach(breach) => (" ", breach.code()),
-        Doubt::NotMost
-        | Doubt::CutMissing
-        | Doubt::CutExtra
-        | Doubt::WrongKind
-        | Doubt::MarginalRange
-        | Doubt::BoundFails { .. } => ("", ""),
-    };
+    let (space, breach) = breach_in(doubt);
     put(
         answers,
         &[
@@ -385,12 +387,30 @@ fn write_verdict<W: Write>(
     if let Some((number, leg)) = &judged.leg {
         put(answers, &items_of_leg(roster, " Leg ", *number, leg, ""))?;
     }
-    if let Doubt::Breach(Breach::TradedThrough { .. }) = doubt {
-        if let Some(first) = judged.passed.first() {
-            return write_first(roster, plan, first, judged.passed.len() as u64, answers);
+    match judged.passed.first() {
+        Some(first) if is_through(doubt) => {
+            write_first(roster, plan, first, judged.passed.len() as u64, answers)
         }
+        Some(_) | None => Ok(()),
     }
-    Ok(())
+}
+
+/// The code of the breach that a doubt is, and a space before it.
+fn breach_in(doubt: &Doubt) -> (&'static str, &'static str) {
+    match doubt {
+        Doubt::Breach(breach) => (" ", breach.code()),
+        Doubt::NotMost
+        | Doubt::CutMissing
+        | Doubt::CutExtra
+        | Doubt::WrongKind
+        | Doubt::MarginalRange
+        | Doubt::BoundFails { .. } => ("", ""),
+    }
+}
+
+/// Whether a doubt is a trade-through.
+fn is_through(doubt: &Doubt) -> bool {
+    matches!(doubt, Doubt::Breach(Breach::TradedThrough { .. }))
 }
 
 /// Writes the first quotation that a doubted plan passed over, as `check` says it, and how many more there are.
