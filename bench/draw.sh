@@ -26,7 +26,7 @@ draw() {
     took=$(((${EPOCHREALTIME/./} - start) / 1000))
     size=$(stat -c %s "$day.svg")
     echo "$1: $2 changes drawn in $took ms, $size bytes"
-    chromium --headless --no-sandbox --disable-gpu --hide-scrollbars --window-size=2000,1000 \
+    chromium --headless --no-sandbox --disable-gpu --hide-scrollbars --window-size=2000,1100 \
         --screenshot="$day.png" "file://$(realpath "$day.svg")" >"$day.log" 2>&1
     [ -s "$day.png" ] || status=1
 }

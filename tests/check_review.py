@@ -10,8 +10,8 @@ page a line of four spaces and `./nms_review WORDS` is a call, or one of `./nms_
 after it is what it writes, with the words `status N` in the text between them where N is not 0. Beside these the program
 meets a closed output, one whose reader has gone, records of a million bytes, records whose fields and lists are longer than
 any that is right, byte order marks before quotes, each byte of a file once, a setup of many symbols, streams of several
-pieces, a day with more versions than a picture has columns, the imports of examples/import/, and the random files that
-the judges JUDGES compare with a plain slow program.
+pieces, a day with more versions than a picture has columns, a page of as many executions as it shows and of one more, the
+imports of examples/import/, and the random files that the judges JUDGES compare with a plain slow program.
 """
 import gzip
 import os
@@ -297,12 +297,13 @@ def narrow(file):
 
 
 def columns(program, path):
-    """A version takes 1500 of 3003 units across, a whole column is 680 high: each is hatched as high as the share of its versions
-    that are locked or crossed, and as crossed if one of them is. All are less than three units wide, and made that."""
+    """A version takes 1500 of 3003 units across: the columns with crossed versions are hatched in one strip, those with locked
+    ones in another, so that one with both is in both. All are less than three units wide, and made that."""
     ran = called(program, ["draw", path, "ABC", *long_day(path)], capture_output=True)
     text = ran.stdout.decode()
     hatched = re.findall(r'^<rect y="(\d+)" height="(\d+)" x="(\d+)" width="(\d+)" fill="url\(#(\w+)\)"/>$', text, re.M)
-    wanted = [("110", "680", "299", "3", "crossed"), ("564", "226", "449", "3", "locked"), ("337", "453", "599", "3", "crossed"), ("110", "680", "749", "3", "crossed")]
+    wanted = [("651", "24", it, "3", "crossed") for it in ("299", "599", "749")]
+    wanted += [("681", "24", it, "3", "locked") for it in ("299", "449", "599", "749")]
     must((ran.returncode, hatched) == (0, wanted), f"{ran.returncode}, {hatched}, {ran.stderr!r}")
     told = text[text.index("Versions that are"):text.index("</desc>")].splitlines()
     stretches = [("Locked", 300, 301), ("Crossed", 302, 302), ("Locked", 601, 601), ("Locked", 900, 900), ("Crossed", 901, 901), ("Crossed", 1200, 1200)]
@@ -311,10 +312,31 @@ def columns(program, path):
     must(told[:9] == wanted and told[9].startswith("A column stands for 3 versions: "), f"{told}")
 
 
+def no_change(file):
+    """A file that each call here replaces."""
+
+
+def flagged(program, path):
+    """1,000 executions that traded through stand on a page, and of 1,001 the first 1,000 with how many more there are."""
+    room = os.path.dirname(path)
+    with open(path, "wb") as file:
+        file.write(b"Q,N,ABC,A,9.99,100,10.01,100\n" * 3)
+    for count, more in ((1_000, b""), (1_001, b"in the answers alone: 1.\n")):
+        with open(os.path.join(room, "given.executions"), "wb") as file:
+            file.write(b"".join(b"D,e%d,ABC,10.02,100,B,%d,N,\n" % (it, it % 3 + 1) for it in range(count)))
+        ran = called(program, ["trades", "given.changes", "given.executions", "--html", "page.html"], capture_output=True, cwd=room)
+        page = read(room, "page.html")
+        names = re.findall(rb"<h3>\n(\w+)\n</h3>", page)
+        must((ran.returncode, names) == (0, [b"e%d" % it for it in range(1_000)]), f"{ran.returncode}, {len(names)} names, {ran.stderr!r}")
+        must(page.count(b"<svg ") == page.count(b"</svg>") == 1_000, f"{page.count(b'<svg ')} pictures")
+        must(ran.stdout.count(b"THROUGH,") == count, "not as many answers")
+        must((b"in the answers alone" in page) == bool(more) and more in page, "what is left out is not said")
+
+
 TRIALS = [
     ("closed", refused), ("reader_gone", refused), ("long", long_records), ("far_name", long_names), ("far_fields", long_fields),
     ("mark", marked), ("mark_in_parts", nothing), ("harmless", each_byte), ("small_memory", large), ("no_memory", larger),
-    ("one_found", among), ("name_found", many_symbols), ("pieces", each_other), ("columns", narrow),
+    ("one_found", among), ("name_found", many_symbols), ("pieces", each_other), ("columns", narrow), ("flagged", no_change),
 ]
 
 

@@ -1,69 +1,219 @@
-//! A symbol's day as a picture, with a plan where it was made.
-use crate::day::day_of;
+//! A symbol's day as a picture, with a plan and executions on the versions on which they were made.
+ghost use Rattle.std.specs.Prelude.{◌≡◌, ◌≤◌, All, length, true};
+ghost use Rattle.nms_quote.specs.Roster.{holds, sizes_of};
+ghost use Rattle.nms_quote.specs.declared.TheConstants.{MOST_CHANGES};
+
+use crate::axis::{Axis, Kind};
+use crate::day::{concerns, day_of};
 use crate::drawing_fault::DrawingFault;
+use crate::judged::{Judged, judge_plan};
+use crate::marks::{Mark, Marked, marked_in};
 use crate::picture::write_picture;
+use crate::words::Drawn;
 use nms_board::Boards;
 use nms_fees::Setup;
 use nms_files::read_changes;
 use nms_lines::read_plan;
 use nms_quote::{Change, Plan, Roster, Sym};
 use nms_show::Ending;
-use std::alloc::Global;
+use nms_times::Times;
+use std::alloc::{AllocError, Global};
 use std::io::{Read, Write};
 
-/// Draws a symbol's best bid and best offer by version as one SVG, with locked and crossed stretches, and the legs of a
-/// plan where it was made. A plan on another symbol, or on a later version, is told and not drawn.
+/// What of a day is drawn.
+#[derive(Clone, Copy)]
+pub struct Frame<'a> {
+    /// The first version that is drawn.
+    pub from: u64,
+    /// The last version that is drawn; `None` for the last one of the file.
+    pub to: Option<u64>,
+    /// Whether the axis counts the changes of the symbol alone.
+    pub own: bool,
+    /// The times of the changes, for an axis of clock time. Those between the versions that are drawn may not fall.
+    pub times: Option<&'a Times>,
+}
+
+/// What is drawn.
+#[derive(Drop)]
+pub(crate) struct Subject<'a> {
+    pub(crate) roster: &'a Roster,
+    pub(crate) sym: Sym,
+    pub(crate) axis: &'a Axis<'a>,
+    /// What becomes of the plan.
+    pub(crate) drawn: Drawn,
+    /// The plan, and what is found of it.
+    pub(crate) plan: Option<(&'a Plan, &'a Judged)>,
+    /// The executions.
+    pub(crate) marks: &'a [Mark],
+    /// How many of them are drawn; `None` if there is no file of them.
+    pub(crate) marked: Option<Marked>,
+}
+
+impl<'a> Subject<'a> {
+    /// The plan if it is drawn, and what is found of it.
+    pub(crate) fn whole_plan(&self) -> Option<(&'a Plan, &'a Judged)> {
+        if self.drawn == Drawn::Whole {
+            self.plan
+        } else {
+            None
+        }
+    }
+}
+
+/// Draws a symbol's best bid and best offer along a file of changes as one SVG, as `draw_day` does.
 ///
-/// At most 1,500 columns are drawn, each with the first, the lowest, the highest and the last price of its versions: the
-/// picture says how many versions a column has. A fault of the changes or of the plan's text leaves nothing written. It is not flushed.
+/// A fault of the changes, of the times or of the plan's text leaves nothing written. It is not flushed.
 pub fn draw_changes<R: Read + Drop, W: Write>(
     alloc: Global,
     setup: &Setup,
     source: R,
+    frame: &Frame<'_>,
     sym: Sym,
     plan: Option<&[u8]>,
     answers: &mut W,
 ) -> Result<Ending, DrawingFault> {
     match read_changes(alloc, setup, source) {
-        Ok(changes) => draw_with(alloc, setup, &changes, sym, plan, answers),
+        Ok(changes) => draw_day(alloc, setup, &changes, frame, sym, plan, None, answers),
         Err(fault) => Err(DrawingFault::Changes(fault)),
     }
 }
 
-/// Draws it with the plan of a text.
-fn draw_with<W: Write>(
+/// Draws a symbol's best bid and best offer as one SVG, with their displayed sizes, the locked and crossed stretches, the
+/// plan of a text on its version with its verdict and the quotations that it passed over, and executions of that symbol. A plan
+/// on another symbol, or on a version that is not drawn, is named as such and not drawn.
+///
+/// At most 1,500 columns are drawn, each with the first, the lowest, the highest and the last price of its versions: the
+/// picture says how many versions a column has. `VersionBeyondTape` if there are not the changes of the versions to be
+/// drawn, `Times` if the times are not as many, or fall between those versions. A fault leaves nothing written. It is not flushed.
+pub fn draw_day<W: Write>(
     alloc: Global,
     setup: &Setup,
     changes: &[Change],
+    frame: &Frame<'_>,
     sym: Sym,
     plan: Option<&[u8]>,
+    marks: Option<&[Mark]>,
     answers: &mut W,
-) -> Result<Ending, DrawingFault> {
+) -> Result<Ending, DrawingFault>
+    requires held { All (λ change. holds (sizes_of setup.now.roster) change ≡ true) changes.now }
+    requires few { length changes.now ≤ MOST_CHANGES }
+{
+    let axis = axis_of(alloc, changes, frame, sym)?;
     let Some(text) = plan else {
-        return draw_day(alloc, setup.roster(), changes, sym, None, answers);
+        return draw_on(alloc, setup.roster(), changes, &axis, sym, None, marks, answers);
     };
-    match read_plan(alloc, text, setup.roster()) {
-        Ok((plan, _)) => draw_day(alloc, setup.roster(), changes, sym, Some(&plan), answers),
-        Err(fault) => Err(DrawingFault::Plan(fault)),
-    }
+    let (plan, certificate) = match read_plan(alloc, text, setup.roster()) {
+        Ok(read) => read,
+        Err(fault) => return Err(DrawingFault::Plan(fault)),
+    };
+    let judged = judge_plan(alloc, setup, changes, &plan, &certificate)?;
+    let plan = Some((&plan, judged.as_ref()));
+    draw_on(alloc, setup.roster(), changes, &axis, sym, plan, marks, answers)
 }
 
-/// Draws it with a plan.
-fn draw_day<W: Write>(
+/// The axis of a frame.
+fn axis_of<'a>(
+    alloc: Global,
+    changes: &[Change],
+    frame: &Frame<'a>,
+    sym: Sym,
+) -> Result<Axis<'a>, DrawingFault> {
+    let all = changes.len() as u64;
+    let from = frame.from;
+    let to = match frame.to {
+        Some(to) => to,
+        None => all,
+    };
+    if from > to || to > all {
+        return Err(DrawingFault::VersionBeyondTape);
+    }
+    let versions = to - from + 1;
+    let kind = match frame.times {
+        Some(times) if !frame.own => {
+            times.check_len(changes.len())?;
+            Kind::Clock(times.rising_between(from as usize, to as usize)?)
+        }
+        Some(_) | None if frame.own => match own_versions(alloc, changes, sym, from, to) {
+            Ok(versions) => Kind::Own(versions),
+            Err(_) => return Err(DrawingFault::NoMemory),
+        },
+        Some(_) | None => Kind::Versions,
+    };
+    Ok(Axis {
+        from,
+        to,
+        versions,
+        kind,
+    })
+}
+
+/// The versions after the changes of a symbol, beyond one version and up to another.
+fn own_versions(
+    alloc: Global,
+    changes: &[Change],
+    sym: Sym,
+    from: u64,
+    to: u64,
+) -> Result<Vec<u64>, AllocError> {
+    let mut versions = Vec::new(alloc);
+    for before in from..to {
+        let Some(change) = changes.get(before as usize) else {
+            break;
+        };
+        if concerns(change, sym) {
+            versions.push(before + 1)?;
+        }
+    }
+    Ok(versions)
+}
+
+/// Draws a day on an axis, with a plan that was judged.
+fn draw_on<W: Write>(
     alloc: Global,
     roster: &Roster,
     changes: &[Change],
+    axis: &Axis<'_>,
     sym: Sym,
-    plan: Option<&Plan>,
+    plan: Option<(&Plan, Option<&Judged>)>,
+    marks: Option<&[Mark]>,
     answers: &mut W,
 ) -> Result<Ending, DrawingFault> {
     let mut board = match Boards::new(alloc, roster) {
         Ok(board) => board,
         Err(fault) => return Err(DrawingFault::Board(fault)),
     };
-    match day_of(alloc, &mut board, changes, sym) {
-        Ok(day) => write_picture(roster, sym, &day, plan, answers)?,
-        Err(_) => return Err(DrawingFault::NoMemory),
-    }
+    let Ok(day) = day_of(alloc, &mut board, changes, sym, axis) else {
+        return Err(DrawingFault::NoMemory);
+    };
+    let none: &[Mark] = &[];
+    let subject = Subject {
+        roster,
+        sym,
+        axis,
+        drawn: drawn_of(plan, sym, axis),
+        plan: match plan {
+            Some((plan, Some(judged))) => Some((plan, judged)),
+            Some((_, None)) | None => None,
+        },
+        marks: marks.unwrap_or(none),
+        marked: match marks {
+            Some(marks) => marked_in(marks, axis),
+            None => None,
+        },
+    };
+    write_picture(alloc, &subject, &day, answers)?;
     Ok(Ending::Done)
+}
+
+/// What becomes of a plan.
+fn drawn_of(plan: Option<(&Plan, Option<&Judged>)>, sym: Sym, axis: &Axis<'_>) -> Drawn {
+    match plan {
+        None => Drawn::Nothing,
+        Some((plan, _)) if plan.order.sym != sym => Drawn::OtherSymbol,
+        Some((_, None)) => Drawn::LaterVersion,
+        Some((plan, Some(_))) if plan.version < axis.from || plan.version > axis.to => {
+            Drawn::OtherVersion
+        }
+        Some((_, Some(_))) => Drawn::Whole,
+    }
 }

@@ -1,121 +1,310 @@
-//! The legs of a plan where it was made.
+//! A plan in a picture: its version's dotted line, on it the legs and the quotations that were passed over, each with a thin
+//! leader to its words at the right, and the limit as a dashed line.
+use crate::judged::{Judged, Passed};
 use crate::picture::put;
-use crate::scale::Scale;
+use crate::scale::{BOTTOM, HIGH, Scale, TOP};
 use nms_lines::name_of_part;
 use nms_quote::{Leg, OrderSide, Plan, Roster};
 use nms_show::{Item, ShowFault};
+use std::alloc::{AllocError, Global};
 use std::io::Write;
 
-/// How far apart marks stand.
+/// How far apart words stand, if there is room.
 const APART: u64 = 24;
-/// From here on they stand to the left of their version.
-const MIDDLE: u64 = 850;
+/// How far from its version's line a plan's words begin.
+const ASIDE: u64 = 40;
+/// The middle of the plot.
+const MIDDLE: u64 = 900;
+/// How far above a mark its words stand, if there is room: off the lines at its price.
+const ABOVE: u64 = 17;
 
-/// Writes the legs of a plan: a line at its version, a numbered mark at each price, and a list at the right.
-pub(crate) fn write_legs<W: Write>(
+/// What is marked on a plan's line.
+#[derive(Clone, Copy)]
+enum Marked {
+    /// A leg, counted from 1.
+    Leg(u64, Leg),
+    /// A quotation that was passed over.
+    Passed(Passed),
+}
+
+/// A mark, how far down it stands, and how far down its words.
+#[derive(Clone, Copy)]
+struct Label {
+    marked: Marked,
+    down: u64,
+    words: u64,
+}
+
+/// Writes a plan.
+pub(crate) fn write_plan_marks<W: Write>(
+    alloc: Global,
     roster: &Roster,
     plan: &Plan,
+    judged: &Judged,
+    x: u64,
     scale: &Scale,
     answers: &mut W,
 ) -> Result<(), ShowFault> {
-    let x = scale.across(plan.version);
-    write_plan_line(plan, x, answers)?;
-    write_order(plan, answers)?;
-    for (leg, number) in plan.legs.as_slice().iter().zip(1..33) {
-        write_mark(leg, number, x, scale, answers)?;
-        write_entry(roster, leg, number, answers)?;
+    let Ok(labels) = labels_of(alloc, plan, judged, scale) else {
+        return Err(ShowFault::NoMemory);
+    };
+    write_limit(plan, x, scale, answers)?;
+    write_line_of(x, answers)?;
+    for label in &labels {
+        write_leader(label, x, answers)?;
     }
+    for label in &labels {
+        write_label(roster, label, x, answers)?;
+    }
+    write_order(plan, judged, x, answers)
+}
+
+/// The marks of a plan from the highest price to the lowest, with room between their words.
+fn labels_of(
+    alloc: Global,
+    plan: &Plan,
+    judged: &Judged,
+    scale: &Scale,
+) -> Result<Vec<Label>, AllocError> {
+    let mut labels = Vec::new(alloc);
+    for (leg, number) in plan.legs.as_slice().iter().zip(1..33) {
+        push_label(&mut labels, Marked::Leg(number, *leg), scale.price(leg.price.get()))?;
+    }
+    for passed in &judged.passed {
+        push_label(&mut labels, Marked::Passed(*passed), scale.price(passed.row.price.get()))?;
+    }
+    labels.sort_by_key(|label| label.down)?;
+    let apart = HIGH.checked_div(labels.len() as u64).unwrap_or(APART).min(APART);
+    spread(&mut labels, apart);
+    Ok(labels)
+}
+
+/// Adds a mark.
+fn push_label(labels: &mut Vec<Label>, marked: Marked, down: u64) -> Result<(), AllocError> {
+    labels.push(Label {
+        marked,
+        down,
+        words: down.saturating_sub(ABOVE),
+    })?;
     Ok(())
 }
 
-/// Writes the line at the plan's version.
-fn write_plan_line<W: Write>(plan: &Plan, x: u64, answers: &mut W) -> Result<(), ShowFault> {
-    put(
-        answers,
-        &[
-            Item::Text("<path stroke=\"#000\" stroke-dasharray=\"3 5\" stroke-width=\"2\" d=\"M"),
-            Item::Number(x),
-            Item::Text(" 110V790\"/><text x=\"1670\" y=\"125\">plan on version "),
-            Item::Number(plan.version),
-            Item::Text("</text>"),
-        ],
-    )
+/// Moves words apart: down as far as the ones above need, then up again from the plot's lower end.
+fn spread(labels: &mut [Label], apart: u64) {
+    let mut least = TOP.saturating_add(14);
+    for label in labels.iter_mut() {
+        label.words = label.words.max(least);
+        least = label.words.saturating_add(apart);
+    }
+    let mut most = TOP.saturating_add(HIGH);
+    for label in labels.iter_mut().rev() {
+        label.words = label.words.min(most);
+        most = label.words.saturating_sub(apart);
+    }
 }
 
-/// Writes what was asked for, and what the plan fills of it.
-fn write_order<W: Write>(plan: &Plan, answers: &mut W) -> Result<(), ShowFault> {
-    let side = match plan.order.side {
-        OrderSide::Buy => "<text x=\"1670\" y=\"150\">buys ",
-        OrderSide::Sell => "<text x=\"1670\" y=\"150\">sells ",
+/// Writes the order's limit, if it stands in the plot.
+fn write_limit<W: Write>(
+    plan: &Plan,
+    x: u64,
+    scale: &Scale,
+    answers: &mut W,
+) -> Result<(), ShowFault> {
+    if !scale.has(plan.order.limit.get()) {
+        return Ok(());
+    }
+    let y = scale.price(plan.order.limit.get());
+    // The words stand at the end that is farther from the plan's own.
+    let anchor = if x > MIDDLE {
+        "start\" x=\"160"
+    } else {
+        "end\" x=\"1640"
     };
     put(
         answers,
         &[
-            Item::Text(side),
-            Item::Number(u64::from(plan.filled)),
-            Item::Text(" of "),
-            Item::Number(u64::from(plan.order.shares.get())),
-            Item::Text(" shares</text><text x=\"1670\" y=\"175\">limit "),
+            Item::Text("<path stroke=\"#000\" stroke-dasharray=\"16 8\" stroke-width=\"1.5\" d=\"M150 "),
+            Item::Number(y),
+            Item::Text("H1650\"/><text class=\"over\" font-size=\"18\" text-anchor=\""),
+            Item::Text(anchor),
+            Item::Text("\" y=\""),
+            Item::Number(y.saturating_sub(7)),
+            Item::Text("\">limit "),
             Item::of_price(plan.order.limit),
             Item::Text("</text>"),
         ],
     )
 }
 
-/// Writes the mark of a leg at its price, beside the plan's version.
-fn write_mark<W: Write>(
-    leg: &Leg,
-    number: u64,
-    x: u64,
-    scale: &Scale,
-    answers: &mut W,
-) -> Result<(), ShowFault> {
-    let aside = number.saturating_mul(APART);
-    let mark = if x > MIDDLE {
-        x.saturating_sub(aside)
-    } else {
-        x.saturating_add(aside)
-    };
-    let y = scale.down(leg.price.get());
+/// Writes the line at the plan's version.
+fn write_line_of<W: Write>(x: u64, answers: &mut W) -> Result<(), ShowFault> {
     put(
         answers,
         &[
-            Item::Text("<circle r=\"11\" fill=\"#fff\" stroke=\"#000\" stroke-width=\"2\" cx=\""),
-            Item::Number(mark),
-            Item::Text("\" cy=\""),
-            Item::Number(y),
-            Item::Text("\"/><text font-size=\"15\" text-anchor=\"middle\" x=\""),
-            Item::Number(mark),
+            Item::Text("<path stroke=\"#000\" stroke-dasharray=\"3 5\" stroke-width=\"2\" d=\"M"),
+            Item::Number(x),
+            Item::Text(" "),
+            Item::Number(TOP),
+            Item::Text("V"),
+            Item::Number(BOTTOM),
+            Item::Text("\"/>"),
+        ],
+    )
+}
+
+/// Writes the leader from a mark to its words.
+fn write_leader<W: Write>(label: &Label, x: u64, answers: &mut W) -> Result<(), ShowFault> {
+    put(
+        answers,
+        &[
+            Item::Text("<path stroke=\"#000\" d=\"M"),
+            Item::Number(x),
+            Item::Text(" "),
+            Item::Number(label.down),
+            Item::Text("L"),
+            Item::Number(x.saturating_add(ASIDE).saturating_sub(6)),
+            Item::Text(" "),
+            Item::Number(label.words),
+            Item::Text("\"/>"),
+        ],
+    )
+}
+
+/// Writes a mark on the plan's line, and its words.
+fn write_label<W: Write>(
+    roster: &Roster,
+    label: &Label,
+    x: u64,
+    answers: &mut W,
+) -> Result<(), ShowFault> {
+    match &label.marked {
+        Marked::Leg(number, leg) => {
+            put(
+                answers,
+                &[
+                    Item::Text("<circle r=\"6\" cx=\""),
+                    Item::Number(x),
+                    Item::Text("\" cy=\""),
+                    Item::Number(label.down),
+                    Item::Text("\"/>"),
+                ],
+            )?;
+            write_leg(roster, *number, leg, label.words, x, answers)
+        }
+        Marked::Passed(passed) => {
+            put(
+                answers,
+                &[
+                    Item::Text("<path fill=\"#fff\" stroke=\"#000\" stroke-width=\"2.5\" d=\"M"),
+                    Item::Number(x.saturating_sub(11)),
+                    Item::Text(" "),
+                    Item::Number(label.down),
+                    Item::Text("l11 -11l11 11l-11 11z\"/>"),
+                ],
+            )?;
+            write_passed(roster, passed, label.words, x, answers)
+        }
+    }
+}
+
+/// Begins words at the right of a plan's line.
+fn write_begun<W: Write>(style: &str, y: u64, x: u64, answers: &mut W) -> Result<(), ShowFault> {
+    put(
+        answers,
+        &[
+            Item::Text("<text class=\"over\" font-size=\"18\""),
+            Item::Text(style),
+            Item::Text(" x=\""),
+            Item::Number(x.saturating_add(ASIDE)),
             Item::Text("\" y=\""),
-            Item::Number(y.saturating_add(5)),
+            Item::Number(y.saturating_add(6)),
             Item::Text("\">"),
+        ],
+    )
+}
+
+/// Writes a leg's words: its number, its shares, where it goes, its price.
+fn write_leg<W: Write>(
+    roster: &Roster,
+    number: u64,
+    leg: &Leg,
+    y: u64,
+    x: u64,
+    answers: &mut W,
+) -> Result<(), ShowFault> {
+    write_begun("", y, x, answers)?;
+    put(
+        answers,
+        &[
+            Item::Text("leg "),
             Item::Number(number),
+            Item::Text(": "),
+            Item::Number(u64::from(leg.shares.get())),
+            Item::Text(" to "),
+            Item::Text(name_of_part(roster, leg.part)),
+            Item::Text(" at "),
+            Item::of_price(leg.price),
             Item::Text("</text>"),
         ],
     )
 }
 
-/// Writes a leg's line of the list: its number, its shares, where it goes, its price.
-fn write_entry<W: Write>(
+/// Writes the words of a quotation that was passed over: whose it is, its price, its size, what was sent there.
+fn write_passed<W: Write>(
     roster: &Roster,
-    leg: &Leg,
-    number: u64,
+    passed: &Passed,
+    y: u64,
+    x: u64,
     answers: &mut W,
 ) -> Result<(), ShowFault> {
+    write_begun(" font-weight=\"bold\"", y, x, answers)?;
     put(
         answers,
         &[
-            Item::Text("<text x=\"1670\" y=\""),
-            Item::Number(number.saturating_mul(APART).saturating_add(185)),
-            Item::Text("\">"),
-            Item::Number(number),
+            Item::Text(name_of_part(roster, passed.row.part)),
+            Item::Text(" at "),
+            Item::of_price(passed.row.price),
             Item::Text(": "),
-            Item::Number(u64::from(leg.shares.get())),
-            Item::Text(" "),
-            Item::Text(name_of_part(roster, leg.part)),
-            Item::Text(" "),
-            Item::of_price(leg.price),
-            Item::Text("</text>"),
+            Item::Number(u64::from(passed.row.size)),
+            Item::Text(" displayed, "),
+            Item::Number(passed.given),
+            Item::Text(" sent</text>"),
+        ],
+    )
+}
+
+/// Writes above a plan's line its verdict, what it does, and its version.
+fn write_order<W: Write>(
+    plan: &Plan,
+    judged: &Judged,
+    x: u64,
+    answers: &mut W,
+) -> Result<(), ShowFault> {
+    let anchor = if x > 1300 { "end" } else { "start" };
+    let verdict = if judged.doubt.is_some() {
+        "\">doubted plan "
+    } else {
+        "\">confirmed plan "
+    };
+    let side = match plan.order.side {
+        OrderSide::Buy => ": buys ",
+        OrderSide::Sell => ": sells ",
+    };
+    put(
+        answers,
+        &[
+            Item::Text("<text class=\"over\" font-size=\"18\" y=\"112\" text-anchor=\""),
+            Item::Text(anchor),
+            Item::Text("\" x=\""),
+            Item::Number(x),
+            Item::Text(verdict),
+            Item::Text("on version "),
+            Item::Number(plan.version),
+            Item::Text(side),
+            Item::Number(u64::from(plan.filled)),
+            Item::Text(" of "),
+            Item::Number(u64::from(plan.order.shares.get())),
+            Item::Text(" shares</text>"),
         ],
     )
 }

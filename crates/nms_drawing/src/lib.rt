@@ -1,22 +1,31 @@
 //! The changes of a day for people: at a version, as its opening changes, as a stream, as a picture.
 #![tactic(auto)]
 
+mod axis;
+mod clock;
 mod curve;
 mod day;
 mod drawing;
 mod drawing_fault;
 mod json_lines;
+mod judged;
 mod legs;
+mod marks;
+mod moments;
 mod opened;
 mod picture;
 mod scale;
+mod scene;
 mod streamed;
 mod timed_lines;
 mod version;
 mod words;
 
-pub use drawing::draw_changes;
+pub use drawing::{Frame, draw_changes, draw_day};
 pub use drawing_fault::DrawingFault;
+pub use marks::Mark;
+pub use moments::{Scene, scenes_of};
 pub use opened::write_opening;
+pub use scene::write_scene;
 pub use streamed::stream_changes;
 pub use version::show_version;

@@ -1,37 +1,60 @@
 //! A day as SVG: whole numbers throughout, black, white and grey alone. Names of a roster have capital letters, digits
 //! and the point alone, and all other words are the program's own, so nothing in it needs an escape.
+use crate::axis::{Axis, Kind, Label};
 use crate::curve::write_curves;
-use crate::day::{Column, Day};
-use crate::legs::write_legs;
-use crate::scale::{HIGH, LEFT, MOST_TICKS, Scale, TOP, share, step_of};
-use crate::words::{Drawn, write_heading, write_notes, write_title, write_words};
-use nms_quote::{Plan, Roster, Sym};
+use crate::day::{Day, Shown};
+use crate::drawing::Subject;
+use crate::legs::write_plan_marks;
+use crate::marks::write_marks;
+use crate::scale::{LEFT, MOST_TICKS, Scale};
+use crate::words::{write_heading, write_notes, write_title, write_words};
 use nms_show::{Form, Item, ShowFault, write_line};
+use std::alloc::Global;
 use std::io::Write;
 
 /// The head of the picture, and its hatchings and white ground.
 const HEAD: &str =
-    "<svg xmlns=\"http://www.w3.org/2000/svg\" viewBox=\"0 0 2000 1000\" role=\"img\" \
+    "<svg xmlns=\"http://www.w3.org/2000/svg\" viewBox=\"0 0 2000 1100\" role=\"img\" \
 aria-labelledby=\"title desc\" font-family=\"sans-serif\" font-size=\"20\">";
 
-const GROUND: &str = "<defs>\
+const GROUND: &str = "<style>.over{paint-order:stroke;stroke:#fff;stroke-width:5px}</style><defs>\
 <pattern id=\"locked\" width=\"8\" height=\"8\" patternUnits=\"userSpaceOnUse\"><path d=\"M0 8L8 0\" \
-stroke=\"#777\" stroke-width=\"1.5\"/></pattern>\
+stroke=\"#555\" stroke-width=\"2\"/></pattern>\
 <pattern id=\"crossed\" width=\"10\" height=\"10\" patternUnits=\"userSpaceOnUse\"><rect width=\"10\" height=\"10\" \
-fill=\"#ddd\"/><path d=\"M0 10L10 0M0 0L10 10\" stroke=\"#666\" stroke-width=\"1.5\"/></pattern></defs>\
-<rect width=\"2000\" height=\"1000\" fill=\"#fff\"/>";
+fill=\"#ccc\"/><path d=\"M0 10L10 0M0 0L10 10\" stroke=\"#333\" stroke-width=\"2\"/></pattern></defs>\
+<rect width=\"2000\" height=\"1100\" fill=\"#fff\"/>";
 
-const LEGEND: &str = "<g stroke=\"#000\" fill=\"none\"><path d=\"M150 85H220\" stroke-width=\"3\"/>\
-<path d=\"M360 85H430\" stroke-width=\"6\"/><path d=\"M360 85H430\" stroke-width=\"2.5\" stroke=\"#fff\"/>\
-<rect x=\"590\" y=\"72\" width=\"70\" height=\"26\" fill=\"url(#locked)\"/>\
-<rect x=\"770\" y=\"72\" width=\"70\" height=\"26\" fill=\"url(#crossed)\"/></g>\
-<text x=\"230\" y=\"92\">best bid</text><text x=\"440\" y=\"92\">best offer</text>\
-<text x=\"670\" y=\"92\">locked</text><text x=\"850\" y=\"92\">crossed</text>";
+const LEGEND: &str = "<g stroke=\"#000\" fill=\"none\"><path d=\"M150 78H210\" stroke-width=\"3\"/>\
+<path d=\"M340 78H400\" stroke-width=\"6\"/><path d=\"M340 78H400\" stroke-width=\"2.5\" stroke=\"#fff\"/></g>\
+<text x=\"220\" y=\"85\">best bid</text><text x=\"410\" y=\"85\">best offer</text>";
+
+/// What the marks of a plan are.
+const PLAN_LEGEND: &str = "<circle r=\"6\" cx=\"550\" cy=\"78\"/><text x=\"564\" y=\"85\">leg</text>\
+<path fill=\"#fff\" stroke=\"#000\" stroke-width=\"2.5\" d=\"M620 78l11 -11l11 11l-11 11z\"/>\
+<text x=\"650\" y=\"85\">protected quotation that the plan passed over</text>";
+
+/// What the marks of executions are.
+const MARKS_LEGEND: &str = "<circle r=\"4\" fill=\"#fff\" stroke=\"#000\" cx=\"1165\" cy=\"78\"/>\
+<text x=\"1177\" y=\"85\">execution</text><path stroke=\"#000\" stroke-width=\"4\" d=\"M1297 70l16 16m0 -16l-16 16\"/>\
+<text x=\"1323\" y=\"85\">traded through (\u{201c}3 of 40\u{201d}: 40 executions, 3 of them)</text>";
 
 const FRAME: &str =
-    "<path fill=\"none\" stroke=\"#000\" stroke-width=\"2\" d=\"M150 110V790H1650\"/>\
-<text text-anchor=\"middle\" x=\"900\" y=\"860\">version (number of changes)</text>\
-<text text-anchor=\"middle\" transform=\"translate(24 450) rotate(-90)\">price (dollars)</text>";
+    "<path fill=\"none\" stroke=\"#000\" stroke-width=\"2\" d=\"M150 115V850H1650M150 635H1650\"/>\
+<text text-anchor=\"middle\" transform=\"translate(24 375) rotate(-90)\">price (dollars)</text>\
+<text text-anchor=\"middle\" transform=\"translate(24 790) rotate(-90)\">shares</text>\
+<text text-anchor=\"end\" font-size=\"18\" x=\"142\" y=\"669\">crossed</text>\
+<text text-anchor=\"end\" font-size=\"18\" x=\"142\" y=\"699\">locked</text>";
+
+/// How each market is drawn in its own strip: below what, and with which hatching.
+const CROSSED: (&'static str, &'static str) = (
+    "<rect y=\"651\" height=\"24\" x=\"",
+    "\" fill=\"url(#crossed)\"/>",
+);
+
+const LOCKED: (&'static str, &'static str) = (
+    "<rect y=\"681\" height=\"24\" x=\"",
+    "\" fill=\"url(#locked)\"/>",
+);
 
 /// Writes a line of the picture.
 pub(crate) fn put<W: Write>(answers: &mut W, items: &[Item<'_>]) -> Result<(), ShowFault> {
@@ -40,143 +63,143 @@ pub(crate) fn put<W: Write>(answers: &mut W, items: &[Item<'_>]) -> Result<(), S
 
 /// Writes the picture of a day.
 pub(crate) fn write_picture<W: Write>(
-    roster: &Roster,
-    sym: Sym,
+    alloc: Global,
+    subject: &Subject<'_>,
     day: &Day,
-    plan: Option<&Plan>,
     answers: &mut W,
 ) -> Result<(), ShowFault> {
-    let drawn = Drawn::of(plan, sym, day);
-    let legs = plan.filter(|_| drawn == Drawn::Whole);
-    let scale = Scale::of(day, legs);
-    write_head(roster, sym, day, answers)?;
-    write_words(roster, day, legs, drawn, answers)?;
-    write_ground(roster, sym, day, answers)?;
-    write_plot(day, &scale, answers)?;
-    write_notes(day, drawn, answers)?;
-    if let Some(plan) = legs {
-        write_legs(roster, plan, &scale, answers)?;
+    let scale = scale_of(subject, day);
+    put(answers, &[Item::Text(HEAD)])?;
+    write_title(subject, answers)?;
+    write_words(subject, day, answers)?;
+    write_ground(subject, answers)?;
+    write_strips(day, &scale, answers)?;
+    write_axes(subject.axis, &scale, answers)?;
+    write_curves(day, &scale, Shown::Price, answers)?;
+    write_curves(day, &scale, Shown::Size, answers)?;
+    write_marks(alloc, subject.marks, subject.axis, &scale, answers)?;
+    if let Some((plan, judged)) = subject.whole_plan() {
+        let x = scale.version(subject.axis, plan.version);
+        write_plan_marks(alloc, subject.roster, plan, judged, x, &scale, answers)?;
     }
+    write_notes(subject, day, answers)?;
     put(answers, &[Item::Text("</svg>")])
 }
 
-/// Writes the head and the title.
-fn write_head<W: Write>(
-    roster: &Roster,
-    sym: Sym,
-    day: &Day,
-    answers: &mut W,
-) -> Result<(), ShowFault> {
-    put(answers, &[Item::Text(HEAD)])?;
-    write_title(roster, sym, day, answers)
+/// The scale of all that is drawn.
+fn scale_of(subject: &Subject<'_>, day: &Day) -> Scale {
+    let mut scale = Scale::of(day);
+    for mark in subject.marks {
+        if subject.axis.from <= mark.version && mark.version <= subject.axis.to {
+            scale.hold((mark.millionths / 100).max(1));
+            scale.hold(mark.millionths.div_ceil(100));
+        }
+    }
+    if let Some((plan, judged)) = subject.whole_plan() {
+        scale.hold_plan(plan, judged);
+    }
+    scale.widen();
+    scale
 }
 
 /// Writes the ground, the legend and the heading.
-fn write_ground<W: Write>(
-    roster: &Roster,
-    sym: Sym,
+fn write_ground<W: Write>(subject: &Subject<'_>, answers: &mut W) -> Result<(), ShowFault> {
+    put(answers, &[Item::Text(GROUND), Item::Text(LEGEND)])?;
+    if subject.whole_plan().is_some() {
+        put(answers, &[Item::Text(PLAN_LEGEND)])?;
+    }
+    if !subject.marks.is_empty() {
+        put(answers, &[Item::Text(MARKS_LEGEND)])?;
+    }
+    write_heading(subject, answers)
+}
+
+/// Writes the strips of the columns with crossed and with locked versions.
+fn write_strips<W: Write>(day: &Day, scale: &Scale, answers: &mut W) -> Result<(), ShowFault> {
+    write_strip(day, scale, true, CROSSED, answers)?;
+    write_strip(day, scale, false, LOCKED, answers)
+}
+
+/// Hatches the columns with crossed versions, or with locked ones: those side by side as one.
+fn write_strip<W: Write>(
     day: &Day,
+    scale: &Scale,
+    crossed: bool,
+    look: (&'static str, &'static str),
     answers: &mut W,
 ) -> Result<(), ShowFault> {
-    put(answers, &[Item::Text(GROUND), Item::Text(LEGEND)])?;
-    write_heading(roster, sym, day, answers)
-}
-
-/// Writes the plot: its hatchings, its axes, its curves.
-fn write_plot<W: Write>(day: &Day, scale: &Scale, answers: &mut W) -> Result<(), ShowFault> {
-    write_hatchings(day, scale, answers)?;
-    write_axes(day, scale, answers)?;
-    write_curves(day, scale, answers)
-}
-
-/// How a column is hatched: as crossed or as locked, and how high.
-#[derive(Clone, Copy, PartialEq, Eq)]
-struct Hatching {
-    is_crossed: bool,
-    high: u64,
-}
-
-/// How a column is hatched: as high as the share of its versions that are locked or crossed, and three high at least, so
-/// that it is seen; as crossed where one of them is crossed.
-fn hatching_of(column: &Column, each: u64) -> Hatching {
-    let marked = column.locked.saturating_add(column.crossed);
-    let high = if marked == 0 {
-        0
-    } else {
-        share(HIGH, marked, each).clamp(3, HIGH)
-    };
-    Hatching {
-        is_crossed: column.crossed > 0,
-        high,
-    }
-}
-
-/// Hatches the columns with locked and crossed versions, those side by side that look alike as one.
-fn write_hatchings<W: Write>(day: &Day, scale: &Scale, answers: &mut W) -> Result<(), ShowFault> {
-    let mut begun = 0;
+    let mut begun = None;
     let mut end = 0_u64;
-    let mut now = Hatching {
-        is_crossed: false,
-        high: 0,
-    };
     for column in &day.columns {
-        let next = hatching_of(column, day.each);
-        if next != now {
-            write_hatching(now, scale, begun, end, answers)?;
-            begun = end;
-            now = next;
+        let is_marked = if crossed {
+            column.crossed
+        } else {
+            column.locked
+        };
+        match (begun, is_marked) {
+            (None, true) => begun = Some(end),
+            (Some(from), false) => {
+                write_hatching(look, scale, from, end, answers)?;
+                begun = None;
+            }
+            (None, false) | (Some(_), true) => {}
         }
         end = end.saturating_add(1);
     }
-    write_hatching(now, scale, begun, end, answers)
+    match begun {
+        Some(from) => write_hatching(look, scale, from, end, answers),
+        None => Ok(()),
+    }
 }
 
 /// Hatches columns side by side. A narrow one is made three wide, so that it is seen.
 fn write_hatching<W: Write>(
-    hatching: Hatching,
+    look: (&'static str, &'static str),
     scale: &Scale,
     from: u64,
     to: u64,
     answers: &mut W,
 ) -> Result<(), ShowFault> {
-    if hatching.high == 0 {
-        return Ok(());
-    }
-    let fill = if hatching.is_crossed {
-        "\" fill=\"url(#crossed)\"/>"
-    } else {
-        "\" fill=\"url(#locked)\"/>"
-    };
     let start = scale.column(from);
     let width = scale.column(to).saturating_sub(start).max(3);
     put(
         answers,
         &[
-            Item::Text("<rect y=\""),
-            Item::Number(TOP.saturating_add(HIGH).saturating_sub(hatching.high)),
-            Item::Text("\" height=\""),
-            Item::Number(hatching.high),
-            Item::Text("\" x=\""),
+            Item::Text(look.0),
             Item::Number(start),
             Item::Text("\" width=\""),
             Item::Number(width),
-            Item::Text(fill),
+            Item::Text(look.1),
         ],
     )
 }
 
-/// Writes both axes with their ticks and units.
-fn write_axes<W: Write>(day: &Day, scale: &Scale, answers: &mut W) -> Result<(), ShowFault> {
+/// Writes the axes with their ticks and units.
+fn write_axes<W: Write>(axis: &Axis<'_>, scale: &Scale, answers: &mut W) -> Result<(), ShowFault> {
     if scale.high > 0 {
         write_price_ticks(scale, answers)?;
+        write_size_ticks(scale, answers)?;
     } else {
         put(
             answers,
-            &[Item::Text("<text x=\"800\" y=\"450\">nothing is quoted</text>")],
+            &[Item::Text("<text x=\"800\" y=\"380\">nothing is quoted</text>")],
         )?;
     }
-    write_version_ticks(day, scale, answers)?;
-    put(answers, &[Item::Text(FRAME)])
+    write_ticks(axis, scale, answers)?;
+    let what = match &axis.kind {
+        Kind::Versions => "version (number of changes)",
+        Kind::Own(_) => "number of this symbol's own changes, and below it the version",
+        Kind::Clock(_) => "time of day, and below it the version",
+    };
+    put(
+        answers,
+        &[
+            Item::Text(FRAME),
+            Item::Text("<text text-anchor=\"middle\" x=\"900\" y=\"936\">"),
+            Item::Text(what),
+            Item::Text("</text>"),
+        ],
+    )
 }
 
 /// Writes the ticks of prices.
@@ -187,7 +210,7 @@ fn write_price_ticks<W: Write>(scale: &Scale, answers: &mut W) -> Result<(), Sho
         if price > scale.high {
             break;
         }
-        let y = scale.down(price);
+        let y = scale.price(price);
         put(
             answers,
             &[
@@ -205,32 +228,72 @@ fn write_price_ticks<W: Write>(scale: &Scale, answers: &mut W) -> Result<(), Sho
     Ok(())
 }
 
-/// Writes the ticks of versions.
-fn write_version_ticks<W: Write>(
-    day: &Day,
-    scale: &Scale,
-    answers: &mut W,
-) -> Result<(), ShowFault> {
-    let step = step_of(day.versions);
-    let mut version = 0_u64;
-    for _ in 0..MOST_TICKS {
-        if version > day.versions {
-            break;
-        }
-        let x = scale.across(version);
+/// Writes the greatest size and none.
+fn write_size_ticks<W: Write>(scale: &Scale, answers: &mut W) -> Result<(), ShowFault> {
+    for shares in [0, scale.shares] {
+        let y = scale.down(Shown::Size, shares);
         put(
             answers,
             &[
-                Item::Text("<path stroke=\"#000\" d=\"M"),
+                Item::Text("<path stroke=\"#bbb\" d=\"M150 "),
+                Item::Number(y),
+                Item::Text("H1650\"/><text text-anchor=\"end\" x=\"142\" y=\""),
+                Item::Number(y.saturating_add(7)),
+                Item::Text("\">"),
+                Item::Number(shares),
+                Item::Text("</text>"),
+            ],
+        )?;
+    }
+    Ok(())
+}
+
+/// Writes the ticks along the axis.
+fn write_ticks<W: Write>(axis: &Axis<'_>, scale: &Scale, answers: &mut W) -> Result<(), ShowFault> {
+    let (first, step) = axis.ticks();
+    let mut place = first;
+    for _ in 0..MOST_TICKS {
+        if place > axis.last() {
+            break;
+        }
+        if let Some(label) = axis.label(place, step) {
+            write_tick(&label, scale.across(place), answers)?;
+        }
+        place = place.saturating_add(step);
+    }
+    Ok(())
+}
+
+/// Writes a tick.
+fn write_tick<W: Write>(label: &Label, x: u64, answers: &mut W) -> Result<(), ShowFault> {
+    let (counted, version) = match label {
+        Label::Version(version) => (Item::Number(*version), None),
+        Label::Own(changes, version) => (Item::Number(*changes), Some(*version)),
+        Label::Clock(time, version) => (Item::Bytes(time.bytes()), Some(*version)),
+    };
+    put(
+        answers,
+        &[
+            Item::Text("<path stroke=\"#000\" d=\"M"),
+            Item::Number(x),
+            Item::Text(" 850V860\"/><text text-anchor=\"middle\" y=\"884\" x=\""),
+            Item::Number(x.max(LEFT)),
+            Item::Text("\">"),
+            counted,
+            Item::Text("</text>"),
+        ],
+    )?;
+    match version {
+        None => Ok(()),
+        Some(version) => put(
+            answers,
+            &[
+                Item::Text("<text font-size=\"15\" text-anchor=\"middle\" y=\"906\" x=\""),
                 Item::Number(x),
-                Item::Text(" 790V800\"/><text text-anchor=\"middle\" y=\"824\" x=\""),
-                Item::Number(x.max(LEFT)),
                 Item::Text("\">"),
                 Item::Number(version),
                 Item::Text("</text>"),
             ],
-        )?;
-        version = version.saturating_add(step);
+        ),
     }
-    Ok(())
 }

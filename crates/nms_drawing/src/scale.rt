@@ -1,50 +1,71 @@
-//! Where versions and prices stand in a picture, and the ticks of its axes.
-use crate::day::{Day, Span};
-use nms_quote::Plan;
+//! Where places, prices and sizes stand in a picture, and the ticks of its axes.
+use crate::axis::Axis;
+use crate::day::{Day, Shown, Span};
+use crate::judged::Judged;
+use nms_quote::{Plan, Side};
 
-/// The plot within a picture of 2,000 by 1,000.
+/// The plot within a picture of 2,000 by 1,100: prices above, a strip of sizes below.
 pub(crate) const LEFT: u64 = 150;
 
-pub(crate) const TOP: u64 = 110;
+pub(crate) const TOP: u64 = 115;
 
 const WIDE: u64 = 1500;
 
-pub(crate) const HIGH: u64 = 680;
+pub(crate) const HIGH: u64 = 520;
+/// The strip of sizes, and where it ends.
+const SIZES_TOP: u64 = 730;
+
+const SIZES_HIGH: u64 = 120;
+
+pub(crate) const BOTTOM: u64 = 850;
 /// The steps between ticks: the least is taken that goes into a range twelve times at most.
 const STEPS: [u64; 3] = [1, 2, 5];
 /// The most ticks of an axis.
 pub(crate) const MOST_TICKS: u64 = 14;
 
-/// The prices of the plot, lowest and highest, in 1/10,000 dollar, both 0 where nothing is quoted; and how many versions
-/// it has.
+/// The prices of the plot, lowest and highest, in 1/10,000 dollar, both 0 if nothing is quoted; the greatest size in shares;
+/// and how many places it has.
 #[derive(Clone, Copy)]
 pub(crate) struct Scale {
     pub(crate) low: u64,
     pub(crate) high: u64,
-    versions: u64,
+    pub(crate) shares: u64,
+    places: u64,
     each: u64,
 }
 
 impl Scale {
-    /// The scale of a day and of a plan's legs.
-    pub(crate) fn of(day: &Day, plan: Option<&Plan>) -> Scale {
+    /// The scale of a day.
+    pub(crate) fn of(day: &Day) -> Scale {
         let mut scale = Scale {
             low: 0,
             high: 0,
-            versions: day.each.saturating_mul(day.columns.len() as u64),
+            shares: 0,
+            places: day.each.saturating_mul(day.columns.len() as u64),
             each: day.each,
         };
         for column in &day.columns {
-            scale.hold_span(&column.bid);
-            scale.hold_span(&column.offer);
-        }
-        if let Some(plan) = plan {
-            for leg in plan.legs.as_slice() {
-                scale.hold(leg.price.get());
+            for side in [Side::Bid, Side::Offer] {
+                scale.hold_span(&column.span(side, Shown::Price));
+                scale.shares = scale.shares.max(column.span(side, Shown::Size).high);
             }
         }
-        scale.widen();
         scale
+    }
+
+    /// With the legs of a plan, what it passed over, and its limit if that is near.
+    pub(crate) fn hold_plan(&mut self, plan: &Plan, judged: &Judged) {
+        for leg in plan.legs.as_slice() {
+            self.hold(leg.price.get());
+        }
+        for passed in &judged.passed {
+            self.hold(passed.row.price.get());
+        }
+        let limit = plan.order.limit.get();
+        let room = self.high.saturating_sub(self.low).max(100);
+        if limit >= self.low.saturating_sub(room) && limit <= self.high.saturating_add(room) {
+            self.hold(limit);
+        }
     }
 
     fn hold_span(&mut self, span: &Span) {
@@ -54,7 +75,8 @@ impl Scale {
         }
     }
 
-    fn hold(&mut self, price: u64) {
+    /// With a price.
+    pub(crate) fn hold(&mut self, price: u64) {
         self.low = if self.high == 0 {
             price
         } else {
@@ -63,8 +85,13 @@ impl Scale {
         self.high = self.high.max(price);
     }
 
+    /// Whether a price stands in the plot.
+    pub(crate) fn has(&self, price: u64) -> bool {
+        self.low <= price && price <= self.high
+    }
+
     /// Leaves room below and above the prices.
-    fn widen(&mut self) {
+    pub(crate) fn widen(&mut self) {
         if self.high > 0 {
             let room = (self.high.saturating_sub(self.low) / 16).max(5);
             self.low = self.low.saturating_sub(room);
@@ -72,9 +99,14 @@ impl Scale {
         }
     }
 
-    /// Where a version begins.
-    pub(crate) fn across(&self, version: u64) -> u64 {
-        LEFT.saturating_add(share(WIDE, version, self.versions))
+    /// Where a place of the axis begins.
+    pub(crate) fn across(&self, place: u64) -> u64 {
+        LEFT.saturating_add(share(WIDE, place, self.places))
+    }
+
+    /// Where a version that is drawn begins.
+    pub(crate) fn version(&self, axis: &Axis<'_>, version: u64) -> u64 {
+        self.across(axis.place(version))
     }
 
     /// Where a column begins.
@@ -82,12 +114,29 @@ impl Scale {
         self.across(self.each.saturating_mul(place))
     }
 
+    /// Where a price or a size stands.
+    pub(crate) fn down(&self, shown: Shown, value: u64) -> u64 {
+        match shown {
+            Shown::Price => self.price(value),
+            Shown::Size => {
+                let up = share(SIZES_HIGH, value, self.shares);
+                SIZES_TOP.saturating_add(SIZES_HIGH).saturating_sub(up)
+            }
+        }
+    }
+
     /// Where a price stands.
-    pub(crate) fn down(&self, price: u64) -> u64 {
+    pub(crate) fn price(&self, price: u64) -> u64 {
+        self.millionths(price.saturating_mul(100))
+    }
+
+    /// Where a price in 1/1,000,000 dollar stands.
+    pub(crate) fn millionths(&self, price: u64) -> u64 {
+        let low = self.low.saturating_mul(100);
         let up = share(
             HIGH,
-            price.saturating_sub(self.low),
-            self.high.saturating_sub(self.low),
+            price.saturating_sub(low),
+            self.high.saturating_sub(self.low).saturating_mul(100),
         );
         TOP.saturating_add(HIGH).saturating_sub(up)
     }

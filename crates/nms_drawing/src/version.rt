@@ -68,7 +68,11 @@ pub(crate) fn board_at<R: Read + Drop>(
 }
 
 /// The board after these changes.
-fn board_after(alloc: Global, roster: &Roster, changes: &[Change]) -> Result<Boards, DrawingFault>
+pub(crate) fn board_after(
+    alloc: Global,
+    roster: &Roster,
+    changes: &[Change],
+) -> Result<Boards, DrawingFault>
     requires held { All (λ change. holds (sizes_of roster.now) change ≡ true) changes.now }
     requires few { length changes.now ≤ MOST_CHANGES }
     ensures { IfOk result (λ board. board.sizes ≡ sizes_of roster.now) }

@@ -1,24 +1,34 @@
 //! What a picture shows in words, for those who can't see it and for those who can: its title, its numbers, what was left
-//! out, and what became of a plan.
-use crate::day::{Day, NOTHING, Span};
+//! out, what was found of a plan, and which executions there are.
+use crate::axis::{Axis, Kind};
+use crate::clock::clock_of;
+use crate::day::{Day, NOTHING, Shown, Span};
+use crate::drawing::Subject;
+use crate::judged::{Judged, Passed, why_of};
+use crate::marks::{write_listed, write_marked};
 use crate::picture::put;
+use nms_cert::Doubt;
 use nms_lines::{name_of_part, name_of_sym};
-use nms_quote::{Leg, Plan, Roster, Side, Sym};
+use nms_quote::{Leg, OrderSide, Plan, Roster, Side};
+use nms_rules::Breach;
 use nms_show::{Item, ShowFault};
+use nms_times::TimeOfDay;
 use std::io::Write;
 
 /// What is drawn of a symbol.
-const SUBJECT: &str = ": best bid and best offer, versions 0 to ";
+const SUBJECT: &str = ": best bid and best offer, versions ";
 /// What the lines are.
-const LINES: &str =
-    "<desc id=\"desc\">The solid line is the best bid, the hollow one the best offer.";
-/// What a column of several versions leaves out.
+const LINES: &str = "<desc id=\"desc\">The solid line is the best bid, the hollow one the best offer. Below are \
+their displayed sizes.";
+/// What a column of several places leaves out.
 const LEFT_OUT: &str =
-    " versions: their first, lowest, highest and last prices, without the order between these. It is \
-hatched as high as the share of them that is locked or crossed.";
+    ": the first, lowest, highest and last prices, without the order between these.";
+/// What a confirmed plan is.
+const CONFIRMED: &str =
+    "The plan is confirmed: no lawful plan fills more, and none that fills as much costs less.";
 
 /// What became of a plan.
-#[derive(Clone, Copy)]
+#[derive(Clone, Copy, PartialEq, Eq)]
 pub(crate) enum Drawn {
     /// There was none.
     Nothing,
@@ -28,130 +38,130 @@ pub(crate) enum Drawn {
     OtherSymbol,
     /// It is not drawn: the day has not its version.
     LaterVersion,
+    /// It is not drawn: its version is not among those that are.
+    OtherVersion,
 }
 
 impl Drawn {
-    /// What becomes of a plan.
-    pub(crate) fn of(plan: Option<&Plan>, sym: Sym, day: &Day) -> Drawn {
-        match plan {
-            None => Drawn::Nothing,
-            Some(plan) if plan.order.sym != sym => Drawn::OtherSymbol,
-            Some(plan) if plan.version > day.versions => Drawn::LaterVersion,
-            Some(_) => Drawn::Whole,
-        }
-    }
-
     /// A sentence about it.
     fn sentence(self) -> &'static str {
         match self {
-            Drawn::Nothing => "",
-            Drawn::Whole => "The numbered marks are the legs of the plan, beside its version.",
+            Drawn::Nothing | Drawn::Whole => "",
             Drawn::OtherSymbol => "The plan is of another symbol and is not drawn.",
             Drawn::LaterVersion => "The plan is on a version that is not there and is not drawn.",
+            Drawn::OtherVersion => "The plan is on a version before or after these and is not drawn.",
         }
     }
 }
 
 /// Writes the title.
 pub(crate) fn write_title<W: Write>(
-    roster: &Roster,
-    sym: Sym,
-    day: &Day,
+    subject: &Subject<'_>,
     answers: &mut W,
 ) -> Result<(), ShowFault> {
-    put(
-        answers,
-        &[
-            Item::Text("<title id=\"title\">"),
-            Item::Text(name_of_sym(roster, sym)),
-            Item::Text(SUBJECT),
-            Item::Number(day.versions),
-            Item::Text("</title>"),
-        ],
-    )
+    write_named(subject, "<title id=\"title\">", "</title>", answers)
 }
 
 /// Writes the same as a heading that is seen.
 pub(crate) fn write_heading<W: Write>(
-    roster: &Roster,
-    sym: Sym,
-    day: &Day,
+    subject: &Subject<'_>,
+    answers: &mut W,
+) -> Result<(), ShowFault> {
+    let begun = "<text x=\"150\" y=\"45\" font-size=\"30\">";
+    write_named(subject, begun, "</text>", answers)
+}
+
+/// Writes what is drawn.
+fn write_named<W: Write>(
+    subject: &Subject<'_>,
+    begun: &'static str,
+    ended: &'static str,
     answers: &mut W,
 ) -> Result<(), ShowFault> {
     put(
         answers,
         &[
-            Item::Text("<text x=\"150\" y=\"45\" font-size=\"30\">"),
-            Item::Text(name_of_sym(roster, sym)),
+            Item::Text(begun),
+            Item::Text(name_of_sym(subject.roster, subject.sym)),
             Item::Text(SUBJECT),
-            Item::Number(day.versions),
-            Item::Text("</text>"),
+            Item::Number(subject.axis.from),
+            Item::Text(" to "),
+            Item::Number(subject.axis.to),
+            Item::Text(ended),
         ],
     )
 }
 
-/// Writes in words what a day is, and the legs of a plan that is drawn.
+/// Writes in words what a day is, what was found of a plan that is drawn, and which executions traded through.
 pub(crate) fn write_words<W: Write>(
-    roster: &Roster,
+    subject: &Subject<'_>,
     day: &Day,
-    plan: Option<&Plan>,
-    drawn: Drawn,
     answers: &mut W,
 ) -> Result<(), ShowFault> {
     put(answers, &[Item::Text(LINES)])?;
     for side in [Side::Bid, Side::Offer] {
         write_range(side, &range_of(day, side), answers)?;
     }
-    write_marked(day, answers)?;
-    write_drawn(roster, plan, drawn, answers)
-}
-
-/// Writes what became of a plan, and its legs where it is drawn.
-fn write_drawn<W: Write>(
-    roster: &Roster,
-    plan: Option<&Plan>,
-    drawn: Drawn,
-    answers: &mut W,
-) -> Result<(), ShowFault> {
-    put(answers, &[Item::Text(drawn.sentence())])?;
-    if let Some(plan) = plan {
-        write_plan(roster, plan, answers)?;
+    write_axis(subject.axis, answers)?;
+    write_counts(subject.axis, day, answers)?;
+    write_stretches(day, answers)?;
+    write_left_out(subject.axis, day, answers)?;
+    write_drawn(subject, answers)?;
+    if let Some(marked) = &subject.marked {
+        write_marked(marked, answers)?;
+        write_listed(subject.marks, subject.axis, marked, answers)?;
     }
     put(answers, &[Item::Text("</desc>")])
 }
 
-/// Writes how often a day is locked and crossed, and what was left out.
-fn write_marked<W: Write>(day: &Day, answers: &mut W) -> Result<(), ShowFault> {
-    write_counts(day, answers)?;
-    write_stretches(day, answers)?;
-    write_left_out(day, answers)
+/// Writes what became of a plan; if it is drawn, its legs, its verdict, and what it passed over.
+fn write_drawn<W: Write>(subject: &Subject<'_>, answers: &mut W) -> Result<(), ShowFault> {
+    let Some((plan, judged)) = subject.whole_plan() else {
+        return put(answers, &[Item::Text(subject.drawn.sentence())]);
+    };
+    write_plan(subject.roster, plan, answers)?;
+    write_verdict(subject.roster, plan, judged, answers)?;
+    for passed in judged.passed.iter().skip(1) {
+        write_passed(subject.roster, passed, answers)?;
+    }
+    Ok(())
 }
 
-/// Writes below the picture how often it is locked and crossed, what was left out, and what became of a plan.
+/// Writes below the picture how often it is locked and crossed, what was left out, what was found of a plan, and how many
+/// executions there are.
 pub(crate) fn write_notes<W: Write>(
+    subject: &Subject<'_>,
     day: &Day,
-    drawn: Drawn,
     answers: &mut W,
 ) -> Result<(), ShowFault> {
-    put(answers, &[Item::Text("<text x=\"150\" y=\"900\">")])?;
-    write_counts(day, answers)?;
-    put(answers, &[Item::Text("</text><text x=\"150\" y=\"930\">")])?;
-    write_left_out(day, answers)?;
-    put(
-        answers,
-        &[
-            Item::Text("</text><text x=\"150\" y=\"960\">"),
-            Item::Text(drawn.sentence()),
-            Item::Text("</text>"),
-        ],
-    )
+    put(answers, &[Item::Text("<text x=\"150\" y=\"978\">")])?;
+    write_counts(subject.axis, day, answers)?;
+    put(answers, &[Item::Text("</text><text x=\"150\" y=\"1008\">")])?;
+    write_left_out(subject.axis, day, answers)?;
+    put(answers, &[Item::Text("</text><text x=\"150\" y=\"1038\">")])?;
+    match subject.whole_plan() {
+        Some((plan, judged)) => write_verdict(subject.roster, plan, judged, answers)?,
+        None => put(answers, &[Item::Text(subject.drawn.sentence())])?,
+    }
+    put(answers, &[Item::Text("</text>")])?;
+    if let Some(marked) = &subject.marked {
+        let begun = if subject.drawn == Drawn::Nothing {
+            "<text x=\"150\" y=\"1038\">"
+        } else {
+            "<text x=\"150\" y=\"1068\">"
+        };
+        put(answers, &[Item::Text(begun)])?;
+        write_marked(marked, answers)?;
+        put(answers, &[Item::Text("</text>")])?;
+    }
+    Ok(())
 }
 
-/// The lowest, the highest and the last price of a side, each 0 where there is none.
+/// The lowest, the highest and the last price of a side, each 0 if there is none.
 fn range_of(day: &Day, side: Side) -> Span {
     let mut range = NOTHING;
     for column in &day.columns {
-        let span = column.span(side);
+        let span = column.span(side, Shown::Price);
         if span.low > 0 {
             range.low = if range.low == 0 {
                 span.low
@@ -193,8 +203,56 @@ fn write_range<W: Write>(side: Side, range: &Span, answers: &mut W) -> Result<()
     )
 }
 
+/// Writes what the axis counts, if that is not versions.
+fn write_axis<W: Write>(axis: &Axis<'_>, answers: &mut W) -> Result<(), ShowFault> {
+    match &axis.kind {
+        Kind::Versions => Ok(()),
+        Kind::Own(_) => put(
+            answers,
+            &[
+                Item::Text("The axis counts the changes of this symbol alone: "),
+                Item::Number(axis.place(axis.to)),
+                Item::Text("."),
+            ],
+        ),
+        Kind::Clock(rising) => match (rising.times.first(), rising.times.last()) {
+            (Some(first), Some(last)) => write_times(*first, *last, answers),
+            _ => put(answers, &[Item::Text("There is no change and no time.")]),
+        },
+    }
+}
+
+/// Writes the times of the axis.
+fn write_times<W: Write>(
+    first: TimeOfDay,
+    last: TimeOfDay,
+    answers: &mut W,
+) -> Result<(), ShowFault> {
+    let first = clock_of(first, 1);
+    let last = clock_of(last, 1);
+    write_between(first.bytes(), last.bytes(), answers)
+}
+
+/// Writes the times of the axis, as they are shown.
+fn write_between<'a, W: Write>(
+    first: &'a [u8],
+    last: &'a [u8],
+    answers: &mut W,
+) -> Result<(), ShowFault> {
+    put(
+        answers,
+        &[
+            Item::Text("The axis has the time of day: the changes are from "),
+            Item::Bytes(first),
+            Item::Text(" to "),
+            Item::Bytes(last),
+            Item::Text("."),
+        ],
+    )
+}
+
 /// Writes how many versions are locked and crossed.
-fn write_counts<W: Write>(day: &Day, answers: &mut W) -> Result<(), ShowFault> {
+fn write_counts<W: Write>(axis: &Axis<'_>, day: &Day, answers: &mut W) -> Result<(), ShowFault> {
     put(
         answers,
         &[
@@ -203,7 +261,7 @@ fn write_counts<W: Write>(day: &Day, answers: &mut W) -> Result<(), ShowFault> {
             Item::Text("; crossed: "),
             Item::Number(day.crossed),
             Item::Text("; all: "),
-            Item::Number(day.versions.saturating_add(1)),
+            Item::Number(axis.versions),
             Item::Text("."),
         ],
     )
@@ -211,7 +269,7 @@ fn write_counts<W: Write>(day: &Day, answers: &mut W) -> Result<(), ShowFault> {
 
 /// Writes the first stretches by their versions, and how many more there are.
 fn write_stretches<W: Write>(day: &Day, answers: &mut W) -> Result<(), ShowFault> {
-    for stretch in &day.told {
+    for stretch in &day.listed {
         let kind = if stretch.crossed {
             "Crossed from version "
         } else {
@@ -232,7 +290,7 @@ fn write_stretches<W: Write>(day: &Day, answers: &mut W) -> Result<(), ShowFault
         put(
             answers,
             &[
-                Item::Text("Further such stretches, which are drawn and not told here: "),
+                Item::Text("Further such stretches, which are drawn and not listed here: "),
                 Item::Number(day.more),
                 Item::Text("."),
             ],
@@ -242,15 +300,21 @@ fn write_stretches<W: Write>(day: &Day, answers: &mut W) -> Result<(), ShowFault
 }
 
 /// Writes what was left out.
-fn write_left_out<W: Write>(day: &Day, answers: &mut W) -> Result<(), ShowFault> {
+fn write_left_out<W: Write>(axis: &Axis<'_>, day: &Day, answers: &mut W) -> Result<(), ShowFault> {
     if day.each <= 1 {
-        return put(answers, &[Item::Text("Every version is drawn.")]);
+        return put(answers, &[Item::Text("Every change of these is drawn.")]);
     }
+    let what = match &axis.kind {
+        Kind::Versions => " versions",
+        Kind::Own(_) => " changes of the symbol",
+        Kind::Clock(_) => " nanoseconds",
+    };
     put(
         answers,
         &[
             Item::Text("A column stands for "),
             Item::Number(day.each),
+            Item::Text(what),
             Item::Text(LEFT_OUT),
         ],
     )
@@ -265,26 +329,147 @@ fn write_plan<W: Write>(roster: &Roster, plan: &Plan, answers: &mut W) -> Result
             Item::Number(plan.version),
             Item::Text(" and fills "),
             Item::Number(u64::from(plan.filled)),
-            Item::Text(" shares."),
+            Item::Text(" shares, with the limit "),
+            Item::of_price(plan.order.limit),
+            Item::Text("."),
         ],
     )?;
-    for leg in plan.legs.as_slice() {
-        write_leg(roster, leg, answers)?;
+    for (leg, number) in plan.legs.as_slice().iter().zip(1..33) {
+        put(answers, &items_of_leg(roster, "Leg ", number, leg, "."))?;
     }
     Ok(())
 }
 
-/// Writes a leg.
-fn write_leg<W: Write>(roster: &Roster, leg: &Leg, answers: &mut W) -> Result<(), ShowFault> {
+/// A leg in words.
+fn items_of_leg<'a>(
+    roster: &'a Roster,
+    begun: &'static str,
+    number: u64,
+    leg: &Leg,
+    ended: &'static str,
+) -> [Item<'a>; 9] {
+    [
+        Item::Text(begun),
+        Item::Number(number),
+        Item::Text(": "),
+        Item::Number(u64::from(leg.shares.get())),
+        Item::Text(" to "),
+        Item::Text(name_of_part(roster, leg.part)),
+        Item::Text(" at "),
+        Item::of_price(leg.price),
+        Item::Text(ended),
+    ]
+}
+
+/// Writes a plan's verdict: that it is confirmed, or what is doubtful.
+fn write_verdict<W: Write>(
+    roster: &Roster,
+    plan: &Plan,
+    judged: &Judged,
+    answers: &mut W,
+) -> Result<(), ShowFault> {
+    let Some(doubt) = &judged.doubt else {
+        return put(answers, &[Item::Text(CONFIRMED)]);
+    };
+    let (space, breach) = breach_in(doubt);
     put(
         answers,
         &[
-            Item::Number(u64::from(leg.shares.get())),
-            Item::Text(" at "),
-            Item::Text(name_of_part(roster, leg.part)),
-            Item::Text(" for "),
-            Item::of_price(leg.price),
+            Item::Text("The plan is doubted, "),
+            Item::Text(doubt.code()),
+            Item::Text(space),
+            Item::Text(breach),
+            Item::Text(": "),
+            Item::Text(why_of(doubt)),
             Item::Text("."),
+        ],
+    )?;
+    if let Some((number, leg)) = &judged.leg {
+        put(answers, &items_of_leg(roster, " Leg ", *number, leg, ""))?;
+    }
+    match judged.passed.first() {
+        Some(first) if is_through(doubt) => {
+            write_first(roster, plan, first, judged.passed.len() as u64, answers)
+        }
+        Some(_) | None => Ok(()),
+    }
+}
+
+/// The code of the breach that a doubt is, and a space before it.
+fn breach_in(doubt: &Doubt) -> (&'static str, &'static str) {
+    match doubt {
+        Doubt::Breach(breach) => (" ", breach.code()),
+        Doubt::NotMost
+        | Doubt::CutMissing
+        | Doubt::CutExtra
+        | Doubt::WrongKind
+        | Doubt::MarginalRange
+        | Doubt::BoundFails { .. } => ("", ""),
+    }
+}
+
+/// Whether a doubt is a trade-through.
+fn is_through(doubt: &Doubt) -> bool {
+    matches!(doubt, Doubt::Breach(Breach::TradedThrough { .. }))
+}
+
+/// Writes the first quotation that a doubted plan passed over, as `check` says it, and how many more there are.
+fn write_first<W: Write>(
+    roster: &Roster,
+    plan: &Plan,
+    passed: &Passed,
+    all: u64,
+    answers: &mut W,
+) -> Result<(), ShowFault> {
+    let words = match plan.order.side {
+        OrderSide::Buy => " is past the better protected offer of ",
+        OrderSide::Sell => " is past the better protected bid of ",
+    };
+    put(
+        answers,
+        &[
+            Item::Text(words),
+            Item::Text(name_of_part(roster, passed.row.part)),
+            Item::Text(" at "),
+            Item::of_price(passed.row.price),
+            Item::Text(": "),
+            Item::Number(u64::from(passed.row.size)),
+            Item::Text(" displayed, "),
+            Item::Number(passed.given),
+            Item::Text(" sent there."),
+        ],
+    )?;
+    match all.checked_sub(1) {
+        None | Some(0) => Ok(()),
+        Some(more) => put(
+            answers,
+            &[
+                Item::Text(" Further ones passed over: "),
+                Item::Number(more),
+                Item::Text("."),
+            ],
+        ),
+    }
+}
+
+/// Writes a quotation that was passed over.
+fn write_passed<W: Write>(
+    roster: &Roster,
+    passed: &Passed,
+    answers: &mut W,
+) -> Result<(), ShowFault> {
+    put(
+        answers,
+        &[
+            Item::Text("Passed over too: "),
+            Item::Text(name_of_part(roster, passed.row.part)),
+            Item::Text(" at "),
+            Item::of_price(passed.row.price),
+            Item::Text(", "),
+            Item::Number(u64::from(passed.row.size)),
+            Item::Text(" displayed, "),
+            Item::Number(passed.given),
+            Item::Text(" sent."),
         ],
     )
 }

@@ -43,6 +43,12 @@ pub(crate) enum About {
     Version,
     /// The value of `--map`.
     Map,
+    /// The value of `--from`.
+    From,
+    /// The value of `--to`.
+    To,
+    /// The value of `--trades`.
+    Trades,
 }
 
 impl Fault {

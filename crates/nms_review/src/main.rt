@@ -4,11 +4,13 @@
 mod answers;
 mod call;
 mod comparing;
+mod drawing;
 mod explaining;
 mod fault;
 mod files;
 mod importing;
 mod importing_trades;
+mod paging;
 mod progress;
 mod screen;
 mod serving;

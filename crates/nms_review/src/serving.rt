@@ -1,6 +1,7 @@
 //! What each subcommand does: its words are read, its files opened, and a library's call answers.
 use crate::call::{ended, form_of, has_word, no_sym, sym_at, version_of};
 use crate::comparing::serve_compare;
+use crate::drawing::serve_draw;
 use crate::explaining::serve_explain;
 use crate::fault::{About, Fault};
 use crate::files::{open_word, read_file, setup_of, word_at};
@@ -9,7 +10,7 @@ use crate::screen::Screen;
 use crate::source::Source;
 use crate::timing::{given_times, serve_when, version_among};
 use crate::trading::serve_trades;
-use nms_drawing::{draw_changes, show_version, stream_changes, write_opening};
+use nms_drawing::{show_version, stream_changes, write_opening};
 use nms_fees::Setup;
 use nms_review_words::{Request, Sub};
 use nms_show::Ending;
@@ -238,33 +239,6 @@ where
         "H3" => Fault::of("H3", 6, About::Times),
         code => fault_of(code, fault.status(), ("L11", About::Word(1)), 0),
     });
-    ended(&mut source, served)
-}
-
-/// Draws a symbol's day.
-fn serve_draw<T, W: Write>(
-    rt: &T,
-    screen: Screen,
-    setup: &Setup,
-    request: &Request,
-    answers: &mut W,
-) -> Result<Ending, Fault>
-where
-    T: AllocGlobal + Clock + Eprint + Files,
-{
-    let Some(sym) = sym_at(setup, request, 1) else {
-        return Err(no_sym(1));
-    };
-    let plan = match &request.plan {
-        Some(path) => Some(read_file(rt, path.as_str(), About::Plan)?),
-        None => None,
-    };
-    let plan = plan.as_ref().map(Vec::as_slice);
-    let file = open_word(rt, request, 0)?;
-    let mut source = Source::new(rt, screen, file);
-    let served = draw_changes(rt.alloc(), setup, &mut source, sym, plan, answers).map_err(
-        |fault| fault_of(fault.code(), fault.status(), ("L11", About::Plan), 0),
-    );
     ended(&mut source, served)
 }
 

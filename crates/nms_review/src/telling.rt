@@ -167,6 +167,9 @@ fn word_of(about: About, request: &Request) -> &str {
         About::Symbol => request.symbol.as_ref(),
         About::Version => request.version.as_ref(),
         About::Map => request.map.as_ref(),
+        About::From => request.from.as_ref(),
+        About::To => request.to.as_ref(),
+        About::Trades => request.trades.as_ref(),
     };
     match word {
         Some(word) => word.as_str(),

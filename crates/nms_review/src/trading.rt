@@ -2,6 +2,7 @@
 use crate::call::{ended, form_of};
 use crate::fault::{About, Fault};
 use crate::files::{open_word, read_file};
+use crate::paging::serve_page;
 use crate::screen::Screen;
 use crate::source::Source;
 use crate::timing::given_times;
@@ -35,6 +36,10 @@ where
     let symbols = given_symbols(rt, request)?;
     let symbols = symbols.as_ref().map(Vec::as_slice);
     let timing = timing_of(times.as_ref(), symbols, request.before);
+    if let Some(path) = &request.html {
+        let path = path.as_str();
+        return serve_page(rt, screen, setup, request, timing.as_ref(), path, answers);
+    }
     let changes = open_word(rt, request, CHANGES)?;
     let executions = open_word(rt, request, EXECUTIONS)?;
     let mut changes = Source::new(rt, screen, changes);
@@ -97,7 +102,7 @@ fn check_times(request: &Request) -> Result<(), Fault> {
 }
 
 /// The text of the file that `--symbols` names, if it names one.
-fn given_symbols<T: AllocGlobal + Files>(
+pub(crate) fn given_symbols<T: AllocGlobal + Files>(
     rt: &T,
     request: &Request,
 ) -> Result<Option<Vec<u8>>, Fault> {
@@ -108,7 +113,7 @@ fn given_symbols<T: AllocGlobal + Files>(
 }
 
 /// How versions are found by times, if there are any.
-fn timing_of<'a>(
+pub(crate) fn timing_of<'a>(
     times: Option<&'a Times>,
     symbols: Option<&'a [u8]>,
     before: bool,

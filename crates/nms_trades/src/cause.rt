@@ -35,7 +35,7 @@ pub enum Cause {
 
 impl Cause {
     /// Each of them, in order.
-    pub(crate) const ALL: [Cause; 12] = [
+    pub const ALL: [Cause; 12] = [
         Cause::SelfHelp,
         Cause::NotRegular,
         Cause::SinglePriced,
@@ -51,7 +51,7 @@ impl Cause {
     ];
 
     /// Its word. What is claimed and not found says so.
-    pub(crate) fn word(self) -> &'static str
+    pub fn word(self) -> &'static str
         ensures { result.now ≡ word_of self }
     {
         match self {
@@ -71,7 +71,7 @@ impl Cause {
     }
 
     /// Whether it applies: by what is claimed, by the crossed market, and by the rows that self-help takes out.
-    pub(crate) fn applies(self, claims: &Claims, crossed: bool, helped: bool) -> bool
+    pub fn applies(self, claims: &Claims, crossed: bool, helped: bool) -> bool
         ensures { result ≡ applies self claims.now crossed helped }
     {
         match self {

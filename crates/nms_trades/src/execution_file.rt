@@ -18,18 +18,20 @@ const MOST_EXECUTIONS: u64 = 10_000_000;
 
 /// A record that is refused.
 #[derive(Clone, Copy, Debug, PartialEq, Eq)]
-pub(crate) struct Refusal {
+pub struct Refusal {
     /// The number of the record, from 1. A blank line is no record.
-    pub(crate) number: u64,
+    pub number: u64,
     /// Why it is refused.
-    pub(crate) fault: TradeFault,
+    pub fault: TradeFault,
 }
 
 /// The records of a file: those that say an execution, and those that are refused, each in order.
 #[derive(Drop)]
-pub(crate) struct Records {
-    pub(crate) executions: Vec<Execution>,
-    pub(crate) refused: Vec<Refusal>,
+pub struct Records {
+    /// The executions, in the order of their records.
+    pub executions: Vec<Execution>,
+    /// The records that are refused, likewise.
+    pub refused: Vec<Refusal>,
 }
 
 /// Reads all executions of a file, at most `MOST_EXECUTIONS`. One that is refused does not stop the others. The clock finds their versions.

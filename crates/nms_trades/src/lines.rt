@@ -14,7 +14,7 @@ use std::alloc::Global;
 use std::io::Write;
 
 /// Writes an answer to each record: what is found of an execution, or that it is refused.
-pub(crate) fn write_answers<W: Write>(
+pub fn write_answers<W: Write>(
     alloc: Global,
     roster: &Roster,
     records: &Records,

@@ -10,17 +10,17 @@ use nms_quote::Side;
 
 /// How much an execution traded through, without the rows that self-help takes out.
 #[derive(Clone, Copy, Debug, PartialEq, Eq)]
-pub(crate) struct Sums {
+pub struct Sums {
     /// How many rows are left.
-    pub(crate) count: u64,
+    pub count: u64,
     /// The greatest difference to the price, in 1/1,000,000 dollar.
-    pub(crate) worst: u64,
+    pub worst: u64,
     /// The shares that the rows would have taken, at most those that were executed.
-    pub(crate) shares: u32,
+    pub shares: u32,
     /// Their differences times those shares, in 1/1,000,000 dollar.
-    pub(crate) dollars: i128,
+    pub dollars: i128,
     /// Whether self-help takes a row out.
-    pub(crate) helped: bool,
+    pub helped: bool,
 }
 
 impl Sums {
@@ -37,7 +37,7 @@ impl Sums {
 }
 
 /// How far a row's price is from a price in 1/1,000,000 dollar.
-pub(crate) fn difference(row: &Row, millionths: u64) -> u64
+pub fn difference(row: &Row, millionths: u64) -> u64
     ensures { result ≡ difference row.now millionths }
 {
     let own = row.price.get() * 100;
@@ -49,7 +49,7 @@ pub(crate) fn difference(row: &Row, millionths: u64) -> u64
 }
 
 /// Whether an execution claims self-help against a row's participant.
-pub(crate) fn is_helped(execution: &Execution, row: &Row) -> bool
+pub fn is_helped(execution: &Execution, row: &Row) -> bool
     ensures { result ≡ is_helped execution.now row.now }
 {
     execution.claims.self_help.has(row.part)
@@ -57,7 +57,7 @@ pub(crate) fn is_helped(execution: &Execution, row: &Row) -> bool
 
 /// How much an execution traded through. The rows take its shares in their order. `None` comes only of more than 2^127
 /// millionths of a dollar.
-pub(crate) fn sums_of(execution: &Execution, finding: &Finding) -> Option<Sums> {
+pub fn sums_of(execution: &Execution, finding: &Finding) -> Option<Sums> {
     let mut sums = Sums::none();
     for (_, row) in &finding.passed {
         sums = with_row(sums, execution, row)?;

@@ -19,7 +19,7 @@ use std::io::Write;
 const MOST_SYMBOLS_SHOWN: usize = 50;
 
 /// Writes the counts and sums of all executions.
-pub(crate) fn write_table<W: Write>(
+pub fn write_table<W: Write>(
     alloc: Global,
     roster: &Roster,
     records: &Records,

@@ -1,5 +1,5 @@
 //! A file of executions, judged on a file of changes.
-ghost use Rattle.std.specs.Prelude.{◌≡◌, ◌≤◌, All, length, true};
+ghost use Rattle.std.specs.Prelude.{◌≡◌, ◌≤◌, All, IfOk, length, true};
 ghost use Rattle.nms_quote.specs.Roster.{holds, sizes_of};
 ghost use Rattle.nms_quote.specs.declared.TheConstants.{MOST_CHANGES};
 ghost use Rattle.nms_trades.specs.Reading.{IsOn};
@@ -12,7 +12,7 @@ use crate::table::write_table;
 use crate::trades_fault::TradesFault;
 use nms_fees::Setup;
 use nms_files::read_changes;
-use nms_quote::Change;
+use nms_quote::{Change, Roster};
 use nms_show::{Ending, Form};
 use std::alloc::Global;
 use std::io::{Read, Write};
@@ -45,12 +45,25 @@ pub fn judge_file<C: Read + Drop, E: Read + Drop, W: Write>(
         Ok(changes) => changes,
         Err(fault) => return Err(TradesFault::Changes(fault)),
     };
-    let roster = setup.roster();
-    let clock = clock_of(alloc, roster, timing, changes.len())?;
-    match read_executions(alloc, roster, &clock, executions) {
+    match read_timed(alloc, setup.roster(), timing, changes.len(), executions) {
         Ok(records) => judge_records(alloc, setup, &changes, &records, form, layout, answers),
         Err(fault) => Err(fault),
     }
+}
+
+/// Reads all executions of a file, at most 10,000,000, on that many changes, whose times find the versions of those that have a
+/// time. A record that is refused does not stop the others.
+pub fn read_timed<R: Read + Drop>(
+    alloc: Global,
+    roster: &Roster,
+    timing: Option<&Timing<'_>>,
+    changes: usize,
+    source: R,
+) -> Result<Records, TradesFault>
+    ensures on { IfOk result (λ records. All (IsOn roster.now changes) records.executions.items) }
+{
+    let clock = clock_of(alloc, roster, timing, changes)?;
+    read_executions(alloc, roster, &clock, source)
 }
 
 /// Judges the executions among records.

@@ -1,0 +1,300 @@
+//! Executions in a picture: a cross for each that traded through, a small circle for each other one, at its version and its
+//! price; and counts, if many stand side by side.
+use crate::axis::Axis;
+use crate::picture::put;
+use crate::scale::{LEFT, Scale, TOP};
+use nms_show::{Item, ShowFault};
+use std::alloc::{AllocError, Global};
+use std::io::Write;
+
+/// How wide a group of executions is.
+const WIDE: u64 = 30;
+/// How many groups there are.
+const GROUPS: u64 = 50;
+/// The most executions of a group that are drawn one by one.
+const MOST_SINGLE: u64 = 12;
+/// The most executions that are listed.
+const MOST_LISTED: u64 = 12;
+
+/// An execution in a picture.
+#[derive(Clone, Copy)]
+pub struct Mark {
+    /// The number of its record, from 1.
+    pub number: u64,
+    /// The version on which it was judged.
+    pub version: u64,
+    /// Its price in 1/1,000,000 dollar.
+    pub millionths: u64,
+    /// Whether it traded through a protected quotation.
+    pub through: bool,
+}
+
+/// Executions side by side.
+#[derive(Clone, Copy)]
+struct Group {
+    count: u64,
+    through: u64,
+    /// The lowest and the highest price, 0 if there is none; then those of executions that traded through.
+    all: (u64, u64),
+    worst: (u64, u64),
+}
+
+/// A group of none.
+const EMPTY: Group = Group {
+    count: 0,
+    through: 0,
+    all: (0, 0),
+    worst: (0, 0),
+};
+
+/// How many executions of a list stand in a picture, and how many of those traded through.
+#[derive(Clone, Copy)]
+pub(crate) struct Marked {
+    pub(crate) drawn: u64,
+    pub(crate) through: u64,
+}
+
+/// Whether an execution stands in a picture.
+pub(crate) fn is_drawn(mark: &Mark, axis: &Axis<'_>) -> bool {
+    axis.from <= mark.version && mark.version <= axis.to
+}
+
+/// How many executions stand in a picture. There are no more than a number holds.
+pub(crate) fn marked_in(marks: &[Mark], axis: &Axis<'_>) -> Option<Marked> {
+    let mut marked = Marked {
+        drawn: 0,
+        through: 0,
+    };
+    for mark in marks {
+        if is_drawn(mark, axis) {
+            marked.drawn = marked.drawn.checked_add(1)?;
+            marked.through = marked.through.checked_add(u64::from(mark.through))?;
+        }
+    }
+    Some(marked)
+}
+
+/// Writes the executions that stand in a picture: those that traded through last, so that no other covers them.
+pub(crate) fn write_marks<W: Write>(
+    alloc: Global,
+    marks: &[Mark],
+    axis: &Axis<'_>,
+    scale: &Scale,
+    answers: &mut W,
+) -> Result<(), ShowFault> {
+    let Ok(groups) = groups_of(alloc, marks, axis, scale) else {
+        return Err(ShowFault::NoMemory);
+    };
+    for through in [false, true] {
+        for mark in marks {
+            if mark.through == through && is_drawn(mark, axis) {
+                let x = scale.version(axis, mark.version);
+                if group_at(&groups, x).count <= MOST_SINGLE {
+                    write_mark(mark, x, scale.millionths(mark.millionths), answers)?;
+                }
+            }
+        }
+    }
+    for (group, place) in groups.iter().zip(0..GROUPS) {
+        if group.count > MOST_SINGLE {
+            write_group(group, place, scale, answers)?;
+        }
+    }
+    Ok(())
+}
+
+/// The groups of the executions that stand in a picture.
+fn groups_of(
+    alloc: Global,
+    marks: &[Mark],
+    axis: &Axis<'_>,
+    scale: &Scale,
+) -> Result<Vec<Group>, AllocError> {
+    let mut groups = Vec::new(alloc);
+    for _ in 0..GROUPS {
+        groups.push(EMPTY)?;
+    }
+    for mark in marks {
+        if is_drawn(mark, axis) {
+            let place = place_of(scale.version(axis, mark.version));
+            if let Some(group) = groups.get_mut(place) {
+                add(group, mark)?;
+            }
+        }
+    }
+    Ok(groups)
+}
+
+/// The group in which a mark stands.
+fn place_of(x: u64) -> usize {
+    (x.saturating_sub(LEFT) / WIDE).min(GROUPS - 1) as usize
+}
+
+/// The group in which a mark stands.
+fn group_at(groups: &[Group], x: u64) -> Group {
+    groups.get(place_of(x)).copied().unwrap_or(EMPTY)
+}
+
+/// Adds an execution to its group.
+fn add(group: &mut Group, mark: &Mark) -> Result<(), AllocError> {
+    match (
+        group.count.checked_add(1),
+        group.through.checked_add(u64::from(mark.through)),
+    ) {
+        (Some(count), Some(through)) => {
+            group.count = count;
+            group.through = through;
+        }
+        _ => return Err(AllocError),
+    }
+    group.all = with(group.all, mark.millionths);
+    if mark.through {
+        group.worst = with(group.worst, mark.millionths);
+    }
+    Ok(())
+}
+
+/// A range, with a price.
+fn with(range: (u64, u64), price: u64) -> (u64, u64) {
+    if range.1 == 0 {
+        (price, price)
+    } else {
+        (range.0.min(price), range.1.max(price))
+    }
+}
+
+/// Writes an execution.
+fn write_mark<W: Write>(mark: &Mark, x: u64, y: u64, answers: &mut W) -> Result<(), ShowFault> {
+    if !mark.through {
+        return put(
+            answers,
+            &[
+                Item::Text("<circle r=\"4\" fill=\"#fff\" stroke=\"#000\" cx=\""),
+                Item::Number(x),
+                Item::Text("\" cy=\""),
+                Item::Number(y),
+                Item::Text("\"/>"),
+            ],
+        );
+    }
+    for stroke in ["#fff\" stroke-width=\"8", "#000\" stroke-width=\"4"] {
+        put(
+            answers,
+            &[
+                Item::Text("<path stroke=\""),
+                Item::Text(stroke),
+                Item::Text("\" d=\"M"),
+                Item::Number(x.saturating_sub(8)),
+                Item::Text(" "),
+                Item::Number(y.saturating_sub(8)),
+                Item::Text("l16 16m0 -16l-16 16\"/>"),
+            ],
+        )?;
+    }
+    Ok(())
+}
+
+/// Writes a group: a bar from its lowest price to its highest, a broad one of those that traded through, and the counts.
+fn write_group<W: Write>(
+    group: &Group,
+    place: u64,
+    scale: &Scale,
+    answers: &mut W,
+) -> Result<(), ShowFault> {
+    let x = LEFT.saturating_add(WIDE.saturating_mul(place));
+    write_bar("#888\" stroke-width=\"2", group.all, x, scale, answers)?;
+    if group.through > 0 {
+        write_bar("#000\" stroke-width=\"5", group.worst, x, scale, answers)?;
+    }
+    put(
+        answers,
+        &[
+            Item::Text("<text class=\"over\" font-size=\"15\" text-anchor=\"end\" transform=\"translate("),
+            Item::Number(x.saturating_add(21)),
+            Item::Text(" "),
+            Item::Number(TOP.saturating_add(5)),
+            Item::Text(") rotate(-90)\">"),
+            Item::Number(group.through),
+            Item::Text(" of "),
+            Item::Number(group.count),
+            Item::Text("</text>"),
+        ],
+    )
+}
+
+/// Writes a bar between two prices, in the middle of a group. It is 4 high at least, so that it is seen.
+fn write_bar<W: Write>(
+    stroke: &str,
+    range: (u64, u64),
+    x: u64,
+    scale: &Scale,
+    answers: &mut W,
+) -> Result<(), ShowFault> {
+    put(
+        answers,
+        &[
+            Item::Text("<path stroke=\""),
+            Item::Text(stroke),
+            Item::Text("\" d=\"M"),
+            Item::Number(x.saturating_add(WIDE / 2)),
+            Item::Text(" "),
+            Item::Number(scale.millionths(range.1).saturating_sub(2)),
+            Item::Text("V"),
+            Item::Number(scale.millionths(range.0).saturating_add(2)),
+            Item::Text("\"/>"),
+        ],
+    )
+}
+
+/// Writes in words how many executions there are, and which of them traded through.
+pub(crate) fn write_marked<W: Write>(
+    marked: &Marked,
+    answers: &mut W,
+) -> Result<(), ShowFault> {
+    put(
+        answers,
+        &[
+            Item::Text("Executions on the versions drawn: "),
+            Item::Number(marked.drawn),
+            Item::Text("; of these traded through a protected quotation: "),
+            Item::Number(marked.through),
+            Item::Text("."),
+        ],
+    )
+}
+
+/// Writes the first executions that traded through.
+pub(crate) fn write_listed<W: Write>(
+    marks: &[Mark],
+    axis: &Axis<'_>,
+    marked: &Marked,
+    answers: &mut W,
+) -> Result<(), ShowFault> {
+    let mut listed = 0;
+    for mark in marks {
+        if listed < MOST_LISTED && mark.through && is_drawn(mark, axis) {
+            listed += 1;
+            put(
+                answers,
+                &[
+                    Item::Text("The execution of record "),
+                    Item::Number(mark.number),
+                    Item::Text(", on version "),
+                    Item::Number(mark.version),
+                    Item::Text(", traded through."),
+                ],
+            )?;
+        }
+    }
+    match marked.through.checked_sub(listed) {
+        None | Some(0) => Ok(()),
+        Some(more) => put(
+            answers,
+            &[
+                Item::Text("Further ones, which are drawn and not listed here: "),
+                Item::Number(more),
+                Item::Text("."),
+            ],
+        ),
+    }
+}

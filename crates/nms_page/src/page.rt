@@ -1,0 +1,357 @@
+//! One page for a file of executions: HTML that needs no network and no script.
+ghost use Rattle.std.specs.Prelude.{◌≡◌, length};
+
+use crate::escaped::Escaped;
+use crate::judged::{Judged, judge_source, mark_of};
+use crate::page_fault::PageFault;
+use crate::parts::{dollars_of, mark, say, words_of};
+use nms_board::Row;
+use nms_drawing::{DrawingFault, Mark, Scene, scenes_of, write_scene};
+use nms_fees::Setup;
+use nms_files::read_changes;
+use nms_lines::{name_of_part, name_of_sym};
+use nms_quote::{Change, Roster, Side, Sym};
+use nms_show::{Ending, Form, Item, ShowFault};
+use nms_trades::{
+    Timing,
+    Cause, Deal, Execution, Finding, Layout, TradesFault, difference, is_helped, sums_of,
+    write_answers, write_table,
+};
+use std::alloc::{AllocError, Global};
+use std::io::{Read, Write};
+
+/// The most executions that a page shows one by one.
+const MOST_SHOWN: usize = 1000;
+
+/// The page's head.
+const HEAD: &str = "<!DOCTYPE html>\n<html lang=\"en\">\n<head>\n<meta charset=\"utf-8\">\n\
+<meta name=\"viewport\" content=\"width=device-width\">\n<title>Executions that traded through</title>\n<style>\n\
+body{font-family:sans-serif;max-width:60em;margin:2em auto;padding:0 1em;line-height:1.4;color:#000;background:#fff}\n\
+pre{overflow-x:auto;font-size:80%}\n\
+table{border-collapse:collapse}\n\
+th,td{border-bottom:1px solid #999;padding:.1em .8em;text-align:left}\n\
+td.n,th.n{text-align:right;font-variant-numeric:tabular-nums}\n\
+section{border-top:2px solid #000;margin-top:2em;break-inside:avoid}\n\
+svg{width:100%;max-width:45em;height:auto}\n\
+@media print{body{max-width:none;margin:0;font-size:85%}pre{white-space:pre-wrap}}\n\
+</style>\n</head>\n<body>\n<h1>Executions that traded through a protected quotation</h1>";
+
+/// What the findings are.
+const ABOUT: &str =
+    "<p>Each execution was judged on the version of the changes that its record names (17 CFR 242.611(a)). \
+A protected bid above its price, or a protected offer below it, is traded through. An exception that is claimed is not checked.</p>";
+
+/// What the pictures are.
+const PICTURES: &str =
+    "<p>Each picture has a few changes of the symbol before the execution and after it, by version: the best bid as a \
+solid line, the best offer as a hollow one, the execution as a cross, each quotation that it traded through as a hollow mark.</p>";
+
+/// The head of the rows of an execution.
+const ROWS: &str =
+    "<table>\n<thead><tr><th>Side</th><th>Participant</th><th class=\"n\">Price</th><th class=\"n\">Displayed</th>\
+<th class=\"n\">Receipt</th><th class=\"n\">Better by</th><th></th></tr></thead>\n<tbody>";
+
+/// The names of the files, as the page shows them.
+#[derive(Clone, Copy)]
+pub struct Named<'a> {
+    /// The name of the file of changes.
+    pub changes: &'a [u8],
+    /// The name of the file of executions.
+    pub executions: &'a [u8],
+}
+
+/// Judges the executions of a file as `judge_file` of `nms_trades` does, with the same answers, and also writes a page: the
+/// counts and sums of all; then each execution that traded through, with its rows, its exceptions and the picture of its moment.
+///
+/// A page shows at most 1,000 of them, the first, and says how many more there are. All text in it is escaped. `Refused` if a
+/// record is refused, else `Done`. Nothing is flushed.
+pub fn write_page<C: Read + Drop, E: Read + Drop, W: Write, P: Write>(
+    alloc: Global,
+    setup: &Setup,
+    named: &Named<'_>,
+    changes: C,
+    executions: E,
+    timing: Option<&Timing<'_>>,
+    form: Form,
+    layout: Layout,
+    page: &mut P,
+    answers: &mut W,
+) -> Result<Ending, PageFault> {
+    let changes = match read_changes(alloc, setup, changes) {
+        Ok(changes) => changes,
+        Err(fault) => return Err(PageFault::from(fault)),
+    };
+    let judged = judge_source(alloc, setup, &changes, timing, executions)?;
+    let roster = setup.roster();
+    let records = &judged.records;
+    match layout {
+        Layout::Lines => write_answers(alloc, roster, records, &judged.findings, form, answers)?,
+        Layout::Table => write_table(alloc, roster, records, &judged.findings, form, answers)?,
+    }
+    write_whole(alloc, roster, named, &changes, &judged, page)?;
+    if records.refused.is_empty() {
+        Ok(Ending::Done)
+    } else {
+        Ok(Ending::Refused)
+    }
+}
+
+/// Writes the page.
+fn write_whole<P: Write>(
+    alloc: Global,
+    roster: &Roster,
+    named: &Named<'_>,
+    changes: &[Change],
+    judged: &Judged,
+    page: &mut P,
+) -> Result<(), PageFault>
+    requires { length judged.now.findings.items ≡ length judged.now.records.executions.items }
+{
+    mark(page, HEAD)?;
+    write_files(named, page)?;
+    mark(page, ABOUT)?;
+    mark(page, "<h2>Counts and sums</h2>\n<pre>")?;
+    write_counts(alloc, roster, judged, page)?;
+    mark(page, "</pre>\n<h2>Those that traded through</h2>")?;
+    let Ok(flagged) = flagged_of(alloc, judged) else {
+        return Err(PageFault::Drawing(DrawingFault::NoMemory));
+    };
+    write_more(flagged.more, page)?;
+    mark(page, PICTURES)?;
+    let scenes = scenes_of(alloc, roster, changes, &flagged.marks)?;
+    for (place, scene) in flagged.places.iter().zip(scenes.iter()) {
+        let (execution, finding) = (judged.records.executions.get(*place), judged.findings.get(*place));
+        if let (Some(execution), Some(Some(finding))) = (execution, finding) {
+            write_one(roster, execution, finding, scene, page)?;
+        }
+    }
+    mark(page, "</body>\n</html>")?;
+    Ok(())
+}
+
+/// Writes the names of the files.
+fn write_files<P: Write>(named: &Named<'_>, page: &mut P) -> Result<(), ShowFault> {
+    mark(page, "<p>")?;
+    say(
+        page,
+        &[
+            Item::Text("Changes: "),
+            Item::Bytes(named.changes),
+            Item::Text(". Executions: "),
+            Item::Bytes(named.executions),
+            Item::Text("."),
+        ],
+    )?;
+    mark(page, "</p>")
+}
+
+/// Writes the counts and sums of all.
+fn write_counts<P: Write>(
+    alloc: Global,
+    roster: &Roster,
+    judged: &Judged,
+    page: &mut P,
+) -> Result<(), TradesFault>
+    requires { length judged.now.findings.items ≡ length judged.now.records.executions.items }
+{
+    let mut text = Escaped::new(page);
+    let form = Form::Text { colours: false };
+    write_table(alloc, roster, &judged.records, &judged.findings, form, &mut text)
+}
+
+/// The executions that a page shows.
+#[derive(Drop)]
+struct Flagged {
+    /// Their places.
+    places: Vec<usize>,
+    /// Their symbols and marks.
+    marks: Vec<(Sym, Mark)>,
+    /// How many more traded through.
+    more: u64,
+}
+
+/// The executions that a page shows: the first that traded through.
+fn flagged_of(alloc: Global, judged: &Judged) -> Result<Flagged, AllocError> {
+    let mut flagged = Flagged {
+        places: Vec::new(alloc),
+        marks: Vec::new(alloc),
+        more: 0,
+    };
+    let findings = judged.findings.iter();
+    for ((execution, finding), place) in judged.records.executions.iter().zip(findings).zip(0..usize::MAX) {
+        let Some(finding) = finding else {
+            continue;
+        };
+        if finding.is_clean() {
+            continue;
+        }
+        if flagged.places.len() < MOST_SHOWN {
+            flagged.places.push(place)?;
+            flagged.marks.push((execution.sym, mark_of(execution, finding)))?;
+        } else {
+            match flagged.more.checked_add(1) {
+                Some(more) => flagged.more = more,
+                None => return Err(AllocError),
+            }
+        }
+    }
+    Ok(flagged)
+}
+
+/// Writes how many more there are, if there are more.
+fn write_more<P: Write>(more: u64, page: &mut P) -> Result<(), ShowFault> {
+    if more == 0 {
+        return Ok(());
+    }
+    mark(page, "<p>")?;
+    say(
+        page,
+        &[
+            Item::Text("The first 1,000 are shown here. Further ones, in the answers alone: "),
+            Item::Number(more),
+            Item::Text("."),
+        ],
+    )?;
+    mark(page, "</p>")
+}
+
+/// Writes an execution that traded through.
+fn write_one<P: Write>(
+    roster: &Roster,
+    execution: &Execution,
+    finding: &Finding,
+    scene: &Scene,
+    page: &mut P,
+) -> Result<(), PageFault> {
+    let Some(sums) = sums_of(execution, finding) else {
+        return Err(PageFault::Trades(TradesFault::TooLong));
+    };
+    mark(page, "<section>\n<h3>")?;
+    say(page, &[Item::Bytes(execution.name.as_slice())])?;
+    mark(page, "</h3>\n<p>")?;
+    write_deal(roster, execution, page)?;
+    say(
+        page,
+        &[
+            Item::Text("Protected quotations traded through: "),
+            Item::Number(sums.count),
+            Item::Text(", with "),
+            Item::Number(u64::from(sums.shares)),
+            Item::Text(" shares, by "),
+            dollars_of(sums.worst),
+            Item::Text(" dollars at most."),
+        ],
+    )?;
+    mark(page, "</p>")?;
+    write_causes(execution, finding, sums.helped, page)?;
+    mark(page, ROWS)?;
+    for (side, row) in &finding.passed {
+        write_row(roster, execution, *side, row, page)?;
+    }
+    mark(page, "</tbody>\n</table>")?;
+    write_scene(roster, scene, &finding.passed, page)?;
+    mark(page, "</section>")?;
+    Ok(())
+}
+
+/// Writes what was executed.
+fn write_deal<P: Write>(
+    roster: &Roster,
+    execution: &Execution,
+    page: &mut P,
+) -> Result<(), ShowFault> {
+    let did = match execution.deal {
+        Some(Deal::Bought) => ": bought ",
+        Some(Deal::Sold) => ": sold ",
+        None => ": ",
+    };
+    let (on, part) = match execution.part {
+        Some(part) => (", executed on ", name_of_part(roster, part)),
+        None => (", executed off an exchange", ""),
+    };
+    say(
+        page,
+        &[
+            Item::Text("Record "),
+            Item::Number(execution.number),
+            Item::Text(did),
+            Item::Number(u64::from(execution.shares.get())),
+            Item::Text(" "),
+            Item::Text(name_of_sym(roster, execution.sym)),
+            Item::Text(" at "),
+            dollars_of(execution.millionths),
+            Item::Text(", on version "),
+            Item::Number(execution.version),
+            Item::Text(on),
+            Item::Text(part),
+            Item::Text("."),
+        ],
+    )
+}
+
+/// Writes the exceptions that apply.
+fn write_causes<P: Write>(
+    execution: &Execution,
+    finding: &Finding,
+    helped: bool,
+    page: &mut P,
+) -> Result<(), ShowFault> {
+    mark(page, "<p>Exceptions:</p>\n<ul>")?;
+    let mut has_one = false;
+    for cause in Cause::ALL {
+        if cause.applies(&execution.claims, finding.crossed, helped) {
+            has_one = true;
+            mark(page, "<li>")?;
+            say(
+                page,
+                &[
+                    Item::Text(cause.word()),
+                    Item::Text(": "),
+                    Item::Text(words_of(cause)),
+                ],
+            )?;
+            mark(page, "</li>")?;
+        }
+    }
+    if !has_one {
+        mark(page, "<li>NONE</li>")?;
+    }
+    mark(page, "</ul>")
+}
+
+/// Writes a quotation that was traded through.
+fn write_row<P: Write>(
+    roster: &Roster,
+    execution: &Execution,
+    side: Side,
+    row: &Row,
+    page: &mut P,
+) -> Result<(), ShowFault> {
+    let side = match side {
+        Side::Bid => "BID",
+        Side::Offer => "OFFER",
+    };
+    let note = if is_helped(execution, row) {
+        "left out: self-help"
+    } else if execution.part == Some(row.part) {
+        "OWN"
+    } else {
+        ""
+    };
+    mark(page, "<tr><td>")?;
+    say(page, &[Item::Text(side)])?;
+    mark(page, "</td><td>")?;
+    say(page, &[Item::Text(name_of_part(roster, row.part))])?;
+    for item in [
+        Item::of_price(row.price),
+        Item::Number(u64::from(row.size)),
+        Item::Number(row.receipt),
+        dollars_of(difference(row, execution.millionths)),
+    ] {
+        mark(page, "</td><td class=\"n\">")?;
+        say(page, &[item])?;
+    }
+    mark(page, "</td><td>")?;
+    say(page, &[Item::Text(note)])?;
+    mark(page, "</td></tr>")
+}

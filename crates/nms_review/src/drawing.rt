@@ -1,0 +1,201 @@
+//! The subcommand `draw`: which versions are drawn, with what, and along which axis.
+use crate::call::{ended, no_sym, sym_at, version_in};
+use crate::fault::{About, Fault};
+use crate::files::{open_word, read_file, word_at};
+use crate::paging::{both_ended, page_fault};
+use crate::screen::Screen;
+use crate::source::Source;
+use crate::timing::{given_times, rising_of};
+use crate::trading::{given_symbols, timing_of};
+use nms_drawing::{Frame, draw_changes};
+use nms_fees::Setup;
+use nms_page::draw_executions;
+use nms_quote::Sym;
+use nms_review_words::Request;
+use nms_show::Ending;
+use nms_times::{TimeOfDay, Times, find_span};
+use std::fs;
+use std::io::Write;
+use std::rt::Files;
+use std::time::Clock;
+
+/// The place of the symbol's word: the file of changes stands before it.
+const SYMBOL: usize = 1;
+
+/// Draws a symbol's day.
+pub(crate) fn serve_draw<T, W: Write>(
+    rt: &T,
+    screen: Screen,
+    setup: &Setup,
+    request: &Request,
+    answers: &mut W,
+) -> Result<Ending, Fault>
+where
+    T: AllocGlobal + Clock + Eprint + Files,
+{
+    let Some(sym) = sym_at(setup, request, SYMBOL) else {
+        return Err(no_sym(SYMBOL));
+    };
+    let times = given_times(rt, request)?;
+    let frame = frame_of(rt, request, times.as_ref())?;
+    let plan = match &request.plan {
+        Some(path) => Some(read_file(rt, path.as_str(), About::Plan)?),
+        None => None,
+    };
+    let plan = plan.as_ref().map(Vec::as_slice);
+    match &request.trades {
+        Some(path) => draw_trades(rt, screen, setup, request, path.as_str(), &frame, sym, plan, answers),
+        None => draw_alone(rt, screen, setup, request, &frame, sym, plan, answers),
+    }
+}
+
+/// Draws a day without executions.
+fn draw_alone<T, W: Write>(
+    rt: &T,
+    screen: Screen,
+    setup: &Setup,
+    request: &Request,
+    frame: &Frame<'_>,
+    sym: Sym,
+    plan: Option<&[u8]>,
+    answers: &mut W,
+) -> Result<Ending, Fault>
+where
+    T: AllocGlobal + Clock + Eprint + Files,
+{
+    let file = open_word(rt, request, 0)?;
+    let mut source = Source::new(rt, screen, file);
+    let served = draw_changes(rt.alloc(), setup, &mut source, frame, sym, plan, answers)
+        .map_err(|fault| Fault::of(fault.code(), fault.status(), about_of(request, fault.code())));
+    ended(&mut source, served)
+}
+
+/// Draws a day with the executions of a file. Both files are opened before either is read.
+fn draw_trades<T, W: Write>(
+    rt: &T,
+    screen: Screen,
+    setup: &Setup,
+    request: &Request,
+    path: &str,
+    frame: &Frame<'_>,
+    sym: Sym,
+    plan: Option<&[u8]>,
+    answers: &mut W,
+) -> Result<Ending, Fault>
+where
+    T: AllocGlobal + Clock + Eprint + Files,
+{
+    let symbols = given_symbols(rt, request)?;
+    let symbols = symbols.as_ref().map(Vec::as_slice);
+    let timing = timing_of(frame.times, symbols, false);
+    let changes = open_word(rt, request, 0)?;
+    let executions = match fs::open(rt, path) {
+        Ok(file) => file,
+        Err(error) => return Err(Fault::unread(error, About::Trades)),
+    };
+    let mut changes = Source::new(rt, screen, changes);
+    let mut executions = Source::new(rt, screen, executions);
+    let served = draw_executions(
+        rt.alloc(),
+        setup,
+        &mut changes,
+        &mut executions,
+        timing.as_ref(),
+        frame,
+        sym,
+        plan,
+        answers,
+    )
+    .map_err(|fault| page_fault(fault, About::Trades, about_of(request, fault.code())));
+    both_ended(&mut changes, &mut executions, served)
+}
+
+/// What a fault of the library is about.
+fn about_of(request: &Request, code: &str) -> About {
+    match code {
+        "L11" => About::Plan,
+        "H2" | "H3" => About::Times,
+        "A1" if request.to.is_some() => About::To,
+        "A1" => About::From,
+        _ => About::Word(0),
+    }
+}
+
+/// The versions that are drawn, and what the axis counts. With a file of symbols they are at most those of the symbol.
+fn frame_of<'a, T: AllocGlobal + Files>(
+    rt: &T,
+    request: &Request,
+    times: Option<&'a Times>,
+) -> Result<Frame<'a>, Fault> {
+    let (first, last) = span_of(rt, request, times)?;
+    let from = match &request.from {
+        Some(word) => version_given(rt, request, times, word.as_str(), About::From)?,
+        None => 0,
+    };
+    let to = match &request.to {
+        Some(word) => Some(version_given(rt, request, times, word.as_str(), About::To)?),
+        None => None,
+    };
+    if let Some(to) = to {
+        if from > to {
+            return Err(Fault::usage(About::Nothing, "--from is a version after that of --to"));
+        }
+    }
+    Ok(Frame {
+        from: from.max(first).min(last.unwrap_or(u64::MAX)),
+        to: match (to, last) {
+            (Some(to), Some(last)) => Some(to.min(last)),
+            (Some(to), None) => Some(to),
+            (None, last) => last,
+        },
+        own: request.own,
+        times,
+    })
+}
+
+/// The first and the last version of the symbol, by the file of symbols; without one, those of the changes.
+fn span_of<T: AllocGlobal + Files>(
+    rt: &T,
+    request: &Request,
+    times: Option<&Times>,
+) -> Result<(u64, Option<u64>), Fault> {
+    let Some(file) = &request.symbols else {
+        return Ok((0, None));
+    };
+    let Some(times) = times else {
+        return Err(Fault::usage(About::Symbols, "--symbols needs --times"));
+    };
+    let text = read_file(rt, file.as_str(), About::Symbols)?;
+    match find_span(&text, word_at(request, SYMBOL).as_bytes(), times.len()) {
+        Ok(Some(span)) => Ok((span.before as u64, Some(span.last as u64))),
+        Ok(None) => Err(Fault::usage(
+            About::Word(SYMBOL),
+            "the file of symbols has no line of it; capitals count",
+        )),
+        Err(fault) => Err(Fault::of_times(fault, About::Symbols)),
+    }
+}
+
+/// The version that a word names: a number, or `@` and a time, which is found among the times that are given.
+fn version_given<T: AllocGlobal + Files>(
+    rt: &T,
+    request: &Request,
+    times: Option<&Times>,
+    word: &str,
+    about: About,
+) -> Result<u64, Fault> {
+    let Some(digits) = word.strip_prefix('@') else {
+        return version_in(word, about);
+    };
+    let Some(time) = TimeOfDay::parse(digits.as_bytes()) else {
+        return Err(Fault::usage(
+            about,
+            "a time is six digits HHMMSS, and up to nine after them",
+        ));
+    };
+    let Some(times) = times else {
+        return Err(Fault::usage(about, "a time in place of a version needs --times"));
+    };
+    let symbol = (word_at(request, SYMBOL), About::Word(SYMBOL));
+    Ok(rising_of(rt, request, symbol, times, About::Times)?.version_at(time))
+}

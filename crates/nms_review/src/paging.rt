@@ -1,0 +1,100 @@
+//! The option `--html` of `trades`: a page for the file, beside the answers.
+use crate::answers::Answers;
+use crate::call::form_of;
+use crate::fault::{About, Fault};
+use crate::files::{open_word, word_at};
+use crate::screen::Screen;
+use crate::source::Source;
+use nms_fees::Setup;
+use nms_page::{Named, PageFault, write_page};
+use nms_review_words::Request;
+use nms_show::Ending;
+use nms_trades::{Layout, Timing, TradesFault};
+use std::fs;
+use std::io::Write;
+use std::rt::Files;
+use std::time::Clock;
+
+/// The places of the two files' words.
+const CHANGES: usize = 0;
+
+const EXECUTIONS: usize = 1;
+
+/// Judges a file of executions, and writes the page that a path names. Both files are opened before it is made.
+pub(crate) fn serve_page<T, W: Write>(
+    rt: &T,
+    screen: Screen,
+    setup: &Setup,
+    request: &Request,
+    timing: Option<&Timing<'_>>,
+    path: &str,
+    answers: &mut W,
+) -> Result<Ending, Fault>
+where
+    T: AllocGlobal + Clock + Eprint + Files,
+{
+    let changes = open_word(rt, request, CHANGES)?;
+    let executions = open_word(rt, request, EXECUTIONS)?;
+    let mut changes = Source::new(rt, screen, changes);
+    let mut executions = Source::new(rt, screen, executions);
+    let Ok(file) = fs::create(rt, path) else {
+        return Err(Fault::of("E2", 1, About::Nothing));
+    };
+    let Ok(mut page) = Answers::new(rt.alloc(), file, false) else {
+        return Err(Fault::of("E4", 5, About::Nothing));
+    };
+    let named = Named {
+        changes: word_at(request, CHANGES).as_bytes(),
+        executions: word_at(request, EXECUTIONS).as_bytes(),
+    };
+    let layout = if request.table {
+        Layout::Table
+    } else {
+        Layout::Lines
+    };
+    let served = write_page(
+        rt.alloc(),
+        setup,
+        &named,
+        &mut changes,
+        &mut executions,
+        timing,
+        form_of(screen, request),
+        layout,
+        &mut page,
+        answers,
+    );
+    let served = match served {
+        Ok(ending) if page.flush().is_ok() => Ok(ending),
+        Ok(_) => Err(Fault::of("E2", 1, About::Nothing)),
+        Err(fault) => Err(page_fault(fault, About::Word(EXECUTIONS), About::Word(CHANGES))),
+    };
+    both_ended(&mut changes, &mut executions, served)
+}
+
+/// A fault of executions on a page or a picture: it is about the file of the executions, about one of their times, or about
+/// another one.
+pub(crate) fn page_fault(fault: PageFault, executions: About, other: About) -> Fault {
+    match fault {
+        PageFault::Trades(TradesFault::Times(fault)) => Fault::of_times(fault, About::Times),
+        PageFault::Trades(TradesFault::Symbols(fault)) => Fault::of_times(fault, About::Symbols),
+        fault if fault.is_of_executions() => Fault::of(fault.code(), fault.status(), executions),
+        fault => Fault::of(fault.code(), fault.status(), other),
+    }
+}
+
+/// How a request ends that has read changes and executions: if the reading of one failed, the system's reason is told.
+pub(crate) fn both_ended<T: Clock + Eprint, R>(
+    changes: &mut Source<'_, T, R>,
+    executions: &mut Source<'_, T, R>,
+    served: Result<Ending, Fault>,
+) -> Result<Ending, Fault> {
+    changes.clear();
+    executions.clear();
+    match (served, changes.failed(), executions.failed()) {
+        (Err(fault), Some(error), _) | (Err(fault), None, Some(error)) if fault.code == "E1" => {
+            Err(Fault::unread(error, fault.about))
+        }
+        (served, _, _) => served,
+    }
+}
