@@ -103,7 +103,9 @@ impl Axis<'_> {
         match &self.kind {
             Kind::Versions => Some(Label::Version(counted)),
             Kind::Own(versions) => {
-                let last = versions.get(..place as usize).and_then(|before| before.last());
+                let last = versions
+                    .get(..place as usize)
+                    .and_then(|before| before.last());
                 Some(Label::Own(place, last.copied().unwrap_or(self.from)))
             }
             Kind::Clock(rising) if rising.times.is_empty() => None,

@@ -47,7 +47,9 @@ pub(crate) fn nanoseconds_of(time: TimeOfDay) -> u64 {
     let hours = digits / 10_000_000_000_000;
     let minutes = digits / 100_000_000_000 % 100;
     let seconds = digits / SECOND % 100;
-    let whole = hours.saturating_mul(3600).saturating_add(minutes * 60 + seconds);
+    let whole = hours
+        .saturating_mul(3600)
+        .saturating_add(minutes * 60 + seconds);
     whole.saturating_mul(SECOND).saturating_add(digits % SECOND)
 }
 
@@ -56,5 +58,9 @@ pub(crate) fn time_at(nanoseconds: u64) -> Option<TimeOfDay> {
     let seconds = nanoseconds / SECOND;
     let (hours, minutes) = (seconds / 3600, seconds / 60 % 60);
     let digits = hours * 10_000 + minutes * 100 + seconds % 60;
-    TimeOfDay::new(digits.checked_mul(SECOND)?.checked_add(nanoseconds % SECOND)?)
+    TimeOfDay::new(
+        digits
+            .checked_mul(SECOND)?
+            .checked_add(nanoseconds % SECOND)?,
+    )
 }

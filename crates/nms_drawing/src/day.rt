@@ -313,7 +313,9 @@ fn count(day: &mut Day, stretch: &Stretch) -> Result<(), AllocError> {
 
 /// A count and the versions of a stretch.
 fn sum_of(counted: u64, stretch: &Stretch) -> Option<u64> {
-    counted.checked_add(stretch.to.checked_sub(stretch.from)?)?.checked_add(1)
+    counted
+        .checked_add(stretch.to.checked_sub(stretch.from)?)?
+        .checked_add(1)
 }
 
 /// Adds a stretch that begins: it is listed if there is room for it, and else counted.

@@ -100,7 +100,16 @@ pub fn draw_day<W: Write>(
 {
     let axis = axis_of(alloc, changes, frame, sym)?;
     let Some(text) = plan else {
-        return draw_on(alloc, setup.roster(), changes, &axis, sym, None, marks, answers);
+        return draw_on(
+            alloc,
+            setup.roster(),
+            changes,
+            &axis,
+            sym,
+            None,
+            marks,
+            answers,
+        );
     };
     let (plan, certificate) = match read_plan(alloc, text, setup.roster()) {
         Ok(read) => read,
@@ -108,7 +117,16 @@ pub fn draw_day<W: Write>(
     };
     let judged = judge_plan(alloc, setup, changes, &plan, &certificate)?;
     let plan = Some((&plan, judged.as_ref()));
-    draw_on(alloc, setup.roster(), changes, &axis, sym, plan, marks, answers)
+    draw_on(
+        alloc,
+        setup.roster(),
+        changes,
+        &axis,
+        sym,
+        plan,
+        marks,
+        answers,
+    )
 }
 
 /// The axis of a frame.

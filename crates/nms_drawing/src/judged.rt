@@ -132,7 +132,11 @@ fn is_of_leg(view: &View, plan: &Plan, leg: &Leg, breach: &Breach) -> bool {
 
 /// Whether no leg of a plan has a worse price.
 fn is_worst(plan: &Plan, leg: &Leg) -> bool {
-    !plan.legs.as_slice().iter().any(|other| is_better(plan.order.side, leg.price, other.price))
+    !plan
+        .legs
+        .as_slice()
+        .iter()
+        .any(|other| is_better(plan.order.side, leg.price, other.price))
 }
 
 /// What is doubtful, in words.

@@ -68,13 +68,24 @@ fn labels_of(
 ) -> Result<Vec<Label>, AllocError> {
     let mut labels = Vec::new(alloc);
     for (leg, number) in plan.legs.as_slice().iter().zip(1..33) {
-        push_label(&mut labels, Marked::Leg(number, *leg), scale.price(leg.price.get()))?;
+        push_label(
+            &mut labels,
+            Marked::Leg(number, *leg),
+            scale.price(leg.price.get()),
+        )?;
     }
     for passed in &judged.passed {
-        push_label(&mut labels, Marked::Passed(*passed), scale.price(passed.row.price.get()))?;
+        push_label(
+            &mut labels,
+            Marked::Passed(*passed),
+            scale.price(passed.row.price.get()),
+        )?;
     }
     labels.sort_by_key(|label| label.down)?;
-    let apart = HIGH.checked_div(labels.len() as u64).unwrap_or(APART).min(APART);
+    let apart = HIGH
+        .checked_div(labels.len() as u64)
+        .unwrap_or(APART)
+        .min(APART);
     spread(&mut labels, apart);
     Ok(labels)
 }
@@ -123,7 +134,9 @@ fn write_limit<W: Write>(
     put(
         answers,
         &[
-            Item::Text("<path stroke=\"#000\" stroke-dasharray=\"16 8\" stroke-width=\"1.5\" d=\"M150 "),
+            Item::Text(
+                "<path stroke=\"#000\" stroke-dasharray=\"16 8\" stroke-width=\"1.5\" d=\"M150 ",
+            ),
             Item::Number(y),
             Item::Text("H1650\"/><text class=\"over\" font-size=\"18\" text-anchor=\""),
             Item::Text(anchor),

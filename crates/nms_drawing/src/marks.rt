@@ -209,7 +209,9 @@ fn write_group<W: Write>(
     put(
         answers,
         &[
-            Item::Text("<text class=\"over\" font-size=\"15\" text-anchor=\"end\" transform=\"translate("),
+            Item::Text(
+                "<text class=\"over\" font-size=\"15\" text-anchor=\"end\" transform=\"translate(",
+            ),
             Item::Number(x.saturating_add(21)),
             Item::Text(" "),
             Item::Number(TOP.saturating_add(5)),
@@ -247,10 +249,7 @@ fn write_bar<W: Write>(
 }
 
 /// Writes in words how many executions there are, and which of them traded through.
-pub(crate) fn write_marked<W: Write>(
-    marked: &Marked,
-    answers: &mut W,
-) -> Result<(), ShowFault> {
+pub(crate) fn write_marked<W: Write>(marked: &Marked, answers: &mut W) -> Result<(), ShowFault> {
     put(
         answers,
         &[

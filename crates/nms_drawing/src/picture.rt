@@ -29,7 +29,8 @@ const LEGEND: &str = "<g stroke=\"#000\" fill=\"none\"><path d=\"M150 78H210\" s
 <text x=\"220\" y=\"85\">best bid</text><text x=\"410\" y=\"85\">best offer</text>";
 
 /// What the marks of a plan are.
-const PLAN_LEGEND: &str = "<circle r=\"6\" cx=\"550\" cy=\"78\"/><text x=\"564\" y=\"85\">leg</text>\
+const PLAN_LEGEND: &str =
+    "<circle r=\"6\" cx=\"550\" cy=\"78\"/><text x=\"564\" y=\"85\">leg</text>\
 <path fill=\"#fff\" stroke=\"#000\" stroke-width=\"2.5\" d=\"M620 78l11 -11l11 11l-11 11z\"/>\
 <text x=\"650\" y=\"85\">protected quotation that the plan passed over</text>";
 

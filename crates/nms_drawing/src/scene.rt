@@ -62,12 +62,12 @@ pub fn write_scene<W: Write>(
     let prices = prices_of(scene, passed);
     put(
         answers,
-        &[
-            Item::Text("<svg xmlns=\"http://www.w3.org/2000/svg\" viewBox=\"0 0 720 250\" role=\"img\" \
+        &[Item::Text(
+            "<svg xmlns=\"http://www.w3.org/2000/svg\" viewBox=\"0 0 720 250\" role=\"img\" \
 aria-label=\"best bid (solid), best offer (hollow) and the execution (cross), by version\" \
 font-family=\"sans-serif\" font-size=\"13\"><rect width=\"720\" height=\"250\" fill=\"#fff\"/>\
-<path fill=\"none\" stroke=\"#000\" d=\"M80 24V204H500\"/>"),
-        ],
+<path fill=\"none\" stroke=\"#000\" d=\"M80 24V204H500\"/>",
+        )],
     )?;
     write_ends(&prices, answers)?;
     write_steps(scene, answers)?;
@@ -132,7 +132,9 @@ fn write_steps<W: Write>(scene: &Scene, answers: &mut W) -> Result<(), ShowFault
             &[
                 Item::Text("<path stroke=\"#000\" d=\"M"),
                 Item::Number(x),
-                Item::Text(" 204v5\"/><text text-anchor=\"end\" font-size=\"11\" transform=\"translate("),
+                Item::Text(
+                    " 204v5\"/><text text-anchor=\"end\" font-size=\"11\" transform=\"translate(",
+                ),
                 Item::Number(x.saturating_add(4)),
                 Item::Text(" 213) rotate(-40)\">"),
                 Item::Number(step.version),
@@ -174,11 +176,7 @@ fn write_side<W: Write>(
     for (place, step) in scene.steps.iter().enumerate() {
         let price = price_of(step, side);
         if price > 0 {
-            let command = if was == 0 {
-                "M"
-            } else {
-                "L"
-            };
+            let command = if was == 0 { "M" } else { "L" };
             put(
                 answers,
                 &[

@@ -18,7 +18,8 @@ use std::io::Write;
 /// What is drawn of a symbol.
 const SUBJECT: &str = ": best bid and best offer, versions ";
 /// What the lines are.
-const LINES: &str = "<desc id=\"desc\">The solid line is the best bid, the hollow one the best offer. Below are \
+const LINES: &str =
+    "<desc id=\"desc\">The solid line is the best bid, the hollow one the best offer. Below are \
 their displayed sizes.";
 /// What a column of several places leaves out.
 const LEFT_OUT: &str =
@@ -49,7 +50,8 @@ impl Drawn {
             Drawn::Nothing | Drawn::Whole => "",
             Drawn::OtherSymbol => "The plan is of another symbol and is not drawn.",
             Drawn::LaterVersion => "The plan is on a version that is not there and is not drawn.",
-            Drawn::OtherVersion => "The plan is on a version before or after these and is not drawn.",
+            Drawn::OtherVersion =>
+                "The plan is on a version before or after these and is not drawn.",
         }
     }
 }

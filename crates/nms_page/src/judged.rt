@@ -6,7 +6,7 @@ ghost use Rattle.nms_quote.specs.declared.TheConstants.{MOST_CHANGES};
 use nms_drawing::Mark;
 use nms_fees::Setup;
 use nms_quote::Change;
-use nms_trades::{Execution, Finding, Records, TradesFault, Timing, judge_all, read_timed};
+use nms_trades::{Execution, Finding, Records, Timing, TradesFault, judge_all, read_timed};
 use std::alloc::Global;
 use std::io::Read;
 

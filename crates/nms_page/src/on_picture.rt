@@ -33,7 +33,16 @@ pub fn draw_executions<C: Read + Drop, E: Read + Drop, W: Write>(
     let Ok(marks) = marks_of(alloc, &judged, sym) else {
         return Err(PageFault::Drawing(DrawingFault::NoMemory));
     };
-    draw_day(alloc, setup, &changes, frame, sym, plan, Some(&marks), answers)?;
+    draw_day(
+        alloc,
+        setup,
+        &changes,
+        frame,
+        sym,
+        plan,
+        Some(&marks),
+        answers,
+    )?;
     if judged.records.refused.is_empty() {
         Ok(Ending::Done)
     } else {

@@ -13,8 +13,7 @@ use nms_lines::{name_of_part, name_of_sym};
 use nms_quote::{Change, Roster, Side, Sym};
 use nms_show::{Ending, Form, Item, ShowFault};
 use nms_trades::{
-    Timing,
-    Cause, Deal, Execution, Finding, Layout, TradesFault, difference, is_helped, sums_of,
+    Cause, Deal, Execution, Finding, Layout, Timing, TradesFault, difference, is_helped, sums_of,
     write_answers, write_table,
 };
 use std::alloc::{AllocError, Global};
@@ -120,7 +119,10 @@ fn write_whole<P: Write>(
     mark(page, PICTURES)?;
     let scenes = scenes_of(alloc, roster, changes, &flagged.marks)?;
     for (place, scene) in flagged.places.iter().zip(scenes.iter()) {
-        let (execution, finding) = (judged.records.executions.get(*place), judged.findings.get(*place));
+        let (execution, finding) = (
+            judged.records.executions.get(*place),
+            judged.findings.get(*place),
+        );
         if let (Some(execution), Some(Some(finding))) = (execution, finding) {
             write_one(roster, execution, finding, scene, page)?;
         }
@@ -156,7 +158,14 @@ fn write_counts<P: Write>(
 {
     let mut text = Escaped::new(page);
     let form = Form::Text { colours: false };
-    write_table(alloc, roster, &judged.records, &judged.findings, form, &mut text)
+    write_table(
+        alloc,
+        roster,
+        &judged.records,
+        &judged.findings,
+        form,
+        &mut text,
+    )
 }
 
 /// The executions that a page shows.
@@ -178,7 +187,13 @@ fn flagged_of(alloc: Global, judged: &Judged) -> Result<Flagged, AllocError> {
         more: 0,
     };
     let findings = judged.findings.iter();
-    for ((execution, finding), place) in judged.records.executions.iter().zip(findings).zip(0..usize::MAX) {
+    for ((execution, finding), place) in judged
+        .records
+        .executions
+        .iter()
+        .zip(findings)
+        .zip(0..usize::MAX)
+    {
         let Some(finding) = finding else {
             continue;
         };
@@ -187,7 +202,9 @@ fn flagged_of(alloc: Global, judged: &Judged) -> Result<Flagged, AllocError> {
         }
         if flagged.places.len() < MOST_SHOWN {
             flagged.places.push(place)?;
-            flagged.marks.push((execution.sym, mark_of(execution, finding)))?;
+            flagged
+                .marks
+                .push((execution.sym, mark_of(execution, finding)))?;
         } else {
             match flagged.more.checked_add(1) {
                 Some(more) => flagged.more = more,

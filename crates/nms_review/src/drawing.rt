@@ -44,7 +44,17 @@ where
     };
     let plan = plan.as_ref().map(Vec::as_slice);
     match &request.trades {
-        Some(path) => draw_trades(rt, screen, setup, request, path.as_str(), &frame, sym, plan, answers),
+        Some(path) => draw_trades(
+            rt,
+            screen,
+            setup,
+            request,
+            path.as_str(),
+            &frame,
+            sym,
+            plan,
+            answers,
+        ),
         None => draw_alone(rt, screen, setup, request, &frame, sym, plan, answers),
     }
 }
@@ -65,8 +75,13 @@ where
 {
     let file = open_word(rt, request, 0)?;
     let mut source = Source::new(rt, screen, file);
-    let served = draw_changes(rt.alloc(), setup, &mut source, frame, sym, plan, answers)
-        .map_err(|fault| Fault::of(fault.code(), fault.status(), about_of(request, fault.code())));
+    let served = draw_changes(rt.alloc(), setup, &mut source, frame, sym, plan, answers).map_err(
+        |fault| Fault::of(
+            fault.code(),
+            fault.status(),
+            about_of(request, fault.code()),
+        ),
+    );
     ended(&mut source, served)
 }
 

@@ -90,11 +90,8 @@ fn own_fault(fault: TradesFault) -> Fault {
     }
 }
 
-/// Whether the options of times go with a file of times, and no window is asked for.
+/// Whether the options of times go with a file of times.
 fn check_times(request: &Request) -> Result<(), Fault> {
-    if request.window.is_some() {
-        return Err(Fault::usage(About::Nothing, "trades judges no windows"));
-    }
     if request.times.is_none() && (request.before || request.symbols.is_some()) {
         return Err(Fault::usage(About::Nothing, "--before and --symbols need --times"));
     }

@@ -243,7 +243,7 @@ static DRAW: [Word; 10] = [
     SETUP,
 ];
 
-static IMPORT: [Word; 6] = [
+static IMPORT: [Word; 5] = [
     Word {
         name: "MAP",
         help: "The file of the mapping: how the vendor's files are laid out",
@@ -262,11 +262,6 @@ static IMPORT: [Word; 6] = [
     Word {
         name: "rows",
         help: "Writes the number of its row after each time",
-        form: WordForm::Flag,
-    },
-    Word {
-        name: "shards",
-        help: "Writes NAME.1.changes, NAME.2.changes and so on, each with at most 1,000 symbols and its setup",
         form: WordForm::Flag,
     },
     SETUP,
@@ -302,7 +297,7 @@ static WHEN: [Word; 7] = [
     JSON,
 ];
 
-static TRADES: [Word; 10] = [
+static TRADES: [Word; 9] = [
     CHANGES,
     Word {
         name: "EXECUTIONS",
@@ -318,11 +313,6 @@ static TRADES: [Word; 10] = [
         name: "html",
         help: "Also writes a page for the file: the counts, and each execution that traded through with its picture",
         form: WordForm::Valued("PAGE"),
-    },
-    Word {
-        name: "window",
-        help: "Judges each execution on all versions within so many nanoseconds of its time, with --times",
-        form: WordForm::Valued("NS"),
     },
     Word {
         name: "before",

@@ -1,5 +1,6 @@
 -- Printable text and safe text, joined.
-use Rattle.std.proofs.Common.{ℕ, zero, suc, ℤ, pos, negsuc, ◌≡◌, ◌+◌, ◌/◌, ◌%◌, ◌<◌, ◌≤◌, ◌==◌, ◌&&◌, Bool, true, false, cond, List, [], ◌∷◌, ◌++◌}
+use Rattle.std.proofs.Common.{ℕ, zero, suc, ℤ, pos, negsuc, ◌≡◌, ◌+◌, ◌/◌, ◌%◌, ◌<◌, ◌≤◌, ◌==◌, ◌&&◌}
+use Rattle.std.proofs.Common.{Bool, true, false, cond, List, [], ◌∷◌, ◌++◌}
 use Rattle.std.proofs.Common.{refl, sym, ap, subst, ◌∙◌, take, length, append_assoc, arith}
 use Rattle.std.specs.Prelude.{flat_map, nat_le, nat_lt, ◌||◌, if◌then◌else◌}
 use Rattle.std.specs.Char.{digit_char, encode_utf8}
@@ -88,7 +89,8 @@ digit_at_in unit n = digit_in (n / unit % 10) (omega arith)
 pub printable_price : (n : ℕ) → IsPrintable (price_text n)
 printable_price n =
     printable_append _ (printable_decimal (n / 10000))
-    (printable_cons 46 _ refl (printable_cons (digit_at 1000 n) _ (digit_at_in 1000 n) (printable_cons (digit_at 100 n) _ (digit_at_in 100 n)
+    (printable_cons 46 _ refl (printable_cons (digit_at 1000 n) _ (digit_at_in 1000 n)
+    (printable_cons (digit_at 100 n) _ (digit_at_in 100 n)
     (printable_cons (digit_at 10 n) _ (digit_at_in 10 n) (printable_cons (digit_at 1 n) [] (digit_at_in 1 n) no_text)))))
 
 three : (n : ℕ) (rest : List ℕ) → IsPrintable rest → IsPrintable (three_digits n ++ rest)

@@ -1,5 +1,6 @@
 -- What was written in turn.
-use Rattle.std.proofs.Common.{ℕ, ◌≡◌, ◌++◌, List, [], Option, Some, None, ap, refl, sym, subst, ◌∙◌, append_assoc, ◌+◌, ◌≤◌, length, drop, arith}
+use Rattle.std.proofs.Common.{ℕ, ◌≡◌, ◌++◌, List, [], Option, Some, None}
+use Rattle.std.proofs.Common.{ap, refl, sym, subst, ◌∙◌, append_assoc, ◌+◌, ◌≤◌, length, drop, arith}
 use Rattle.std.specs.Prelude.{All, Err, Ok, OnOk, Result}
 use Rattle.std.specs.Result.{IsErr}
 use Rattle.std.specs.Io.KnownBytes.{Appends}

@@ -84,7 +84,10 @@ fn write_value(alloc: Global, text: &mut Vec<u8>, item: &Item<'_>) -> Result<(),
     ensures { IsPrintable (own_text item.now) → OnOk result (Adds IsPrintable (Some text.old.items) (Some text.new.items)) }
 {
     match *item {
-        Item::Text(own) | Item::Strong(own) | Item::Alarm(own) => write_string(text, own.as_bytes()),
+        Item::Text(own) | Item::Strong(own) | Item::Alarm(own) => write_string(
+            text,
+            own.as_bytes(),
+        ),
         Item::Bytes(_) | Item::Price(_) | Item::Money(_) => write_as_string(alloc, text, item),
         Item::Number(number) => write_number(text, number),
         Item::Flag(true) => write_printable(text, b"true"),

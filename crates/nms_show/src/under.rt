@@ -34,8 +34,16 @@ pub fn write_under<W: Write>(
     let near = last_of(before);
     let shown = first_of(from, FROM);
     let field = first_of(shown, if end < start { 0 } else { end - start });
-    let ahead = if near.len() < before.len() { LEFT_OUT } else { "" };
-    let behind = if shown.len() < from.len() { LEFT_OUT } else { "" };
+    let ahead = if near.len() < before.len() {
+        LEFT_OUT
+    } else {
+        ""
+    };
+    let behind = if shown.len() < from.len() {
+        LEFT_OUT
+    } else {
+        ""
+    };
     write_record(answers, form, ahead, near, shown, behind)?;
     write_carets(answers, form, ahead, near, field)
 }

@@ -13,5 +13,6 @@ write_safe-requires c = record { safe = printed (125 ∷ []) (10 ∷ []) (printa
 
 pub returns : goal.returns
 returns c = λ own.
-    whole_text _ _ c.new-text.ensures.items (safe_then _ _ _ (safe_adds _ _ (printable_then _ _ _ c.in_ok-write_printable.ensures (c.in_ok-write_members.ensures own)))
+    whole_text _ _ c.new-text.ensures.items
+    (safe_then _ _ _ (safe_adds _ _ (printable_then _ _ _ c.in_ok-write_printable.ensures (c.in_ok-write_members.ensures own)))
     c.in_ok-write_safe.ensures)

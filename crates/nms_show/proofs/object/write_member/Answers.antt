@@ -10,5 +10,7 @@ write_printable-requires c = record { printable = printable_ascii _ refl }
 
 pub returns : goal.returns
 returns c = λ key own.
-    printable_ok c.write_value.result _ _ _ (printable_then _ _ _ (c.in_ok-write_string.ensures.printable (subst IsPrintable (sym c.as_bytes.ensures.value) key)) c.in_ok-write_printable.ensures)
+    printable_ok c.write_value.result _ _ _
+    (printable_then _ _ _ (c.in_ok-write_string.ensures.printable (subst IsPrintable (sym c.as_bytes.ensures.value) key))
+    c.in_ok-write_printable.ensures)
     (c.write_value.ensures own)

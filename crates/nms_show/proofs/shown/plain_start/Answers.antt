@@ -15,5 +15,5 @@ loop-plain-preserved c =
     record {
       within = omega (arith, c.loop-plain-test.true);
       printable = printable_more at c.args.bytes.now (get_or c.args.bytes.now at 0) (take_more c.args.bytes.now at 0 c.loop-plain-test.true)
-      both.0 both.1 c.loop-plain.invariant.printable;
+          both.0 both.1 c.loop-plain.invariant.printable;
     }

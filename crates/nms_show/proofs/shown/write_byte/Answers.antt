@@ -7,6 +7,7 @@ use Rattle.nms_show.proofs.shown.write_byte.Goals as goal
 pub write_printable-requires : goal.write_printable-requires
 write_printable-requires g c = record {
   printable = printable_cons 92 _ refl (printable_cons 120 _ refl
-  (printable_cons c.hex_digit.result _ (in_range c.hex_digit.result c.hex_digit.ensures.low c.hex_digit.ensures.high)
-  (printable_cons c.hex_digit-2.result _ (in_range c.hex_digit-2.result c.hex_digit-2.ensures.low c.hex_digit-2.ensures.high) no_text)));
+      (printable_cons c.hex_digit.result _ (in_range c.hex_digit.result c.hex_digit.ensures.low c.hex_digit.ensures.high)
+      (printable_cons c.hex_digit-2.result _
+      (in_range c.hex_digit-2.result c.hex_digit-2.ensures.low c.hex_digit-2.ensures.high) no_text)));
 }

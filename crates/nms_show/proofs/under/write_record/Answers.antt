@@ -9,5 +9,8 @@ use Rattle.nms_show.proofs.under.write_record.Goals as goal
 pub returns : goal.returns
 returns g c =
     c.write_line.ensures.safe
-    (All-cons (λ item. IsPrintable (own_text item)) _ _ (printable_ascii _ refl) (All-cons (λ item. IsPrintable (own_text item)) _ _ c.requires.ahead (All-cons (λ item. IsPrintable (own_text item)) _ _ no_text (All-cons (λ item. IsPrintable (own_text item)) _ _ no_text
+    (All-cons (λ item. IsPrintable (own_text item)) _ _ (printable_ascii _ refl)
+    (All-cons (λ item. IsPrintable (own_text item)) _ _ c.requires.ahead
+    (All-cons (λ item. IsPrintable (own_text item)) _ _ no_text
+    (All-cons (λ item. IsPrintable (own_text item)) _ _ no_text
     (All-cons (λ item. IsPrintable (own_text item)) _ _ c.requires.behind (all_none _))))))
