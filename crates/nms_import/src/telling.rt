@@ -66,7 +66,7 @@ impl<'a, E: Write> Told<'a, E> {
             return;
         }
         self.left -= 1;
-        show(
+        show_row(
             &mut self.errors,
             self.file,
             row,
