@@ -118,10 +118,7 @@ fn write_whole<P: Write>(
     mark(page, PICTURES)?;
     let scenes = scenes_of(alloc, roster, changes, &flagged.marks)?;
     for (place, scene) in flagged.places.iter().zip(scenes.iter()) {
-        let (execution, finding) = (judged.records.executions.get(*place), judged.findings.get(*place));
-        if let (Some(execution), Some(Some(finding))) = (execution, finding) {
-            write_one(roster, execution, finding, scene, page)?;
-        }
+        write_flagged(roster, judged, *place, scene, page)?;
     }
     mark(page, "</body>\n</html>")?;
     Ok(())
@@ -211,6 +208,23 @@ fn write_more<P: Write>(more: u64, page: &mut P) -> Result<(), ShowFault> {
         ],
     )?;
     mark(page, "</p>")
+}
+
+/// Writes the execution of a place, which traded through.
+fn write_flagged<P: Write>(
+    roster: &Roster,
+    judged: &Judged,
+    place: usize,
+    scene: &Scene,
+    page: &mut P,
+) -> Result<(), PageFault> {
+    let Some(execution) = judged.records.executions.get(place) else {
+        return Ok(());
+    };
+    match judged.findings.get(place) {
+        Some(Some(finding)) => write_one(roster, execution, finding, scene, page),
+        Some(None) | None => Ok(()),
+    }
 }
 
 /// Writes an execution that traded through.
