@@ -119,6 +119,7 @@ fn write_whole<P: Write>(
     mark(page, PICTURES)?;
     let scenes = scenes_of(alloc, roster, changes, &flagged.marks)?;
     for (place, scene) in flagged.places.iter().zip(scenes.iter()) {
+<<<<<<< HEAD
         let (execution, finding) = (
             judged.records.executions.get(*place),
             judged.findings.get(*place),
@@ -126,6 +127,9 @@ fn write_whole<P: Write>(
         if let (Some(execution), Some(Some(finding))) = (execution, finding) {
             write_one(roster, execution, finding, scene, page)?;
         }
+=======
+        write_flagged(roster, judged, *place, scene, page)?;
+>>>>>>> 57adc3d1f74ed8d6020e04a19743938d890a9400
     }
     mark(page, "</body>\n</html>")?;
     Ok(())
@@ -230,6 +234,23 @@ fn write_more<P: Write>(more: u64, page: &mut P) -> Result<(), ShowFault> {
         ],
     )?;
     mark(page, "</p>")
+}
+
+/// Writes the execution of a place, which traded through.
+fn write_flagged<P: Write>(
+    roster: &Roster,
+    judged: &Judged,
+    place: usize,
+    scene: &Scene,
+    page: &mut P,
+) -> Result<(), PageFault> {
+    let Some(execution) = judged.records.executions.get(place) else {
+        return Ok(());
+    };
+    match judged.findings.get(place) {
+        Some(Some(finding)) => write_one(roster, execution, finding, scene, page),
+        Some(None) | None => Ok(()),
+    }
 }
 
 /// Writes an execution that traded through.
