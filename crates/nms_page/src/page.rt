@@ -119,17 +119,7 @@ fn write_whole<P: Write>(
     mark(page, PICTURES)?;
     let scenes = scenes_of(alloc, roster, changes, &flagged.marks)?;
     for (place, scene) in flagged.places.iter().zip(scenes.iter()) {
-<<<<<<< HEAD
-        let (execution, finding) = (
-            judged.records.executions.get(*place),
-            judged.findings.get(*place),
-        );
-        if let (Some(execution), Some(Some(finding))) = (execution, finding) {
-            write_one(roster, execution, finding, scene, page)?;
-        }
-=======
         write_flagged(roster, judged, *place, scene, page)?;
->>>>>>> 57adc3d1f74ed8d6020e04a19743938d890a9400
     }
     mark(page, "</body>\n</html>")?;
     Ok(())
