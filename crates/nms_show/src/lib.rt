@@ -2,7 +2,6 @@
 //! terminal that could harm it.
 #![tactic(auto)]
 
-mod columns;
 mod ending;
 mod form;
 mod item;
@@ -11,7 +10,6 @@ mod object;
 mod show_fault;
 mod shown;
 mod under;
-mod written;
 
 pub use ending::Ending;
 pub use form::Form;

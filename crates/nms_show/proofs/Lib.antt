@@ -1,2 +1,0 @@
-pub mod SafeFacts
-pub mod WriteFacts
