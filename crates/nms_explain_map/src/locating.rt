@@ -43,7 +43,7 @@ impl Reached {
         if !self.nest.is_outer() {
             return None;
         }
-        let marked = Marked::of_line(line, self.bytes, self.lines + 1);
+        let marked = Marked::of_line(line, self.bytes, self.lines.saturating_add(1));
         if let Some((name, _)) = header_in(line) {
             return if table.is_empty() && names_key(name, key) {
                 Some(marked.whole())
@@ -65,8 +65,8 @@ impl Reached {
             Some(_) | None => self.is_in,
         };
         Reached {
-            lines: self.lines + 1,
-            bytes: self.bytes + line.len() + 1,
+            lines: self.lines.saturating_add(1),
+            bytes: self.bytes.saturating_add(line.len()).saturating_add(1),
             nest: self.nest.behind_line(line),
             is_in,
         }

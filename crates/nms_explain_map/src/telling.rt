@@ -62,6 +62,8 @@ impl<'a> Place<'a> {
 /// A fault, and what is said of it.
 #[derive(Clone, Copy)]
 struct Refusal<'a> {
+    /// The file, as the call named it.
+    file: &'a str,
     marked: Marked<'a>,
     code: &'static str,
     sentence: &'static str,
@@ -93,6 +95,7 @@ pub(crate) fn tell_no_toml<'a, W: Write>(
     answers: &mut W,
 ) -> Result<Ending, ShowFault> {
     let refusal = Refusal {
+        file: told.file,
         marked: mark_at(told.text, start, end),
         code: "M1",
         sentence: "the text is no TOML document",
@@ -102,7 +105,7 @@ pub(crate) fn tell_no_toml<'a, W: Write>(
         expected,
         meant: None,
     };
-    tell_refusal(told, &refusal, answers)?;
+    tell_refusal(told.alloc, told.form, &refusal, answers)?;
     tell_summary(told, 1, false, answers)?;
     Ok(Ending::SetupRefused)
 }
@@ -118,6 +121,7 @@ pub(crate) fn tell_fault<'a, W: Write>(
     let at_key = locate_key(told.text, place.table.as_bytes(), place.key.as_bytes());
     let at_table = marked_table(told.text, place.table);
     let mut refusal = Refusal {
+        file: told.file,
         marked: at_table,
         code: fault.code(),
         sentence: "a key is absent",
@@ -145,7 +149,7 @@ pub(crate) fn tell_fault<'a, W: Write>(
             refusal.found = Item::Bytes(marked.value());
         }
     }
-    tell_refusal(told, &refusal, answers)
+    tell_refusal(told.alloc, told.form, &refusal, answers)
 }
 
 /// The line that stands for a table: its header, or the text's first.
@@ -160,22 +164,23 @@ fn marked_table<'a>(text: &'a [u8], table: &str) -> Marked<'a> {
 
 /// Writes a fault: its place in the file, the line with carets under what is wrong, what was found and what is expected.
 fn tell_refusal<W: Write>(
-    told: Told<'_>,
+    alloc: Global,
+    form: Form,
     refusal: &Refusal<'_>,
     answers: &mut W,
 ) -> Result<(), ShowFault> {
-    if told.form.is_json() {
-        return tell_object(told, refusal, answers);
+    if form.is_json() {
+        return tell_object(alloc, refusal, answers);
     }
-    tell_place(told, refusal, answers)?;
+    tell_place(form, refusal, answers)?;
     let marked = refusal.marked;
     let (start, end) = (marked.pair.start, marked.pair.end);
-    write_under(answers, told.form, marked.line, start, end)?;
-    tell_found(told.form, refusal, answers)?;
+    write_under(answers, form, marked.line, start, end)?;
+    tell_found(form, refusal, answers)?;
     match refusal.meant {
         Some(meant) => write_line(
             answers,
-            told.form,
+            form,
             &[
                 Item::Text(INDENT),
                 Item::Text("did you mean `"),
@@ -189,7 +194,7 @@ fn tell_refusal<W: Write>(
 
 /// Writes the line of a fault's place.
 fn tell_place<W: Write>(
-    told: Told<'_>,
+    form: Form,
     refusal: &Refusal<'_>,
     answers: &mut W,
 ) -> Result<(), ShowFault> {
@@ -199,7 +204,7 @@ fn tell_place<W: Write>(
         Some(table) => (": ", table),
     };
     let items = [
-        Item::Bytes(told.file.as_bytes()),
+        Item::Bytes(refusal.file.as_bytes()),
         Item::Text(":"),
         Item::Number(refusal.marked.number),
         Item::Text(":"),
@@ -213,7 +218,7 @@ fn tell_place<W: Write>(
         Item::Text(": "),
         Item::Text(refusal.sentence),
     ];
-    write_line(answers, told.form, &items)
+    write_line(answers, form, &items)
 }
 
 /// A key, if there is one.
@@ -247,7 +252,7 @@ fn tell_found<W: Write>(
 
 /// Writes a fault as a JSON object.
 fn tell_object<W: Write>(
-    told: Told<'_>,
+    alloc: Global,
     refusal: &Refusal<'_>,
     answers: &mut W,
 ) -> Result<(), ShowFault> {
@@ -261,11 +266,11 @@ fn tell_object<W: Write>(
         None => Item::Absent,
     };
     write_object(
-        told.alloc,
+        alloc,
         answers,
         &[
             ("what", Item::Text("refusal")),
-            ("file", Item::Bytes(told.file.as_bytes())),
+            ("file", Item::Bytes(refusal.file.as_bytes())),
             ("line", Item::Number(refusal.marked.number)),
             ("column", Item::Number(refusal.marked.column())),
             ("code", Item::Text(refusal.code)),
