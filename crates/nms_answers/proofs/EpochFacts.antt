@@ -43,7 +43,8 @@ pub over_keeps : (first old : EpochDesk) → GoesOver first old → KeepsEpochs 
 over_keeps first old over = stays_over first old old over refl (keeps_itself old.desk old.desk refl)
 
 -- one that stayed or went over, and then went over
-pub over_again : (first old now new : EpochDesk) → GoesOver first old → now.epoch ≡ old.epoch → now.epoch < new.epoch → GoesOver first new
+pub over_again : (first old now new : EpochDesk) → GoesOver first old → now.epoch ≡ old.epoch → now.epoch < new.epoch
+    → GoesOver first new
 over_again first old now new (inl same) epoch rises = inr (omega (arith, epoch, rises, ap (λ (d : EpochDesk). d.epoch) same))
 over_again first old now new (inr over) epoch rises = inr (omega (arith, epoch, rises, over))
 
@@ -68,7 +69,8 @@ answered_over settings number fields first old new text refused over epoch answe
     )
 
 -- a request was answered after the epoch's line
-pub answered_in : (settings : Settings) (number : ℕ) (fields : Record) (first : ℕ) (old new : EpochDesk) (line text : List ℕ) (refused : Bool)
+pub answered_in : (settings : Settings) (number : ℕ) (fields : Record) (first : ℕ) (old new : EpochDesk) (line text : List ℕ)
+    (refused : Bool)
     → line ≡ text_of (epoch_line first old.epoch) → Answered settings number fields old.desk new.desk line text refused
     → AnsweredIn settings number fields first old new text refused
 answered_in settings number fields first old new line text refused is answered = (

@@ -123,8 +123,8 @@ comes_on remaining settings bytes reader next first now new before after last do
     once made e = rw e (omega arith)
 
 -- all requests were answered
-pub answers_all : (settings : Settings) (bytes : Option (List ℕ)) (first now : EpochDesk) (before after : Option (List ℕ)) (done refused : ℕ)
-    (counts : RequestCounts) (requests : List Record) (answered : AreAnswered settings requests first now before after)
+pub answers_all : (settings : Settings) (bytes : Option (List ℕ)) (first now : EpochDesk) (before after : Option (List ℕ))
+    (done refused : ℕ) (counts : RequestCounts) (requests : List Record) (answered : AreAnswered settings requests first now before after)
     → AreAllRecords bytes requests → length answered.looks ≡ done → count_by is_none answered.looks ≡ refused
     → counts ≡ record { requests = done; refused = refused } → AnswersAll settings bytes first now before after counts
 answers_all settings bytes first now before after done refused counts requests answered all looked refusals is = record {

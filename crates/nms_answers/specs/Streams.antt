@@ -30,7 +30,8 @@ ServesFrom settings number (fields ∷ requests) old new looks told shown =
     × ServesFrom settings (number + 1) requests next new rest later last
 
 -- these requests were answered, and what was written is the text of the answers with the lines of epochs, and nothing else
-pub record AreAnswered (settings : Settings) (requests : List Record) (old new : EpochDesk) (before after : Option (List ℕ)) : Type 0 where
+pub record AreAnswered (settings : Settings) (requests : List Record) (old new : EpochDesk)
+    (before after : Option (List ℕ)) : Type 0 where
   pub looks : List (Option Tape)
   pub told : List Record
   pub shown : List Record
@@ -50,7 +51,8 @@ pub record AnswersAll (settings : Settings) (bytes : Option (List ℕ)) (old new
   pub counted : counts ≡ counts_of answered.looks
 
 -- the first requests of the stream were answered; the client may have gone over or looked once more
-pub record AnswersFirst (settings : Settings) (bytes : Option (List ℕ)) (old new : EpochDesk) (before after : Option (List ℕ)) : Type 0 where
+pub record AnswersFirst (settings : Settings) (bytes : Option (List ℕ)) (old new : EpochDesk)
+    (before after : Option (List ℕ)) : Type 0 where
   pub requests : List Record
   pub begin : BeginRecords bytes requests
   pub last : EpochDesk

@@ -78,7 +78,9 @@ fn answer_records<R: Read, W: Write, L: LaterDesks>(
     let mut text = Vec::new(alloc);
     let mut refused = 0;
     for done in 0..MOST_REQUESTS + 1 {
-        match advance(setup, desk, later, reader, &mut row, done, &mut text, answers) {
+        match advance(
+            setup, desk, later, reader, &mut row, done, &mut text, answers,
+        ) {
             Ok(Progress::Answered { refused: more }) => refused += u64::from(more),
             Ok(Progress::Ended) => {
                 return Ok(RequestCounts {

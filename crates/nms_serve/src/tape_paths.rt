@@ -16,7 +16,9 @@ pub(crate) struct TapePaths<'a> {
 
 impl<'a> TapePaths<'a> {
     /// Opens the files of the first epoch. They have to be empty or missing, and so have those of the next.
-    pub(crate) fn open_first(&self) -> Result<(Guarded<'a, File>, Guarded<'a, File>), ProgramFault> {
+    pub(crate) fn open_first(
+        &self,
+    ) -> Result<(Guarded<'a, File>, Guarded<'a, File>), ProgramFault> {
         let (Ok(next), Ok(next_lengths), Ok(lengths)) = (
             format!(in self.alloc; "{}.1", self.path),
             format!(in self.alloc; "{}.1.published", self.path),
@@ -24,7 +26,12 @@ impl<'a> TapePaths<'a> {
         ) else {
             return Err(ProgramFault::Serving(ServeFault::NoMemory));
         };
-        let paths = [self.path, lengths.as_str(), next.as_str(), next_lengths.as_str()];
+        let paths = [
+            self.path,
+            lengths.as_str(),
+            next.as_str(),
+            next_lengths.as_str(),
+        ];
         if paths.iter().any(|path| has_something(self.host, *path)) {
             return Err(ProgramFault::TapeThere);
         }

@@ -46,6 +46,8 @@ pub(crate) fn tell_tape(host: &HostRuntime, changes: u64, publishings: u64, epoc
     let _ = if epochs == 0 {
         eprintln!(host; "nms_serve: {changes} changes, published {publishings} times")
     } else {
-        eprintln!(host; "nms_serve: {changes} changes, published {publishings} times, up to epoch {epochs}")
+        eprintln!(host;
+            "nms_serve: {changes} changes, published {publishings} times, up to epoch {epochs}"
+        )
     };
 }

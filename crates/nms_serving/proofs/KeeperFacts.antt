@@ -1,5 +1,6 @@
 -- What a keeper's tape, its board and its published version are to one another.
-use Rattle.std.proofs.Common.{ℕ, ◌≡◌, ◌+◌, ◌<◌, ◌≤◌, ◌++◌, List, [], ◌∷◌, Option, Some, None, length, take, drop, fold, refl, sym, ap, subst, ◌∙◌, arith, length-append, append_assoc}
+use Rattle.std.proofs.Common.{ℕ, ◌≡◌, ◌+◌, ◌<◌, ◌≤◌, ◌++◌, List, [], ◌∷◌, Option, Some, None, length, take, drop, fold}
+use Rattle.std.proofs.Common.{refl, sym, ap, subst, ◌∙◌, arith, length-append, append_assoc}
 use Rattle.std.proofs.lemmas.List.{append-nil, take_more}
 use Rattle.std.proofs.lemmas.List.Sums.{fold-append}
 use Rattle.std.specs.Prelude.{get_or}
@@ -54,10 +55,15 @@ stands_still taped later board stood is whole =
 pub longer_appended : (taped later : Taped) (change : Change) → later ≡ record taped { pending = taped.pending ++ change ∷ [] }
     → length (tape_of taped) ≤ length (tape_of later)
 longer_appended taped later change is =
-    rw is (omega (arith, length-append (changes taped.published) taped.pending,
-    length-append (changes taped.published) (taped.pending ++ change ∷ []), length-append taped.pending (change ∷ [])))
+    rw is (omega (
+      arith,
+      length-append (changes taped.published) taped.pending,
+      length-append (changes taped.published) (taped.pending ++ change ∷ []),
+      length-append taped.pending (change ∷ []),
+    ))
 
-pub as_long_published : (taped later : Taped) → later ≡ record taped { published = committed taped.published taped.pending; pending = [] }
+pub as_long_published : (taped later : Taped)
+    → later ≡ record taped { published = committed taped.published taped.pending; pending = [] }
     → changes later.published ≡ tape_of taped → length (tape_of later) ≡ length (tape_of taped)
 as_long_published taped later is whole = ap length (whole_tape taped later is whole)
 
@@ -73,7 +79,8 @@ pub none_waiting : (taped : Taped) → tape_of taped ≡ [] → changes taped.pu
 none_waiting taped none = none_published taped none ∙ sym none
 
 -- nothing was written
-pub appends_nothing : (known : Option (List ℕ)) (roster : Listing) (more : List Change) → more ≡ [] → Appends known known (changes_text roster more)
+pub appends_nothing : (known : Option (List ℕ)) (roster : Listing) (more : List Change) → more ≡ []
+    → Appends known known (changes_text roster more)
 appends_nothing None roster more none = tt
 appends_nothing (Some bytes) roster more none = rw none (sym (append-nil bytes))
 

@@ -141,10 +141,7 @@ fn answer_from<R: Wait, S: Read + Drop, W: Write + Drop, H: House>(
         means.alloc,
         run.setup,
         desk,
-        &SlotOf {
-            rt: means.rt,
-            slot,
-        },
+        &SlotOf { rt: means.rt, slot },
         Guarded::new(requests, run),
         &mut answers,
     ) {

@@ -73,7 +73,7 @@ fn read_feed<R: Wait>(
             return Ok(());
         }
         if door.is_renewed(means.host, &file) {
-            let Ok(again) = door.open_anew(means.host, run) else {
+            let Ok(again) = door.open_anew(means.host, means.alloc, run) else {
                 return Err(ServeFault::NotOpened(Stream::Feed(feed)));
             };
             file = again;

@@ -124,14 +124,7 @@ impl<'a, X: Write, Y: Write> Keeper<'a, X, Y> {
     }
 
     /// Takes the opening changes of an epoch in, writes them and then publishes them, all at once.
-    #[tactic(auto, using(
-        crate::proofs::KeeperFacts::none_published,
-        crate::proofs::KeeperFacts::none_waiting,
-        crate::proofs::KeeperFacts::appends_nothing,
-        crate::proofs::KeeperFacts::taken_whole,
-        crate::proofs::KeeperFacts::some_waiting,
-        crate::proofs::KeeperFacts::recorded_whole
-    ))]
+    #[tactic(auto, using(crate::proofs::KeeperFacts::none_published, crate::proofs::KeeperFacts::none_waiting, crate::proofs::KeeperFacts::appends_nothing, crate::proofs::KeeperFacts::taken_whole, crate::proofs::KeeperFacts::some_waiting, crate::proofs::KeeperFacts::recorded_whole))]
     fn open_with<R: Wait>(&mut self, rt: &R, changes: &[Change]) -> Result<(), ServeFault>
         requires empty { tape_of self.old.publisher ≡ [] }
         ensures opening { OnOk result (self.new.publisher.opening ≡ self.old.publisher.opening) }

@@ -127,7 +127,10 @@ impl fmt::Display for ServeFault {
             ServeFault::TapeFull => f.write_str(": the tape is full"),
             ServeFault::TooManyEpochs => f.write_str(": there are too many epochs"),
             ServeFault::NotEmpty(stream) => {
-                write!(f, ": there is something in {stream} of the next epoch already")
+                write!(
+                    f,
+                    ": there is something in {stream} of the next epoch already"
+                )
             }
             ServeFault::NoReading(client) => write!(f, ": client {client} had no reading"),
         }
