@@ -29,7 +29,7 @@ use std::sync::Wait;
 /// `end`.
 pub(crate) struct Keeper<'a, X: Write, Y: Write> {
     roster: &'a Roster,
-    publisher: Publisher,
+    pub(crate) publisher: Publisher,
     /// The board of the tape, from which the next epoch begins.
     board: Boards,
     /// The file of the tape.
