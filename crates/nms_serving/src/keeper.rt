@@ -125,18 +125,18 @@ impl<'a, X: Write, Y: Write> Keeper<'a, X, Y> {
 
     /// Takes the opening changes of an epoch in, writes them and then publishes them, all at once.
     #[tactic(auto, using(crate::proofs::KeeperFacts::none_published, crate::proofs::KeeperFacts::none_waiting, crate::proofs::KeeperFacts::appends_nothing, crate::proofs::KeeperFacts::taken_whole, crate::proofs::KeeperFacts::some_waiting, crate::proofs::KeeperFacts::recorded_whole))]
-    fn open_with<R: Wait>(&mut self, rt: &R, changes: &[Change]) -> Result<(), ServeFault>
+    fn open_with<R: Wait>(&mut self, rt: &R, first: &[Change]) -> Result<(), ServeFault>
         requires empty { tape_of self.old.publisher ≡ [] }
         ensures opening { OnOk result (self.new.publisher.opening ≡ self.old.publisher.opening) }
         ensures sizes { OnOk result (self.new.publisher.sizes ≡ self.old.publisher.sizes) }
-        ensures taken { OnOk result (tape_of self.new.publisher ≡ changes.now) }
+        ensures taken { OnOk result (tape_of self.new.publisher ≡ first.now) }
         ensures published { OnOk result (changes self.new.publisher.published ≡ tape_of self.new.publisher) }
-        ensures recorded { OnOk result (Appends (X.contents self.old.tape) (X.contents self.new.tape) (changes_text self.old.roster.now changes.now)) }
+        ensures recorded { OnOk result (Appends (X.contents self.old.tape) (X.contents self.new.tape) (changes_text self.old.roster.now first.now)) }
     {
-        if changes.is_empty() {
+        if first.is_empty() {
             return Ok(());
         }
-        match self.append_all(changes) {
+        match self.append_all(first) {
             Ok(()) => {}
             Err(fault) => return Err(fault),
         }
@@ -144,11 +144,11 @@ impl<'a, X: Write, Y: Write> Keeper<'a, X, Y> {
     }
 
     /// Appends changes to the tape, in order.
-    fn append_all(&mut self, changes: &[Change]) -> Result<(), ServeFault>
-        ensures added { OnOk result (self.new.publisher ≡ record self.old.publisher { pending = self.old.publisher.pending ++ changes.now }) }
+    fn append_all(&mut self, first: &[Change]) -> Result<(), ServeFault>
+        ensures added { OnOk result (self.new.publisher ≡ record self.old.publisher { pending = self.old.publisher.pending ++ first.now }) }
         ensures kept { (self.new.tape ≡ self.old.tape) × (self.new.roster.now ≡ self.old.roster.now) × (self.new.published ≡ self.old.published) }
     {
-        for change in changes {
+        for change in first {
             match self.append(change) {
                 Ok(()) => {}
                 Err(fault) => return Err(fault),

@@ -7,7 +7,7 @@ use Rattle.nms_serving.proofs.keeper.Keeper.append_all.Goals as goal
 
 pub loop-change-preserved : goal.loop-change-preserved
 loop-change-preserved g c = record {
-  added = added_more c.args.self.now.publisher c.loop-change.self.publisher c.append.new.self.publisher c.args.changes.now
+  added = added_more c.args.self.now.publisher c.loop-change.self.publisher c.append.new.self.publisher c.args.first.now
       c.loop-change.change-index c.change-item.result c.loop-change-test.true c.change-item.is c.loop-change.invariant.added
       c.in-Ok.ensures.added;
   tape = c.append.ensures.kept.0 ∙ c.loop-change.invariant.tape;
