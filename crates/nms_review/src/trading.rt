@@ -1,13 +1,15 @@
 //! The subcommand `trades`.
 use crate::call::{ended, form_of};
 use crate::fault::{About, Fault};
-use crate::files::open_word;
+use crate::files::{open_word, read_file};
 use crate::screen::Screen;
 use crate::source::Source;
+use crate::timing::given_times;
 use nms_fees::Setup;
 use nms_review_words::Request;
 use nms_show::Ending;
-use nms_trades::{Layout, judge_file};
+use nms_times::Times;
+use nms_trades::{Layout, Timing, TradesFault, judge_file};
 use std::io::Write;
 use std::rt::Files;
 use std::time::Clock;
@@ -17,7 +19,7 @@ const CHANGES: usize = 0;
 
 const EXECUTIONS: usize = 1;
 
-/// Judges a file of executions. Both files are opened before either is read.
+/// Judges a file of executions. The words are tested first, then times are read; both files are opened before either is read.
 pub(crate) fn serve_trades<T, W: Write>(
     rt: &T,
     screen: Screen,
@@ -28,6 +30,11 @@ pub(crate) fn serve_trades<T, W: Write>(
 where
     T: AllocGlobal + Clock + Eprint + Files,
 {
+    let window = window_of(request)?;
+    let times = given_times(rt, request)?;
+    let symbols = given_symbols(rt, request)?;
+    let symbols = symbols.as_ref().map(Vec::as_slice);
+    let timing = timing_of(times.as_ref(), symbols, request.before, window);
     let changes = open_word(rt, request, CHANGES)?;
     let executions = open_word(rt, request, EXECUTIONS)?;
     let mut changes = Source::new(rt, screen, changes);
@@ -42,6 +49,7 @@ where
         setup,
         &mut changes,
         &mut executions,
+        timing.as_ref(),
         form_of(screen, request),
         layout,
         answers,
@@ -54,13 +62,80 @@ where
         }
         Err(fault) => {
             executions.clear();
-            let own = Fault::of(fault.code(), fault.status(), About::Word(CHANGES));
-            ended(&mut changes, Err(own))
+            ended(&mut changes, Err(own_fault(fault)))
         }
         Ok(ending) => {
             changes.clear();
             executions.clear();
             Ok(ending)
         }
+    }
+}
+
+/// A fault that is not about the executions: of the changes, or of the times.
+fn own_fault(fault: TradesFault) -> Fault {
+    match fault {
+        TradesFault::Times(fault) => Fault::of_times(fault, About::Times),
+        TradesFault::Symbols(fault) => Fault::of_times(fault, About::Symbols),
+        TradesFault::Changes(_)
+        | TradesFault::Executions(_)
+        | TradesFault::Board(_)
+        | TradesFault::TooLong
+        | TradesFault::Show(_) => {
+            Fault::of(fault.code(), fault.status(), About::Word(CHANGES))
+        }
+    }
+}
+
+/// The nanoseconds that `--window` gives; 0 if it is not given.
+fn window_of(request: &Request) -> Result<u64, Fault> {
+    let is_timed = request.times.is_some();
+    if !is_timed && (request.window.is_some() || request.before || request.symbols.is_some()) {
+        return Err(Fault::usage(About::Nothing, "--window, --before and --symbols need --times"));
+    }
+    let Some(word) = &request.window else {
+        return Ok(0);
+    };
+    nanoseconds_in(word.as_str()).ok_or(Fault::usage(
+        About::Nothing,
+        "--window takes nanoseconds, as a number of at most 15 digits",
+    ))
+}
+
+/// A number of 1 to 15 digits.
+fn nanoseconds_in(word: &str) -> Option<u64> {
+    if word.len() <= 15 && word.bytes().all(|byte| byte.is_ascii_digit()) {
+        word.parse::<u64>().ok()
+    } else {
+        None
+    }
+}
+
+/// The text of the file that `--symbols` names, if it names one.
+fn given_symbols<T: AllocGlobal + Files>(
+    rt: &T,
+    request: &Request,
+) -> Result<Option<Vec<u8>>, Fault> {
+    match &request.symbols {
+        Some(file) => Ok(Some(read_file(rt, file.as_str(), About::Symbols)?)),
+        None => Ok(None),
+    }
+}
+
+/// How versions are found by times, if there are any.
+fn timing_of<'a>(
+    times: Option<&'a Times>,
+    symbols: Option<&'a [u8]>,
+    before: bool,
+    window: u64,
+) -> Option<Timing<'a>> {
+    match times {
+        Some(times) => Some(Timing {
+            times,
+            symbols,
+            before,
+            window,
+        }),
+        None => None,
     }
 }

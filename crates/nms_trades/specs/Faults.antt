@@ -15,6 +15,8 @@ code_of fault.BadVersion = codes "X8"
 code_of fault.Beyond = codes "X9"
 code_of fault.UnknownParticipant = codes "X10"
 code_of fault.BadFlags = codes "X11"
+code_of fault.NoTimes = codes "X12"
+code_of fault.NoChanges = codes "X13"
 
 abbrev pub column_of : TradeFault → ℕ
 column_of fault.UnknownKind = 1
@@ -28,3 +30,5 @@ column_of fault.BadVersion = 7
 column_of fault.Beyond = 7
 column_of fault.UnknownParticipant = 8
 column_of fault.BadFlags = 9
+column_of fault.NoTimes = 7
+column_of fault.NoChanges = 3

@@ -10,3 +10,4 @@ pub mod Lines
 pub mod Reading
 pub mod Sums
 pub mod Turns
+pub mod When

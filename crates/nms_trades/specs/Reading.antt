@@ -5,10 +5,12 @@ use Rattle.std.specs.Prelude.{codes, if◌then◌else◌}
 use Rattle.std.specs.Char.{is_ascii_alphanumeric}
 use Rattle.std.specs.List.{list_all}
 use Rattle.nms_quote.specs.Roster.{Listing, place_in}
-use Rattle.nms_units.specs.Digits.{number_in}
 use Rattle.nms_lines.specs.Layout.{Record, field, is_text}
 use Rattle.nms_lines.specs.Numbers.{above_zero, shares_number}
 use Rattle.nms_trades.specs.FinePrice.{fine_number}
+use Rattle.nms_trades.specs.When.{when_in}
+use Rattle.nms_trades.specs.declared.clock.Clock.{Clock}
+use Rattle.nms_trades.specs.declared.clock.When.{When}
 use Rattle.nms_trades.specs.declared.execution.Deal.{Deal}
 use Rattle.nms_trades.specs.declared.execution.Deal.TheVariants as deal
 use Rattle.nms_trades.specs.declared.execution.Execution.{Execution}
@@ -30,13 +32,15 @@ deal_in text =
     else (if is_text (codes "B") text then Ok (Some deal.Bought)
     else (if is_text (codes "S") text then Ok (Some deal.Sold) else Err fault.BadSide))
 
--- a version, if the file has that many changes
-abbrev pub version_below : ℕ → Option ℕ → Result ℕ TradeFault
-version_below changes None = Err fault.BadVersion
-version_below changes (Some version) = if nat_lt changes version then Err fault.Beyond else Ok version
-
-abbrev pub version_of : ℕ → List ℕ → Result ℕ TradeFault
-version_of changes text = version_below changes (number_in 9 text)
+-- when an execution took place
+abbrev pub when_of : Execution → When
+when_of execution = record {
+  version = execution.version;
+  first = execution.first;
+  last = execution.last;
+  second_before = execution.second_before;
+  time = execution.time;
+}
 
 -- a participant of the roster
 abbrev pub part_found : Option ℕ → Result (Option ℕ) TradeFault
@@ -52,10 +56,13 @@ pub record IsOn (roster : Listing) (changes : ℕ) (execution : Execution) : Typ
   pub sym : execution.sym < length roster.syms
   pub part : IfSome execution.part (λ part. part < length roster.parts)
   pub version : execution.version ≤ changes
+  pub first : execution.first ≤ changes
+  pub last : execution.last ≤ changes
+  pub second_before : execution.second_before ≤ changes
   pub price : execution.millionths ≤ 9999999999999
 
 -- the execution that a record says, but for its flags
-pub record IsReadFrom (roster : Listing) (changes : ℕ) (fields : Record) (execution : Execution) : Type 0 where
+pub record IsReadFrom (roster : Listing) (clock : Clock) (fields : Record) (execution : Execution) : Type 0 where
   pub kind : is_text (codes "D") (field fields 0) ≡ true
   pub count : length fields ≡ 9
   pub formed : is_name (field fields 1) ≡ true
@@ -64,5 +71,5 @@ pub record IsReadFrom (roster : Listing) (changes : ℕ) (fields : Record) (exec
   pub price : above_zero (fine_number (field fields 3)) ≡ Some execution.millionths
   pub shares : above_zero (shares_number (field fields 4)) ≡ Some execution.shares
   pub deal : deal_in (field fields 5) ≡ Ok execution.deal
-  pub version : version_of changes (field fields 6) ≡ Ok execution.version
+  pub when : when_in clock execution.sym (field fields 6) ≡ Ok (when_of execution)
   pub part : part_of roster (field fields 7) ≡ Ok execution.part

@@ -1,7 +1,9 @@
 //! A file of executions, read record by record: `specs/Reading`.
 ghost use Rattle.std.specs.Prelude.{All, IfOk, OnOk};
 ghost use Rattle.nms_trades.specs.Reading.{IsOn};
+ghost use Rattle.nms_trades.specs.When.{AreOfChanges};
 
+use crate::clock::Clock;
 use crate::execution::Execution;
 use crate::reading::read_execution;
 use crate::trade_fault::TradeFault;
@@ -30,14 +32,15 @@ pub(crate) struct Records {
     pub(crate) refused: Vec<Refusal>,
 }
 
-/// Reads all executions of a file, at most `MOST_EXECUTIONS`. One that is refused does not stop the others. `changes` is the number of changes of the file.
+/// Reads all executions of a file, at most `MOST_EXECUTIONS`. One that is refused does not stop the others. The clock finds their versions.
 pub(crate) fn read_executions<R: Read + Drop>(
     alloc: Global,
     roster: &Roster,
-    changes: u64,
+    clock: &Clock<'_>,
     source: R,
 ) -> Result<Records, TradesFault>
-    ensures on { IfOk result (λ records. All (IsOn roster.now changes) records.executions.items) }
+    requires { AreOfChanges clock.now.changes clock.now.rising.items }
+    ensures on { IfOk result (λ records. All (IsOn roster.now clock.now.changes) records.executions.items) }
 {
     let mut reader = open_records(alloc, source);
     let mut row = ByteRecord::new(alloc);
@@ -45,7 +48,7 @@ pub(crate) fn read_executions<R: Read + Drop>(
         executions: Vec::new(alloc),
         refused: Vec::new(alloc),
     };
-    match take_records(&mut reader, &mut row, roster, changes, &mut records) {
+    match take_records(&mut reader, &mut row, roster, clock, &mut records) {
         Ok(()) => Ok(records),
         Err(fault) => Err(fault),
     }
@@ -56,15 +59,16 @@ fn take_records<R: Read>(
     reader: &mut Reader<R>,
     row: &mut ByteRecord,
     roster: &Roster,
-    changes: u64,
+    clock: &Clock<'_>,
     records: &mut Records,
 ) -> Result<(), TradesFault>
-    requires { All (IsOn roster.now changes) records.old.executions.items }
-    ensures { All (IsOn roster.now changes) records.new.executions.items }
+    requires times { AreOfChanges clock.now.changes clock.now.rising.items }
+    requires on { All (IsOn roster.now clock.now.changes) records.old.executions.items }
+    ensures { All (IsOn roster.now clock.now.changes) records.new.executions.items }
 {
     for number in 1..MOST_EXECUTIONS + 1 {
         match read_next(reader, row) {
-            Ok(true) => take_record(row, roster, changes, number, records)?,
+            Ok(true) => take_record(row, roster, clock, number, records)?,
             Ok(false) => return Ok(()),
             Err(fault) => return Err(TradesFault::Executions(fault)),
         }
@@ -80,14 +84,15 @@ fn take_records<R: Read>(
 fn take_record(
     row: &ByteRecord,
     roster: &Roster,
-    changes: u64,
+    clock: &Clock<'_>,
     number: u64,
     records: &mut Records,
 ) -> Result<(), TradesFault>
-    requires { All (IsOn roster.now changes) records.old.executions.items }
-    ensures { All (IsOn roster.now changes) records.new.executions.items }
+    requires times { AreOfChanges clock.now.changes clock.now.rising.items }
+    requires on { All (IsOn roster.now clock.now.changes) records.old.executions.items }
+    ensures { All (IsOn roster.now clock.now.changes) records.new.executions.items }
 {
-    let is_pushed = match read_execution(row, roster, changes, number) {
+    let is_pushed = match read_execution(row, roster, clock, number) {
         Ok(execution) => records.executions.push(execution).is_ok(),
         Err(fault) => records.refused.push(Refusal { number, fault }).is_ok(),
     };

@@ -4,6 +4,7 @@
 
 mod cause;
 mod claims;
+mod clock;
 mod execution;
 mod execution_file;
 mod finding;
@@ -25,6 +26,7 @@ mod trades;
 mod trades_fault;
 
 pub use claims::Claims;
+pub use clock::Timing;
 pub use execution::{Deal, Execution};
 pub use finding::Finding;
 pub use judging::judge_all;

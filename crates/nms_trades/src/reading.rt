@@ -2,8 +2,10 @@
 ghost use Rattle.std.specs.Prelude.{◌≡◌, IfErr, IfOk, true};
 ghost use Rattle.std.specs.List.{list_all};
 ghost use Rattle.csv.specs.Records.{fields_of};
-ghost use Rattle.nms_trades.specs.Reading.{IsOn, IsReadFrom, deal_in, is_name, is_name_byte, part_of, version_of};
+ghost use Rattle.nms_trades.specs.Reading.{IsOn, IsReadFrom, deal_in, is_name, is_name_byte, part_of};
+ghost use Rattle.nms_trades.specs.When.{AreOfChanges};
 
+use crate::clock::Clock;
 use crate::execution::{Deal, Execution, MOST_NAME};
 use crate::flags::claims_in;
 use crate::millionths::millionths_in;
@@ -11,17 +13,17 @@ use crate::trade_fault::TradeFault;
 use arrayvec::ArrayVec;
 use nms_lines::{ByteRecord, field_at, some_shares_of};
 use nms_quote::{Part, Roster};
-use nms_units::parse_digits;
 
-/// What a record says, or the first fault of it. `changes` is the number of changes of the file.
+/// What a record says, or the first fault of it. The clock finds its version.
 pub(crate) fn read_execution(
     row: &ByteRecord,
     roster: &Roster,
-    changes: u64,
+    clock: &Clock<'_>,
     number: u64,
 ) -> Result<Execution, TradeFault>
-    ensures on { IfOk result (IsOn roster.now changes) }
-    ensures read { IfOk result (IsReadFrom roster.now changes (fields_of row.now)) }
+    requires { AreOfChanges clock.now.changes clock.now.rising.items }
+    ensures on { IfOk result (IsOn roster.now clock.now.changes) }
+    ensures read { IfOk result (IsReadFrom roster.now clock.now (fields_of row.now)) }
 {
     if field_at(row, 0) != b"D".as_slice() {
         return Err(TradeFault::UnknownKind);
@@ -38,7 +40,7 @@ pub(crate) fn read_execution(
     let millionths = millionths_in(field_at(row, 3)).ok_or(TradeFault::BadPrice)?;
     let shares = some_shares_of(field_at(row, 4)).ok_or(TradeFault::BadShares)?;
     let deal = deal_in(field_at(row, 5))?;
-    let version = version_in(field_at(row, 6), changes)?;
+    let when = clock.when_in(field_at(row, 6), sym)?;
     let part = part_in(field_at(row, 7), roster)?;
     let claims = claims_in(field_at(row, 8), roster).ok_or(TradeFault::BadFlags)?;
     Ok(Execution {
@@ -48,7 +50,11 @@ pub(crate) fn read_execution(
         millionths,
         shares,
         deal,
-        version,
+        version: when.version,
+        first: when.first,
+        last: when.last,
+        second_before: when.second_before,
+        time: when.time,
         part,
         claims,
     })
@@ -94,17 +100,6 @@ fn deal_in(text: &[u8]) -> Result<Option<Deal>, TradeFault>
         b"B" => Ok(Some(Deal::Bought)),
         b"S" => Ok(Some(Deal::Sold)),
         _ => Err(TradeFault::BadSide),
-    }
-}
-
-/// The version that a text writes, at most the number of changes.
-fn version_in(text: &[u8], changes: u64) -> Result<u64, TradeFault>
-    ensures { result ≡ version_of changes text.now }
-{
-    match parse_digits(text, 9) {
-        None => Err(TradeFault::BadVersion),
-        Some(version) if version > changes => Err(TradeFault::Beyond),
-        Some(version) => Ok(version),
     }
 }
 

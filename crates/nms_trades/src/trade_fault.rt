@@ -19,7 +19,7 @@ pub enum TradeFault {
     BadShares,
     /// X7: the side is not `B`, `S` or empty.
     BadSide,
-    /// X8: the version is not 1 to 9 digits.
+    /// X8: it is neither a version of 1 to 9 digits, nor `@` and a time.
     BadVersion,
     /// X9: there are fewer changes than the version says.
     Beyond,
@@ -27,10 +27,14 @@ pub enum TradeFault {
     UnknownParticipant,
     /// X11: a flag is none.
     BadFlags,
+    /// X12: a time stands in place of a version, and the changes have no times.
+    NoTimes,
+    /// X13: the file of symbols has no changes of the symbol, so that its times are not known.
+    NoChanges,
 }
 
 impl TradeFault {
-    /// The code of the fault, `X1` to `X11`.
+    /// The code of the fault, `X1` to `X13`.
     pub(crate) fn code(self) -> &'static str
         ensures { result.now ≡ code_of self }
     {
@@ -46,6 +50,8 @@ impl TradeFault {
             TradeFault::Beyond => "X9",
             TradeFault::UnknownParticipant => "X10",
             TradeFault::BadFlags => "X11",
+            TradeFault::NoTimes => "X12",
+            TradeFault::NoChanges => "X13",
         }
     }
 
@@ -56,11 +62,11 @@ impl TradeFault {
         match self {
             TradeFault::UnknownKind | TradeFault::FieldCount => 1,
             TradeFault::BadName => 2,
-            TradeFault::UnknownSymbol => 3,
+            TradeFault::UnknownSymbol | TradeFault::NoChanges => 3,
             TradeFault::BadPrice => 4,
             TradeFault::BadShares => 5,
             TradeFault::BadSide => 6,
-            TradeFault::BadVersion | TradeFault::Beyond => 7,
+            TradeFault::BadVersion | TradeFault::Beyond | TradeFault::NoTimes => 7,
             TradeFault::UnknownParticipant => 8,
             TradeFault::BadFlags => 9,
         }

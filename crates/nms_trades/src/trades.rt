@@ -4,6 +4,7 @@ ghost use Rattle.nms_quote.specs.Roster.{holds, sizes_of};
 ghost use Rattle.nms_quote.specs.declared.TheConstants.{MOST_CHANGES};
 ghost use Rattle.nms_trades.specs.Reading.{IsOn};
 
+use crate::clock::{Timing, clock_of};
 use crate::execution_file::{Records, read_executions};
 use crate::judging::judge_all;
 use crate::lines::write_answers;
@@ -25,7 +26,7 @@ pub enum Layout {
     Table,
 }
 
-/// Judges each execution of a file on the version of the changes that it names, and writes what is found in the order of the
+/// Judges each execution of a file on the version of the changes that it names, or that was in force at its time, and writes what is found in the order of the
 /// file: CSV, or an object a line as JSON; or the counts and sums of all.
 ///
 /// Both files are read whole; executions are at most 10,000,000. A record that is refused is written as such and counted. `Refused` if there is one, else
@@ -35,6 +36,7 @@ pub fn judge_file<C: Read + Drop, E: Read + Drop, W: Write>(
     setup: &Setup,
     changes: C,
     executions: E,
+    timing: Option<&Timing<'_>>,
     form: Form,
     layout: Layout,
     answers: &mut W,
@@ -44,7 +46,8 @@ pub fn judge_file<C: Read + Drop, E: Read + Drop, W: Write>(
         Err(fault) => return Err(TradesFault::Changes(fault)),
     };
     let roster = setup.roster();
-    match read_executions(alloc, roster, changes.len() as u64, executions) {
+    let clock = clock_of(alloc, roster, timing, changes.len())?;
+    match read_executions(alloc, roster, &clock, executions) {
         Ok(records) => judge_records(alloc, setup, &changes, &records, form, layout, answers),
         Err(fault) => Err(fault),
     }

@@ -3,6 +3,7 @@ use nms_board::BoardFault;
 use nms_files::ChangesFault;
 use nms_lines::RecordFault;
 use nms_show::ShowFault;
+use nms_times::TimesFault;
 use thiserror::Error;
 
 /// Why executions were not judged, or not to the end.
@@ -14,6 +15,12 @@ pub enum TradesFault {
     /// E1 or E4: the file of executions could not be read, or memory ran out for it. Nothing was written.
     #[error("{0}")]
     Executions(RecordFault),
+    /// H2 or H3: the times do not rise, or are not as many as the changes. Nothing was written.
+    #[error("{0}")]
+    Times(TimesFault),
+    /// H4: the file of symbols is none. Nothing was written.
+    #[error("{0}")]
+    Symbols(TimesFault),
     /// B1: no memory for the board or for what is found. Nothing was written.
     #[error("{0}")]
     Board(BoardFault),
@@ -26,11 +33,12 @@ pub enum TradesFault {
 }
 
 impl TradesFault {
-    /// The code of the fault: that of a file, `B1`, `E2`, `E3` or `E4`.
+    /// The code of the fault: that of a file, `H2` to `H4`, `B1`, `E2`, `E3` or `E4`.
     pub fn code(&self) -> &'static str {
         match self {
             TradesFault::Changes(fault) => fault.code(),
             TradesFault::Executions(fault) => fault.code(),
+            TradesFault::Times(fault) | TradesFault::Symbols(fault) => fault.code(),
             TradesFault::Board(fault) => fault.code(),
             TradesFault::TooLong => "E3",
             TradesFault::Show(fault) => fault.code(),
@@ -42,6 +50,7 @@ impl TradesFault {
         match self {
             TradesFault::Changes(fault) => fault.status(),
             TradesFault::Executions(fault) => fault.status(),
+            TradesFault::Times(fault) | TradesFault::Symbols(fault) => fault.status(),
             TradesFault::Board(BoardFault::NoMemory) => 5,
             TradesFault::TooLong => 6,
             TradesFault::Show(fault) => fault.status(),
@@ -52,7 +61,11 @@ impl TradesFault {
     pub fn is_of_executions(&self) -> bool {
         match self {
             TradesFault::Executions(_) | TradesFault::TooLong => true,
-            TradesFault::Changes(_) | TradesFault::Board(_) | TradesFault::Show(_) => false,
+            TradesFault::Changes(_)
+            | TradesFault::Times(_)
+            | TradesFault::Symbols(_)
+            | TradesFault::Board(_)
+            | TradesFault::Show(_) => false,
         }
     }
 }

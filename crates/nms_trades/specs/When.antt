@@ -1,0 +1,56 @@
+-- When an execution took place, and the versions that were in force then. This product's own rule.
+use Rattle.std.specs.Prelude.{ℕ, ◌≤◌, ◌+◌, ◌==◌, All, Bool, List, drop, length, nat_lt, slice_get, slice_index, IfSome, Option, Some, None, Result, Ok, Err}
+use Rattle.std.specs.Prelude.{if◌then◌else◌}
+use Rattle.nms_units.specs.Digits.{number_in}
+use Rattle.nms_times.specs.Clock.{earlier_by, later_by, time_reading}
+use Rattle.nms_times.specs.Times.{version_at, version_before}
+use Rattle.nms_times.specs.declared.rising.Rising.{Rising}
+use Rattle.nms_trades.specs.declared.clock.Clock.{Clock}
+use Rattle.nms_trades.specs.declared.clock.When.{When}
+use Rattle.nms_trades.specs.declared.trade_fault.TradeFault.{TradeFault}
+use Rattle.nms_trades.specs.declared.trade_fault.TradeFault.TheVariants as fault
+
+-- the version in force at a time: it has the changes that are not later, or, if those of the time itself are left out, that
+-- are earlier. Before the first change it is version 0
+abbrev pub version_by : (before : Bool) → Rising → ℕ → ℕ
+version_by before rising t =
+    if before then rising.before + version_before rising.times.now t else rising.before + version_at rising.times.now t
+
+-- an execution at a time: its version, those of its window, and that of one second before
+abbrev pub timed : Clock → Rising → ℕ → When
+timed clock rising t = record {
+  version = version_by clock.before rising t;
+  first = version_by clock.before rising (earlier_by clock.window t);
+  last = version_by clock.before rising (later_by clock.window t);
+  second_before = version_by clock.before rising (earlier_by 1000000000 t);
+  time = Some t;
+}
+
+-- an execution on a version, whose time is not known: that version alone
+abbrev pub untimed : ℕ → When
+untimed n = record { version = n; first = n; last = n; second_before = n; time = None }
+
+-- the times of a symbol's changes, if the file of symbols has it
+abbrev pub among : Clock → ℕ → Option (Option Rising) → Result When TradeFault
+among clock t None = Err fault.NoChanges
+among clock t (Some None) = Err fault.NoChanges
+among clock t (Some (Some rising)) = Ok (timed clock rising t)
+
+-- a time, if the changes have times
+abbrev pub at_time : Clock → (sym : ℕ) → Option ℕ → Result When TradeFault
+at_time clock sym None = Err fault.BadVersion
+at_time clock sym (Some t) = if clock.has_times then among clock t (slice_get clock.rising.items sym) else Err fault.NoTimes
+
+-- a version, if the file has that many changes
+abbrev pub version_below : ℕ → Option ℕ → Result When TradeFault
+version_below changes None = Err fault.BadVersion
+version_below changes (Some n) = if nat_lt changes n then Err fault.Beyond else Ok (untimed n)
+
+-- what a text says: `@` and a time, or a version
+abbrev pub when_in : Clock → (sym : ℕ) → List ℕ → Result When TradeFault
+when_in clock sym text =
+    if slice_index text 0 == 64 then at_time clock sym (time_reading (drop 1 text)) else version_below clock.changes (number_in 9 text)
+
+-- the times of a clock are of no more changes than there are
+abbrev pub AreOfChanges : ℕ → List (Option Rising) → Type 0
+AreOfChanges changes all = All (λ found. IfSome found (λ rising. rising.before + length rising.times.now ≤ changes)) all
