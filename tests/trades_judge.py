@@ -4,10 +4,11 @@
     tests/trades_judge.py PROGRAM [EXECUTIONS [SEED]]
 
 EXECUTIONS is 20,000 if it is not given. The plain program looks back over all changes at each execution, by the rules that
-rules.py has, and compares prices in 1/1,000,000 dollar. One record in ten is refused, in each way that a
-record can be. The lines, the same as JSON, and the table as JSON must be those of the plain program. It prints the seed, and
-at a difference the first execution that differs with the changes up to its version. The last line is `N passed, M failed`;
-status 1 at a difference.
+rules.py has, and compares prices in 1/1,000,000 dollar; with times it does so at each version of a window, and of the second
+before. Two files of three have times, with ties; half of those are sorted by symbol. One record in ten is refused, in each
+way that a record can be. The lines, the same as JSON, and the table as JSON must be those of the plain program. It prints the
+seed, and at a difference the first execution that differs with the changes up to its version. The last line is
+`N passed, M failed`; status 1 at a difference.
 """
 import json
 import os
@@ -24,8 +25,17 @@ OPENING = {"ABC": 100, "PNY": 100}
 CHANGES, EACH = 150, 250
 WORDS = {"C": "NOTREGULAR-CLAIMED", "O": "AUCTION-CLAIMED", "I": "ISO-CLAIMED", "J": "SWEPT-CLAIMED", "K": "BENCHMARK-CLAIMED", "P": "STOPPED-CLAIMED",
          "Q": "CONTINGENT-CLAIMED", "E": "EXEMPT-CLAIMED", "T": "HOURS-CLAIMED", "Z": "SEQUENCE-CLAIMED"}
-CAUSES = ["SELFHELP-CLAIMED", "NOTREGULAR-CLAIMED", "AUCTION-CLAIMED", "CROSSED", "ISO-CLAIMED", "SWEPT-CLAIMED", "BENCHMARK-CLAIMED", "STOPPED-CLAIMED",
-          "CONTINGENT-CLAIMED", "EXEMPT-CLAIMED", "HOURS-CLAIMED", "SEQUENCE-CLAIMED"]
+CAUSES = ["SELFHELP-CLAIMED", "NOTREGULAR-CLAIMED", "AUCTION-CLAIMED", "CROSSED", "ISO-CLAIMED", "SWEPT-CLAIMED", "BENCHMARK-CLAIMED", "FLICKER",
+          "STOPPED-CLAIMED", "CONTINGENT-CLAIMED", "EXEMPT-CLAIMED", "HOURS-CLAIMED", "SEQUENCE-CLAIMED"]
+
+
+DAY, SECOND = 86_400 * 10**9, 10**9
+
+
+def clock(nanos):
+    """Nanoseconds since midnight as 15 digits."""
+    seconds = nanos // SECOND
+    return f"{seconds // 3600:02}{seconds // 60 % 60:02}{seconds % 60:02}{nanos % SECOND:09}"
 
 
 def drawn_change(chance):
@@ -69,42 +79,119 @@ BAD = [  # the place of the field, what stands in it, the column and the code
     (3, "-1", 4, "X5"), (3, "1.", 4, "X5"), (3, ".5", 4, "X5"), (4, "0", 5, "X6"), (4, "", 5, "X6"), (4, "1234567890", 5, "X6"),
     (5, "b", 6, "X7"), (5, "BS", 6, "X7"), (6, "", 7, "X8"), (6, "-1", 7, "X8"), (6, "@1", 7, "X8"), (6, "1234567890", 7, "X8"),
     (6, str(CHANGES + 1), 7, "X9"), (7, "n", 8, "X10"), (7, "NN", 8, "X10"), (8, "X", 9, "X11"), (8, "I+", 9, "X11"),
-    (8, "H=", 9, "X11"), (8, "H=N/", 9, "X11"), (8, "H", 9, "X11"), (8, "IJ", 9, "X11"),
+    (8, "H=", 9, "X11"), (8, "H=N/", 9, "X11"), (8, "H", 9, "X11"), (8, "IJ", 9, "X11"), (6, "@", 7, "X8"), (6, "@09300", 7, "X8"),
+    (6, "@240000", 7, "X8"), (6, "@096000", 7, "X8"), (6, "@0930000000000001", 7, "X8"), (6, "@-93000", 7, "X8"), (6, "@@093000", 7, "X8"),
 ]
+UNTIMED = [(6, "@093000", 7, "X12"), (6, "@093000000000000", 7, "X12"), (6, "@235959.", 7, "X8")]
 
 
-def judged(tape, seen, sym, version, millionths, shares, part, words, named):
-    """What is found of an execution: its rows, each with how much it takes, and the causes."""
+def sides_at(tape, seen, sym, version):
+    """The protected quotations of a version, by rank."""
     if (version, sym) not in seen:
         sides = []
         for side, sign in (("BID", -1), ("OFFER", 1)):
             found = [it for it in rules.rows(tape[:version], sym, side, OPENING) if it[4] == "A"]
             sides.append((side, sign, sorted(found, key=lambda it: (sign * it[0], -it[1], it[2]))))
         seen[version, sym] = sides
-    sides = seen[version, sym]
-    through = [(side, it) for side, sign, found in sides for it in found if sign * it[0] * 100 < sign * millionths]
+    return seen[version, sym]
+
+
+def passed(sides, millionths):
+    return [(side, it) for side, sign, found in sides for it in found if sign * it[0] * 100 < sign * millionths]
+
+
+def is_inferior(sides, on, part, millionths):
+    """Whether a participant shows a protected quotation on a side, at a price or inferior to it."""
+    return any(it[3] == part and sign * it[0] * 100 >= sign * millionths for side, sign, found in sides if side == on for it in found)
+
+
+def judged(look, when, millionths, shares, part, words, named):
+    """What is found of an execution: its standing, its rows, each with how much it takes and whether it flickered, and the
+    causes. The versions are its own, those of its window, and those of the second before, if its time is known."""
+    version, window, second = when
+    sides = look(version)
+    through = passed(sides, millionths)
     (bids, offers), left, rows = (it[2] for it in sides), shares, []
     for side, it in through:
         if it[3] not in named:
             takes = min(left, it[1])
             left -= takes
-            rows.append((side, it[3], it[0], it[1], it[2], abs(it[0] * 100 - millionths), takes))
+            flickers = any(is_inferior(look(n), side, it[3], millionths) for n in second)
+            rows.append((side, it[3], it[0], it[1], it[2], abs(it[0] * 100 - millionths), takes, flickers))
     causes = set(words)
     if len(rows) < len(through):
         causes.add("SELFHELP-CLAIMED")
+    if rows and all(it[7] for it in rows):
+        causes.add("FLICKER")
     if bids and offers and bids[0][0] > offers[0][0]:
         causes.add("CROSSED")
-    return bool(through), rows, [it for it in CAUSES if it in causes]
+    several = {bool(passed(look(n), millionths)) for n in window}
+    standing = "PERHAPS" if len(several) == 2 else "THROUGH" if several == {True} else "CLEAN"
+    return standing, rows, [it for it in CAUSES if it in causes]
+
+
+class Times:
+    """The times of a file of changes: over all of them, or by symbol."""
+
+    def __init__(self, chance, by_symbol=False):
+        self.by_symbol, self.all, self.spans = by_symbol, [], {}
+        self.before, self.alone = chance.random() < 0.3, by_symbol and chance.random() < 0.15
+        self.window = chance.choice([None, None, 0, 1, 5_000_000, 400_000_000, SECOND, 3600 * SECOND, DAY])
+
+    def sorted(self, pairs):
+        """The changes in the order of a file of these times. By symbol no change is of all symbols, and one symbol may have none."""
+        if not self.by_symbol:
+            return pairs
+        own = {sym: [it for it in pairs if it[1][0] != "X" and it[1][1 if it[1][0] == "R" else 2] == sym] for sym in SYMS}
+        if self.alone:
+            own["PNY"] = []
+        self.spans["ABC"] = (0, len(own["ABC"]))
+        if own["PNY"]:
+            self.spans["PNY"] = (len(own["ABC"]), len(own["ABC"]) + len(own["PNY"]))
+        return own["ABC"] + own["PNY"]
+
+    def draw(self, chance, pairs):
+        """Draws a time for each change."""
+        if not self.by_symbol:
+            self.spans = {sym: (0, len(pairs)) for sym in SYMS}
+        step = chance.choice([3, 40_000_000, 300_000_000])
+        for first, last in sorted(set(self.spans.values())):
+            now = 34_200 * SECOND
+            for _ in range(first, last):
+                now += chance.choice([0, 0, 1, chance.randrange(step), chance.randrange(step)])
+                self.all.append(now)
+
+    def version(self, sym, nanos):
+        first, last = self.spans[sym]
+        return first + sum(it < nanos if self.before else it <= nanos for it in self.all[first:last])
+
+    def when(self, sym, nanos):
+        """The version at a time, those of its window, and those of the second before."""
+        wide = self.window or 0
+        first, last = self.version(sym, max(nanos - wide, 0)), self.version(sym, min(nanos + wide, DAY - 1))
+        own, second = self.version(sym, nanos), self.version(sym, max(nanos - SECOND, 0))
+        return own, range(first, last + 1), range(second, own + 1)
+
+    def drawn(self, chance):
+        """A time near one of a change, and as a text."""
+        nanos = chance.choice([*self.all, 34_200 * SECOND]) + chance.choice([0, 0, -1, 1, 1000, 200_000_000, -SECOND, SECOND, SECOND + 1])
+        nanos = chance.choices([nanos, chance.choice([0, 1, DAY - 1])], [30, 1])[0]
+        text = clock(nanos)
+        return nanos, text[:6] + text[6:].rstrip("0") if chance.random() < 0.5 else text
 
 
 def count():
-    return {"executions": 0, "through": 0, "no_cause": 0, "rows": 0, "shares": 0, "dollars": 0, "worst": 0}
+    return {"executions": 0, "perhaps": 0, "through": 0, "no_cause": 0, "rows": 0, "shares": 0, "dollars": 0, "worst": 0}
 
 
-def add(to, is_through, rows, causes, whole=True):
+def add(to, standing, rows, causes, whole=True):
     if whole:
         to["executions"] += 1
-        to["through"] += is_through
+        to["perhaps"] += standing == "PERHAPS"
+        to["through"] += standing == "THROUGH"
+    if standing != "THROUGH":
+        return
+    if whole:
         to["no_cause"] += bool(rows) and not set(causes) - {"SELFHELP-CLAIMED"}
     to["rows"] += len(rows)
     to["shares"] += sum(it[6] for it in rows)
@@ -115,11 +202,19 @@ def add(to, is_through, rows, causes, whole=True):
 def day(chance, first):
     """A file of changes, one of executions, the lines and the table that must come; and of each answer its record."""
     pairs = [drawn_change(chance) for _ in range(CHANGES)]
+    times = chance.choice([None, Times(chance), Times(chance, by_symbol=True)])
+    if times:
+        pairs = times.sorted(pairs)
+        times.draw(chance, pairs)
     tape, seen, records, answers = [it[1] for it in pairs], {}, [], []
-    tables = {"cause": {}, "executed": {}, "passed": {}, "symbol": {}}
+    tables = {"cause": {}, "executed": {}, "passed": {}, "symbol": {}, "half_hour": {}}
     total, refused = count(), 0
     for number in range(EACH):
-        sym, version = chance.choice(["ABC", "ABC", "PNY"]), chance.choice([0, 1, CHANGES, *range(CHANGES)])
+        sym, version = chance.choice(["ABC", "ABC", "PNY"]), chance.choice([0, 1, len(pairs), *range(len(pairs))])
+        when, text, nanos = (version, range(version, version + 1), ()), str(version), None
+        if times and chance.random() < 0.8:
+            nanos, digits = times.drawn(chance)
+            text, when = "@" + digits, times.when(sym, nanos) if sym in times.spans else None
         millionths = chance.choice([chance.randrange(9_990_000, 10_020_000, 10_000), chance.randrange(9_980_000, 10_030_000),
                                     chance.randrange(9_980_000, 10_030_000, 50), 1, 9_999_999_999_999])
         shares, part = chance.choice([1, 50, 100, 300, 5000, 999_999_999]), chance.choice(["", *PARTS])
@@ -127,36 +222,47 @@ def day(chance, first):
         price, name = fine(millionths), f"x{first + number}.{chance.choice(['a', 'B-', '_'])}"
         if chance.random() < 0.3 and price.endswith("0"):
             price = price.rstrip("0").rstrip(".")
-        fields = ["D", name, sym, price, str(shares), chance.choice(["", "B", "S"]), str(version), part, flags]
+        fields = ["D", name, sym, price, str(shares), chance.choice(["", "B", "S"]), text, part, flags]
         if chance.random() < 0.1:
             refused += 1
             if chance.random() < 0.1:
                 records.append(",".join(fields[:8] if chance.random() < 0.5 else fields + [""]))
                 answers.append([f"REFUSED,{number + 1},1,X2"])
                 continue
-            place, text, column, code = chance.choice(BAD)
-            fields[place] = text
+            place, bad, column, code = chance.choice(BAD if times else [*BAD, *UNTIMED])
+            fields[place] = bad
+            if when is None and place > 6:
+                column, code = 3, "X13"
             records.append(",".join(fields))
             answers.append([f"REFUSED,{number + 1},{column},{code}"])
             continue
         records.append(",".join(fields))
-        is_through, rows, causes = judged(tape, seen, sym, version, millionths, shares, part, words, named)
+        if when is None:
+            refused += 1
+            answers.append([f"REFUSED,{number + 1},3,X13"])
+            continue
+        version = when[0]
+        standing, rows, causes = judged(lambda n: sides_at(tape, seen, sym, n), when, millionths, shares, part, words, named)
+        if nanos is not None:
+            half_hour = nanos // (1800 * SECOND)
+            add(tables["half_hour"].setdefault(f"{half_hour // 2:02}:{half_hour % 2 * 3}0", count()), standing, rows, causes)
         for table, key in (("executed", part or "(none)"), ("symbol", sym)):
-            add(tables[table].setdefault(key, count()), is_through, rows, causes)
-        add(total, is_through, rows, causes)
-        if not is_through:
+            add(tables[table].setdefault(key, count()), standing, rows, causes)
+        add(total, standing, rows, causes)
+        if standing == "CLEAN":
             answers.append([f"CLEAN,{name},{version}"])
             continue
-        for cause in causes:
-            add(tables["cause"].setdefault(cause, count()), is_through, rows, causes)
-        for row in rows:
-            add(tables["passed"].setdefault(row[1], count()), is_through, [row], causes, whole=False)
+        if standing == "THROUGH":
+            for cause in causes:
+                add(tables["cause"].setdefault(cause, count()), standing, rows, causes)
+            for row in rows:
+                add(tables["passed"].setdefault(row[1], count()), standing, [row], causes, whole=False)
         worst = fine(max((it[5] for it in rows), default=0))
-        head = f"THROUGH,{name},{version},{len(rows)},{worst},{sum(it[6] for it in rows)},{'+'.join(causes) or 'NONE'}"
+        head = f"{standing},{name},{version},{len(rows)},{worst},{sum(it[6] for it in rows)},{'+'.join(causes) or 'NONE'}"
         answers.append([head] + [
-            f"ROW,{side},{who},{rules.dollars(at)},{size},{receipt},{fine(by)},{'OWN' if who == part else ''}"
-            for side, who, at, size, receipt, by, _ in rows])
-    return pairs, records, answers, table_of(total, refused, tables)
+            f"ROW,{side},{who},{rules.dollars(at)},{size},{receipt},{fine(by)},{'+'.join(['OWN'] * (who == part) + ['FLICKER'] * flickers)}"
+            for side, who, at, size, receipt, by, _, flickers in rows])
+    return pairs, times, records, answers, table_of(total, refused, tables)
 
 
 def table_of(total, refused, tables):
@@ -164,11 +270,12 @@ def table_of(total, refused, tables):
     def item(what, name, it):
         return {"what": what, "name": name, **it, "dollars": fine(it["dollars"]) + "000", "worst": fine(it["worst"]) + "000"}
     executions, through = total["executions"], total["through"]
-    objects = [{"what": "totals", "executions": executions, "refused": refused, "clean": executions - through,
+    objects = [{"what": "totals", "executions": executions, "refused": refused, "clean": executions - through - total["perhaps"], "perhaps": total["perhaps"],
                 "through": through, "no_cause": total["no_cause"], "per_10000": through * 10_000 // executions,
                 "rows": total["rows"], "shares": total["shares"], "dollars": fine(total["dollars"]) + "000"}]
     symbols = sorted(SYMS, key=lambda it: -tables["symbol"].get(it, count())["shares"])
-    for what, names in (("cause", CAUSES), ("executed", [*PARTS, "(none)"]), ("passed", PARTS), ("symbol", symbols)):
+    for what, names in (("cause", CAUSES), ("executed", [*PARTS, "(none)"]), ("passed", PARTS), ("symbol", symbols),
+                        ("half_hour", sorted(tables["half_hour"]))):
         objects += [item(what, name, tables[what][name]) for name in names if name in tables[what]]
     return objects
 
@@ -182,12 +289,12 @@ def objects_of(answers):
         elif head[0] == "CLEAN":
             yield {"what": "clean", "id": head[1], "version": int(head[2])}
         else:
-            yield {"what": "through", "id": head[1], "version": int(head[2]), "count": int(head[3]), "worst": head[4],
+            yield {"what": head[0].lower(), "id": head[1], "version": int(head[2]), "count": int(head[3]), "worst": head[4],
                    "shares": int(head[5]), "cause": head[6]}
         for line in lines[1:]:
             _, side, who, price, size, receipt, by, own = line.split(",")
             yield {"what": "row", "id": head[1], "side": side, "participant": who, "price": price, "shares": int(size),
-                   "receipt": int(receipt), "by": by, "own": own == "OWN"}
+                   "receipt": int(receipt), "by": by, "own": "OWN" in own, "flicker": "FLICKER" in own}
 
 
 def ran(program, folder, status, *options):
@@ -199,24 +306,36 @@ def ran(program, folder, status, *options):
 
 def difference(program, folder, made):
     """What is wrong of one day, or nothing."""
-    pairs, records, answers, table = made
-    for name, lines in (("c", [it[0] for it in pairs]), ("e", records)):
+    pairs, times, records, answers, table = made
+    files, options = [("c", [it[0] for it in pairs]), ("e", records)], []
+    if times:
+        files.append(("t", [clock(it) for it in times.all]))
+        options += ["--times", "t"]
+        if times.before:
+            options.append("--before")
+        if times.window is not None:
+            options += ["--window", str(times.window)]
+        if times.by_symbol:
+            files.append(("s", [f"{sym},{first + 1},{last}" for sym, (first, last) in times.spans.items()]))
+            options += ["--symbols", "s"]
+    for name, lines in files:
         with open(os.path.join(folder, name), "w", encoding="utf-8") as file:
             file.write("".join(line + "\n" for line in lines))
     status = 6 if any(it[0].startswith("REFUSED") for it in answers) else 0
-    came, wanted = ran(program, folder, status), [line for lines in answers for line in lines]
+    came, wanted = ran(program, folder, status, *options), [line for lines in answers for line in lines]
     if came != wanted:
         at = 0
         for record, lines in zip(records, answers):
             if came[at:at + len(lines)] != lines:
-                upto = record.split(",")[6] if record.count(",") == 8 else "0"
+                upto = lines[0].split(",")[2]
                 shown = [it[0] for it in pairs][:int(upto) if upto.isdigit() else 0]
-                return "\n".join([*shown, record, "came:", *came[at:at + 5], "wanted:", *lines])
+                shown = [f"{clock(times.all[at])} {it}" if times else it for at, it in enumerate(shown)]
+                return "\n".join([*shown, " ".join(options), record, "came:", *came[at:at + 5], "wanted:", *lines])
             at += len(lines)
         return "more lines came: " + " ".join(came[at:at + 3])
-    if [json.loads(it) for it in ran(program, folder, status, "--json")] != list(objects_of(answers)):
+    if [json.loads(it) for it in ran(program, folder, status, "--json", *options)] != list(objects_of(answers)):
         return "the objects differ"
-    came = [json.loads(it) for it in ran(program, folder, status, "--table", "--json")]
+    came = [json.loads(it) for it in ran(program, folder, status, "--table", "--json", *options)]
     if came != table:
         return "\n".join(["the table differs", *(f"{it}\n{own}" for it, own in zip(came, table) if it != own)])
     return ""

@@ -1,4 +1,10 @@
+mod BestFacts
+mod BestSteps
+mod OkFacts
+mod OwnFacts
 mod PowerFacts
 mod RankFacts
+mod StandingFacts
+mod TrackFacts
 mod TurnFacts
 mod WholeFacts

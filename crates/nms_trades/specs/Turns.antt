@@ -2,7 +2,7 @@
 use Rattle.std.specs.Prelude.{ℕ, ◌≡◌, ◌<◌, Contains, List, Option, Some, None, slice_get}
 use Rattle.nms_quote.specs.Roster.{Sizes}
 use Rattle.nms_quote.specs.Tape.{Tape}
-use Rattle.nms_trades.specs.Judged.{IsFound}
+use Rattle.nms_trades.specs.Found.{IsJudged}
 use Rattle.nms_trades.specs.declared.execution.Execution.{Execution}
 use Rattle.nms_trades.specs.declared.finding.Finding.{Finding}
 use Rattle.nms_trades.specs.declared.order.Turn.{Turn}
@@ -13,7 +13,7 @@ HaveTurns turns count = (place : ℕ) → place < count → (turn : Turn) × Con
 
 -- an execution has its own finding
 abbrev pub IsAnswered : Sizes → Tape → Execution → Option (Option Finding) → Type 0
-IsAnswered sizes tape execution (Some (Some finding)) = IsFound sizes tape execution finding
+IsAnswered sizes tape execution (Some (Some finding)) = IsJudged sizes tape execution finding
 IsAnswered sizes tape execution (Some None) = ⊥
 IsAnswered sizes tape execution None = ⊥
 

@@ -1,5 +1,6 @@
 -- When an execution took place, and the versions that were in force then. This product's own rule.
-use Rattle.std.specs.Prelude.{ℕ, ◌≤◌, ◌+◌, ◌==◌, All, Bool, List, drop, length, nat_lt, slice_get, slice_index, IfSome, Option, Some, None, Result, Ok, Err}
+use Rattle.std.specs.Prelude.{ℕ, ◌≤◌, ◌+◌, ◌==◌, All, Bool, List, drop, length}
+use Rattle.std.specs.Prelude.{nat_lt, slice_get, slice_index, IfSome, Option, Some, None, Result, Ok, Err}
 use Rattle.std.specs.Prelude.{if◌then◌else◌}
 use Rattle.nms_units.specs.Digits.{number_in}
 use Rattle.nms_times.specs.Clock.{earlier_by, later_by, time_reading}

@@ -102,16 +102,16 @@ impl Clock<'_> {
         if place >= self.rising.len() {
             return Err(TradeFault::NoChanges);
         }
-        match self.rising[place] {
+        match &self.rising[place] {
             Some(rising) => Ok(self.timed(rising, time)),
             None => Err(TradeFault::NoChanges),
         }
     }
 
     /// An execution at a time, among these times.
-    fn timed(&self, rising: Rising<'_>, time: TimeOfDay) -> When
-        requires { rising.before + length rising.times.now ≤ self.now.changes }
-        ensures when { result ≡ timed self.now rising time }
+    fn timed(&self, rising: &Rising<'_>, time: TimeOfDay) -> When
+        requires { rising.now.before + length rising.now.times.now ≤ self.now.changes }
+        ensures when { result ≡ timed self.now rising.now time }
         ensures version { result.version ≤ self.now.changes }
         ensures first { result.first ≤ self.now.changes }
         ensures last { result.last ≤ self.now.changes }
@@ -128,9 +128,9 @@ impl Clock<'_> {
 }
 
 /// The version in force at a time, or before it.
-fn version_by(before: bool, rising: Rising<'_>, time: TimeOfDay) -> u64
-    ensures version { result ≡ version_by before rising time }
-    ensures high { result ≤ rising.before + length rising.times.now }
+fn version_by(before: bool, rising: &Rising<'_>, time: TimeOfDay) -> u64
+    ensures version { result ≡ version_by before rising.now time }
+    ensures high { result ≤ rising.now.before + length rising.now.times.now }
 {
     if before {
         rising.version_before(time)

@@ -7,20 +7,28 @@ ghost use Rattle.nms_board.specs.declared.row.Row.{Row};
 ghost use Rattle.nms_quote.specs.Roster.{holds, sizes_of};
 ghost use Rattle.nms_quote.specs.declared.TheConstants.{MOST_CHANGES};
 ghost use Rattle.nms_rules.specs.Through.{is_through};
+ghost use Rattle.nms_quote.specs.Roster.{Sizes};
+ghost use Rattle.nms_quote.specs.Tape.{Tape};
+ghost use Rattle.nms_trades.specs.Around.{goes_through_at, own_standing, standing_over};
+ghost use Rattle.nms_trades.specs.Found.{IsJudged, IsReady, is_alone};
 ghost use Rattle.nms_trades.specs.Judged.{GoesAlong, IsFound, IsFoundOn, whole_price};
 ghost use Rattle.nms_trades.specs.Reading.{IsOn};
 ghost use Rattle.nms_trades.specs.Turns.{AreAnswered, HaveTurns, IsAnswered};
 ghost use Rattle.nms_trades.specs.declared.execution.Execution.{Execution};
 
+use crate::around::standing_of;
+use crate::bests::bests_of;
 use crate::execution::Execution;
 use crate::finding::Finding;
 use crate::limits::{is_crossed, is_through, rows_ranked, whole_price};
 use crate::order::{Turn, turns_of};
-use nms_board::{BoardFault, Boards, Row, View};
+use crate::standing::Standing;
+use crate::track::Track;
+use nms_board::{BoardFault, Boards, Row, View, rows_have_one_rank_order};
 use nms_quote::{Change, Roster, Side};
 use std::alloc::{AllocError, Global};
 
-/// Judges an execution on the version that it names.
+/// Judges an execution on its version, and on those of its window.
 ///
 /// The board is moved forward to that version; where it is past it, a new one is made.
 pub(crate) fn judge(
@@ -28,26 +36,53 @@ pub(crate) fn judge(
     roster: &Roster,
     changes: &[Change],
     board: &mut Boards,
+    bests: &[Track],
     execution: &Execution,
 ) -> Result<Finding, BoardFault>
     requires held { All (λ change. holds (sizes_of roster.now) change ≡ true) changes.now }
     requires few { length changes.now ≤ MOST_CHANGES }
     requires within { execution.now.version ≤ length changes.now }
+    requires last { execution.now.last ≤ length changes.now }
     requires price { execution.now.millionths ≤ 9999999999999 }
+    requires ready { IsReady (sizes_of roster.now) changes.now bests.now execution.now }
     requires at { GoesAlong (sizes_of roster.now) changes.now board.old }
     ensures at { GoesAlong (sizes_of roster.now) changes.now board.new }
-    ensures found { IfOk result (IsFound (sizes_of roster.now) changes.now execution.now) }
+    ensures found { IfOk result (IsJudged (sizes_of roster.now) changes.now execution.now) }
 {
     match move_to(alloc, roster, changes, board, execution.version) {
         Ok(()) => {
             let view = board.view(execution.sym);
             match find_on(alloc, &view, execution.millionths) {
-                Ok(finding) => Ok(finding),
+                Ok(found) => Ok(with_window(found, bests, execution)),
                 Err(_) => Err(BoardFault::NoMemory),
             }
         }
         Err(fault) => Err(fault),
     }
+}
+
+/// A finding with its standing on the versions of its execution's window.
+fn with_window(found: Finding, bests: &[Track], execution: &Execution) -> Finding
+    requires { execution.now.millionths ≤ 9999999999999 }
+    ensures passed { result.passed ≡ found.passed }
+    ensures crossed { result.crossed ≡ found.crossed }
+    ensures standing { (sizes : Sizes) (tape : Tape) → execution.now.last ≤ length tape
+        → IsReady sizes tape bests.now execution.now → IsFound sizes tape execution.now found
+        → found.standing ≡ own_standing found.passed.items
+        → result.standing ≡ standing_over (goes_through_at sizes tape execution.now.sym execution.now.millionths)
+        execution.now.first execution.now.last }
+{
+    rows_have_one_rank_order();
+    if is_alone(execution) {
+        return found;
+    }
+    let place = usize::from(execution.sym.get());
+    if place >= bests.len() {
+        return found;
+    }
+    let mut found = found;
+    found.standing = standing_of(execution, &bests[place].marks);
+    found
 }
 
 /// Moves a board to a version of the changes.
@@ -105,7 +140,8 @@ fn reopen(
 /// Judges a price in 1/1,000,000 dollar on what is seen. It takes memory only where a quotation is traded through.
 fn find_on(alloc: Global, view: &View, millionths: u64) -> Result<Finding, AllocError>
     requires { millionths ≤ 9999999999999 }
-    ensures { IfOk result (IsFoundOn view.now millionths) }
+    ensures found { IfOk result (IsFoundOn view.now millionths) }
+    ensures standing { IfOk result (λ finding. finding.standing ≡ own_standing finding.passed.items) }
 {
     let bids = rows_ranked(view, Side::Bid);
     let offers = rows_ranked(view, Side::Offer);
@@ -113,7 +149,13 @@ fn find_on(alloc: Global, view: &View, millionths: u64) -> Result<Finding, Alloc
     push_passed(&mut passed, Side::Bid, millionths, bids.as_slice())?;
     push_passed(&mut passed, Side::Offer, millionths, offers.as_slice())?;
     let crossed = is_crossed(bids.as_slice(), offers.as_slice());
-    Ok(Finding { passed, crossed })
+    let standing = Standing::of(!passed.is_empty(), passed.is_empty());
+    Ok(Finding {
+        passed,
+        crossed,
+        standing,
+        flickers: Vec::new(alloc),
+    })
 }
 
 /// Adds the rows of a side that a price trades through.
@@ -136,7 +178,7 @@ fn push_passed(
     Ok(())
 }
 
-/// Judges executions, each on the version that it names, and gives their findings in the order of the executions.
+/// Judges executions, each on the version that was in force and on those of its window, and gives their findings in the order of the executions.
 ///
 /// They are judged by version, so that one board moves along the changes once and none is looked back at.
 pub fn judge_all(
@@ -157,6 +199,7 @@ pub fn judge_all(
     let Ok(mut answers) = no_answers(alloc, executions.len()) else {
         return Err(BoardFault::NoMemory);
     };
+    let bests = bests_for(alloc, roster, changes, executions)?;
     match Boards::new(alloc, roster) {
         Ok(mut board) => {
             judge_turns(
@@ -164,6 +207,7 @@ pub fn judge_all(
                 roster,
                 changes,
                 &mut board,
+                &bests,
                 executions,
                 &turns,
                 &mut answers,
@@ -172,6 +216,43 @@ pub fn judge_all(
         }
         Err(fault) => Err(fault),
     }
+}
+
+/// The best protected prices of each symbol in each version, if an execution has a window of several versions; else none.
+fn bests_for(
+    alloc: Global,
+    roster: &Roster,
+    changes: &[Change],
+    executions: &[Execution],
+) -> Result<Vec<Track>, BoardFault>
+    requires held { All (λ change. holds (sizes_of roster.now) change ≡ true) changes.now }
+    requires few { length changes.now ≤ MOST_CHANGES }
+    requires on { All (IsOn roster.now (length changes.now)) executions.now }
+    ensures { IfOk result (λ bests. All (IsReady (sizes_of roster.now) changes.now bests.items) executions.now) }
+{
+    if are_alone(executions) {
+        return Ok(Vec::new(alloc));
+    }
+    bests_of(alloc, roster, changes)
+}
+
+/// Whether each execution has a window of one version.
+fn are_alone(executions: &[Execution]) -> bool
+    ensures { result ≡ true → All (λ execution. is_alone execution ≡ true) executions.now }
+{
+    for execution in executions {
+        if !is_alone(execution) {
+            return false;
+        }
+    }
+    true
+}
+
+/// Whether an execution's version is the only one of its window.
+fn is_alone(execution: &Execution) -> bool
+    ensures { result ≡ is_alone execution.now }
+{
+    execution.first == execution.version && execution.last == execution.version
 }
 
 /// A list of `count` executions with no finding yet.
@@ -191,6 +272,7 @@ fn judge_turns(
     roster: &Roster,
     changes: &[Change],
     board: &mut Boards,
+    bests: &[Track],
     executions: &[Execution],
     turns: &[Turn],
     answers: &mut Vec<Option<Finding>>,
@@ -198,6 +280,7 @@ fn judge_turns(
     requires held { All (λ change. holds (sizes_of roster.now) change ≡ true) changes.now }
     requires few { length changes.now ≤ MOST_CHANGES }
     requires on { All (IsOn roster.now (length changes.now)) executions.now }
+    requires ready { All (IsReady (sizes_of roster.now) changes.now bests.now) executions.now }
     requires at { GoesAlong (sizes_of roster.now) changes.now board.old }
     requires places { length answers.old.items ≡ length executions.now }
     ensures places { length answers.new.items ≡ length executions.now }
@@ -205,7 +288,9 @@ fn judge_turns(
         → OnOk result (AreAnswered (sizes_of roster.now) changes.now executions.now answers.new.items) }
 {
     for turn in turns {
-        judge_turn(alloc, roster, changes, board, executions, turn, answers)?;
+        judge_turn(
+            alloc, roster, changes, board, bests, executions, turn, answers,
+        )?;
     }
     Ok(())
 }
@@ -216,6 +301,7 @@ fn judge_turn(
     roster: &Roster,
     changes: &[Change],
     board: &mut Boards,
+    bests: &[Track],
     executions: &[Execution],
     turn: &Turn,
     answers: &mut Vec<Option<Finding>>,
@@ -223,6 +309,7 @@ fn judge_turn(
     requires held { All (λ change. holds (sizes_of roster.now) change ≡ true) changes.now }
     requires few { length changes.now ≤ MOST_CHANGES }
     requires on { All (IsOn roster.now (length changes.now)) executions.now }
+    requires ready { All (IsReady (sizes_of roster.now) changes.now bests.now) executions.now }
     requires at { GoesAlong (sizes_of roster.now) changes.now board.old }
     requires places { length answers.old.items ≡ length executions.now }
     ensures at { GoesAlong (sizes_of roster.now) changes.now board.new }
@@ -235,7 +322,7 @@ fn judge_turn(
     if place >= executions.len() {
         return Ok(());
     }
-    let finding = judge(alloc, roster, changes, board, &executions[place])?;
+    let finding = judge(alloc, roster, changes, board, bests, &executions[place])?;
     answers[place] = Some(finding);
     Ok(())
 }

@@ -4,6 +4,7 @@ ghost use Rattle.nms_quote.specs.Roster.{holds, sizes_of};
 ghost use Rattle.nms_quote.specs.declared.TheConstants.{MOST_CHANGES};
 ghost use Rattle.nms_trades.specs.Reading.{IsOn};
 
+use crate::around::judge_flickers;
 use crate::clock::{Timing, clock_of};
 use crate::execution_file::{Records, read_executions};
 use crate::judging::judge_all;
@@ -68,7 +69,8 @@ fn judge_records<W: Write>(
     requires on { All (IsOn setup.now.roster (length changes.now)) records.now.executions.items }
 {
     let roster = setup.roster();
-    let findings = judge_all(alloc, roster, changes, &records.executions)?;
+    let mut findings = judge_all(alloc, roster, changes, &records.executions)?;
+    judge_flickers(alloc, roster, changes, &records.executions, &mut findings)?;
     match layout {
         Layout::Lines => write_answers(alloc, roster, records, &findings, form, answers)?,
         Layout::Table => write_table(alloc, roster, records, &findings, form, answers)?,

@@ -1,0 +1,183 @@
+-- Versions whose limits a track's marks have.
+use Rattle.std.proofs.Common.{ℕ, ◌≡◌, ◌+◌, ◌-◌, ◌<◌, ◌≤◌, ◌||◌, zero, suc, Bool, true, false, List, [], ◌∷◌, ◌++◌, get_or, length, slice_get, Some, arith, inl, inr, refl, length-append, sym, ap, subst, ◌∙◌}
+use Rattle.std.proofs.lemmas.Bool.{cases_lt, cases_eq}
+use Rattle.std.proofs.lemmas.List.{get_or_append_left, get_or_push}
+use Rattle.std.proofs.lemmas.Option.{slice_get-get_or}
+use Rattle.std.specs.List.{list_any, range_with_len}
+use Rattle.nms_trades.specs.Around.{any_version}
+use Rattle.nms_trades.specs.Track.{HasTrack, IsTrack, holds_of, mark_at}
+use Rattle.nms_trades.specs.declared.track.Limits.{Limits}
+use Rattle.nms_trades.specs.declared.track.Mark.{Mark}
+use Rattle.nms_trades.specs.declared.track.Test.{Test}
+use Rattle.nms_trades.specs.declared.track.Track.{Track}
+
+-- some of the numbers from one on passes
+pub any_from-true : (test : ℕ → Bool) (a count n : ℕ) → a ≤ n → n < a + count → test n ≡ true
+    → list_any test (range_with_len a count) ≡ true
+any_from-true test a zero n low high passes = absurd (no_room a n low high)
+  where
+    no_room : (a n : ℕ) → a ≤ n → n < a + zero → ⊥
+    no_room a n low high = omega arith
+any_from-true test a (suc count) n low high passes = elim (cases_eq n a) [
+  | inl same ↦ let first : test a ≡ true = subst (λ k. test k ≡ true) same passes in rw first refl
+  | inr other ↦ by_first (test a) (any_from-true test (a + 1) count n (omega arith) (omega arith) passes)
+]
+  where
+    by_first : (b : Bool) → list_any test (range_with_len (a + 1) count) ≡ true → (b || list_any test (range_with_len (a + 1) count)) ≡ true
+    by_first true rest = refl
+    by_first false rest = rest
+
+-- none of them does
+pub any_from-false : (test : ℕ → Bool) (a count : ℕ) → ((n : ℕ) → a ≤ n → n < a + count → test n ≡ false)
+    → list_any test (range_with_len a count) ≡ false
+any_from-false test a zero none = refl
+any_from-false test a (suc count) none =
+    let first : test a ≡ false = none a (omega arith) (omega arith) in
+    rw first (any_from-false test (a + 1) count (λ n low high. none n (omega arith) (omega arith)))
+
+-- the same of versions
+pub some_version : (test : ℕ → Bool) (first last n : ℕ) → first ≤ n → n ≤ last → test n ≡ true → any_version test first last ≡ true
+some_version test first last n low high passes = any_from-true test first (last + 1 - first) n low (omega arith) passes
+
+pub no_version : (test : ℕ → Bool) (first last : ℕ) → ((n : ℕ) → first ≤ n → n ≤ last → test n ≡ false)
+    → any_version test first last ≡ false
+no_version test first last none = any_from-false test first (last + 1 - first) (λ n low high. none n low (omega arith))
+
+-- one more version has the limits of the last mark
+pub track_stays : (all : ℕ → Limits) (upto : ℕ) (marks : List Mark) → IsTrack all upto marks → all (upto + 1) ≡ all upto
+    → IsTrack all (upto + 1) marks
+track_stays all upto marks is same = record {
+  some = is.some;
+  starts = is.starts;
+  rising = is.rising;
+  within = λ k below. let w = is.within k below in omega (arith, is.within k below);
+  holds = λ k n below low high next. elim (cases_eq n (upto + 1)) [
+    | inl last ↦
+        ap all last ∙ same ∙ is.holds k upto below (is.within k below) (omega arith) (λ more. let h = next more in omega (arith, next more))
+    | inr other ↦ is.holds k n below low (omega arith) next
+  ];
+}
+
+-- one more version has the limits of one more mark
+pub track_more : (all : ℕ → Limits) (upto : ℕ) (marks : List Mark) (mark : Mark) → IsTrack all upto marks → mark.version ≡ upto + 1
+    → all (upto + 1) ≡ mark.limits → IsTrack all (upto + 1) (marks ++ mark ∷ [])
+track_more all upto marks mark is counted has = record {
+  some = omega (arith, longer);
+  starts = ap (λ (m : Mark). m.version) (left 0 is.some) ∙ is.starts;
+  rising = rising;
+  within = within;
+  holds = holds;
+}
+  where
+    longer : length (marks ++ mark ∷ []) ≡ length marks + 1
+    longer = length-append marks (mark ∷ [])
+
+    left : (k : ℕ) → k < length marks → mark_at (marks ++ mark ∷ []) k ≡ mark_at marks k
+    left k below = get_or_append_left marks (mark ∷ []) _ k below
+
+    end : (k : ℕ) → k ≡ length marks → mark_at (marks ++ mark ∷ []) k ≡ mark
+    end k same = get_or_push marks mark _ k (sym same)
+
+    rising : (k : ℕ) → k + 1 < length (marks ++ mark ∷ [])
+        → (mark_at (marks ++ mark ∷ []) k).version < (mark_at (marks ++ mark ∷ []) (k + 1)).version
+    rising k below = elim (cases_lt (k + 1) (length marks)) [
+      | inl inside ↦ rw (left k (omega arith), left (k + 1) inside) (is.rising k inside)
+      | inr last ↦
+          let here : k < length marks = omega (arith, longer) in
+          rw (left k here, end (k + 1) (omega (arith, longer))) (omega (arith, is.within k here))
+    ]
+
+    within : (k : ℕ) → k < length (marks ++ mark ∷ []) → (mark_at (marks ++ mark ∷ []) k).version ≤ upto + 1
+    within k below = elim (cases_lt k (length marks)) [
+      | inl inside ↦ rw (left k inside) (omega (arith, is.within k inside))
+      | inr last ↦ rw (end k (omega (arith, longer))) (omega arith)
+    ]
+
+    holds : (k n : ℕ) → k < length (marks ++ mark ∷ []) → (mark_at (marks ++ mark ∷ []) k).version ≤ n → n ≤ upto + 1
+        → (k + 1 < length (marks ++ mark ∷ []) → n < (mark_at (marks ++ mark ∷ []) (k + 1)).version)
+        → all n ≡ (mark_at (marks ++ mark ∷ []) k).limits
+    holds k n below low high next = elim (cases_lt k (length marks)) [
+      | inl inside ↦
+          let from : (mark_at marks k).version ≤ n = rw (left k inside) at low in
+          let before : n < (mark_at (marks ++ mark ∷ []) (k + 1)).version = next (omega (arith, longer)) in
+          elim (cases_lt (k + 1) (length marks)) [
+            | inl more ↦
+                let before_next : n < (mark_at marks (k + 1)).version = rw (left (k + 1) more) at before in
+                rw (left k inside)
+                (is.holds k n inside from (omega (arith, is.within (k + 1) more)) (λ _. before_next))
+            | inr last ↦
+                let before_mark : n < mark.version = rw (end (k + 1) (omega (arith, longer))) at before in
+                rw (left k inside) (is.holds k n inside from (omega arith) (λ more. absurd (no_more k more last)))
+          ]
+      | inr last ↦
+          let from : mark.version ≤ n = rw (end k (omega (arith, longer))) at low in
+          let same : n ≡ upto + 1 = omega arith in
+          rw (end k (omega (arith, longer))) (ap all same ∙ has)
+    ]
+      where
+        no_more : (k : ℕ) → k + 1 < length marks → length marks ≤ k + 1 → ⊥
+        no_more k more last = omega arith
+
+-- limits that are the same up to a version have the same track
+pub track_same : (all other : ℕ → Limits) (upto : ℕ) (marks : List Mark) → ((n : ℕ) → n ≤ upto → other n ≡ all n)
+    → IsTrack all upto marks → IsTrack other upto marks
+track_same all other upto marks same is = record {
+  some = is.some;
+  starts = is.starts;
+  rising = is.rising;
+  within = is.within;
+  holds = λ k n below low high next. same n high ∙ is.holds k n below low high next;
+}
+
+-- the same of a version that is said to be the next
+pub track_noted : (all : ℕ → Limits) (upto : ℕ) (marks : List Mark) (n : ℕ) (limits : Limits) → IsTrack all upto marks → n ≡ upto + 1
+    → all n ≡ limits → IsTrack all n (marks ++ record { version = n; limits = limits } ∷ [])
+track_noted all upto marks n limits is counted has =
+    rw counted (track_more all upto marks (record { version = upto + 1; limits = limits }) is refl (rw counted at has))
+
+-- a mark whose limits pass a test stands for a version that does
+pub found_at : (all : ℕ → Limits) (upto : ℕ) (marks : List Mark) (test : Test) (millionths first last k : ℕ) → IsTrack all upto marks
+    → last ≤ upto → first ≤ last → k < length marks → (mark_at marks k).version ≤ last
+    → (k + 1 < length marks → first < (mark_at marks (k + 1)).version) → holds_of test millionths (mark_at marks k).limits ≡ true
+    → any_version (λ n. holds_of test millionths (all n)) first last ≡ true
+found_at all upto marks test millionths first last k is within order below low next passes =
+    elim (cases_lt first (mark_at marks k).version) [
+      | inl later ↦
+          let same = is.holds k (mark_at marks k).version below (omega arith) (omega arith) (λ more. is.rising k more) in
+          some_version (λ n. holds_of test millionths (all n)) first last (mark_at marks k).version (omega arith) low
+          (ap (holds_of test millionths) same ∙ passes)
+      | inr begun ↦
+          let same = is.holds k first below begun (omega arith) next in
+          some_version (λ n. holds_of test millionths (all n)) first last first (omega arith) order
+          (ap (holds_of test millionths) same ∙ passes)
+    ]
+
+-- no version before that of the next mark passes
+pub none_more : (all : ℕ → Limits) (upto : ℕ) (marks : List Mark) (test : Test) (millionths first last k : ℕ) → IsTrack all upto marks
+    → last ≤ upto → k < length marks
+    → ((n : ℕ) → first ≤ n → n ≤ last → (k < length marks → n < (mark_at marks k).version) → holds_of test millionths (all n) ≡ false)
+    → holds_of test millionths (mark_at marks k).limits ≡ false
+    → (n : ℕ) → first ≤ n → n ≤ last → (k + 1 < length marks → n < (mark_at marks (k + 1)).version)
+    → holds_of test millionths (all n) ≡ false
+none_more all upto marks test millionths first last k is within below none fails n low high next =
+    elim (cases_lt n (mark_at marks k).version) [
+      | inl before ↦ none n low high (λ _. before)
+      | inr from ↦ ap (holds_of test millionths) (is.holds k n below from (omega arith) next) ∙ fails
+    ]
+
+-- one track more
+pub has_push : (all : ℕ → Limits) (tracks : List Track) (track : Track)
+    → ((place : ℕ) → place < length tracks → HasTrack all 0 (slice_get tracks place)) → IsTrack all 0 track.marks.items
+    → (place : ℕ) → place < length tracks + 1 → HasTrack all 0 (slice_get (tracks ++ track ∷ []) place)
+has_push all tracks track each is place below =
+    let there = slice_get-get_or (tracks ++ track ∷ []) place track (omega (arith, length-append tracks (track ∷ []))) in
+    elim (cases_lt place (length tracks)) [
+      | inl earlier ↦
+          let same : slice_get (tracks ++ track ∷ []) place ≡ slice_get tracks place =
+          there ∙ ap Some (get_or_append_left tracks (track ∷ []) track place earlier) ∙ sym (slice_get-get_or tracks place track earlier) in
+          subst (HasTrack all 0) (sym same) (each place earlier)
+      | inr last ↦
+          let same : slice_get (tracks ++ track ∷ []) place ≡ Some track =
+          there ∙ ap Some (get_or_push tracks track track place (omega arith)) in
+          subst (HasTrack all 0) (sym same) is
+    ]
