@@ -1,10 +1,13 @@
 //! What a line is made of.
-use crate::form::Form;
-use crate::shown::{Columns, Shown};
+ghost use Rattle.nms_show.specs.Safe.{IsPrintable, own_text};
+ghost use Rattle.nms_show.specs.Written.{Writes};
+
+use crate::show_fault::ShowFault;
+use crate::shown::write_shown;
+use crate::written::{write_number, write_printable};
+use nms_lines::write_text;
 use nms_units::{Money, Price};
-use serde::{Described, Serialize, Serializer};
-use std::fmt;
-use std::fmt::Write;
+use std::io::Write;
 
 /// One thing that a line says, or the value of a JSON object's key.
 #[derive(Clone, Copy)]
@@ -50,57 +53,40 @@ impl Item<'_> {
     pub fn of_money(money: Money) -> Self {
         Item::Money(money.get())
     }
+}
 
-    /// How many characters it takes.
-    pub(crate) fn columns(&self) -> usize {
-        let mut count = Columns(0);
-        let _ = write!(count, "{self}");
-        count.0
-    }
-
-    /// The code by which a terminal begins its colour, where it has one.
-    pub(crate) fn colour(&self, form: Form) -> Option<&'static str> {
-        match self {
-            Item::Strong(_) if form.has_colours() => Some("\x1b[1m"),
-            Item::Alarm(_) if form.has_colours() => Some("\x1b[31m"),
-            _ => None,
-        }
+/// Writes an item without a colour.
+pub(crate) fn write_plain<W: Write>(answers: &mut W, item: &Item<'_>) -> Result<(), ShowFault>
+    ensures { IsPrintable (own_text item.now) → Writes IsPrintable (W.contents answers.old) (W.contents answers.new) result }
+{
+    match *item {
+        Item::Text(text) | Item::Strong(text) | Item::Alarm(text) => write_own(answers, text),
+        Item::Bytes(bytes) => write_shown(answers, bytes),
+        Item::Number(number) => write_number(answers, number),
+        Item::Price(number) => write_price(answers, number),
+        Item::Money(nanodollars) => write_number(answers, Money::new(nanodollars)),
+        Item::Flag(true) => write_printable(answers, b"yes"),
+        Item::Flag(false) => write_printable(answers, b"no"),
+        Item::Absent => Ok(()),
     }
 }
 
-impl fmt::Display for Item<'_> {
-    fn fmt<W: fmt::Write>(&self, f: &mut fmt::Formatter<W>) -> fmt::Result {
-        match *self {
-            Item::Text(text) | Item::Strong(text) | Item::Alarm(text) => f.write_str(text),
-            Item::Bytes(bytes) => write!(f, "{}", Shown(bytes)),
-            Item::Number(number) => write!(f, "{number}"),
-            Item::Price(number) => write_price(f, number),
-            Item::Money(nanodollars) => write!(f, "{}", Money::new(nanodollars)),
-            Item::Flag(true) => f.write_str("yes"),
-            Item::Flag(false) => f.write_str("no"),
-            Item::Absent => Ok(()),
-        }
+/// Writes a text of the program's own, as it is.
+pub(crate) fn write_own<W: Write>(answers: &mut W, text: &str) -> Result<(), ShowFault>
+    ensures { IsPrintable text.now → Writes IsPrintable (W.contents answers.old) (W.contents answers.new) result }
+{
+    match write_text(answers, text.as_bytes()) {
+        Ok(()) => Ok(()),
+        Err(_) => Err(ShowFault::WriteFault),
     }
 }
 
 /// Writes a price of so many 1/10,000 dollar; nothing where that is none.
-fn write_price<W: fmt::Write>(f: &mut fmt::Formatter<W>, number: u64) -> fmt::Result {
+fn write_price<W: Write>(answers: &mut W, number: u64) -> Result<(), ShowFault>
+    ensures { Writes IsPrintable (W.contents answers.old) (W.contents answers.new) result }
+{
     match Price::new(number) {
-        Some(price) => write!(f, "{price}"),
+        Some(price) => write_number(answers, price),
         None => Ok(()),
-    }
-}
-
-impl Described for Item<'_> {}
-
-impl Serialize for Item<'_> {
-    fn serialize<S: Serializer>(&self, out: &mut S) -> Result<(), S::Error> {
-        match *self {
-            Item::Text(text) | Item::Strong(text) | Item::Alarm(text) => out.str(text),
-            Item::Number(number) => out.u64(number),
-            Item::Flag(flag) => out.bool(flag),
-            Item::Absent => out.unit(),
-            Item::Bytes(_) | Item::Price(_) | Item::Money(_) => out.collect_str(self),
-        }
     }
 }

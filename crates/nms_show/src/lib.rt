@@ -2,6 +2,7 @@
 //! terminal that could harm it.
 #![tactic(auto)]
 
+mod columns;
 mod ending;
 mod form;
 mod item;
@@ -10,6 +11,7 @@ mod object;
 mod show_fault;
 mod shown;
 mod under;
+mod written;
 
 pub use ending::Ending;
 pub use form::Form;

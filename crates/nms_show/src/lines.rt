@@ -1,74 +1,140 @@
 //! Lines and tables.
+ghost use Rattle.std.specs.Prelude.{All, IfSome};
+ghost use Rattle.nms_show.specs.Safe.{IsPrintable, IsSafe, own_text};
+ghost use Rattle.nms_show.specs.Written.{Writes};
+
+use crate::columns::columns_of_item;
 use crate::form::Form;
-use crate::item::{Column, Item};
+use crate::item::{Column, Item, write_plain};
 use crate::show_fault::ShowFault;
-use std::io;
+use crate::written::{end_line, write_printable, write_safe};
 use std::io::Write;
 
-/// What ends a colour.
-const PLAIN: &str = "\x1b[0m";
-
-/// Writes items, one behind the other, and the end of a line. It is not flushed.
+/// Writes items and the end of a line. It is not flushed.
+///
+/// If the items' own texts are printable, what is added to the writer is safe to show; at a failure it is a first part of
+/// such a text.
 pub fn write_line<W: Write>(
     answers: &mut W,
     form: Form,
     items: &[Item<'_>],
-) -> Result<(), ShowFault> {
-    for item in items {
-        written(write_item(answers, form, item))?;
-    }
+) -> Result<(), ShowFault>
+    ensures safe { All (λ item. IsPrintable (own_text item)) items.now → Writes IsSafe (W.contents answers.old) (W.contents answers.new) result }
+{
+    write_items(answers, form, items)?;
     end_line(answers)
 }
 
-/// Writes a row of a table: columns with a space between them, and the end of a line. It is not flushed.
+/// Writes items, one behind the other.
+pub(crate) fn write_items<W: Write>(
+    answers: &mut W,
+    form: Form,
+    items: &[Item<'_>],
+) -> Result<(), ShowFault>
+    ensures { All (λ item. IsPrintable (own_text item)) items.now → Writes IsSafe (W.contents answers.old) (W.contents answers.new) result }
+{
+    for item in items {
+        write_item(answers, form, item)?;
+    }
+    Ok(())
+}
+
+/// Writes a table's row. Between two columns stands a space, and after the last the end of a line. It is not flushed.
+///
+/// What is added is safe to show, as of `write_line`.
 pub fn write_row<W: Write>(
     answers: &mut W,
     form: Form,
     columns: &[Column<'_>],
-) -> Result<(), ShowFault> {
-    let mut owed = 0;
-    for column in columns {
-        owed = write_column(answers, form, column, owed)?.saturating_add(1);
-    }
+) -> Result<(), ShowFault>
+    ensures safe { All (λ column. IsPrintable (own_text column.item)) columns.now → Writes IsSafe (W.contents answers.old) (W.contents answers.new) result }
+{
+    write_columns(answers, form, columns)?;
     end_line(answers)
 }
 
-/// Writes the spaces that are owed and a column, and gives the spaces that are owed behind it.
+/// Writes columns with a space between them.
+fn write_columns<W: Write>(
+    answers: &mut W,
+    form: Form,
+    columns: &[Column<'_>],
+) -> Result<(), ShowFault>
+    ensures { All (λ column. IsPrintable (own_text column.item)) columns.now → Writes IsSafe (W.contents answers.old) (W.contents answers.new) result }
+{
+    let mut owed = 0;
+    for place in 0..columns.len() {
+        write_many(answers, b" ", if place == 0 { 0 } else { 1 })?;
+        owed = write_column(answers, form, &columns[place], owed)?;
+    }
+    Ok(())
+}
+
+/// Writes the spaces that are owed and a column, and gives the spaces that are owed after it.
 fn write_column<W: Write>(
     answers: &mut W,
     form: Form,
     column: &Column<'_>,
     owed: usize,
-) -> Result<usize, ShowFault> {
-    let spare = column.width.saturating_sub(column.item.columns());
-    let before = if column.right { spare } else { 0 };
-    written(write_many(answers, " ", owed.saturating_add(before)))?;
-    written(write_item(answers, form, &column.item))?;
-    Ok(spare.saturating_sub(before))
+) -> Result<usize, ShowFault>
+    ensures { IsPrintable (own_text column.now.item) → Writes IsSafe (W.contents answers.old) (W.contents answers.new) result }
+{
+    let (before, after) = spare_of(column);
+    write_many(answers, b" ", owed)?;
+    write_many(answers, b" ", before)?;
+    write_item(answers, form, &column.item)?;
+    Ok(after)
 }
 
-/// Writes a text so many times.
-pub(crate) fn write_many<W: Write>(answers: &mut W, text: &str, times: usize) -> io::Result<()> {
+/// The columns that are left before an item and after it.
+fn spare_of(column: &Column<'_>) -> (usize, usize) {
+    let taken = columns_of_item(&column.item);
+    if taken >= column.width {
+        return (0, 0);
+    }
+    let spare = column.width - taken;
+    if column.right { (spare, 0) } else { (0, spare) }
+}
+
+/// Writes a printable text so many times.
+pub(crate) fn write_many<W: Write>(
+    answers: &mut W,
+    text: &[u8],
+    times: usize,
+) -> Result<(), ShowFault>
+    requires printable { IsPrintable text.now }
+    ensures { Writes IsSafe (W.contents answers.old) (W.contents answers.new) result }
+{
     for _ in 0..times {
-        answers.write_all(text.as_bytes())?;
+        write_safe(answers, text)?;
     }
     Ok(())
 }
 
 /// Writes one item, coloured where it is to be.
-pub(crate) fn write_item<W: Write>(answers: &mut W, form: Form, item: &Item<'_>) -> io::Result<()> {
-    match item.colour(form) {
-        Some(colour) => write!(answers, "{colour}{item}{PLAIN}"),
-        None => write!(answers, "{item}"),
+pub(crate) fn write_item<W: Write>(
+    answers: &mut W,
+    form: Form,
+    item: &Item<'_>,
+) -> Result<(), ShowFault>
+    ensures { IsPrintable (own_text item.now) → Writes IsSafe (W.contents answers.old) (W.contents answers.new) result }
+{
+    match item {
+        Item::Strong(_) if form.has_colours() => write_coloured(answers, b"\x1b[1m", item),
+        Item::Alarm(_) if form.has_colours() => write_coloured(answers, b"\x1b[31m", item),
+        _ => write_plain(answers, item),
     }
 }
 
-/// Writes the end of a line.
-pub(crate) fn end_line<W: Write>(answers: &mut W) -> Result<(), ShowFault> {
-    written(answers.write_all(b"\n"))
-}
-
-/// What came of a write.
-pub(crate) fn written(write: io::Result<()>) -> Result<(), ShowFault> {
-    write.map_err(|_| ShowFault::WriteFault)
+/// Writes an item in a colour.
+fn write_coloured<W: Write>(
+    answers: &mut W,
+    colour: &[u8],
+    item: &Item<'_>,
+) -> Result<(), ShowFault>
+    requires colour { IsSafe colour.now }
+    ensures { IsPrintable (own_text item.now) → Writes IsSafe (W.contents answers.old) (W.contents answers.new) result }
+{
+    write_safe(answers, colour)?;
+    write_plain(answers, item)?;
+    write_safe(answers, b"\x1b[0m")
 }

@@ -1,125 +1,200 @@
 //! Bytes of a file as they are shown: an escape stands for each that could move a cursor, turn the direction of text,
-//! or is no UTF-8.
-use std::fmt::Write;
-use std::{fmt, str};
+//! or is no UTF-8 (`specs/Safe`).
+ghost use Rattle.std.specs.Prelude.{◌≡◌, ◌<◌, ◌≤◌, length, take, IfOk, IfSome, IsTrue, true};
+ghost use Rattle.std.specs.Char.{digit_char};
+ghost use Rattle.nms_show.specs.Safe as safe;
+ghost use Rattle.nms_show.specs.Safe.{IsPrintable};
+ghost use Rattle.nms_show.specs.Written.{Writes};
+
+use crate::show_fault::ShowFault;
+use crate::written::{write_number, write_printable};
+use std::io::Write;
+use std::str;
 
 /// The most bytes of a text that are shown.
 const MOST_SHOWN: usize = 400;
 
-/// Bytes as they are shown: printable ASCII and the letters of European alphabets as they are, any other character as
-/// `\n`, `\r`, `\t`, `\x1b` or `\u{202e}`, a byte that is no UTF-8 as `\xff`, a backslash as two. Behind 400 bytes stands
+/// Writes bytes as they are shown: printable ASCII and the letters of European alphabets as they are, any other character
+/// as `\n`, `\r`, `\t`, `\x1b` or `\u{202e}`, a byte that is no UTF-8 as `\xff`, a backslash as two. After 400 bytes stands
 /// how many more there are.
-#[derive(Clone, Copy)]
-pub(crate) struct Shown<'a>(pub(crate) &'a [u8]);
-
-impl fmt::Display for Shown<'_> {
-    fn fmt<W: fmt::Write>(&self, f: &mut fmt::Formatter<W>) -> fmt::Result {
-        let Some(start) = self.0.get(..MOST_SHOWN) else {
-            return write_pieces(f, self.0);
-        };
-        write_pieces(f, start)?;
-        match self.0.len().saturating_sub(MOST_SHOWN) {
-            0 => Ok(()),
-            more => write!(f, "..({more} bytes more)"),
-        }
+pub(crate) fn write_shown<W: Write>(answers: &mut W, bytes: &[u8]) -> Result<(), ShowFault>
+    ensures { Writes IsPrintable (W.contents answers.old) (W.contents answers.new) result }
+{
+    if bytes.len() <= MOST_SHOWN {
+        return write_pieces(answers, bytes);
     }
+    write_pieces(answers, &bytes[..MOST_SHOWN])?;
+    write_left_out(answers, bytes.len() - MOST_SHOWN)
 }
 
-/// How many columns bytes take as they are shown.
-pub(crate) fn columns_of(bytes: &[u8]) -> usize {
-    let mut count = Columns(0);
-    let _ = write!(count, "{}", Shown(bytes));
-    count.0
+/// Writes how many more bytes there are.
+fn write_left_out<W: Write>(answers: &mut W, more: usize) -> Result<(), ShowFault>
+    ensures { Writes IsPrintable (W.contents answers.old) (W.contents answers.new) result }
+{
+    write_printable(answers, b"..(")?;
+    write_number(answers, more)?;
+    write_printable(answers, b" bytes more)")
 }
 
-/// Counts the characters of what is written.
-#[derive(Drop)]
-pub(crate) struct Columns(pub(crate) usize);
-
-impl fmt::Write for Columns {
-    fn write_str(&mut self, text: &str) -> fmt::Result {
-        self.0 = self.0.saturating_add(text.chars().count());
-        Ok(())
-    }
-}
-
-/// Writes bytes as they are shown.
-fn write_pieces<W: fmt::Write>(f: &mut fmt::Formatter<W>, bytes: &[u8]) -> fmt::Result {
-    let mut rest = bytes;
-    // Each turn takes a byte or more.
-    for _ in 0..bytes.len() {
-        rest = write_plain(f, rest)?;
-        if rest.is_empty() {
-            break;
-        }
-        rest = write_escape(f, rest)?;
+/// Writes bytes as they are shown, however many there are.
+fn write_pieces<W: Write>(answers: &mut W, bytes: &[u8]) -> Result<(), ShowFault>
+    ensures { Writes IsPrintable (W.contents answers.old) (W.contents answers.new) result }
+{
+    let mut at = 0;
+    while at < bytes.len() {
+        at += write_piece(answers, &bytes[at..])?;
     }
     Ok(())
 }
 
-/// Writes the printable ASCII at the start of bytes, and gives what stands behind.
-fn write_plain<'a, W: fmt::Write>(
-    f: &mut fmt::Formatter<W>,
-    bytes: &'a [u8],
-) -> Result<&'a [u8], fmt::Error> {
-    let plain = bytes.iter().position(|byte| !is_plain(*byte));
-    let (plain, rest) = bytes.split_at(plain.unwrap_or(bytes.len()));
-    if let Ok(text) = str::from_utf8(plain) {
-        f.write_str(text)?;
+/// Writes the printable ASCII at the start of bytes, or what stands for the one character or byte there. Gives how many
+/// bytes that is.
+fn write_piece<W: Write>(answers: &mut W, bytes: &[u8]) -> Result<usize, ShowFault>
+    requires { 0 < length bytes.now }
+    ensures shown { Writes IsPrintable (W.contents answers.old) (W.contents answers.new) result }
+    ensures some { IfOk result (λ taken. 0 < taken) }
+    ensures within { IfOk result (λ taken. taken ≤ length bytes.now) }
+{
+    let plain = plain_start(bytes);
+    if plain == 0 {
+        return write_escape(answers, bytes);
     }
-    Ok(rest)
+    write_printable(answers, &bytes[..plain])?;
+    Ok(plain)
+}
+
+/// How many bytes at the start are printable ASCII and no backslash.
+fn plain_start(bytes: &[u8]) -> usize
+    ensures within { result ≤ length bytes.now }
+    ensures printable { IsPrintable (take result bytes.now) }
+{
+    let mut plain = 0;
+    while plain < bytes.len() && is_plain(bytes[plain]) {
+        plain += 1;
+    }
+    plain
 }
 
 /// Whether a byte is printable ASCII and no backslash.
-fn is_plain(byte: u8) -> bool {
-    matches!(byte, b' '..=b'~') && byte != b'\\'
+fn is_plain(byte: u8) -> bool
+    ensures { IsTrue result → (32 ≤ byte) × (byte ≤ 126) }
+{
+    byte >= b' ' && byte <= b'~' && byte != b'\\'
 }
 
-/// Writes the character or the byte at the start of bytes, and gives what stands behind.
-fn write_escape<'a, W: fmt::Write>(
-    f: &mut fmt::Formatter<W>,
-    bytes: &'a [u8],
-) -> Result<&'a [u8], fmt::Error> {
-    let Some(first) = bytes.first() else {
-        return Ok(bytes);
-    };
-    let taken = match char_at(bytes) {
-        Some(letter) => {
-            write_char(f, letter)?;
-            letter.len_utf8()
+/// Writes what stands for the character or the byte at the start of bytes. Gives how many bytes that is.
+fn write_escape<W: Write>(answers: &mut W, bytes: &[u8]) -> Result<usize, ShowFault>
+    requires { 0 < length bytes.now }
+    ensures shown { Writes IsPrintable (W.contents answers.old) (W.contents answers.new) result }
+    ensures some { IfOk result (λ taken. 0 < taken) }
+    ensures within { IfOk result (λ taken. taken ≤ length bytes.now) }
+{
+    match char_at(bytes) {
+        Some((letter, taken)) => {
+            write_char(answers, letter)?;
+            Ok(taken)
         }
         None => {
-            write!(f, "\\x{first:02x}")?;
-            1
+            write_byte(answers, bytes[0])?;
+            Ok(1)
         }
-    };
-    Ok(bytes.get(taken..).unwrap_or(&[]))
+    }
 }
 
-/// The character that bytes begin with, where they are UTF-8.
-fn char_at(bytes: &[u8]) -> Option<char> {
-    for len in 1..5 {
-        if let Ok(text) = str::from_utf8(bytes.get(..len)?) {
-            return text.chars().next();
+/// The character that bytes begin with, if they are UTF-8, and how many bytes it takes.
+fn char_at(bytes: &[u8]) -> Option<(char, usize)>
+    ensures some { IfSome result (λ found. 0 < found.1) }
+    ensures within { IfSome result (λ found. found.1 ≤ length bytes.now) }
+{
+    for taken in 1..5 {
+        if taken > bytes.len() {
+            return None;
+        }
+        if let Ok(text) = str::from_utf8(&bytes[..taken]) {
+            return Some((text.chars().next()?, taken));
         }
     }
     None
 }
 
-/// Writes a character that is not printable ASCII.
-fn write_char<W: fmt::Write>(f: &mut fmt::Formatter<W>, letter: char) -> fmt::Result {
+/// Writes a character that is not printable ASCII, or a backslash.
+fn write_char<W: Write>(answers: &mut W, letter: char) -> Result<(), ShowFault>
+    ensures { Writes IsPrintable (W.contents answers.old) (W.contents answers.new) result }
+{
     match letter {
-        '\\' => f.write_str("\\\\"),
-        '\n' => f.write_str("\\n"),
-        '\r' => f.write_str("\\r"),
-        '\t' => f.write_str("\\t"),
-        '\0'..='\x7f' => write!(f, "\\x{:02x}", u32::from(letter)),
-        _ if is_letter(letter) => f.write_char(letter),
-        _ => write!(f, "\\u{{{:x}}}", u32::from(letter)),
+        '\\' => write_printable(answers, b"\\\\"),
+        '\n' => write_printable(answers, b"\\n"),
+        '\r' => write_printable(answers, b"\\r"),
+        '\t' => write_printable(answers, b"\\t"),
+        _ if is_letter(letter) => write_letter(answers, letter),
+        _ => write_code(answers, u32::from(letter)),
     }
 }
 
+/// Writes a letter as it is.
+fn write_letter<W: Write>(answers: &mut W, letter: char) -> Result<(), ShowFault>
+    requires { safe.is_letter letter ≡ true }
+    ensures { Writes IsPrintable (W.contents answers.old) (W.contents answers.new) result }
+{
+    let mut room = [0; 4];
+    let text = letter.encode_utf8(&mut room);
+    write_printable(answers, text.as_bytes())
+}
+
 /// Whether a character takes one column, written from left to right, and joins no other: Latin, Greek, Cyrillic.
-fn is_letter(letter: char) -> bool {
+fn is_letter(letter: char) -> bool
+    ensures { result ≡ safe.is_letter letter }
+{
     matches!(letter, '\u{a1}'..='\u{ac}' | '\u{ae}'..='\u{2ff}' | '\u{391}'..='\u{3ce}' | '\u{400}'..='\u{481}')
+}
+
+/// Writes the code of a character: as that of a byte where it is ASCII.
+fn write_code<W: Write>(answers: &mut W, code: u32) -> Result<(), ShowFault>
+    ensures { Writes IsPrintable (W.contents answers.old) (W.contents answers.new) result }
+{
+    if code < 128 {
+        return write_byte(answers, code as u8);
+    }
+    write_printable(answers, b"\\u{")?;
+    write_hex(answers, code)?;
+    write_printable(answers, b"}")
+}
+
+/// Writes a number in base 16, without leading zeros.
+fn write_hex<W: Write>(answers: &mut W, number: u32) -> Result<(), ShowFault>
+    ensures { Writes IsPrintable (W.contents answers.old) (W.contents answers.new) result }
+{
+    let mut begun = false;
+    for place in 0u32..8 {
+        let digit = (number >> (28 - 4 * place)) % 16;
+        begun = begun || digit > 0;
+        if begun {
+            write_printable(answers, &[hex_digit(digit as u8)])?;
+        }
+    }
+    Ok(())
+}
+
+/// Writes a byte as `\x1b`.
+fn write_byte<W: Write>(answers: &mut W, byte: u8) -> Result<(), ShowFault>
+    ensures { Writes IsPrintable (W.contents answers.old) (W.contents answers.new) result }
+{
+    write_printable(
+        answers,
+        &[b'\\', b'x', hex_digit(byte / 16), hex_digit(byte % 16)],
+    )
+}
+
+/// A digit in base 16.
+pub(crate) fn hex_digit(digit: u8) -> u8
+    requires { digit < 16 }
+    ensures digit { result ≡ digit_char digit }
+    ensures low { 32 ≤ result }
+    ensures high { result ≤ 126 }
+{
+    if digit < 10 {
+        b'0' + digit
+    } else {
+        b'a' + (digit - 10)
+    }
 }

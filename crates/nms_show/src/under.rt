@@ -1,9 +1,14 @@
 //! A record with carets under one of its fields.
+ghost use Rattle.nms_show.specs.Safe.{IsPrintable, IsSafe};
+ghost use Rattle.nms_show.specs.Written.{Writes};
+
+use crate::columns::columns_of_bytes;
 use crate::form::Form;
-use crate::item::Item;
-use crate::lines::{end_line, write_item, write_many, written};
+use crate::item::{Item, write_own};
+use crate::lines::{write_item, write_many};
 use crate::show_fault::ShowFault;
-use crate::shown::columns_of;
+use crate::shown::write_shown;
+use crate::written::{end_line, write_printable};
 use std::io::Write;
 
 /// How many bytes before a field are shown, and how many from its start on.
@@ -11,71 +16,151 @@ const BEFORE: usize = 48;
 
 const FROM: usize = 72;
 /// What stands before the record.
-const INDENT: &str = "    ";
+const INDENT: &[u8] = b"    ";
 /// What stands for bytes that are left out.
 const LEFT_OUT: &str = "..";
 
-/// Writes a record, as it is shown, and under it a line with carets under its bytes from `start` to `end`, or one caret
-/// where there are none. Of a long record only what stands round the field is shown. It is not flushed.
+/// Writes a record with carets under it. They stand under its bytes from `start` to `end`, and one caret if there are
+/// none. Of a long record only what stands round the field is shown. It is not flushed.
 pub fn write_under<W: Write>(
     answers: &mut W,
     form: Form,
     record: &[u8],
     start: usize,
     end: usize,
-) -> Result<(), ShowFault> {
+) -> Result<(), ShowFault>
+    ensures safe { Writes IsSafe (W.contents answers.old) (W.contents answers.new) result }
+{
     let (before, from) = record.split_at(start.min(record.len()));
-    let left_out = before.len().saturating_sub(BEFORE);
-    let before = before.get(left_out..).unwrap_or(before);
-    let shown = from.get(..FROM).unwrap_or(from);
-    let field = shown.get(..end.saturating_sub(start)).unwrap_or(shown);
-    let ahead = if left_out == 0 { "" } else { LEFT_OUT };
+    let near = last_of(before);
+    let shown = first_of(from, FROM);
+    let field = first_of(shown, if end < start { 0 } else { end - start });
+    let ahead = if near.len() < before.len() {
+        LEFT_OUT
+    } else {
+        ""
+    };
     let behind = if shown.len() < from.len() {
         LEFT_OUT
     } else {
         ""
     };
-    write_record(
-        answers,
-        form,
-        &[
-            Item::Text(ahead),
-            Item::Bytes(before),
-            Item::Bytes(shown),
-            Item::Text(behind),
-        ],
-    )?;
-    write_carets(
-        answers,
-        form,
-        columns_of(before).saturating_add(ahead.len()),
-        columns_of(field),
-    )
+    write_record(answers, ahead, near, shown, behind)?;
+    write_carets(answers, form, ahead, near, field)
+}
+
+/// The last bytes before a field.
+fn last_of(before: &[u8]) -> &[u8] {
+    if before.len() <= BEFORE {
+        return before;
+    }
+    &before[before.len() - BEFORE..]
+}
+
+/// So many bytes at the start, or all if there are fewer.
+fn first_of(bytes: &[u8], most: usize) -> &[u8] {
+    if bytes.len() <= most {
+        return bytes;
+    }
+    &bytes[..most]
 }
 
 /// Writes a record's line.
 fn write_record<W: Write>(
     answers: &mut W,
-    form: Form,
-    items: &[Item<'_>],
-) -> Result<(), ShowFault> {
-    written(answers.write_all(INDENT.as_bytes()))?;
-    for item in items {
-        written(write_item(answers, form, item))?;
-    }
+    ahead: &str,
+    near: &[u8],
+    shown: &[u8],
+    behind: &str,
+) -> Result<(), ShowFault>
+    requires ahead { IsPrintable ahead.now }
+    requires behind { IsPrintable behind.now }
+    ensures { Writes IsSafe (W.contents answers.old) (W.contents answers.new) result }
+{
+    write_body(answers, ahead, near, shown, behind)?;
     end_line(answers)
+}
+
+/// Writes a record, without the end of its line.
+fn write_body<W: Write>(
+    answers: &mut W,
+    ahead: &str,
+    near: &[u8],
+    shown: &[u8],
+    behind: &str,
+) -> Result<(), ShowFault>
+    requires ahead { IsPrintable ahead.now }
+    requires behind { IsPrintable behind.now }
+    ensures { Writes IsSafe (W.contents answers.old) (W.contents answers.new) result }
+{
+    write_parts(answers, ahead, near, shown, behind)
+}
+
+/// Writes what stands before the field, and from it on.
+fn write_parts<W: Write>(
+    answers: &mut W,
+    ahead: &str,
+    near: &[u8],
+    shown: &[u8],
+    behind: &str,
+) -> Result<(), ShowFault>
+    requires ahead { IsPrintable ahead.now }
+    requires behind { IsPrintable behind.now }
+    ensures { Writes IsPrintable (W.contents answers.old) (W.contents answers.new) result }
+{
+    write_lead(answers, ahead, near)?;
+    write_rest(answers, shown, behind)
+}
+
+/// Writes what stands before the field.
+fn write_lead<W: Write>(answers: &mut W, ahead: &str, near: &[u8]) -> Result<(), ShowFault>
+    requires ahead { IsPrintable ahead.now }
+    ensures { Writes IsPrintable (W.contents answers.old) (W.contents answers.new) result }
+{
+    write_printable(answers, INDENT)?;
+    write_own(answers, ahead)?;
+    write_shown(answers, near)
+}
+
+/// Writes the field and what stands after it.
+fn write_rest<W: Write>(answers: &mut W, shown: &[u8], behind: &str) -> Result<(), ShowFault>
+    requires behind { IsPrintable behind.now }
+    ensures { Writes IsPrintable (W.contents answers.old) (W.contents answers.new) result }
+{
+    write_shown(answers, shown)?;
+    write_own(answers, behind)
 }
 
 /// Writes the line of carets.
 fn write_carets<W: Write>(
     answers: &mut W,
     form: Form,
-    before: usize,
-    carets: usize,
-) -> Result<(), ShowFault> {
-    written(write_many(answers, " ", before.saturating_add(INDENT.len())))?;
-    for _ in 0..carets.max(1) {
-        written(write_item(answers, form, &Item::Alarm("^")))?;
-    }
+    ahead: &str,
+    near: &[u8],
+    field: &[u8],
+) -> Result<(), ShowFault>
+    ensures { Writes IsSafe (W.contents answers.old) (W.contents answers.new) result }
+{
+    write_spaces(answers, ahead, near)?;
+    write_marks(answers, form, columns_of_bytes(field).max(1))?;
     end_line(answers)
+}
+
+/// Writes as many spaces as stand before the field.
+fn write_spaces<W: Write>(answers: &mut W, ahead: &str, near: &[u8]) -> Result<(), ShowFault>
+    ensures { Writes IsSafe (W.contents answers.old) (W.contents answers.new) result }
+{
+    write_many(answers, b" ", INDENT.len())?;
+    write_many(answers, b" ", ahead.len())?;
+    write_many(answers, b" ", columns_of_bytes(near))
+}
+
+/// Writes so many carets.
+fn write_marks<W: Write>(answers: &mut W, form: Form, count: usize) -> Result<(), ShowFault>
+    ensures { Writes IsSafe (W.contents answers.old) (W.contents answers.new) result }
+{
+    for _ in 0..count {
+        write_item(answers, form, &Item::Alarm("^"))?;
+    }
+    Ok(())
 }

@@ -1,0 +1,2 @@
+pub mod SafeFacts
+pub mod WriteFacts

@@ -1,0 +1,7 @@
+-- `write_many`: what was written so far is safe.
+use Rattle.nms_show.specs.Safe.{IsSafe}
+use Rattle.nms_show.specs.Written.{Adds}
+use Rattle.nms_show.proofs.lines.write_many.Given as goal
+
+abbrev pub invariant-loop : goal.invariant-loop
+invariant-loop g l = Adds IsSafe (g.W.Write.contents l.fn.answers) (g.W.Write.contents l.answers)

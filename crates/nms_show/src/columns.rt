@@ -1,0 +1,52 @@
+//! How many columns something takes.
+use crate::item::{Item, write_plain};
+use crate::shown::write_shown;
+use std::io;
+use std::io::Write;
+
+/// Counts the characters of what is written.
+#[derive(Drop)]
+struct Columns(usize);
+
+impl Write for Columns {
+    /// A byte that goes on with a character is not counted.
+    fn write(&mut self, text: &[u8]) -> io::Result<usize> {
+        match self.0.checked_add(characters_in(text)) {
+            Some(count) => {
+                self.0 = count;
+                Ok(text.len())
+            }
+            None => Err(io::Error::from(io::ErrorKind::OutOfMemory)),
+        }
+    }
+
+    fn flush(&mut self) -> io::Result<()> {
+        Ok(())
+    }
+}
+
+/// How many characters an item takes.
+pub(crate) fn columns_of_item(item: &Item<'_>) -> usize {
+    let mut count = Columns(0);
+    // Only a text that no memory could hold has more characters than a count.
+    let _ = write_plain(&mut count, item);
+    count.0
+}
+
+/// How many characters bytes take as they are shown.
+pub(crate) fn columns_of_bytes(bytes: &[u8]) -> usize {
+    let mut count = Columns(0);
+    let _ = write_shown(&mut count, bytes);
+    count.0
+}
+
+/// How many characters begin in a text.
+fn characters_in(text: &[u8]) -> usize {
+    let mut count = 0;
+    for byte in text {
+        if *byte < 128 || *byte >= 192 {
+            count += 1;
+        }
+    }
+    count
+}
