@@ -37,7 +37,7 @@ pub fn explain_setup<W: Write>(
         Ok(utf8) => explain_text(told, utf8, answers),
         Err(error) => {
             let place = error.valid_up_to();
-            tell_no_toml(told, place, place, "the bytes are no UTF-8", answers)
+            tell_no_toml(told, place, place, "the bytes are not UTF-8", answers)
         }
     }
 }

@@ -17,3 +17,6 @@ mod told;
 mod toml_line;
 
 pub use explaining::explain_setup;
+pub use marked::{Marked, mark_at};
+pub use nest::Nest;
+pub use toml_line::{Pair, header_in, names_key, pair_in};

@@ -3,26 +3,26 @@ use crate::toml_line::Pair;
 
 /// A part of a line.
 #[derive(Clone, Copy)]
-pub(crate) struct Marked<'a> {
+pub struct Marked<'a> {
     /// The line, without its end.
-    pub(crate) line: &'a [u8],
+    pub line: &'a [u8],
     /// How many bytes of the text stand before the line.
-    pub(crate) before: usize,
+    pub before: usize,
     /// The line's number, from 1.
-    pub(crate) number: u64,
+    pub number: u64,
     /// The key and the value that are marked, by the bytes of the line: the same where that is no key with its value.
-    pub(crate) pair: Pair,
+    pub pair: Pair,
 }
 
 impl<'a> Marked<'a> {
     /// The bytes of the value.
-    pub(crate) fn value(&self) -> &'a [u8] {
+    pub fn value(&self) -> &'a [u8] {
         let (start, end) = (self.pair.start, self.pair.end);
         self.line.get(start..end).unwrap_or(&[])
     }
 
     /// The column at which the carets begin, in characters from 1.
-    pub(crate) fn column(&self) -> u64 {
+    pub fn column(&self) -> u64 {
         let before = self.line.get(..self.pair.start).unwrap_or(self.line);
         let mut column = 1u64;
         for byte in before {
@@ -34,12 +34,12 @@ impl<'a> Marked<'a> {
     }
 
     /// The same, with nothing but the key marked.
-    pub(crate) fn at_key(self) -> Marked<'a> {
+    pub fn at_key(self) -> Marked<'a> {
         self.at(self.pair.key, self.pair.key_end)
     }
 
     /// Another part of the same line.
-    pub(crate) fn at(self, start: usize, end: usize) -> Marked<'a> {
+    pub fn at(self, start: usize, end: usize) -> Marked<'a> {
         let pair = Pair {
             key: start,
             key_end: end,
@@ -50,7 +50,7 @@ impl<'a> Marked<'a> {
     }
 
     /// A key with its value of the same line.
-    pub(crate) fn with(self, pair: Pair) -> Marked<'a> {
+    pub fn with(self, pair: Pair) -> Marked<'a> {
         Marked {
             line: self.line,
             before: self.before,
@@ -60,7 +60,7 @@ impl<'a> Marked<'a> {
     }
 
     /// The whole line, but for white space round it.
-    pub(crate) fn whole(self) -> Marked<'a> {
+    pub fn whole(self) -> Marked<'a> {
         let indent = self
             .line
             .len()
@@ -69,7 +69,7 @@ impl<'a> Marked<'a> {
     }
 
     /// A line of a text, with white space and its end behind it, marked at its start.
-    pub(crate) fn of_line(line: &'a [u8], before: usize, number: u64) -> Marked<'a> {
+    pub fn of_line(line: &'a [u8], before: usize, number: u64) -> Marked<'a> {
         let pair = Pair {
             key: 0,
             key_end: 0,
@@ -86,7 +86,7 @@ impl<'a> Marked<'a> {
 }
 
 /// The part of a text from one place to another, or to the end of the line in which it begins.
-pub(crate) fn mark_at(text: &[u8], start: usize, end: usize) -> Marked<'_> {
+pub fn mark_at(text: &[u8], start: usize, end: usize) -> Marked<'_> {
     let mut number = 0u64;
     let mut begins = 0usize;
     let mut last: &[u8] = &[];

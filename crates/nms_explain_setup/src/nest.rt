@@ -16,7 +16,7 @@ enum Within {
 
 /// Where a place lies.
 #[derive(Clone, Copy)]
-pub(crate) struct Nest {
+pub struct Nest {
     within: Within,
     /// How many brackets and braces are open.
     depth: usize,
@@ -26,7 +26,7 @@ pub(crate) struct Nest {
 
 impl Nest {
     /// Before the first byte.
-    pub(crate) fn outer() -> Nest {
+    pub fn outer() -> Nest {
         Nest {
             within: Within::Plain,
             depth: 0,
@@ -35,7 +35,7 @@ impl Nest {
     }
 
     /// Whether a header or a key may begin here, if a line does.
-    pub(crate) fn is_outer(self) -> bool {
+    pub fn is_outer(self) -> bool {
         self.within == Within::Plain && self.depth == 0
     }
 
@@ -59,7 +59,7 @@ impl Nest {
     }
 
     /// Behind a line and its end.
-    pub(crate) fn behind_line(self, line: &[u8]) -> Nest {
+    pub fn behind_line(self, line: &[u8]) -> Nest {
         let mut nest = self;
         for place in 0..line.len() {
             nest = nest.behind_byte(line.get(place..).unwrap_or(&[]));

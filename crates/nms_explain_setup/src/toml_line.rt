@@ -2,7 +2,7 @@
 use crate::nest::Nest;
 
 /// The name in a header, and whether it has two brackets.
-pub(crate) fn header_in(line: &[u8]) -> Option<(&[u8], bool)> {
+pub fn header_in(line: &[u8]) -> Option<(&[u8], bool)> {
     let line = line.trim_ascii();
     if let Some(rest) = line.strip_prefix(b"[[") {
         return Some((name_before_bracket(rest)?, true));
@@ -21,18 +21,18 @@ fn name_before_bracket(text: &[u8]) -> Option<&[u8]> {
 
 /// A key with its value, by the bytes of their line.
 #[derive(Clone, Copy)]
-pub(crate) struct Pair {
+pub struct Pair {
     /// How many bytes stand before the key, and before its end.
-    pub(crate) key: usize,
-    pub(crate) key_end: usize,
+    pub key: usize,
+    pub key_end: usize,
     /// How many stand before the value, and before its end.
-    pub(crate) start: usize,
-    pub(crate) end: usize,
+    pub start: usize,
+    pub end: usize,
 }
 
 impl Pair {
     /// The same, behind so many more bytes.
-    pub(crate) fn moved(self, bytes: usize) -> Pair {
+    pub fn moved(self, bytes: usize) -> Pair {
         Pair {
             key: self.key.saturating_add(bytes),
             key_end: self.key_end.saturating_add(bytes),
@@ -43,7 +43,7 @@ impl Pair {
 }
 
 /// Where a key with its value stands in a line that begins with it. Of a key with points the line is taken.
-pub(crate) fn pair_in(line: &[u8], key: &[u8]) -> Option<Pair> {
+pub fn pair_in(line: &[u8], key: &[u8]) -> Option<Pair> {
     let from_key = line.trim_ascii_start();
     let (found, rest) = key_at(from_key)?;
     if found != key {
@@ -64,7 +64,7 @@ pub(crate) fn pair_in(line: &[u8], key: &[u8]) -> Option<Pair> {
 }
 
 /// Whether the name in a header is a key, or begins with it and a point.
-pub(crate) fn names_key(name: &[u8], key: &[u8]) -> bool {
+pub fn names_key(name: &[u8], key: &[u8]) -> bool {
     name == key || matches!(key_at(name), Some((first, [b'.', ..])) if first == key)
 }
 

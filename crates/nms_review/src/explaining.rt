@@ -2,11 +2,10 @@
 use crate::call::{ended, feed_of, form_of, letter_of};
 use crate::fault::{About, Fault};
 use crate::files::{open_word, read_file, setup_of, word_at};
-use crate::importing::{mapping_of, tell_map_fault};
-use crate::importing_trades::{is_trade_map, trade_map_of};
 use crate::screen::Screen;
 use crate::source::Source;
 use nms_explain::{explain_changes, explain_feed, explain_orders, explain_plan, explain_script};
+use nms_explain_map::explain_map;
 use nms_explain_setup::explain_setup;
 use nms_fees::Setup;
 use nms_quote::Feed;
@@ -31,7 +30,7 @@ where
 {
     match Kind::named(word_at(request, 0)) {
         Some(Kind::Setup) => serve_setup(rt, screen, request, answers),
-        Some(Kind::Map) => serve_map(rt, request),
+        Some(Kind::Map) => serve_map(rt, screen, request, answers),
         Some(kind) => {
             let setup = setup_of(rt, request)?;
             serve_kind(rt, screen, &setup, kind, request, answers)
@@ -60,23 +59,21 @@ where
 }
 
 /// Says of a mapping's file what is wrong in it.
-fn serve_map<T>(rt: &T, request: &Request) -> Result<Ending, Fault>
+fn serve_map<T, W: Write>(
+    rt: &T,
+    screen: Screen,
+    request: &Request,
+    answers: &mut W,
+) -> Result<Ending, Fault>
 where
-    T: AllocGlobal + Eprint + Files,
+    T: AllocGlobal + Files,
 {
     letter_of(request)?;
     let file = word_at(request, FILE);
     let text = read_file(rt, file, About::Word(FILE))?;
-    if is_trade_map(rt.alloc(), &text) {
-        return match trade_map_of(rt.alloc(), &text) {
-            Ok(_) => Ok(Ending::Done),
-            Err(fault) => tell_map_fault(rt, file, &fault),
-        };
-    }
-    match mapping_of(rt.alloc(), &text) {
-        Ok(_) => Ok(Ending::Done),
-        Err(fault) => tell_map_fault(rt, file, &fault),
-    }
+    explain_map(rt.alloc(), file, &text, form_of(screen, request), answers).map_err(|fault| {
+        Fault::of(fault.code(), fault.status(), About::Word(FILE))
+    })
 }
 
 /// Says of a file of records what is refused in it.

@@ -43,7 +43,7 @@ where
 }
 
 /// The mapping that a text says.
-pub(crate) fn mapping_of(alloc: Global, text: &[u8]) -> Result<Mapping, MapFault> {
+fn mapping_of(alloc: Global, text: &[u8]) -> Result<Mapping, MapFault> {
     match str::from_utf8(text) {
         Ok(text) => read_mapping(alloc, text),
         Err(_) => Err(MapFault::NotToml { line: 1 }),

@@ -35,7 +35,7 @@ pub(crate) fn is_trade_map(alloc: Global, text: &[u8]) -> bool {
 }
 
 /// The mapping of trades that a text says.
-pub(crate) fn trade_map_of(alloc: Global, text: &[u8]) -> Result<TradeMapping, MapFault> {
+fn trade_map_of(alloc: Global, text: &[u8]) -> Result<TradeMapping, MapFault> {
     match str::from_utf8(text) {
         Ok(text) => read_trade_mapping(alloc, text),
         Err(_) => Err(MapFault::NotToml { line: 1 }),

@@ -33,8 +33,8 @@ use std::time::Clock;
 use std::{env, io};
 use telling::tell_fault;
 
-/// Told where a word is no UTF-8, and where memory ran out for the words.
-const NO_TEXT: &str = "nms_review: usage: a word of the call is no UTF-8\n";
+/// Told where a word is not UTF-8, and where memory ran out for the words.
+const NO_TEXT: &str = "nms_review: usage: a word of the call is not UTF-8\n";
 
 const NO_MEMORY: &str = "nms_review: G2: memory ran out for the words\n";
 
