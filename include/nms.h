@@ -306,7 +306,7 @@ uint32_t nms_raw_opening_of(nms_board *board, uint16_t sym, nms_opening *opening
 
 /* ---- the calls ---- */
 
-/* Writes the version of the library, as "0.1.0", with a closing zero. *bytes is its length without the zero.
+/* Writes the version of the library, as "0.2.0", with a closing zero. *bytes is its length without the zero.
  * Codes: NMS_ROOM. */
 static inline uint32_t nms_version(char *out, size_t room, size_t *bytes)
 {

@@ -1,7 +1,7 @@
 //! What the help says behind the subcommands.
 
 /// The version that `--version` tells.
-pub(crate) const VERSION: &str = "0.1.0";
+pub(crate) const VERSION: &str = "0.2.0";
 
 pub(crate) const ABOUT: &str =
     "Explains what the quote board's program refused, answered and planned";

@@ -1,7 +1,7 @@
 //! What the help says behind the commands and options: the statuses, and a line for each refusal.
 
 /// The version that `--version` tells.
-pub(crate) const VERSION: &str = "0.1.0";
+pub(crate) const VERSION: &str = "0.2.0";
 
 /// The end of the help. A program that is installed has no `docs/ERRORS.md` beside it, so each code of
 /// a refusal is explained here; that page says what to do about it.
