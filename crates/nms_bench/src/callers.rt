@@ -16,7 +16,7 @@ use std::sync::Wait;
 use std::thread::Threads;
 pub(crate) use threads::{close_two, open_two};
 
-/// Makes the call that a word names, with so many changes, on the symbol at a place, and tells what came of it.
+/// Makes the call that a word names, with so many changes, on the symbol at a place, and reports what came of it.
 pub(crate) fn make<R: AllocGlobal + Threads + Wait + Sync>(
     rt: &R,
     kind: &str,

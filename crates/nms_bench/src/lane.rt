@@ -13,7 +13,7 @@ use std::sync::atomic::{AtomicBool, Ordering};
 use std::thread;
 use std::thread::Threads;
 
-/// Runs a lane of a capacity, with so many changes from each of so many threads. Tells how many each sent and how many
+/// Runs a lane of a capacity, with so many changes from each of so many threads. Reports how many each sent and how many
 /// were taken.
 pub(crate) fn measure<R: AllocGlobal + Threads + Wait + Sync>(
     rt: &R,
@@ -71,7 +71,7 @@ fn run<R: Threads + Wait + Sync>(
     }
 }
 
-/// Sends a change so many times from each sender, each in a thread of its own. `None` where there was no memory.
+/// Sends a change so many times from each sender, each in a thread of its own. `None` if there was no memory.
 fn send_from_each<R: Threads + Wait + Sync>(
     rt: &R,
     senders: Vec<Sender>,

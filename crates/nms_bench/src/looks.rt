@@ -32,7 +32,7 @@ struct Seat {
     _apart: [u64; 16],
 }
 
-/// Makes so many looks by each desk, each in a thread of its own, at a row of each side. Tells how many rows stood
+/// Makes so many looks by each desk, each in a thread of its own, at a row of each side. Reports how many rows stood
 /// where they belong.
 pub(crate) fn measure<R: AllocGlobal + Threads + Wait + Clock + Sync>(
     rt: &R,
@@ -148,7 +148,7 @@ fn rows_at(view: &View, side: Side, place: u64) -> u64 {
     }
 }
 
-/// Publishes batch after batch, with a pause of 100 microseconds behind each, until the looks have ended.
+/// Publishes batch after batch, with a pause of 100 microseconds after each, until the looks have ended.
 fn publish_until<R: Wait + Clock>(
     rt: &R,
     publisher: &mut Publisher,

@@ -47,7 +47,7 @@ fn run_all<R: AllocGlobal + Threads + Wait + Clock + Sync, W: Write>(
     Ok(())
 }
 
-/// Makes the run of a line, and tells what came of it: how many changes each thread sent and how many were taken, or how
+/// Makes the run of a line, and reports what came of it: how many changes each thread sent and how many were taken, or how
 /// many rows the looks showed where they belong, or what a call came to.
 fn told_of<R: AllocGlobal + Threads + Wait + Clock + Sync>(
     rt: &R,
@@ -66,7 +66,7 @@ fn told_of<R: AllocGlobal + Threads + Wait + Clock + Sync>(
     }
 }
 
-/// Looks from so many desks, and tells how many rows stood where they belong.
+/// Looks from so many desks, and reports how many rows stood where they belong.
 fn run_looks<R: AllocGlobal + Threads + Wait + Clock + Sync>(
     rt: &R,
     desks: u16,
@@ -77,7 +77,7 @@ fn run_looks<R: AllocGlobal + Threads + Wait + Clock + Sync>(
     format!(in rt.alloc(); "{rows}").map_err(|_| Failed)
 }
 
-/// Runs a lane of a capacity, with senders and changes as the rest of a line says, and tells what came over.
+/// Runs a lane of a capacity, with senders and changes as the rest of a line says, and reports what came over.
 fn run_lane<R: AllocGlobal + Threads + Wait + Sync>(
     rt: &R,
     capacity: &str,

@@ -1,4 +1,4 @@
--- What stands behind a handle. This product's own rule.
+-- What an open handle holds. This product's own rule.
 use Rattle.std.specs.Prelude.{Option, Some, None}
 use Rattle.nms_calls.specs.Opened.{Opened}
 

@@ -1,4 +1,4 @@
--- What the handle of a board owns: the board where it is open, and nothing where it is closed. This product's own rule.
+-- What the handle of a board owns: the board if it is open, and nothing if it is closed. This product's own rule.
 use Rattle.std.specs.Prelude.{◌≡◌, ◌≢◌, ℕ, Option, None, Some}
 use base.Fml.{Fml, ftrue, fex}
 use denote.RawPtr.{Ptr}

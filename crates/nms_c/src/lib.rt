@@ -1,5 +1,5 @@
 //! The static library that C, C++, Rust and Python link: `include/nms.h` declares its functions. Each takes what stands
-//! behind a handle, makes one call of `nms_calls`, and puts it back.
+//! of a handle, makes one call of `nms_calls`, and puts it back.
 #![tactic(auto)]
 
 mod changing;

@@ -27,7 +27,7 @@ fn out_of(board: NmsBoard, alloc: Global) -> (NmsBoard, Box<OpenBoard>)
     (NmsBoard::shut(alloc), kept)
 }
 
-/// Takes the board behind an open handle, which is closed meanwhile. `None` leaves a closed one as it was.
+/// Takes the board of an open handle, which is closed meanwhile. `None` leaves a closed one as it was.
 #[inline(always)]
 pub(crate) fn take(alloc: Global, board: &mut NmsBoard) -> Option<Box<OpenBoard>>
     ensures { MatchOption result ((board.old.mark ≢ open_mark) × (board.new ≡ board.old))

@@ -60,7 +60,7 @@ change_numbers (change.State part sym state) = record no_change { sym = sym; par
 change_numbers (change.Withdraw part) = record no_change { part = part; kind = 2 }
 change_numbers (change.Lot sym lot) = record no_change { sym = sym; lot = lot; kind = 3 }
 
--- a place of the changes, all 0 where there is none
+-- a place of the changes, all 0 if there is none
 abbrev pub change_at : Option Change → NmsChange
 change_at None = no_change
 change_at (Some change) = change_numbers change

@@ -1,4 +1,4 @@
--- What stands behind an open handle, and what a call answers there. This product's own rule.
+-- What an open handle holds, and what a call answers there. This product's own rule.
 use Rattle.std.specs.Prelude.{◌≡◌, ◌⊎◌, ◌+◌, fold, ◌++◌, ◌∷◌, [], ℕ, IfOk, Bool, nat_lt, length, List, Option, Some, None, Result, Ok}
 use Rattle.std.specs.Prelude.{Err, if◌then◌else◌}
 use Rattle.std.specs.Str.{IsUtf8}
@@ -69,7 +69,7 @@ room_fault opened (Ok change) = if has_room opened then None else Some fault.Ful
 abbrev pub apply_fault : Opened → NmsChange → Option CallFault
 apply_fault opened n = room_fault opened (change_said (sizes_on opened) n)
 
--- one more change on the board, where it is applied
+-- one more change on the board, if it is applied
 abbrev pub with_change : Opened → Change → Opened
 with_change opened change = record { settings = opened.settings; board = after opened.board change }
 

@@ -33,7 +33,7 @@ some_row row = record {
   spare = 0;
 }
 
--- the numbers of a row, all 0 where there is none
+-- the numbers of a row, all 0 if there is none
 abbrev pub row_numbers : Option Row → NmsRow
 row_numbers None = no_row
 row_numbers (Some row) = some_row row

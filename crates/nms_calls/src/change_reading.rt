@@ -88,7 +88,7 @@ fn state_of(number: u8) -> Option<QState>
     }
 }
 
-/// One side: no quotation where both numbers are 0. `None` where they say no side.
+/// One side: no quotation if both numbers are 0. `None` where they say no side.
 fn side_of(price: u64, shares: u32) -> Option<Option<SideQuote>>
     ensures { result ≡ side_said price shares }
 {

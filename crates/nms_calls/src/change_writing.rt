@@ -32,7 +32,7 @@ fn put_changes(changes: &[Change], places: &mut [NmsChange; MOST_OPENING])
     }
 }
 
-/// The numbers of the change at a place, all 0 where there is none.
+/// The numbers of the change at a place, all 0 if there is none.
 fn change_at(changes: &[Change], place: usize) -> NmsChange
     ensures numbers { result ≡ change_at (slice_get changes.now place) }
     ensures said { IfSome (slice_get changes.now place) IsSaid }

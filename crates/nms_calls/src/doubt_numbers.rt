@@ -5,17 +5,17 @@ ghost use Rattle.nms_calls.specs.DoubtNumbers.{breach_number, breached, doubt_nu
 use nms_cert::Doubt;
 use nms_rules::Breach;
 
-/// Why a plan is not confirmed; all 0 where it is.
+/// Why a plan is not confirmed; all 0 if it is.
 #[repr(C)]
 #[derive(Clone, Copy)]
 pub struct NmsDoubt {
     /// 1 to 7 for K1 to K7.
     pub doubt: u32,
-    /// 1 to 12 for P1 to P12 where the doubt is 1, else 0.
+    /// 1 to 12 for P1 to P12 if the doubt is 1, else 0.
     pub breach: u32,
-    /// The participant that is traded through where the breach is 10, else 0.
+    /// The participant that is traded through if the breach is 10, else 0.
     pub part: u32,
-    /// The first cut whose bound fails, from 0 on, where the doubt is 7, else 0.
+    /// The first cut whose bound fails, from 0 on, if the doubt is 7, else 0.
     pub cut: u32,
 }
 

@@ -1,4 +1,4 @@
-//! What stands behind an open handle, and the calls on it: `specs/Opened`.
+//! What an open handle holds, and the calls on it: `specs/Opened`.
 ghost use Rattle.std.specs.Prelude.{◌≡◌, ◌≢◌, ◌++◌, ◌∷◌, [], IfOk, IfErr, OnOk, OnErr, Ok, true};
 ghost use Rattle.std.specs.Result.{result_err};
 ghost use Rattle.nms_quote.specs.Roster.{holds};

@@ -22,7 +22,7 @@ pub struct NmsLeg {
 pub struct NmsCut {
     /// In 1/10,000 dollar.
     pub price: u64,
-    /// What one more share costs in nanodollars; 0 where the kind has none.
+    /// What one more share costs in nanodollars; 0 if the kind has none.
     pub marginal: i64,
     /// 0 too much, 1 too little, 2 a marginal.
     pub kind: u32,

@@ -17,7 +17,7 @@ pub struct NmsRow {
     pub size: u32,
     /// The participant's place.
     pub part: u8,
-    /// 1 where it is protected, 0 where it is manual.
+    /// 1 if it is protected, 0 if it is manual.
     pub is_protected: u8,
     /// 0.
     pub spare: u16,
@@ -53,7 +53,7 @@ pub struct NmsRows {
     pub size: [u32; 32],
     /// Their participants' places.
     pub part: [u8; 32],
-    /// 1 where a row is protected, 0 where it is manual.
+    /// 1 if a row is protected, 0 if it is manual.
     pub is_protected: [u8; 32],
     /// How many there are. The places from there on are 0.
     pub count: u32,

@@ -51,7 +51,7 @@ pub(crate) fn put_rows(rows: &[Row], places: &mut [NmsRow; 32])
     }
 }
 
-/// The numbers of the row at a place, all 0 where there is none.
+/// The numbers of the row at a place, all 0 if there is none.
 fn row_at(rows: &[Row], place: usize) -> NmsRow
     ensures { result ≡ row_numbers (slice_get rows.now place) }
 {

@@ -5,7 +5,7 @@ ghost use Rattle.nms_calls.specs.Written.{IsWritten, text_fault};
 
 use crate::call_fault::CallFault;
 
-/// Writes a text and a closing zero to the front of a buffer, and the text's length. `NoRoom` where they do not fit.
+/// Writes a text and a closing zero to the front of a buffer, and the text's length. `NoRoom` if they do not fit.
 pub(crate) fn put_text(text: &[u8], out: &mut [u8], bytes: &mut usize) -> Result<(), CallFault>
     ensures answer { result_err result ≡ text_fault text.now out.old }
     ensures written { OnOk result (IsWritten text.now out.old out.new bytes.new) }

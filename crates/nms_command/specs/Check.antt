@@ -34,7 +34,7 @@ doubt_record doubt.WrongKind = codes "DOUBT" ∷ codes "K5" ∷ []
 doubt_record doubt.MarginalRange = codes "DOUBT" ∷ codes "K6" ∷ []
 doubt_record (doubt.BoundFails cut) = codes "DOUBT" ∷ codes "K7" ∷ []
 
--- the line of a finding was written, and nothing else, and so it ends. No line tells of want of memory
+-- the line of a finding was written, and nothing else, and so it ends. No line reports out of memory
 abbrev pub Tells : Finding → Option (List ℕ) → Option (List ℕ) → Ending → Type 0
 Tells (Ok done) old new ends = (ends ≡ ending.Done) × Appends old new (record_text (codes "CONFIRMED" ∷ []))
 Tells (Err fault.VersionBeyondTape) old new ends = (ends ≡ ending.NotConfirmed)
@@ -43,7 +43,7 @@ Tells (Err (fault.Doubt why)) old new ends = (ends ≡ ending.NotConfirmed) × A
 Tells (Err fault.NoMemory) old new ends = ⊥
 
 -- a plan was judged by its cuts on its own version of a tape, and the line of what was found was written, and nothing
--- else. It ends as done only where the plan is lawful there, no lawful one fills more, and none that fills as much costs less
+-- else. It ends as done only if the plan is lawful there, no lawful one fills more, and none that fills as much costs less
 pub record Judges (settings : Settings) (tape : Tape) (plan : Plan) (cuts : List Cut) (old new : Option (List ℕ)) (ends : Ending) : Type 0
   where
     pub finding : Finding

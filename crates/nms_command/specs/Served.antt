@@ -24,7 +24,7 @@ Reports settings own old new =
     (bytes : Option (List ℕ)) × (sym : ℕ) × (place_in settings.roster.syms (field own 1) ≡ Some sym)
     × ReportsFile settings bytes sym old new
 
--- the order that is asked for: by the words behind the first and by the options
+-- the order that is asked for: by the words after the first and by the options
 abbrev pub asked_order : Settings → Asked → Option Terms
 asked_order settings asked =
     order_asked settings.roster (field asked.own 1) (field asked.own 2) (field asked.own 3) (field asked.own 4) asked.manual asked.self_help

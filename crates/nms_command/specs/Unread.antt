@@ -1,4 +1,4 @@
--- Why a file could not be read: there was no memory, told as E4, or anything else, told as E1. This product's own rule.
+-- Why a file could not be read: there was no memory, reported as E4, or anything else, reported as E1. This product's own rule.
 use Rattle.std.specs.Prelude.{◌≡◌, ◌⊎◌}
 use Rattle.nms_command.specs.declared.command_fault.CommandFault.{CommandFault}
 use Rattle.nms_command.specs.declared.command_fault.CommandFault.TheVariants as fault

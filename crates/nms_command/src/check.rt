@@ -93,7 +93,7 @@ fn judge_plan<W: Write>(
     tell_finding(answers, finding)
 }
 
-/// Tells what an audit found.
+/// Reports what an audit found.
 fn tell_finding<W: Write>(
     answers: &mut W,
     finding: Result<(), AuditFault>,
@@ -110,7 +110,7 @@ fn tell_finding<W: Write>(
     }
 }
 
-/// Tells the code of a doubt: of a breach its own code behind it.
+/// Reports the code of a doubt: of a breach its own code after it.
 fn tell_doubt<W: Write>(answers: &mut W, doubt: Doubt) -> Result<Ending, CommandFault>
     ensures { IfOk result (λ ends. (ends ≡ Ending.NotConfirmed) × Appends (W.contents answers.old) (W.contents answers.new) (record_text (doubt_record doubt))) }
 {
@@ -122,7 +122,7 @@ fn tell_doubt<W: Write>(answers: &mut W, doubt: Doubt) -> Result<Ending, Command
     }
 }
 
-/// Tells a line, and so how the request ends.
+/// Reports a line, and so how the request ends.
 fn tell_line<W: Write>(
     answers: &mut W,
     head: &str,

@@ -8,7 +8,7 @@ use std::io::ErrorKind;
 use std::rt::Files;
 use std::{fs, io};
 
-/// Opens a file to read it. Where it can't be opened, the fault is E4 if there was no memory, else E1.
+/// Opens a file to read it. If it can't be opened, the fault is E4 if there was no memory, else E1.
 pub fn open_file<T: Files>(rt: &T, path: &str) -> Result<T::File, CommandFault>
     ensures refused { IfErr result IsUnread }
 {
@@ -18,7 +18,7 @@ pub fn open_file<T: Files>(rt: &T, path: &str) -> Result<T::File, CommandFault>
     }
 }
 
-/// The bytes of a file. Where it can't be read, the fault is E4 if there was no memory, else E1.
+/// The bytes of a file. If it can't be read, the fault is E4 if there was no memory, else E1.
 pub(crate) fn read_file<T: Files + AllocGlobal>(rt: &T, path: &str) -> Result<Vec<u8>, CommandFault>
     ensures refused { IfErr result IsUnread }
 {

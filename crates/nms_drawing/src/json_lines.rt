@@ -28,7 +28,7 @@ impl<'a, W: Write> JsonLines<'a, W> {
         }
     }
 
-    /// Whether a write failed for want of memory.
+    /// Whether a write failed for lack of memory.
     pub(crate) fn wants_memory(&self) -> bool {
         self.wants_memory
     }
@@ -139,7 +139,7 @@ fn members_of<'a>(line: &'a [u8]) -> [(&'static str, Item<'a>); 10] {
     members
 }
 
-/// The first field of a line, and what stands behind its comma.
+/// The first field of a line, and what stands after its comma.
 pub(crate) fn field_of(line: &[u8]) -> (&[u8], &[u8]) {
     match line.iter().position(|byte| *byte == b',') {
         Some(end) => (
@@ -150,7 +150,7 @@ pub(crate) fn field_of(line: &[u8]) -> (&[u8], &[u8]) {
     }
 }
 
-/// A field as a text, `null` where it is empty.
+/// A field as a text, `null` if it is empty.
 fn text_in(field: &[u8]) -> Item<'_> {
     if field.is_empty() {
         Item::Absent
@@ -159,7 +159,7 @@ fn text_in(field: &[u8]) -> Item<'_> {
     }
 }
 
-/// A field as a number, `null` where it is empty.
+/// A field as a number, `null` if it is empty.
 fn number_in(field: &[u8]) -> Item<'_> {
     match str::from_utf8(field) {
         Ok(text) => match text.parse::<u64>() {

@@ -14,7 +14,7 @@ use std::alloc::Global;
 use std::io::{Read, Write};
 
 /// Streams the changes of a file: as the proved stream writes it, or each of its lines as a JSON object with the names
-/// of the columns as keys, numbers as numbers and prices as texts, `null` where a side has none. With times each line has
+/// of the columns as keys, numbers as numbers and prices as texts, `null` if a side has none. With times each line has
 /// that of its version, last.
 pub fn stream_changes<R: Read + Drop, W: Write>(
     alloc: Global,

@@ -20,7 +20,7 @@ use std::io::{Read, Write};
 /// Writes what is known at a version, the first so many changes of a file: of one symbol the report, or of all symbols
 /// a table of their best bids and offers. As JSON, an object for each row and pair, or for each symbol.
 ///
-/// Where the file has fewer changes it is `VersionBeyondTape`; where times are given, and not as many, `Times`. Then nothing is
+/// If the file has fewer changes it is `VersionBeyondTape`; where times are given, and not as many, `Times`. Then nothing is
 /// written. It is not flushed.
 pub fn show_version<R: Read + Drop, W: Write>(
     alloc: Global,

@@ -1,5 +1,5 @@
 //! Runs the examples that come on standard input and writes what each gives, or whether it gives what it says
-//! that it must; where one does not, the program fails at its end. The gate compares what it writes with `stdout`,
+//! that it must; if one does not, the program fails at its end. The gate compares what it writes with `stdout`,
 //! byte for byte. `tests/README.md` has the form of the input, and `tests/bundle.sh` makes it.
 #![tactic(auto)]
 
@@ -22,7 +22,7 @@ use std::io::{Read, Write};
 use std::process::ExitCode;
 use std::{io, str};
 
-/// The line behind which an example says what it must give.
+/// The line after which an example says what it must give.
 const GIVES: &str = "-- gives\n";
 
 /// The input is no list of examples, or a stream failed.
@@ -57,7 +57,7 @@ where
     Ok(all)
 }
 
-/// Shows the examples that stand behind a setup. An empty setup is the built-in one.
+/// Shows the examples that stand after a setup. An empty setup is the built-in one.
 fn show_part<T, W>(rt: &T, part: &str, answers: &mut W) -> Result<bool, Failed>
 where
     T: AllocGlobal + Eprint,

@@ -75,7 +75,7 @@ pub(crate) fn give_audit(
     }
 }
 
-/// Adds the code of a doubt: of a breach its own behind it, and of a bound that fails the cut.
+/// Adds the code of a doubt: of a breach its own after it, and of a bound that fails the cut.
 fn tell_doubt(given: &mut Vec<u8>, doubt: Doubt) -> Result<(), Failed> {
     match doubt {
         Doubt::Breach(breach) => writeln!(given, "K1 {}", breach.code()).map_err(|_| Failed),

@@ -42,7 +42,7 @@ fn tell_lines(
     Err(Failed)
 }
 
-/// The place that reads under that name, which has two desks where it has any.
+/// The place that reads under that name, which has two desks if it has any.
 fn reading_named(place: &str) -> Option<Reading> {
     match place {
         "script" => Some(Reading::Script { desks: 2 }),

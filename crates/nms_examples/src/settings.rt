@@ -8,14 +8,14 @@ use std::alloc::Global;
 use std::io::Write;
 use std::str;
 
-/// The line behind which stand the changes to a document, a line each: a piece of it, an arrow, and what stands
+/// The line after which stand the changes to a document, a line each: a piece of it, an arrow, and what stands
 /// in the place of the piece where it comes first.
 const CHANGES: &str = "-- changes\n";
 
-/// The line behind which stand questions for a setup: a participant's place, the side and the price.
+/// The line after which stand questions for a setup: a participant's place, the side and the price.
 const COSTS: &str = "-- costs\n";
 
-/// Adds what a document is read as; or, where changes or questions stand behind it, what each of these gives.
+/// Adds what a document is read as; or, where changes or questions stand after it, what each of these gives.
 pub(crate) fn give_settings(
     alloc: Global,
     input: &[u8],

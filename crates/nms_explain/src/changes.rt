@@ -26,10 +26,10 @@ struct Asked<'a> {
     form: Form,
 }
 
-/// Tells each refused record of a script, and whether anything was published. It does nothing that the script asks for,
+/// Reports each refused record of a script, and whether anything was published. It does nothing that the script asks for,
 /// so that what a full queue or a full tape would refuse is not told.
 ///
-/// The answers are not flushed. At a fault what was told before stands.
+/// The answers are not flushed. At a fault what was reported before stands.
 pub fn explain_script<R: Read + Drop, W: Write>(
     alloc: Global,
     setup: &Setup,
@@ -49,7 +49,7 @@ pub fn explain_script<R: Read + Drop, W: Write>(
     Ok(ending_of(&tally))
 }
 
-/// Tells each refused record of a file of changes, as `explain_script` does.
+/// Reports each refused record of a file of changes, as `explain_script` does.
 pub fn explain_changes<R: Read + Drop, W: Write>(
     alloc: Global,
     setup: &Setup,
@@ -63,7 +63,7 @@ pub fn explain_changes<R: Read + Drop, W: Write>(
     Ok(ending_of(&tally))
 }
 
-/// Tells each refused record of a file of orders, as `explain_script` does.
+/// Reports each refused record of a file of orders, as `explain_script` does.
 pub fn explain_orders<R: Read + Drop, W: Write>(
     alloc: Global,
     setup: &Setup,
@@ -79,7 +79,7 @@ pub fn explain_orders<R: Read + Drop, W: Write>(
     Ok(ending_of(&tally))
 }
 
-/// Tells each refused record of the file of a feed, and whether all of them are of other feeds.
+/// Reports each refused record of the file of a feed, and whether all of them are of other feeds.
 pub fn explain_feed<R: Read + Drop, W: Write>(
     alloc: Global,
     setup: &Setup,
@@ -111,7 +111,7 @@ fn ending_of(tally: &Tally) -> Ending {
     }
 }
 
-/// Tells each refused record of a file, and how many there were.
+/// Reports each refused record of a file, and how many there were.
 fn explain_file<R: Read + Drop, W: Write>(
     alloc: Global,
     setup: &Setup,
@@ -135,7 +135,7 @@ fn explain_file<R: Read + Drop, W: Write>(
     }
 }
 
-/// Tells each refused record of a source, and counts all.
+/// Reports each refused record of a source, and counts all.
 fn explain_source<R: Read + Drop, W: Write>(
     asked: &Asked<'_>,
     source: R,
@@ -169,7 +169,7 @@ fn explain_records<R: Read, W: Write>(
     Ok(tally)
 }
 
-/// Tells a refused record, the one of that number.
+/// Reports a refused record, the one of that number.
 fn tell_fault<R: Read, W: Write>(
     asked: &Asked<'_>,
     reader: &Reader<RecordSource<R>>,
@@ -263,8 +263,8 @@ fn count_of<'a>(row: &'a ByteRecord, text: &'a [u8]) -> Finding<'a> {
     }
 }
 
-/// Where a record has too many fields, or its end where it has too few: the quote that opens a field over a line end,
-/// the number that a comma parts, the comma that stands last, or else the fields behind the last that there may be.
+/// If a record has too many fields, or its end if it has too few: the quote that opens a field over a line end,
+/// the number that a comma parts, the comma that stands last, or else the fields after the last that there may be.
 fn surplus_span(row: &ByteRecord, text: &[u8]) -> Span {
     let end = text.len();
     if let Some(start) = open_quote(text) {

@@ -165,7 +165,7 @@ fn is_head(text: &[u8]) -> bool {
     !text.is_empty() && text.len() <= 3 && text.iter().all(|byte| byte.is_ascii_digit())
 }
 
-/// Whether a text may be what stands behind a comma within a number: 3 digits, and a point or nothing.
+/// Whether a text may be what stands after a comma within a number: 3 digits, and a point or nothing.
 fn is_tail(text: &[u8]) -> bool {
     match text {
         [b'0'..=b'9', b'0'..=b'9', b'0'..=b'9'] => true,

@@ -1,4 +1,4 @@
-//! Lines: a line feed ends one, and so does a carriage return, with the line feed behind it where there is one.
+//! Lines: a line feed ends one, and so does a carriage return, with the line feed after it if there is one.
 use memchr::{memchr, memchr_iter};
 
 /// How far the lines of a text were counted.
@@ -18,7 +18,7 @@ impl LineCount {
         }
     }
 
-    /// Behind a text.
+    /// After a text.
     pub(crate) fn behind(self, text: &[u8]) -> Self {
         if self.after_return || memchr(b'\r', text).is_some() {
             return self.behind_returns(text);

@@ -35,10 +35,10 @@ struct Came {
     refused: u64,
 }
 
-/// Tells each record of a plan's text that does not say what a plan says where it stands: its own field, or that another
-/// record is due. The text is a plan's where nothing is told.
+/// Reports each record of a plan's text that does not say what a plan says where it stands: its own field, or that another
+/// record is due. The text is a plan's where nothing is reported.
 ///
-/// The answers are not flushed. At a fault what was told before stands.
+/// The answers are not flushed. At a fault what was reported before stands.
 pub fn explain_plan<W: Write>(
     alloc: Global,
     setup: &Setup,
@@ -63,7 +63,7 @@ pub fn explain_plan<W: Write>(
     }
 }
 
-/// Tells each wrong record that a reader gives.
+/// Reports each wrong record that a reader gives.
 fn explain_records<R: Read, W: Write>(
     asked: &Asked<'_>,
     reader: &mut Reader<RecordSource<R>>,
@@ -89,7 +89,7 @@ fn explain_records<R: Read, W: Write>(
     Ok(came)
 }
 
-/// Tells a wrong record, the one of that number.
+/// Reports a wrong record, the one of that number.
 fn tell_trouble<R: Read, W: Write>(
     asked: &Asked<'_>,
     reader: &Reader<RecordSource<R>>,
@@ -104,7 +104,7 @@ fn tell_trouble<R: Read, W: Write>(
     tell_refusal(asked.alloc, asked.form, &refusal, answers).map_err(ExplainFault::Show)
 }
 
-/// Tells which record is missing where the text ends, and how many there were.
+/// Reports which record is missing where the text ends, and how many there were.
 fn tell_end<W: Write>(
     came: &Came,
     asked: &Asked<'_>,
@@ -185,7 +185,7 @@ fn whole(text: &[u8]) -> Span {
     }
 }
 
-/// What the first record looks like instead of a plan's, and a record behind the end.
+/// What the first record looks like instead of a plan's, and a record after the end.
 fn hint_for(due: PlanDue, number: u64, text: &[u8]) -> &'static str {
     match due {
         PlanDue::Plan if !text.starts_with(b"PLAN,") => hint_of_kind(number, text),

@@ -9,12 +9,12 @@ pub(crate) enum Quoting {
     Plain,
     /// Within quotes.
     Within,
-    /// Behind a quote that closes, or is the first of two.
+    /// After a quote that closes, or is the first of two.
     Behind,
 }
 
 impl Quoting {
-    /// Where the next byte stands behind this one.
+    /// Where the next byte stands after this one.
     pub(crate) fn behind(self, byte: u8) -> Self {
         match (self, byte) {
             (Quoting::Start, b'"') | (Quoting::Behind, b'"') => Quoting::Within,

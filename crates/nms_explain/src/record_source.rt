@@ -44,7 +44,7 @@ pub(crate) fn open_source<R: Read>(alloc: Global, source: R) -> Reader<RecordSou
     open_records(alloc, RecordSource::new(alloc, source))
 }
 
-/// Reads the next record, as `read_next` of `nms_lines` does: for want of memory for its text too it is `NoMemory`.
+/// Reads the next record, as `read_next` of `nms_lines` does: for lack of memory for its text too it is `NoMemory`.
 pub(crate) fn next_record<R: Read>(
     reader: &mut Reader<RecordSource<R>>,
     row: &mut ByteRecord,

@@ -1,4 +1,4 @@
-//! One refusal, as it is told.
+//! One refusal, as it is reported.
 use crate::line_count::LineCount;
 use crate::remedies::remedy_of;
 use crate::span::{Point, Span, point_at};
@@ -25,7 +25,7 @@ pub(crate) struct Refusal<'a> {
     pub(crate) span: Span,
     /// The code of the refusal.
     pub(crate) code: &'a str,
-    /// The field that is wrong, where one is.
+    /// The field that is wrong, if one is.
     pub(crate) field: Option<FieldPlace>,
     /// What stands there, or how many fields there are.
     pub(crate) found: Item<'a>,
@@ -126,7 +126,7 @@ fn tell_finding<W: Write>(
     write_line(answers, form, &items)
 }
 
-/// Writes where a quote opens a field that goes on over a line end, where one does.
+/// Writes where a quote opens a field that goes on over a line end, if one does.
 fn tell_quote<W: Write>(
     form: Form,
     refusal: &Refusal<'_>,
@@ -148,7 +148,7 @@ fn tell_quote<W: Write>(
     write_line(answers, form, &items)
 }
 
-/// Writes a line of advice, where there is one.
+/// Writes a line of advice, if there is one.
 fn tell_advice<W: Write>(form: Form, advice: &str, answers: &mut W) -> Result<(), ShowFault> {
     if advice.is_empty() {
         return Ok(());
@@ -249,7 +249,7 @@ pub(crate) fn tell_missing<'a, W: Write>(
     tell_advice(form, remedy_of(code), answers)
 }
 
-/// A text, or nothing where it is empty.
+/// A text, or nothing if it is empty.
 fn text_or_absent(text: &str) -> Item<'_> {
     if text.is_empty() {
         Item::Absent

@@ -13,13 +13,13 @@ use std::io::Write;
 use std::str;
 use toml::Table;
 
-/// How many faults are told one by one. The others are counted.
+/// How many faults are reported one by one. The others are counted.
 const MOST_TOLD: usize = 100;
 
-/// Tells why a setup is refused: each of its faults with its line, table, key, value and bound; or that none is. It
-/// ends with `SetupRefused` where there is a fault.
+/// Reports why a setup is refused: each of its faults with its line, table, key, value and bound; or that none is. It
+/// ends with `SetupRefused` if there is a fault.
 ///
-/// Where the text is no TOML document its one fault is C1, at the place where the parser stopped.
+/// If the text is no TOML document its one fault is C1, at the place where the parser stopped.
 pub fn explain_setup<W: Write>(
     alloc: Global,
     file: &str,
@@ -42,7 +42,7 @@ pub fn explain_setup<W: Write>(
     }
 }
 
-/// Tells it of a text that is UTF-8.
+/// Reports it of a text that is UTF-8.
 fn explain_text<W: Write>(
     told: Told<'_>,
     text: &str,
@@ -57,7 +57,7 @@ fn explain_text<W: Write>(
     }
 }
 
-/// Tells where and why a text is no TOML document.
+/// Reports where and why a text is no TOML document.
 fn tell_no_toml<'a, W: Write>(
     told: Told<'a>,
     start: usize,
@@ -89,7 +89,7 @@ fn tell_no_toml<'a, W: Write>(
     Ok(Ending::SetupRefused)
 }
 
-/// Tells all faults of a document.
+/// Reports all faults of a document.
 fn tell_document<W: Write>(
     told: Told<'_>,
     document: &Table,
@@ -104,7 +104,7 @@ fn tell_document<W: Write>(
     }
 }
 
-/// Tells the faults that were found, and says what they come to.
+/// Reports the faults that were found, and says what they come to.
 fn tell_findings<W: Write>(
     told: Told<'_>,
     document: &Table,

@@ -1,4 +1,4 @@
-//! The faults of a document, each as it is told.
+//! The faults of a document, each as it is reported.
 use crate::expected::{expected_at, keys_expected};
 use crate::hints::value_hint;
 use crate::locating::{locate_key, locate_table, row_of};
@@ -27,7 +27,7 @@ pub(crate) fn faults_at(document: &Table, finding: &Finding) -> usize {
     }
 }
 
-/// Tells a finding, at most so many of its faults.
+/// Reports a finding, at most so many of its faults.
 pub(crate) fn tell_finding<W: Write>(
     told: Told<'_>,
     choices: Choices,
@@ -47,7 +47,7 @@ pub(crate) fn tell_finding<W: Write>(
     }
 }
 
-/// Tells the fault of a key that may stand in a table.
+/// Reports the fault of a key that may stand in a table.
 fn tell_key<W: Write>(
     told: Told<'_>,
     choices: Choices,
@@ -69,7 +69,7 @@ fn tell_key<W: Write>(
     }
 }
 
-/// Tells that a key is absent, and which one stands there that is like it.
+/// Reports that a key is absent, and which one stands there that is like it.
 fn tell_absent<'a, W: Write>(
     told: Told<'a>,
     document: &'a Table,
@@ -111,7 +111,7 @@ fn absent_hint(
     }
 }
 
-/// Tells the fault of a key's value.
+/// Reports the fault of a key's value.
 fn tell_value<'a, W: Write>(
     told: Told<'a>,
     document: &'a Table,
@@ -141,7 +141,7 @@ fn tell_value<'a, W: Write>(
     tell_refusal(told.alloc, told.form, &refusal, answers)
 }
 
-/// What stands at a key: how many tables, where it is their number that is refused; else the value as it is written, or
+/// What stands at a key: how many tables, if it is their number that is refused; else the value as it is written, or
 /// what kind it is of where its line was not found.
 fn found_at<'a>(at_key: Option<Marked<'a>>, fault: SetupFault, value: &'a Value) -> Item<'a> {
     if let Some(rows) = counted_at(fault, value) {
@@ -154,7 +154,7 @@ fn found_at<'a>(at_key: Option<Marked<'a>>, fault: SetupFault, value: &'a Value)
     Item::Bytes(written)
 }
 
-/// How many tables there are, where it is their number that is refused.
+/// How many tables there are, if it is their number that is refused.
 fn counted_at(fault: SetupFault, value: &Value) -> Option<usize> {
     match fault {
         SetupFault::OutOfRange | SetupFault::TooMany => Some(value.as_array()?.len()),
@@ -162,7 +162,7 @@ fn counted_at(fault: SetupFault, value: &Value) -> Option<usize> {
     }
 }
 
-/// Tells each key that may not stand in a table, at most so many.
+/// Reports each key that may not stand in a table, at most so many.
 fn tell_others<W: Write>(
     told: Told<'_>,
     document: &Table,
@@ -180,7 +180,7 @@ fn tell_others<W: Write>(
     Ok(())
 }
 
-/// Tells one key that may not stand in a table, with the one that is nearest to it.
+/// Reports one key that may not stand in a table, with the one that is nearest to it.
 fn tell_other<'a, W: Write>(
     told: Told<'a>,
     document: &'a Table,
@@ -228,7 +228,7 @@ fn other_hint(
     }
 }
 
-/// Tells an element of an array that is no table.
+/// Reports an element of an array that is no table.
 fn tell_element<'a, W: Write>(
     told: Told<'a>,
     finding: &Finding,
@@ -250,7 +250,7 @@ fn tell_element<'a, W: Write>(
     tell_refusal(told.alloc, told.form, &refusal, answers)
 }
 
-/// Tells a name that an earlier element of the array has.
+/// Reports a name that an earlier element of the array has.
 fn tell_again<'a, W: Write>(
     told: Told<'a>,
     document: &'a Table,
@@ -296,7 +296,7 @@ fn marked_table(text: &[u8], table: SetupTable) -> Marked<'_> {
     locate_key(text, SetupTable::Top, key).unwrap_or(first)
 }
 
-/// The keys of a table of a document, where it is one.
+/// The keys of a table of a document, if it is one.
 fn members_of(document: &Table, table: SetupTable) -> Option<&Table> {
     match table {
         SetupTable::Top => Some(document),
@@ -310,7 +310,7 @@ fn element_of(document: &Table, table: SetupTable) -> Option<&Value> {
     rows_at(document, array.key().text()).get(place)
 }
 
-/// The name of an element of one of the two arrays, where it has one.
+/// The name of an element of one of the two arrays, if it has one.
 fn row_name(document: &Table, table: SetupTable) -> Option<&str> {
     name_in(element_of(document, table)?)
 }

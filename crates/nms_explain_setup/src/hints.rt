@@ -24,7 +24,7 @@ fn is_utf16(text: &[u8]) -> bool {
     )
 }
 
-/// Whether the first line that is not blank is a record: a kind of capital letters, and a comma behind it.
+/// Whether the first line that is not blank is a record: a kind of capital letters, and a comma after it.
 fn begins_records(text: &[u8]) -> bool {
     let first = text.trim_ascii_start();
     let kind = first
@@ -53,7 +53,7 @@ fn line_hint(line: &[u8], place: usize) -> &'static str {
     }
 }
 
-/// What was meant where a value is refused.
+/// What was meant if a value is refused.
 pub(crate) fn value_hint(finding: &Finding, value: &Value) -> &'static str {
     let Spot::Key(key) = finding.spot else {
         return "";

@@ -70,7 +70,7 @@ struct Reached {
     bytes: usize,
     /// What it lies in.
     nest: Nest,
-    /// The table in which it is, where that is one of a setup's.
+    /// The table in which it is, if that is one of a setup's.
     table: Option<SetupTable>,
     /// How many headers of the two arrays stand before it.
     participants: usize,
@@ -112,7 +112,7 @@ impl Reached {
         Some(self.mark(line).with(pair_in(line, key)?))
     }
 
-    /// Behind this line.
+    /// After this line.
     fn behind(self, line: &[u8]) -> Reached {
         let reached = match header_in(line) {
             Some((name, is_double)) if self.nest.is_outer() => self.entered(name, is_double),
@@ -128,7 +128,7 @@ impl Reached {
         }
     }
 
-    /// Behind a header.
+    /// After a header.
     fn entered(self, name: &[u8], is_double: bool) -> Reached {
         let mut reached = self;
         reached.table = None;

@@ -10,7 +10,7 @@ pub struct Marked<'a> {
     pub before: usize,
     /// The line's number, from 1.
     pub number: u64,
-    /// The key and the value that are marked, by the bytes of the line: the same where that is no key with its value.
+    /// The key and the value that are marked, by the bytes of the line: the same if that is no key with its value.
     pub pair: Pair,
 }
 
@@ -68,7 +68,7 @@ impl<'a> Marked<'a> {
         self.at(indent, self.line.len())
     }
 
-    /// A line of a text, with white space and its end behind it, marked at its start.
+    /// A line of a text, with white space and its end after it, marked at its start.
     pub fn of_line(line: &'a [u8], before: usize, number: u64) -> Marked<'a> {
         let pair = Pair {
             key: 0,

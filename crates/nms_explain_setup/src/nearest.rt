@@ -11,7 +11,7 @@ const MOST_COMPARED: usize = 100;
 /// The most edits by which a key is taken for another.
 const MOST_EDITS: usize = 2;
 
-/// The known key that is nearest to a key that is not known, where one is near; absent ones are preferred.
+/// The known key that is nearest to a key that is not known, if one is near; absent ones are preferred.
 pub(crate) fn nearest_known(
     alloc: Global,
     table: SetupTable,
@@ -32,7 +32,7 @@ pub(crate) fn nearest_known(
     Ok(nearest)
 }
 
-/// The key of a table that is not known and nearest to one that is absent, where one is near.
+/// The key of a table that is not known and nearest to one that is absent, if one is near.
 pub(crate) fn nearest_other<'a>(
     alloc: Global,
     table: SetupTable,
@@ -48,7 +48,7 @@ pub(crate) fn nearest_other<'a>(
     Ok(None)
 }
 
-/// How many edits lead from one key to another: more than are near, where it is long.
+/// How many edits lead from one key to another: more than are near, if it is long.
 fn edits_between(alloc: Global, known: &str, key: &str) -> Result<usize, AllocError> {
     if key.len() > LONGEST {
         return Ok(LONGEST);

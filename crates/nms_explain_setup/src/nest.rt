@@ -49,7 +49,7 @@ impl Nest {
         self.within == Within::Plain && self.skipped == 0 && self.depth == depth
     }
 
-    /// Behind the first byte of what follows, which may be the end of a line.
+    /// After the first byte of what follows, which may be the end of a line.
     pub(crate) fn behind(self, rest: &[u8]) -> Nest {
         if rest.first() == Some(&b'\n') {
             self.behind_end()
@@ -58,7 +58,7 @@ impl Nest {
         }
     }
 
-    /// Behind a line and its end.
+    /// After a line and its end.
     pub fn behind_line(self, line: &[u8]) -> Nest {
         let mut nest = self;
         for place in 0..line.len() {
@@ -67,7 +67,7 @@ impl Nest {
         nest.behind_end()
     }
 
-    /// Behind the end of a line: a comment ends there, and a text in single quotes.
+    /// After the end of a line: a comment ends there, and a text in single quotes.
     fn behind_end(self) -> Nest {
         let within = match self.within {
             Within::LongBasic | Within::LongLiteral => self.within,
@@ -80,7 +80,7 @@ impl Nest {
         }
     }
 
-    /// Behind the first byte of what follows.
+    /// After the first byte of what follows.
     pub(crate) fn behind_byte(self, rest: &[u8]) -> Nest {
         if self.skipped > 0 {
             return self.skipping(self.skipped.saturating_sub(1));
@@ -95,7 +95,7 @@ impl Nest {
         }
     }
 
-    /// Behind a byte of TOML's own.
+    /// After a byte of TOML's own.
     fn behind_plain(self, rest: &[u8]) -> Nest {
         match rest {
             [b'"', b'"', b'"', ..] => self.entering(Within::LongBasic, 2),
@@ -109,7 +109,7 @@ impl Nest {
         }
     }
 
-    /// Behind a byte of a text in these quotes.
+    /// After a byte of a text in these quotes.
     fn behind_quoted(self, rest: &[u8], quotes: &[u8]) -> Nest {
         if rest.starts_with(quotes) {
             let more = if quotes.len() == 1 { 0 } else { 2 };

@@ -1,4 +1,4 @@
-//! One refusal of a setup, as it is told.
+//! One refusal of a setup, as it is reported.
 use crate::marked::Marked;
 use crate::remedies::remedy_of;
 use nms_fees::SetupFault;
@@ -15,18 +15,18 @@ const INDENT: &str = "    ";
 pub(crate) struct Refusal<'a> {
     /// The file, as the call named it.
     pub(crate) file: &'a str,
-    /// The line that is told, with the part of it that is wrong.
+    /// The line that is reported, with the part of it that is wrong.
     pub(crate) marked: Marked<'a>,
     /// The fault, and what it is in words.
     pub(crate) fault: SetupFault,
     pub(crate) sentence: &'a str,
-    /// The table, none where the text is no document.
+    /// The table, none if the text is no document.
     pub(crate) table: Option<SetupTable>,
-    /// The name in that table, where it has one.
+    /// The name in that table, if it has one.
     pub(crate) name: Option<&'a str>,
-    /// The key, where the fault is of one.
+    /// The key, if the fault is of one.
     pub(crate) key: Option<&'a str>,
-    /// What stands there, or how many tables do: nothing where the key is absent.
+    /// What stands there, or how many tables do: nothing if the key is absent.
     pub(crate) found: Item<'a>,
     /// What should stand there; what the parser says, where the text is no document.
     pub(crate) expected: &'a str,
@@ -121,7 +121,7 @@ fn tell_found<W: Write>(
     write_line(answers, form, &items)
 }
 
-/// Writes a line of advice, where there is one.
+/// Writes a line of advice, if there is one.
 fn tell_advice<W: Write>(form: Form, advice: &str, answers: &mut W) -> Result<(), ShowFault> {
     if advice.is_empty() {
         return Ok(());
@@ -167,7 +167,7 @@ fn tell_object<W: Write>(
     )
 }
 
-/// A text of the file, where there is one.
+/// A text of the file, if there is one.
 fn text_item(text: Option<&str>) -> Item<'_> {
     match text {
         Some(text) => Item::Bytes(text.as_bytes()),
@@ -178,7 +178,7 @@ fn text_item(text: Option<&str>) -> Item<'_> {
 /// What a setup's faults come to.
 #[derive(Clone, Copy)]
 pub(crate) struct Summary {
-    /// How many there are, and how many of them were told.
+    /// How many there are, and how many of them were reported.
     pub(crate) faults: usize,
     pub(crate) told: usize,
     /// The one of least number, by which the setup is refused.

@@ -31,7 +31,7 @@ pub struct Pair {
 }
 
 impl Pair {
-    /// The same, behind so many more bytes.
+    /// The same, after so many more bytes.
     pub fn moved(self, bytes: usize) -> Pair {
         Pair {
             key: self.key.saturating_add(bytes),
@@ -68,7 +68,7 @@ pub fn names_key(name: &[u8], key: &[u8]) -> bool {
     name == key || matches!(key_at(name), Some((first, [b'.', ..])) if first == key)
 }
 
-/// The key that a text begins with, bare or in quotes, and what stands behind it.
+/// The key that a text begins with, bare or in quotes, and what stands after it.
 pub(crate) fn key_at(text: &[u8]) -> Option<(&[u8], &[u8])> {
     match text {
         [quote @ (b'"' | b'\''), rest @ ..] => quoted_key(*quote, rest),

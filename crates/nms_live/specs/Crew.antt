@@ -35,7 +35,7 @@ pub record AreFreshEnds (texts : List (List ℕ)) (taker : Taking) (senders : Li
   pub fresh : AllByRecursion IsFresh senders
   pub none_taken : taker.taken ≡ []
 
--- a feed's worker gave back its end of the lane; it sent what its text says, or tells why it stopped
+-- a feed's worker gave back its end of the lane; it sent what its text says, or reports why it stopped
 pub record IsFedBy (roster : Listing) (texts : List (List ℕ)) (before : Sending) (back : Fed) : Type 0 where
   pub lane_is : back.sender.lane ≡ before.lane
   pub feed_is : back.sender.feed ≡ before.feed

@@ -43,7 +43,7 @@ pub record IsBestPlanOn (settings : Settings) (seen : Seen) (answer : Answer) : 
   pub never_through : NeverTradesThrough seen answer.plan.order answer.plan.legs.items
   -- it is lawful, and no lawful plan fills more, or as much for less with fees
   pub optimal : IsOptimal (usable seen answer.plan.order settings.fees) answer.plan.order.shares (given_by answer.plan.legs.items)
-  -- as its certificate shows to whoever checks it
+  -- as its certificate shows to the caller who checks it
   pub accepted : IsAccepted seen answer.plan.order settings.fees answer.plan answer.certificate.items
 
 -- the answer names one published version, the best quotes there are the rule's ranking of the changes published, and

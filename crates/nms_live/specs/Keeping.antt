@@ -16,7 +16,7 @@ pub record Keeping : Type 0 where
   pub listed : List ℕ
   pub stop : Option LiveFault
 
--- a length is a publication exactly where it is 0 or listed
+-- a length is a publication exactly if it is 0 or listed
 abbrev pub AreListed : Batches → List ℕ → Type 0
 AreListed batches listed = (n : ℕ) → Contains (publications batches) n ↔ (n ≡ 0) ⊎ Contains listed n
 
@@ -42,7 +42,7 @@ pub record IsWhole (keeping : Keeping) : Type 0 where
   pub published : changes keeping.taped.published ≡ tape_of keeping.taped
   pub ends : EndsWith keeping.listed (length (tape_of keeping.taped))
 
--- the tape was published in batches, none of them empty, and a length is the one after some of them exactly where it
+-- the tape was published in batches, none of them empty, and a length is the one after some of them exactly if it
 -- is 0 or listed
 pub record WasPublished (tape : Tape) (listed : List ℕ) : Type 0 where
   pub batches : Batches

@@ -69,7 +69,7 @@ abbrev pub IsLiveFault : Listing → List (List ℕ) → LiveFault → Type 0
 IsLiveFault roster texts why = IfLine (λ of number own. IsFirstRefused roster of (text_of of texts) number own) why
 
 -- what one feed gave: its text reads as changes, and of the changes that bear the marks of their feeds they are those
--- that bear its own, in order. The mark of a change is the feed that it belongs to: so the tape alone tells what the
+-- that bear its own, in order. The mark of a change is the feed that it belongs to: so the tape alone shows what the
 -- feed gave
 pub record HasGiven (roster : Listing) (text : List ℕ) (marked : List Marked) (feed : Feed) : Type 0 where
   pub reads : IsRead roster feed text (of_feed feed marked)

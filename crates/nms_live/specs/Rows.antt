@@ -18,7 +18,7 @@ AreRows settings orders tape published rows =
 abbrev pub IsLast : Settings → Tape → List ℕ → Answer → Type 0
 IsLast settings tape published answer = IsSound settings tape published answer × (answer.plan.version ≡ length tape)
 
--- of a desk's answers some were put behind the others: what is left answers the desk's orders from there on, and each is
+-- of a desk's answers some were put after the others: what is left answers the desk's orders from there on, and each is
 -- as wanted
 pub record IsLeft (IsWanted : Answer → Type 0) (desk : ℕ) (left : List (ℕ × DeskOrder)) (put first now : List Answer) : Type 0 where
   pub parted : of_desk desk put ++ now ≡ first

@@ -45,7 +45,7 @@ pub(crate) fn start_crew<'s, E, R: Threads + Wait + Sync, G: Gate>(
     }
 }
 
-/// Starts a worker for each desk, in order of number. Where one can't be started, those before it are waited for.
+/// Starts a worker for each desk, in order of number. If one can't be started, those before it are waited for.
 fn start_desks<'s, E, R: Threads + Wait + Sync, G: Gate>(
     scope: &'s Scope<'s, E>,
     means: &'s Means<'s, R, G>,
@@ -79,7 +79,7 @@ fn start_desks<'s, E, R: Threads + Wait + Sync, G: Gate>(
     Ok(handles)
 }
 
-/// Starts the worker of a desk, and puts it behind those that were started before.
+/// Starts the worker of a desk, and puts it after those that were started before.
 fn start_desk<'s, E, R: Threads + Wait + Sync, G: Gate>(
     scope: &'s Scope<'s, E>,
     means: &'s Means<'s, R, G>,

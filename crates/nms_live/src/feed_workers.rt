@@ -57,7 +57,7 @@ pub(crate) fn run_feeds<'s, E, R: Threads + Wait + Sync, G: Gate>(
     end_feeds(means, keeper, fed, taker)
 }
 
-/// Starts the feeds' workers in order of place, and tells whether it started all. Where one can't be started, no more
+/// Starts the feeds' workers in order of place, and reports whether it started all. If one can't be started, no more
 /// are, and their feeds have ended.
 fn start_feeds<'s, E, R: Wait + Sync, G: Gate>(
     scope: &'s Scope<'s, E>,
@@ -90,7 +90,7 @@ fn start_feeds<'s, E, R: Wait + Sync, G: Gate>(
     all_started
 }
 
-/// Starts the worker of a sender's feed. Where it can't be started, the feed has ended.
+/// Starts the worker of a sender's feed. If it can't be started, the feed has ended.
 fn start_feed<'s, E, R: Wait + Sync, G: Gate>(
     scope: &'s Scope<'s, E>,
     means: &'s Means<'s, R, G>,
@@ -177,7 +177,7 @@ fn fault_of_feeds(fed: &[Fed]) -> Option<LiveFault>
     first
 }
 
-/// The feeds' ends of the lane, in the order in which they came back. `None` where there was no memory for them.
+/// The feeds' ends of the lane, in the order in which they came back. `None` if there was no memory for them.
 fn senders_of(alloc: Global, fed: Vec<Fed>) -> Option<Vec<Sender>>
     ensures senders { IfSome result (λ senders. senders.items ≡ map (λ back. back.sender) fed.items) }
 {

@@ -50,7 +50,7 @@ impl Gate for OpenGate {
     fn done(&self, _at: GatePoint) {}
 }
 
-/// Waits at a gate, and tells whether it opened.
+/// Waits at a gate, and reports whether it opened.
 pub(crate) fn passes<R: Wait, G: Gate>(rt: &R, gate: &G, at: GatePoint) -> bool {
     let mut patience = Patience::new();
     for turn in 0..MOST_TURNS {

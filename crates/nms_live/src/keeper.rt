@@ -41,7 +41,7 @@ impl Model for Keeper {
 }
 
 impl Keeper {
-    /// Keeps a tape that was just opened. It makes room for so many changes and publishings, where there is memory: so
+    /// Keeps a tape that was just opened. It makes room for so many changes and publishings, if there is memory: so
     /// nothing that was taken in has to move while the feeds send.
     pub(crate) fn new(alloc: Global, mut publisher: Publisher, changes: usize) -> Self
         requires { publisher.published ≡ [] }
@@ -91,7 +91,7 @@ impl Keeper {
         }
     }
 
-    /// Appends a change, and tells whether it did.
+    /// Appends a change, and reports whether it did.
     fn append(&mut self, change: &Change) -> bool
         ensures same { IsSameKeeping self.old self.new }
         ensures stop { self.new.stop ≡ self.old.stop }

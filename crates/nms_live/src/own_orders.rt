@@ -12,7 +12,7 @@ pub struct OwnOrders {
     pub(crate) orders: Vec<(usize, DeskOrder)>,
 }
 
-/// Parts the orders by desk, those of each in order of number. `None` where there was no memory.
+/// Parts the orders by desk, those of each in order of number. `None` if there was no memory.
 pub(crate) fn part_by_desk(alloc: Global, desks: u8, orders: &[DeskOrder]) -> Option<Vec<OwnOrders>>
     requires desks { All (λ order. order.desk < desks) orders.now }
     ensures all { IfSome result (λ rows. length rows.items ≡ desks) }
@@ -45,7 +45,7 @@ fn no_orders(alloc: Global, desks: u8) -> Option<Vec<OwnOrders>>
     Some(rows)
 }
 
-/// Puts an order with its number behind those of its desk, and tells whether there was memory for it.
+/// Puts an order with its number after those of its desk, and reports whether there was memory for it.
 fn put_behind(rows: &mut Vec<OwnOrders>, number: usize, wanted: &DeskOrder) -> bool
     requires place { wanted.now.desk < length rows.old.items }
     ensures len { length rows.new.items ≡ length rows.old.items }

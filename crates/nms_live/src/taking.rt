@@ -13,7 +13,7 @@ use crate::keeper::Keeper;
 use nms_feed::{NotEmpty, Patience, Sender, Taker, close};
 use std::sync::Wait;
 
-/// Takes a change, if there is one, and tells whether there was.
+/// Takes a change, if there is one, and reports whether there was.
 fn take_one<R: Wait, G: Gate>(
     means: &Means<'_, R, G>,
     keeper: &mut Keeper,

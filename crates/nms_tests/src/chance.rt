@@ -1,4 +1,4 @@
-//! Numbers by chance, the same in each run.
+//! Numbers at random, the same in each run.
 
 /// A linear congruence, of which the high bits are taken.
 #[derive(Drop)]

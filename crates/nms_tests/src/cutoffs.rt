@@ -27,7 +27,7 @@ fn offer(sym: Sym, place: u8, state: QState, price: u64, shares: u32) -> Option<
 /// pool has.
 type Told = (u64, u64, i128, u64);
 
-/// What a cutoff tells.
+/// What a cutoff reports.
 fn told(cutoff: Option<Cutoff>) -> Option<Told> {
     let cutoff = cutoff?;
     Some((

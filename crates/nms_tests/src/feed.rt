@@ -21,7 +21,7 @@ use std::test::Fail;
 use std::thread;
 use std::thread::{Promise, Threads};
 
-/// A bid of so many shares by the participant at a place: the number tells it from its other ones.
+/// A bid of so many shares by the participant at a place: the number distinguishes it from its other ones.
 fn bid_of(place: u8, shares: u32) -> Option<Change> {
     let bid = SideQuote::new(Price::new(100_000)?, Shares::new(shares)?);
     Some(Change::Quote {
@@ -162,7 +162,7 @@ fn a_new_lane_takes_a_change_at_once(rt: HostRuntime) -> Result<(), Fail> {
     Ok(())
 }
 
-/// Sends a change until the lane is full, and tells how often it was sent.
+/// Sends a change until the lane is full, and reports how often it was sent.
 fn fill<R: Wait>(rt: &R, sender: &mut Sender, change: &Change) -> u32
     requires { sender.old.sent ≡ [] }
 {
@@ -211,7 +211,7 @@ fn a_taker_that_stops_and_takes_again_loses_nothing(rt: HostRuntime) -> Result<(
     Ok(())
 }
 
-/// Sends a bid from each sender of a lane, of as many shares as its feed's place behind 1.
+/// Sends a bid from each sender of a lane, of as many shares as its feed's place after 1.
 fn each_sends<R: Wait>(
     rt: &R,
     alloc: Global,
@@ -231,7 +231,7 @@ fn each_sends<R: Wait>(
     Some(back)
 }
 
-/// Sends a bid of as many shares as its feed's place behind 1.
+/// Sends a bid of as many shares as its feed's place after 1.
 fn send_one<R: Wait>(rt: &R, mut sender: Sender) -> Sender
     requires { sender.sent ≡ [] }
     ensures lane { result.lane ≡ sender.lane }
@@ -306,7 +306,7 @@ fn take_all<R: Wait + Abort>(rt: &R, mut taker: Taker, count: u32) -> Taker
     taker
 }
 
-/// Of two participants the shares of the last bids behind one more, if that is the next one of its participant.
+/// Of two participants the shares of the last bids after one more, if that is the next one of its participant.
 fn follows(last: (u32, u32), told: Option<(u8, u32)>) -> Option<(u32, u32)> {
     let (a, b) = last;
     match told? {

@@ -123,7 +123,7 @@ fn texts_of(alloc: Global, feeds: &[&[u8]]) -> Option<Vec<Vec<u8>>> {
     Some(texts)
 }
 
-/// A run of these orders; `None` where there is no memory for what the feeds send, or the setup has not so many.
+/// A run of these orders; `None` if there is no memory for what the feeds send, or the setup has not so many.
 fn run_orders<R: Threads + Wait + Sync, G: Gate>(
     rt: &R,
     alloc: Global,
@@ -141,7 +141,7 @@ fn run_orders<R: Threads + Wait + Sync, G: Gate>(
     Some(run_live(rt, alloc, setup, texts, orders, gate))
 }
 
-/// One run; `None` where there is no memory to prepare it.
+/// One run; `None` if there is no memory to prepare it.
 fn run_once<R: Threads + Wait + Sync, G: Gate>(
     rt: &R,
     alloc: Global,

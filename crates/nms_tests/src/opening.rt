@@ -156,7 +156,7 @@ fn try_board(alloc: Global, seed: u64, count: u32) -> Option<&'static str> {
     }
 }
 
-/// The same, where the crowd has yet to come on the roster.
+/// The same, if the crowd has yet to come on the roster.
 fn try_roster(alloc: Global, roster: &mut Roster, seed: u64, count: u32) -> Option<&'static str> {
     let mut chance = Chance { state: seed };
     let crowd = drawn_crowd(&mut chance);

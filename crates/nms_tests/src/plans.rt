@@ -219,7 +219,7 @@ fn plan_both_sides(boards: &mut Boards, setup: &Setup) -> Option<(u32, &'static 
     Some((right, ""))
 }
 
-// ---- boards drawn by chance
+// ---- boards drawn at random
 
 /// Eight participants, whose fees lie whole steps of price apart, so that unit costs tie at a price and across prices.
 fn eight_participants() -> &'static str {

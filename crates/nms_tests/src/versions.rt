@@ -91,7 +91,7 @@ fn with_two<R: Wait>(
     }
 }
 
-/// Opens with two desks; `None` where there was no place for a reader.
+/// Opens with two desks; `None` if there was no place for a reader.
 fn try_open<R: Wait>(
     alloc: Global,
     rt: &R,
@@ -126,14 +126,14 @@ fn open_on<R: Wait>(alloc: Global, rt: &R, text: &str) -> Result<(Publisher, Des
     open(alloc, rt, &setup)
 }
 
-/// Appends an offer of 100 shares at 10.00 by the participant at a place, and tells the code of its refusal, or "ok".
+/// Appends an offer of 100 shares at 10.00 by the participant at a place, and reports the code of its refusal, or "ok".
 fn append(rt: &impl Abort, publisher: &mut Publisher, place: u8) -> &'static str
     ensures { publisher.new.opening ≡ publisher.old.opening }
 {
     append_offer(rt, publisher, (place, 100_000, 100))
 }
 
-/// Appends an offer, and tells the code of its refusal, or "ok".
+/// Appends an offer, and reports the code of its refusal, or "ok".
 fn append_offer(rt: &impl Abort, publisher: &mut Publisher, offer: Offer) -> &'static str
     ensures { publisher.new.opening ≡ publisher.old.opening }
 {
@@ -143,7 +143,7 @@ fn append_offer(rt: &impl Abort, publisher: &mut Publisher, offer: Offer) -> &'s
     }
 }
 
-/// Appends a new round lot of ABC, and tells the code of its refusal, or "ok".
+/// Appends a new round lot of ABC, and reports the code of its refusal, or "ok".
 fn append_lot(rt: &impl Abort, publisher: &mut Publisher, shares: u16) -> &'static str
     ensures { publisher.new.opening ≡ publisher.old.opening }
 {
@@ -153,7 +153,7 @@ fn append_lot(rt: &impl Abort, publisher: &mut Publisher, shares: u16) -> &'stat
     append_change(rt, publisher, Change::Lot { sym, lot })
 }
 
-/// Appends a change, and tells the code of its refusal, or "ok".
+/// Appends a change, and reports the code of its refusal, or "ok".
 fn append_change(rt: &impl Abort, publisher: &mut Publisher, change: Change) -> &'static str
     ensures { publisher.new.opening ≡ publisher.old.opening }
 {
@@ -176,7 +176,7 @@ fn looked(desk: &mut Desk) -> Result<(u64, usize), NoReading>
     Ok((view.version(), view.count(Side::Offer)))
 }
 
-/// Tells a desk of the published version, and gives its number.
+/// Informs a desk of the published version, and gives its number.
 fn tell(publisher: &mut Publisher, desk: &mut Desk) -> u64
     requires { desk.old.opening ≡ publisher.old.opening }
     ensures publisher { publisher.new.opening ≡ publisher.old.opening }
@@ -481,7 +481,7 @@ fn append_70<R: Abort>(rt: &R, publisher: &mut Publisher, desk: &mut Desk) {
     }
 }
 
-/// Looks at ABC so many times, and tells whether each look showed something and the versions never fell.
+/// Looks at ABC so many times, and reports whether each look showed something and the versions never fell.
 fn never_falls(desk: &mut Desk, looks: u32) -> bool {
     let mut last = 0;
     for _ in 0..looks {

@@ -22,13 +22,13 @@ IsVerdictOn seen fees plan cuts (verdict.Beyond changes) = ⊥
 IsVerdictOn seen fees plan cuts (verdict.Doubted doubt place) =
     (doubt_of seen plan.order fees plan cuts ≡ Some doubt) × IsDoubtPlace seen plan.order fees plan cuts doubt place
 
--- on the plan's version of the changes, where it is not longer than they are
+-- on the plan's version of the changes, if it is not longer than they are
 abbrev pub IsVerdict : Settings → Tape → Plan → List Cut → Verdict → Type 0
 IsVerdict settings tape plan cuts (verdict.Beyond changes) = (length tape < plan.version) × (changes ≡ length tape)
 IsVerdict settings tape plan cuts judged =
     (plan.version ≤ length tape) × IsVerdictOn (seen_by settings tape plan) settings.fees plan cuts judged
 
--- a board of a roster's sizes that stands behind some of the changes
+-- a board of a roster's sizes that stands after some of the changes
 pub record IsAt (sizes : Sizes) (tape : Tape) (board : Board) : Type 0 where
   pub same : board.sizes ≡ sizes
   pub within : board.applied ≤ length tape

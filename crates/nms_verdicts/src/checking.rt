@@ -87,8 +87,8 @@ struct Counts {
 /// With times, which must be as many as the changes, each plan has that of its version.
 ///
 /// The changes are read whole, and go over the board once; the answers are searched for records `PLAN` to `END`, and all else
-/// there is passed over. What stands where a plan should and is none is told as L11. `Doubted` where a plan is doubted, else
-/// `Refused` where one can't be read, else `Done`. Nothing is flushed.
+/// there is passed over. Text where a plan should stand is reported as L11. `Doubted` if a plan is doubted, else
+/// `Refused` if one can't be read, else `Done`. Nothing is flushed.
 pub fn check_answers<R: Read + Drop, W: Write>(
     alloc: Global,
     setup: &Setup,

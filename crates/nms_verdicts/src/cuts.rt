@@ -15,7 +15,7 @@ use std::io::Write;
 /// The most that a marginal may be, in nanodollars, and the least with a minus.
 const MOST_MARGINAL: i128 = 1_000_000_000_000_000_000;
 
-/// Tells what each cut says, where so many shares can be filled.
+/// Reports what each cut says, where so many shares can be filled.
 pub(crate) fn tell_cuts<W: Write>(
     alloc: Global,
     answers: &mut W,
@@ -36,7 +36,7 @@ pub(crate) fn tell_cuts<W: Write>(
     Ok(())
 }
 
-/// Tells what one cut says of the rows that its price reaches: those that the order may trade with, and at a price beyond the
+/// Reports what one cut says of the rows that its price reaches: those that the order may trade with, and at a price beyond the
 /// limit also the protected ones at better prices, which would have to be swept there.
 fn tell_reached<W: Write>(
     alloc: Global,
@@ -71,7 +71,7 @@ fn tell_reached<W: Write>(
     )
 }
 
-/// Tells what one cut says: the sums at its price, and the least that a plan with that worst price costs by its marginal.
+/// Reports what one cut says: the sums at its price, and the least that a plan with that worst price costs by its marginal.
 fn tell_cut<W: Write>(
     alloc: Global,
     answers: &mut W,
@@ -136,7 +136,7 @@ fn bound_of(rows: &[UsableRow], most: u64, cutoff: Rank, kind: CutKind) -> Optio
     }
 }
 
-/// A bound, where there is one.
+/// A bound, if there is one.
 fn bound_item(bound: Option<Money>) -> Item<'static> {
     match bound {
         Some(bound) => Item::of_money(bound),
@@ -153,7 +153,7 @@ fn kind_of(kind: CutKind) -> Item<'static> {
     }
 }
 
-/// The words for what follows from a cut that holds, or that does not, with its bound where it has one.
+/// The words for what follows from a cut that holds, or that does not, with its bound if it has one.
 fn words_of(kind: CutKind, holds: bool, has_bound: bool) -> &'static str {
     match (kind, holds, has_bound) {
         (CutKind::TooMuch, true, _) => {

@@ -14,7 +14,7 @@ use std::alloc::Global;
 
 /// Judges a plan on the version that it names, as `audit` of `nms_file_answers` does, and says where its doubt stands.
 ///
-/// The board is moved forward to that version; where it is past it, a new one is made.
+/// The board is moved forward to that version; if it is past it, a new one is made.
 pub(crate) fn judge(
     alloc: Global,
     setup: &Setup,
@@ -69,7 +69,7 @@ fn move_to(
     }
 }
 
-/// Makes a new board where one is past a version.
+/// Makes a new board if one is past a version.
 fn reopen(
     alloc: Global,
     roster: &Roster,

@@ -1,4 +1,4 @@
-//! What is told of plans: a verdict on each plan of the answers of a script or of a live run, and why a plan is, or is
+//! What is reported of plans: a verdict on each plan of the answers of a script or of a live run, and why a plan is, or is
 //! not, the best lawful one.
 #![tactic(auto)]
 

@@ -30,7 +30,7 @@ pub(crate) struct Piece<'a> {
     pub(crate) plan: u64,
     /// Its first line, counted from 1.
     pub(crate) line: u64,
-    /// The version that it names; where it can't be read, more than any.
+    /// The version that it names; if it can't be read, more than any.
     pub(crate) version: u64,
 }
 

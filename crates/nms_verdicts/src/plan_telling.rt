@@ -23,7 +23,7 @@ pub(crate) struct PlanNumber<'a> {
     pub(crate) times: Option<&'a Times>,
 }
 
-/// Tells of a plan and its verdict: as a row under headings with what is doubtful, or without headings as sentences.
+/// Reports a plan and its verdict: as a row under headings with what is doubtful, or without headings as sentences.
 pub(crate) fn tell_plan<W: Write>(
     alloc: Global,
     answers: &mut W,
@@ -113,7 +113,7 @@ fn time_item(digits: &[u8]) -> Item<'_> {
     }
 }
 
-/// What is told of a plan and its verdict.
+/// What is reported of a plan and its verdict.
 fn facts_of<'a>(
     roster: &'a Roster,
     number: PlanNumber<'a>,
@@ -185,7 +185,7 @@ fn sentences_of(plan: &Plan, verdict: &Verdict) -> [&'static str; 4] {
     ]
 }
 
-/// Tells of each quotation that a plan trades through.
+/// Reports each quotation that a plan trades through.
 fn tell_passed<W: Write>(
     alloc: Global,
     answers: &mut W,

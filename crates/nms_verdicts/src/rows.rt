@@ -21,7 +21,7 @@ const HEADINGS: [Heading; 7] = [
     Heading("", "note", 0, false),
 ];
 
-/// Tells of the quotations on the side that a plan's order trades with, best first: what a share costs at each with the
+/// Reports the quotations on the side that a plan's order trades with, best first: what a share costs at each with the
 /// fee, whether it is protected, and what the plan sends there.
 pub(crate) fn tell_rows<W: Write>(
     alloc: Global,
@@ -41,7 +41,7 @@ pub(crate) fn tell_rows<W: Write>(
     Ok(())
 }
 
-/// Tells of one quotation.
+/// Reports one quotation.
 fn tell_row<W: Write>(
     alloc: Global,
     answers: &mut W,

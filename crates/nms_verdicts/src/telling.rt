@@ -1,4 +1,4 @@
-//! One thing is told: as a JSON object with all that is known of it, or as a row of a table and lines of words.
+//! One thing is reported: as a JSON object with all that is known of it, or as a row of a table and lines of words.
 use nms_show::{Column, Form, Item, ShowFault, write_line, write_object, write_row};
 use std::alloc::Global;
 use std::io::Write;
@@ -19,7 +19,7 @@ pub(crate) struct Heading(
     pub(crate) bool,
 );
 
-/// Tells of a thing: an object with these facts, or their row under these headings, where there are any, and these lines.
+/// Reports a thing: an object with these facts, or their row under these headings, if there are any, and these lines.
 pub(crate) fn tell<'a, W: Write>(
     alloc: Global,
     answers: &mut W,
@@ -52,7 +52,7 @@ pub(crate) fn tell_head<W: Write>(
     tell_row(answers, form, headings, &[])
 }
 
-/// Writes the facts that stand under headings; without facts their titles. Behind the last one the line ends.
+/// Writes the facts that stand under headings; without facts their titles. After the last one the line ends.
 fn tell_row<W: Write>(
     answers: &mut W,
     form: Form,

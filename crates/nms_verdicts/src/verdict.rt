@@ -31,7 +31,7 @@ impl Verdict {
         }
     }
 
-    /// The code of the breach, where that is what is doubtful.
+    /// The code of the breach, if that is what is doubtful.
     pub(crate) fn breach(&self) -> Option<&'static str> {
         match self {
             Verdict::Doubted {

@@ -19,7 +19,7 @@ pub enum VerdictFault {
     #[error("{0}")]
     Board(BoardFault),
     /// L11 or L12: the text is that of no plan, or there was no memory to read it. Of many plans, one that can't be
-    /// read is told as such and is no fault.
+    /// read is reported as such and is no fault.
     #[error("{0}")]
     Plan(PlanTextFault),
     /// E2 or E4: the output could not be written, or memory ran out. A first part of it may have been written.

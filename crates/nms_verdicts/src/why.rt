@@ -25,7 +25,7 @@ use std::io::{Read, Write};
 /// then the quotations in rank order with what a share costs and what is sent there; how many shares can be filled; and
 /// each cut's bound beside the plan's cost.
 ///
-/// `Doubted` where the plan is doubted, else `Done`. A text that is no plan is a fault. With times, which must be as many as the
+/// `Doubted` if the plan is doubted, else `Done`. A text that is no plan is a fault. With times, which must be as many as the
 /// changes, it shows that of the plan's version too. Nothing is flushed.
 pub fn explain_why<R: Read + Drop, W: Write>(
     alloc: Global,
@@ -121,7 +121,7 @@ fn explain_plan<W: Write>(
     }
 }
 
-/// Tells of a plan and its verdict, and where its version is one of the changes of what is seen there.
+/// Reports a plan and its verdict, and where its version is one of the changes of what is seen there.
 fn tell_judged<W: Write>(
     alloc: Global,
     setup: &Setup,
@@ -165,7 +165,7 @@ fn tell_judged<W: Write>(
     }
 }
 
-/// Tells of the quotations, of what can be filled, of each cut, and what follows of a plan that is confirmed.
+/// Reports the quotations, of what can be filled, of each cut, and what follows of a plan that is confirmed.
 fn tell_seen<W: Write>(
     alloc: Global,
     setup: &Setup,
@@ -198,7 +198,7 @@ fn tell_seen<W: Write>(
     tell_line(answers, form, last, &[])
 }
 
-/// Tells how many shares can be filled, and why no more.
+/// Reports how many shares can be filled, and why no more.
 fn tell_most<W: Write>(
     alloc: Global,
     answers: &mut W,

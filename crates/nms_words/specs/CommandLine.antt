@@ -46,7 +46,7 @@ own_names Plan = codes "CHANGES" ∷ codes "SIDE" ∷ codes "SYM" ∷ codes "SHA
 own_names Check = codes "CHANGES" ∷ codes "PLANFILE" ∷ []
 own_names Live = codes "ORDERS" ∷ codes "FEED_A" ∷ []
 
--- the names of those that may stand behind them, in order
+-- the names of those that may stand after them, in order
 abbrev pub more_names : Sub → List Text
 more_names Live =
     codes "FEED_B" ∷ codes "FEED_C" ∷ codes "FEED_D" ∷ codes "FEED_E" ∷ codes "FEED_F" ∷ codes "FEED_G" ∷ codes "FEED_H" ∷ []
@@ -97,7 +97,7 @@ option_rule SelfHelp = self_help_rule
 abbrev pub with_own : Sub → App
 with_own sub = fold with_rule (new_app (name_of sub)) (map own_rule (own_names sub))
 
--- and with those that may stand behind them
+-- and with those that may stand after them
 abbrev pub with_words : Sub → App
 with_words sub = fold with_rule (with_own sub) (map new_rule (more_names sub))
 
@@ -116,7 +116,7 @@ tool = fold (λ app sub. with_subcommand app (app_of_sub sub).top) without_subs 
 
 -- ---- what the matches hold
 
--- the first value of each id, where each has one
+-- the first value of each id, if each has one
 abbrev pub firsts_of : List Row → List Text → Option (List Text)
 firsts_of rows [] = Some []
 firsts_of rows (id ∷ ids) = option_and_then (λ value. option_map (λ values. value ∷ values) (firsts_of rows ids)) (first_of id rows)
@@ -125,7 +125,7 @@ firsts_of rows (id ∷ ids) = option_and_then (λ value. option_map (λ values. 
 abbrev pub given_of : List Row → List Text → List Text
 given_of rows ids = filter_map (λ id. first_of id rows) ids
 
--- a subcommand's own words, where the matches have each that it needs
+-- a subcommand's own words, if the matches have each that it needs
 abbrev pub own_in : List Row → Sub → Option (List Text)
 own_in rows sub = option_map (λ own. own ++ given_of rows (more_names sub)) (firsts_of rows (own_names sub))
 
@@ -187,7 +187,7 @@ asks_for_help DisplayHelp = true
 asks_for_help DisplayVersion = true
 asks_for_help _ = false
 
--- why words with these kinds of fault are no request: one of the kinds, marked as help where it is that, or want of memory
+-- why words with these kinds of fault are no request: one of the kinds, marked as help if it is that, or out of memory
 abbrev pub IsRefusal : Kinds → WordsFault → Type 0
 IsRefusal kinds (Parser text help) = (kind : ErrorKind) × IsAmong kind kinds × (help ≡ asks_for_help kind)
 IsRefusal kinds NoMemory = Unit {0}

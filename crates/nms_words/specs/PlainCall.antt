@@ -29,7 +29,7 @@ choice_words (setup_to file) = codes "--setup" ∷ file ∷ []
 choice_words manual_on = codes "--manual" ∷ []
 choice_words (self_help_of names) = codes "--self-help" ∷ names ∷ []
 
--- whether its value, where it has one, is plain
+-- whether its value, if it has one, is plain
 abbrev pub is_plain_choice : Choice → Bool
 is_plain_choice (setup_to file) = is_plain_word file
 is_plain_choice manual_on = true

@@ -46,7 +46,7 @@ fn with_sub<'a>(alloc: Global, command: Command<'a>, sub: Sub) -> Result<Command
     }
 }
 
-// A subcommand with its own words, those that it needs and those that may stand behind them, and with its options.
+// A subcommand with its own words, those that it needs and those that may stand after them, and with its options.
 fn sub_command<'a>(alloc: Global, sub: Sub) -> Result<Command<'a>, AllocError>
     ensures app { IfOk result (λ command. app_of command ≡ app_of_sub sub) }
     ensures local { IfOk result (λ command. (fields_of command).has_globals ≡ false) }

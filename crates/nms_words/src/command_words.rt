@@ -48,7 +48,7 @@ fn parse_words<'a>(alloc: Global, words: &'a [&'a str]) -> Result<Request, Words
     }
 }
 
-// The parser's text, or want of memory.
+// The parser's text, or out of memory.
 fn fault_of(alloc: Global, words: &[&str], error: &Error) -> WordsFault
     ensures memory { kind_of error.now ≡ ErrorKind.OutOfMemory → result ≡ WordsFault.NoMemory }
     ensures refused { IsRefusal (kind_of error.now ∷ []) result }
@@ -108,7 +108,7 @@ fn request_in(alloc: Global, matches: &ArgMatches<'_>) -> Result<Request, AllocE
     }
 }
 
-// The request that a subcommand's matches hold, where they have each of its own words.
+// The request that a subcommand's matches hold, if they have each of its own words.
 fn request_of(
     alloc: Global,
     name: &str,
@@ -133,7 +133,7 @@ fn request_of(
     }))
 }
 
-// The subcommand's own words, where it has each that it needs.
+// The subcommand's own words, if it has each that it needs.
 fn words_of(
     alloc: Global,
     command: Sub,
@@ -148,7 +148,7 @@ fn words_of(
     Ok(Some(words))
 }
 
-// The values of the words, where each has one.
+// The values of the words, if each has one.
 fn own_words(
     alloc: Global,
     own: &[OwnWord],
@@ -185,7 +185,7 @@ fn add_more(
     Ok(())
 }
 
-// The text of an option's value, where it has one.
+// The text of an option's value, if it has one.
 fn value_text(
     alloc: Global,
     matches: &ArgMatches<'_>,

@@ -1,6 +1,6 @@
-//! What the help says behind the commands and options: the statuses, and a line for each refusal.
+//! What the help says after the commands and options: the statuses, and a line for each refusal.
 
-/// The version that `--version` tells.
+/// The version that `--version` reports.
 pub(crate) const VERSION: &str = "0.2.0";
 
 /// The end of the help. A program that is installed has no `docs/ERRORS.md` beside it, so each code of

@@ -24,7 +24,7 @@ pub(crate) struct OwnWord {
     pub(crate) help: &'static str,
 }
 
-/// A word that may stand behind those, with its explanation in the help.
+/// A word that may stand after those, with its explanation in the help.
 #[derive(Clone, Copy)]
 pub(crate) struct MoreWord {
     pub(crate) name: &'static str,
@@ -181,7 +181,7 @@ impl Sub {
         }
     }
 
-    /// The words that may stand behind those, in order: where one stands, each before it does.
+    /// The words that may stand after those, in order: where one stands, each before it does.
     pub(crate) fn more_words(self) -> &'static [MoreWord]
         ensures { map (λ word. word.name.now) result.now ≡ more_names self }
     {

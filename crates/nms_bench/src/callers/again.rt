@@ -63,7 +63,7 @@ pub(crate) fn append_all<R: Wait>(
     })
 }
 
-/// Appends each change, and publishes behind the half of them and behind all.
+/// Appends each change, and publishes after the half of them and after all.
 fn append_each<R: Wait>(rt: &R, publisher: &mut Publisher, count: u32) -> bool {
     let mut is_whole = true;
     for number in 0..count {
@@ -88,7 +88,7 @@ fn offer_of(number: u32) -> Option<Change> {
     })
 }
 
-/// Appends a change, and tells whether it is on the tape now.
+/// Appends a change, and reports whether it is on the tape now.
 fn append_again(publisher: &mut Publisher, number: u32) -> bool {
     match offer_of(number) {
         Some(change) => publisher.holds(&change) && append_held(publisher, &change),
@@ -96,7 +96,7 @@ fn append_again(publisher: &mut Publisher, number: u32) -> bool {
     }
 }
 
-/// Appends a change of the roster. Where there is no memory for it, the tape and what is published have to be as they
+/// Appends a change of the roster. If there is no memory for it, the tape and what is published have to be as they
 /// were, and the same change is appended once more.
 fn append_held(publisher: &mut Publisher, change: &Change) -> bool
     requires { holds publisher.old.sizes change.now ≡ true }

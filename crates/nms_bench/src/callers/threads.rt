@@ -159,7 +159,7 @@ fn send_and_look<R: Threads + Wait + Sync>(
     (a, b, desk)
 }
 
-/// Takes so many changes and appends them. Publishes where the lane is empty, and at the end.
+/// Takes so many changes and appends them. Publishes if the lane is empty, and at the end.
 fn publish_all<R: Wait>(rt: &R, publisher: &mut Publisher, mut taker: Taker, changes: u64) -> Taker
     ensures opening { publisher.new.opening ≡ publisher.old.opening }
     ensures lane { (result.lane ≡ taker.lane) × (result.senders ≡ taker.senders) }
@@ -184,7 +184,7 @@ fn publish_all<R: Wait>(rt: &R, publisher: &mut Publisher, mut taker: Taker, cha
     taker
 }
 
-/// Appends a change of the roster. A full tape, or want of memory, leaves it out.
+/// Appends a change of the roster. A full tape, or out of memory, leaves it out.
 fn append(publisher: &mut Publisher, change: Change) -> bool
     ensures { publisher.new.opening ≡ publisher.old.opening }
 {
@@ -201,7 +201,7 @@ fn look_often(mut desk: Desk, sym: Sym, looks: u32) -> Desk
     desk
 }
 
-/// Tells the desk of the whole tape, and settles it: all that it saw was of this tape, and was published.
+/// Informs the desk of the whole tape, and settles it: all that it saw was of this tape, and was published.
 fn settle<R: Wait>(rt: &R, mut publisher: Publisher, mut desk: Desk) -> Option<u64>
     requires { desk.opening ≡ publisher.opening }
 {

@@ -44,7 +44,7 @@ pub(super) mod shown {
     use std::alloc::Global;
     use std::test::Fail;
 
-    /// The market and the receipt of the best offer that the block tells after those changes, or the place of the
+    /// The market and the receipt of the best offer that the block reports after those changes, or the place of the
     /// change that it refuses.
     fn told(alloc: Global, setup: &Setup, records: &str) -> Result<String, Fail> {
         let changes = read_changes(alloc, setup, records.as_bytes())?;

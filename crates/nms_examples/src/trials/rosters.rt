@@ -16,7 +16,7 @@ fn add_participant_of(alloc: Global, roster: &mut Roster, place: u8) -> Result<(
     same(participant_added(roster, name.as_str()), Ok(place))
 }
 
-/// Adds N and 31 more, and compares what is answered before and behind them. A board of this roster is empty.
+/// Adds N and 31 more, and compares what is answered before and after them. A board of this roster is empty.
 fn try_participants(alloc: Global, roster: &mut Roster) -> Result<(), Fail> {
     for (name, told) in [
         ("ABCDE", Err(RosterFault::BadName)),

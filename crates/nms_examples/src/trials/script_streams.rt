@@ -26,7 +26,7 @@ fn records() -> &'static [(&'static str, usize)] {
     &RECORDS
 }
 
-/// Begins a record, or ends, where the answers to all before are out and no more. Else the read fails.
+/// Begins a record, or ends, if the answers to all before are out and no more. Else the read fails.
 #[derive(Drop)]
 struct Asker<'a> {
     rest: &'static [u8],
@@ -120,7 +120,7 @@ pub(super) fn a_failed_write_or_flush_ends_the_script<T: AllocGlobal>(
     setup: &Setup,
 ) -> Result<(), Fail> {
     let broken = Some(ScriptFault::WriteFault);
-    // Nothing is told of the first record, so nothing is written. Each other one is answered in 6 bytes.
+    // Nothing is reported of the first record, so nothing is written. Each other one is answered in 6 bytes.
     for (writes, flushes, fault, written) in [
         (0, 9, broken, 0),
         (1, 9, broken, 6),
@@ -143,7 +143,7 @@ pub(super) fn a_failed_write_or_flush_ends_the_script<T: AllocGlobal>(
     Ok(())
 }
 
-/// The worked script: three offers and their publishing, and behind it an order.
+/// The worked script: three offers and their publishing, and after it an order.
 fn worked(fails: bool) -> Source<'static> {
     Source {
         text: b"Q,N,ABC,A,,,10.00,300\nQ,P,ABC,A,,,10.00,500\nQ,Y,ABC,A,,,10.01,200\nF\n",
@@ -154,7 +154,7 @@ fn worked(fails: bool) -> Source<'static> {
     }
 }
 
-/// The read behind its fourth record fails, and the order is never answered.
+/// The read after its fourth record fails, and the order is never answered.
 pub(super) fn the_worked_script_breaks_off_behind_its_publishing<T: AllocGlobal>(
     rt: &T,
     setup: &Setup,

@@ -2,7 +2,7 @@ use std::cell::Cell;
 use std::io;
 use std::io::{ErrorKind, Read, Write};
 
-/// Gives a text so many times, then fails once where it is to, and goes on with what stands behind.
+/// Gives a text so many times, then fails once if it is to, and goes on with what stands after.
 #[derive(Drop)]
 pub(super) struct Source<'a> {
     pub(super) text: &'a [u8],
@@ -28,7 +28,7 @@ impl<'a> Read for Source<'a> {
     }
 }
 
-/// Takes so many more writes and flushes, and fails from then on. Tells how many bytes are out: written, and
+/// Takes so many more writes and flushes, and fails from then on. Reports how many bytes are out: written, and
 /// flushed since.
 #[derive(Drop)]
 pub(super) struct Pipe<'a> {
@@ -63,7 +63,7 @@ impl<'a> Write for Pipe<'a> {
     }
 }
 
-/// One less; a failure where there is none.
+/// One less; a failure if there is none.
 fn one_less(left: usize) -> io::Result<usize> {
     match left {
         0 => Err(io::Error::from(ErrorKind::BrokenPipe)),

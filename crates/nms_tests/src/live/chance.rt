@@ -1,4 +1,4 @@
-//! Many short runs drawn by chance, each judged by a plain slow program.
+//! Many short runs drawn at random, each judged by a plain slow program.
 use super::drawn::{Sent, drawn_feeds, part_name};
 use super::judge::finding;
 use super::{Wanted, run};
@@ -39,7 +39,7 @@ struct Paced {
 }
 
 impl Paced {
-    /// Waits for so many changes, and tells whether they were sent.
+    /// Waits for so many changes, and reports whether they were sent.
     fn has_sent(&self, count: u64) -> bool {
         for _ in 0..1000u32 {
             if count <= self.sent.load(Ordering::SeqCst) {

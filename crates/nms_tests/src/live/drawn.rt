@@ -1,4 +1,4 @@
-//! What feeds send, drawn by chance: their texts, and what these say.
+//! What feeds send, drawn at random: their texts, and what these say.
 use crate::chance::Chance;
 use nms_lines::LineFault;
 use nms_quote::{Change, Feed, Part, QState, SideQuote, Sym};
@@ -144,7 +144,7 @@ fn record_text(alloc: Global, record: &Record) -> Option<String> {
     }
 }
 
-/// A record that is refused: what stands before the participant, whether it is of the feed, what stands behind, and
+/// A record that is refused: what stands before the participant, whether it is of the feed, what stands after, and
 /// the fault.
 fn refused(number: u32) -> (&'static str, bool, &'static str, LineFault) {
     match number {
@@ -180,7 +180,7 @@ fn refused_lot(number: u32, feed: Feed) -> (&'static str, LineFault) {
     }
 }
 
-/// A participant of the feed, or else of the one before it, where feed A stands behind feed B.
+/// A participant of the feed, or else of the one before it, where feed A stands after feed B.
 fn named(feed: Feed, is_own: bool) -> &'static str {
     let place = match (is_own, feed) {
         (true, _) => feed.place(),
@@ -235,7 +235,7 @@ fn add_record(alloc: Global, chance: &mut Chance, feed: Feed, sent: &mut Sent) -
     Some(())
 }
 
-/// Adds a record that is refused. Where there is one feed alone, none is of another.
+/// Adds a record that is refused. If there is one feed alone, none is of another.
 fn add_refused(
     alloc: Global,
     chance: &mut Chance,

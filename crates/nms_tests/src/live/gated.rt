@@ -1,4 +1,4 @@
-//! What a gate is asked and told: each send, look and publishing of the run once, and told behind it.
+//! What a gate is asked and told: each send, look and publishing of the run once, and told after it.
 use super::worked::{FIVE, first_told, order};
 use super::{Wanted, run, setup_text};
 use crate::same::same;

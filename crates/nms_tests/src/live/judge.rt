@@ -1,4 +1,4 @@
-//! A plain slow program that judges what a live run came to. It is told what the feeds sent and what was asked for.
+//! A plain slow program that judges what a live run came to. It is given what the feeds sent and what was asked for.
 use super::drawn::Sent;
 use super::plain_look::are_shown;
 use super::{Wanted, order_of};
@@ -133,7 +133,7 @@ fn apply_first(boards: &mut Boards, tape: &[Change], count: u64) {
     }
 }
 
-/// Whether the checker confirms an answer on what an empty board shows behind the first changes of the tape, as many
+/// Whether the checker confirms an answer on what an empty board shows after the first changes of the tape, as many
 /// as the answer's version says.
 fn is_confirmed_on(mut boards: Boards, fees: &FeeBook, tape: &[Change], answer: &Answer) -> bool {
     let plan = &answer.plan;

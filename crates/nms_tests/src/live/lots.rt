@@ -12,7 +12,7 @@ use std::sync::atomic::{AtomicU64, Ordering};
 use std::test::Fail;
 use std::thread::Threads;
 
-/// Lets feed A and a desk take turns: each look is made on what was published behind one change more.
+/// Lets feed A and a desk take turns: each look is made on what was published after one change more.
 #[derive(Drop)]
 struct Turns {
     looked: AtomicU64,
@@ -56,7 +56,7 @@ fn run_lots<R: Threads + Wait + Sync>(rt: &R, alloc: Global) -> Option<Live> {
     run(rt, alloc, SETUP_K, &[FEED, b""], &table, &gate)?.ok()
 }
 
-/// The shares of a leg to the participant at a place, and 0 where there is none.
+/// The shares of a leg to the participant at a place, and 0 if there is none.
 fn shares_to(legs: &[Leg], part: u8) -> u32 {
     for leg in legs {
         if leg.part.get() == part {
@@ -72,7 +72,7 @@ fn taken(answer: &Answer) -> (u32, u32) {
     (shares_to(legs, 0), shares_to(legs, 1))
 }
 
-/// Compares what each look showed with what is due behind so many changes, and the closing answers with the last of it.
+/// Compares what each look showed with what is due after so many changes, and the closing answers with the last of it.
 fn compare_lots<R: Abort>(rt: &R, live: &Live) {
     let due = [(200, 0), (200, 200), (280, 240), (0, 0), (0, 0), (290, 250)];
     let mut version = 0u64;

@@ -50,7 +50,7 @@ impl Overlap {
         is_set(&self.feed_a.there) && is_set(&self.feed_b.there) && is_set(&self.desk.there)
     }
 
-    /// Waits for the others, and tells whether they came. Once it gave up it tells so at once.
+    /// Waits for the others, and reports whether they came. Once it gave up it reports so at once.
     fn meets(&self, here: &Meeting) -> bool {
         if is_set(&here.gave_up) {
             return false;

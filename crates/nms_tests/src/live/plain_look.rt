@@ -11,7 +11,7 @@ struct Known {
     shares: u32,
 }
 
-/// The price and the shares of a side, and 0 where there is no quotation.
+/// The price and the shares of a side, and 0 if there is no quotation.
 fn content_of(quote: &Option<SideQuote>) -> (u64, u32) {
     match quote {
         Some(quote) => (quote.price.get(), quote.shares.get()),
@@ -49,7 +49,7 @@ fn follow(side: &mut Known, change: &Change, order: &Order, who: Part) {
     }
 }
 
-/// Whether a leg takes no more than whole lots of what its participant quotes behind so many changes, at its price.
+/// Whether a leg takes no more than whole lots of what its participant quotes after so many changes, at its price.
 fn is_shown(tape: &[Change], count: u64, order: &Order, leg: &Leg) -> bool {
     let mut side = Known {
         lot: 100,

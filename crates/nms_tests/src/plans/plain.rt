@@ -127,7 +127,7 @@ impl Market {
         cost
     }
 
-    /// What the last share costs that is taken from the pool, or its cheapest share where none is.
+    /// What the last share costs that is taken from the pool, or its cheapest share if none is.
     fn last_cost(&self, price: Price) -> i128 {
         let number = self.most.saturating_sub(self.swept(price)).max(1);
         for row in self.rows.as_slice() {
@@ -205,7 +205,7 @@ impl Market {
         best
     }
 
-    /// The legs where the worst price is a chosen one: the best price first, then the lower place.
+    /// The legs if the worst price is a chosen one: the best price first, then the lower place.
     fn legs(&self, cuts: &Certificate, chosen: Price) -> Option<ArrayVec<Leg, 32>> {
         let mut legs = ArrayVec::new_in(());
         for cut in cuts.as_slice() {
@@ -256,7 +256,7 @@ fn market_for(view: &View, order: &Order, fees: &FeeBook) -> Market {
     market
 }
 
-/// The plan for an order and its certificate; `None` where a leg has more shares than an order may ask for.
+/// The plan for an order and its certificate; `None` if a leg has more shares than an order may ask for.
 pub(crate) fn plain_plan(
     view: &View,
     order: &Order,
