@@ -1,6 +1,10 @@
 //! What comes of judging a plan.
+ghost use Rattle.std.specs.Prelude.{◌≡◌};
+ghost use Rattle.nms_verdicts.specs.Explained.{ending_of};
+
 use nms_cert::Doubt;
 use nms_plan_places::DoubtPlace;
+use nms_show::Ending;
 
 /// What comes of judging a plan.
 #[derive(Drop)]
@@ -45,5 +49,15 @@ impl Verdict {
     /// Whether it is confirmed.
     pub(crate) fn is_confirmed(&self) -> bool {
         matches!(self, Verdict::Confirmed)
+    }
+
+    /// How a request ends that asked for it: done if it is confirmed, else doubted.
+    pub(crate) fn ending(&self) -> Ending
+        ensures { result ≡ ending_of self.now }
+    {
+        match self {
+            Verdict::Confirmed => Ending::Done,
+            Verdict::Beyond { .. } | Verdict::Doubted { .. } => Ending::Doubted,
+        }
     }
 }

@@ -1,7 +1,8 @@
 //! Why a plan is, or is not, the best lawful one.
-ghost use Rattle.std.specs.Prelude.{◌≡◌, ◌≤◌, All, length, true};
+ghost use Rattle.std.specs.Prelude.{◌≡◌, ◌≤◌, All, IfOk, length, true};
 ghost use Rattle.nms_quote.specs.Roster.{holds, sizes_of};
 ghost use Rattle.nms_quote.specs.declared.TheConstants.{MOST_CHANGES};
+ghost use Rattle.nms_verdicts.specs.Explained.{EndsBy, IsExplained, IsExplainedOn};
 
 use crate::cuts::tell_cuts;
 use crate::judging::judge;
@@ -36,7 +37,9 @@ pub fn explain_why<R: Read + Drop, W: Write>(
     plan: &[u8],
     form: Form,
     answers: &mut W,
-) -> Result<Ending, VerdictFault> {
+) -> Result<Ending, VerdictFault>
+    ensures explained { IfOk result (IsExplained setup.now (R.remaining changes) plan.now) }
+{
     match read_changes(alloc, setup, changes) {
         Ok(changes) => {
             if let Some(times) = times {
@@ -61,6 +64,7 @@ fn explain_text<W: Write>(
 ) -> Result<Ending, VerdictFault>
     requires held { All (λ change. holds (sizes_of setup.now.roster) change ≡ true) changes.now }
     requires few { length changes.now ≤ MOST_CHANGES }
+    ensures { IfOk result (IsExplainedOn setup.now changes.now text.now) }
 {
     match read_plan(alloc, text, setup.roster()) {
         Ok((plan, certificate)) => explain_plan(
@@ -92,6 +96,7 @@ fn explain_plan<W: Write>(
 ) -> Result<Ending, VerdictFault>
     requires held { All (λ change. holds (sizes_of setup.now.roster) change ≡ true) changes.now }
     requires few { length changes.now ≤ MOST_CHANGES }
+    ensures { IfOk result (EndsBy setup.now changes.now plan.now certificate.now.items) }
 {
     let mut board = match Boards::new(alloc, setup.roster()) {
         Ok(board) => board,
@@ -115,8 +120,7 @@ fn explain_plan<W: Write>(
         answers,
     );
     match told {
-        Ok(()) if verdict.is_confirmed() => Ok(Ending::Done),
-        Ok(()) => Ok(Ending::Doubted),
+        Ok(()) => Ok(verdict.ending()),
         Err(fault) => Err(VerdictFault::Show(fault)),
     }
 }
