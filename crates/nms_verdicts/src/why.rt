@@ -22,7 +22,7 @@ use nms_times::Times;
 use std::alloc::Global;
 use std::io::{Read, Write};
 
-/// Says why the plan of a text is, or is not, the best lawful one on its version of the changes: what is doubtful first;
+/// Says why the plan of a text is, or is not, the best lawful one on its version of the changes. It shows what is doubtful first;
 /// then the quotations in rank order with what a share costs and what is sent there; how many shares can be filled; and
 /// each cut's bound beside the plan's cost.
 ///
