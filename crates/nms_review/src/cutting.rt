@@ -2,7 +2,9 @@
 use crate::answers::Answers;
 use crate::fault::{About, Fault};
 use crate::files::{open_word, word_at};
-use crate::importing::{create, fault_in, flush, no_memory, show_told, tell_counts, tell_map_fault};
+use crate::importing::{
+    create, fault_in, flush, no_memory, show_told, tell_counts, tell_map_fault,
+};
 use crate::screen::Screen;
 use crate::source::Source;
 use csv::{ByteRecord, Reader};

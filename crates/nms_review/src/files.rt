@@ -26,7 +26,11 @@ pub(crate) fn open_word<T: Files>(
 }
 
 /// A new file at a path. A file that the request reads is never overwritten, whatever name or link leads to it.
-pub(crate) fn create_file<T: Files>(rt: &T, request: &Request, path: &str) -> Result<T::File, Fault> {
+pub(crate) fn create_file<T: Files>(
+    rt: &T,
+    request: &Request,
+    path: &str,
+) -> Result<T::File, Fault> {
     if let Some(about) = input_at(rt, request, path) {
         return Err(Fault::usage(about, "it is read here, and would be overwritten"));
     }

@@ -16,8 +16,8 @@ use nms_show::{Ending, Form, Item, write_line};
 use std::alloc::Global;
 use std::io::Write;
 use std::rt::Files;
-use std::time::Clock;
 use std::str;
+use std::time::Clock;
 
 /// The place of the first file's word: the mapping stands before it.
 const FILES: usize = 1;
@@ -160,8 +160,9 @@ fn finish<T, W: Write>(
 where
     T: AllocGlobal + Eprint + Files,
 {
-    write_symbols(&mut job.symbols, setup.roster(), &job.notes)
-        .map_err(|fault| fault_in(fault, 0))?;
+    write_symbols(&mut job.symbols, setup.roster(), &job.notes).map_err(|fault| fault_in(
+        fault, 0,
+    ))?;
     flush(&mut job.changes)?;
     flush(&mut job.times)?;
     flush(&mut job.symbols)?;
