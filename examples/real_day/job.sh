@@ -23,9 +23,11 @@ text() { case $file in *.gz) gzip -dc "$file" ;; *) cat "$file" ;; esac; }
 # The same participants in the same order in every setup: ties between quotations go by place. The symbols are the file's.
 sed "s/^tape_limit = .*/tape_limit = ${LIMIT:-10000000}/" "$market" > "$it.market"
 text | "$program" import "$map" /dev/stdin --out "$it" --shards --setup "$it.market" > "$it.counts" 2> "$it.errors"
-# Line k of .times is the time of version k. The opening changes of a symbol that was cut say what an earlier shard shows.
+# Line k of .times is the time of version k. The opening changes of a symbol that was cut say what an earlier shard shows. If no
+# row makes a change, there is one shard, and it has no symbols.
 for setup in "$it".[0-9]*.toml; do
     shard=${setup%.toml}
+    [ -s "$shard.symbols" ] || continue
     "$program" stream "$shard.changes" --setup "$setup" |
         awk -F, -v shard="${shard##*/}" -v times="$shard.times" -v opened="$(sed -n 's/^# opening changes: //p' "$setup")" '
             NR > 1 { while (at < $1) { getline time < times; at++ } if ($1 > opened) print time "," shard "," $0 }'

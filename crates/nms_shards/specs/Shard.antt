@@ -1,8 +1,9 @@
 -- How far a shard is filled, and how many rows its import took. This product's own rule.
-use Rattle.std.specs.Prelude.{ℕ, Bool, true, false, List, Option}
+use Rattle.std.specs.Prelude.{ℕ, Bool, true, false, List, Option, Some, None, length}
 use Rattle.csv.specs.declared.parser.Config.{Config}
 use Rattle.csv.specs.declared.reader.Reader.{Reader}
 use Rattle.nms_lines.specs.Layout.{Record}
+use Rattle.nms_quote.specs.declared.change.Change.{Change}
 use Rattle.nms_import.specs.Rows.{AreAllRows, RowsFrom}
 use Rattle.nms_shards.specs.declared.sharding.Shard.{Shard}
 use Rattle.nms_shards.specs.declared.sharding.Shard.TheVariants as shard
@@ -12,6 +13,11 @@ pub record Filled : Type 0 where
   pub changes : ℕ
   pub limit : ℕ
   pub symbols : ℕ
+
+-- how many opening changes a shard begins with
+abbrev pub opened_with : Option (List Change) → ℕ
+opened_with None = 0
+opened_with (Some changes) = length changes
 
 -- how many rows wait for the next shard
 abbrev pub waiting : Bool → ℕ

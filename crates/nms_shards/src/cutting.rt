@@ -1,7 +1,8 @@
 //! What is kept from row to row while a market's rows are cut: the symbol at hand, and the shard that is written.
-ghost use Rattle.std.specs.Prelude.{◌≡◌, ◌<◌, ◌≤◌, ◌+◌, ◌/◌, IfOk, IfSome, IsTrue, OnOk, length, true};
+ghost use Rattle.std.specs.Prelude.{◌≡◌, ◌<◌, ◌≤◌, ◌+◌, ◌/◌, IfOk, IsTrue, OnOk, length, true};
 ghost use Rattle.nms_quote.specs.Roster.{sizes_of};
 ghost use Rattle.nms_quote.specs.declared.TheConstants.{MOST_SYMBOLS};
+ghost use Rattle.nms_shards.specs.Shard.{opened_with};
 ghost use Rattle.nms_shards.specs.declared.TheConstants.{LEAST_LIMIT};
 
 use crate::begun::Begun;
@@ -231,7 +232,7 @@ impl Cutting {
         &mut self,
         lent: &Roster,
     ) -> Result<Option<OpeningChanges>, ImportFault>
-        ensures opened { IfOk result (λ opening. IfSome opening (λ changes. self.new.changes ≡ length changes)) }
+        ensures opened { IfOk result (λ opening. self.new.changes ≡ opened_with opening) }
         ensures limit { OnOk result (self.new.limit ≡ self.old.limit) }
     {
         self.listed.clear();

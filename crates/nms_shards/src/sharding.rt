@@ -203,6 +203,7 @@ pub fn begin_shard<C: Write, T: Write>(
     changes: &mut C,
     times: &mut T,
 ) -> Result<u64, ImportFault>
+    ensures opened { IfOk result (λ count. cutting.new.changes ≡ count) }
     ensures few { IfOk result (λ count. count ≤ MOST_OPENING) }
     ensures limit { OnOk result (cutting.new.limit ≡ cutting.old.limit) }
 {
