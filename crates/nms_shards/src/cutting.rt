@@ -120,6 +120,7 @@ impl Cutting {
         ensures changes { self.now.changes ≤ self.now.limit }
         ensures symbols { self.now.symbols ≤ MOST_SYMBOLS }
     {
+        // A field that is read brings in what holds of each cutting.
         let _count = self.count;
     }
 
