@@ -28,13 +28,18 @@ def must(holds, what):
         raise Wrong(what)
 
 
+def by_shard(lines):
+    """Lines of a day, by the number of the shard and the version."""
+    return sorted(lines, key=lambda it: (int(it[1].split(".")[1]), int(it[2])))
+
+
 def real_day(program):
     """A made day of three letters by examples/real_day/day.sh: two jobs write what one writes, the shards show of each symbol
     what one file of all letters shows, and a call after a failed one does what is left."""
     place = os.path.join(EXAMPLES, "real_day")
     with tempfile.TemporaryDirectory(prefix="nms-") as room:
-        def day(out, jobs, status=0):
-            env = dict(os.environ, NMS_REVIEW=program)
+        def day(out, jobs, status=0, limit="10000000"):
+            env = dict(os.environ, NMS_REVIEW=program, LIMIT=limit)
             ran = called("bash", [os.path.join(place, "day.sh"), room, os.path.join(room, out), jobs], capture_output=True, env=env)
             must((ran.returncode == 0) == (status == 0), f"{out}: status {ran.returncode}, {ran.stderr!r}")
             found = []
@@ -49,15 +54,15 @@ def real_day(program):
         lines = [line.split(",") for line in lines.splitlines()[1:]]
         must(len(lines) > 1000 and [it[0] for it in lines] == sorted(it[0] for it in lines), f"{len(lines)} lines, or not by time")
         must(lines == sorted(lines, key=lambda it: (it[0], it[1], int(it[2]))), "lines of one time are not by letter and version")
-        for letter in "ABC":
-            with open(os.path.join(room, "two", f"{letter}.times"), encoding="ascii") as file:
+        for shard in ("A.1", "B.1", "C.1"):
+            with open(os.path.join(room, "two", f"{shard}.times"), encoding="ascii") as file:
                 times = file.read().split()
-            must(all(it[0] == times[int(it[2]) - 1] for it in lines if it[1] == letter), f"{letter}: a line has not its version's time")
+            must(all(it[0] == times[int(it[2]) - 1] for it in lines if it[1] == shard), f"{shard}: a line has not its version's time")
         # The whole: all letters in one tape, under one setup. A line but for its time, its letter and its version.
         out = os.path.join(room, "whole")
         setup, text = f"{out}.toml", ""
         for letter in "ABC":
-            with open(os.path.join(room, "two", f"{letter}.toml"), encoding="utf-8") as file:
+            with open(os.path.join(room, "two", f"{letter}.1.toml"), encoding="utf-8") as file:
                 own = file.read()
             text += own if letter == "A" else own[own.index("[[symbol]]"):]
         with open(setup, "w", encoding="utf-8") as file:
@@ -73,6 +78,14 @@ def real_day(program):
         for symbol in {it[0] for it in whole}:
             must([it for it in whole if it[0] == symbol] == [it[3:] for it in lines if it[3] == symbol], f"{symbol}: a shard shows other rows")
         must(len(whole) == len(lines), f"{len(whole)} lines, and not {len(lines)}")
+        # The same day in shards of 200 changes at most: symbols are cut by time, and begin again with opening changes.
+        cut, same = day("cut", "2", limit="200")
+        must(same == counts, same)
+        cut = [line.split(",") for line in cut.splitlines()[1:]]
+        must(len({it[1] for it in cut if it[3] == "AAA"}) > 2, "no symbol is cut twice")
+        for symbol in {it[0] for it in whole}:
+            must([it for it in whole if it[0] == symbol] == [it[3:] for it in by_shard(cut) if it[3] == symbol], f"{symbol}: a cut shows other rows")
+        must(len(cut) == len(whole), f"{len(cut)} lines of the cut day, and not {len(whole)}")
         # A file that is no gzip: the others are done, and nothing is merged. Once it is mended the rest is done.
         path = f"{names[1]}.gz"
         with open(path, "rb") as file:
@@ -129,7 +142,7 @@ def compared_day(program):
                 wanted.append(f"day.nbbo:{len(rows)}: " + ("refused" if what == "refused" else f"version {line[2]}: {line[3]}: {what}"))
         with open(os.path.join(room, "day.nbbo"), "w", encoding="ascii") as file:
             file.write("\n".join(rows) + "\n")
-        words = ["compare", "A.changes", "day.nbbo", "--map", os.path.join(EXAMPLES, "import/nbbo.toml"), "--times", "A.times", "--setup", "A.toml"]
+        words = ["compare", "A.1.changes", "day.nbbo", "--map", os.path.join(EXAMPLES, "import/nbbo.toml"), "--times", "A.1.times", "--setup", "A.1.toml"]
         ran = called(program, words, capture_output=True, cwd=room)
         came = [re.sub(r"(refused).*", r"\1", it) for it in ran.stdout.decode().splitlines() if it.startswith("day.nbbo:")]
         must(len(wanted) > 100 and came == wanted[:100], f"{len(wanted)} alterations, {next((it for it in zip(came, wanted) if it[0] != it[1]), len(came))}")

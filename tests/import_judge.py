@@ -6,7 +6,8 @@
 ROWS is 100,000 if it is not given, shared by the layouts of LAYOUTS: those of examples/import/, and some of them with another
 form of times or another word for rows of which one side alone is manual; and the layouts of trades TRADES. The rows stand in
 two files, with a share of them wrong in each way that a row can be. The files that are written, and the counts, must be those
-of the converter: also with --rows. Prints the seed, and at a difference the layout and the line. Ends with status 1 at a difference.
+of the converter: also with --rows, and with --shards for rows by symbol, some of which come too late. Prints the seed, and at a
+difference the layout and the line. Ends with status 1 at a difference.
 """
 import os
 import random
@@ -14,6 +15,7 @@ import re
 import subprocess
 import sys
 import tempfile
+import tomllib
 from dataclasses import dataclass, field
 
 HERE = os.path.dirname(os.path.realpath(__file__))
@@ -287,7 +289,62 @@ def wanted_of(layout, rows, parts, syms, numbers):
 
 SKIPS = ("last line of a file", "word to skip", "other symbol")
 CAUSES = ("too few columns", "bad time", "unknown participant", "unknown symbol", "unknown condition", "one side manual", "bad price", "bad size",
-          "shares without a price", *SKIPS)
+          "shares without a price", "symbol after its end", *SKIPS)
+
+
+def opening_of(sides, states, symbol):
+    """The opening changes of a symbol: (participant, side): (content, receipt), and each participant's state."""
+    events = sorted({(receipt, part) for (part, _), (content, receipt) in sides.items() if content != ","})
+    def until(part, side, last):
+        content, receipt = sides.get((part, side), (",", 0))
+        return content if receipt <= last else ","
+    return [f"Q,{part},{symbol},{states[part]},{until(part, 0, last)},{until(part, 1, last)}" for last, part in events]
+
+
+def cut_of(layout, rows, parts, limit, numbers):
+    """The shards of rows, each by the ends of its files' names, and the counts."""
+    def stamp(time, number):
+        return f"{time},{number:015}" if numbers else time
+    def shard():
+        return {"changes": [], "times": [], "symbols": [], "opened": 0}
+    shards, counts, begun, now, halves, changes = [shard()], {}, set(), None, 0, 0
+    for number, row in enumerate(rows, 1):
+        place = layout.columns["symbol"]
+        name = (row[place] if place < len(row) else "").replace(" ", ".")
+        made_of = outcome(layout, row, parts, {name} if re.fullmatch("[A-Z0-9.]{1,8}", name) else set())
+        if not isinstance(made_of, str) and name != now and name in begun:
+            made_of = "symbol after its end"
+        if isinstance(made_of, str):
+            counts[made_of] = counts.get(made_of, 0) + 1
+            continue
+        record, time, _, half = made_of
+        it = shards[-1]
+        if name != now:
+            if len(it["symbols"]) == 1000 or len(it["changes"]) >= limit // 2:
+                shards.append(shard())
+            it = shards[-1]
+            it["symbols"].append([name, len(it["changes"]) + 1, 0])
+            now, sides, states, applied = name, {}, {}, 0
+            begun.add(name)
+        elif len(it["changes"]) == limit:
+            it = shard()
+            it["changes"] = opening_of(sides, states, name)
+            it["opened"] = len(it["changes"])
+            it["times"] = [stamp(*last)] * it["opened"]
+            it["symbols"] = [[name, 1, 0]]
+            shards.append(it)
+        it["changes"].append(record)
+        it["times"].append(stamp(time, number))
+        it["symbols"][-1][2] = len(it["changes"])
+        applied, last, halves, changes = applied + 1, (time, number), halves + half, changes + 1
+        fields = record.split(",")
+        states[fields[1]] = fields[3]
+        for side, content in enumerate((",".join(fields[4:6]), ",".join(fields[6:8]))):
+            if sides.get((fields[1], side), (",", 0))[0] != content:
+                sides[fields[1], side] = (content, applied)
+    opened = sum(it["opened"] for it in shards)
+    said = [f"{len(shards)} shard{'s' * (len(shards) != 1)}, {opened} opening changes"]
+    return shards, said + counted(layout, counts, halves, len(rows), changes)
 
 
 def counted(layout, counts, halves, rows, changes):
@@ -297,6 +354,50 @@ def counted(layout, counts, halves, rows, changes):
         said.append(f"{halves} changes: one side manual, both made {layout.half}")
     skipped = sum(counts.get(why, 0) for why in SKIPS)
     return said + [f"{rows} rows = {changes} changes + {sum(counts.values()) - skipped} refused + {skipped} skipped"]
+
+
+def setup_of(text, symbols, opened):
+    """What the setup of a shard says: the lent one, with other symbols."""
+    lent = tomllib.loads(text)
+    lots = {it["name"]: it["lot"] for it in lent["symbol"]}
+    return {"caps": 2005, "feeds": 2, **lent, "symbol": [{"name": it, "lot": lots.get(it, 100)} for it in symbols]}, [f"# opening changes: {opened}"]
+
+
+def judge_shards(program, layout, dice, rows, limit, symbols, numbers):
+    """The same with --shards, a tape of few changes and that many symbols."""
+    parts, _ = roster()
+    names = sorted({"".join(dice.choice("ABCDEFGH.") for _ in range(dice.randrange(1, 9))) for _ in range(symbols)} | {"BRK.B", "ABC"})
+    made = sorted((random_row(layout, dice, parts, names) for _ in range(rows)), key=lambda row: row[2:3])
+    for _ in range(3):
+        made.insert(dice.randrange(len(made)), made.pop(dice.randrange(len(made))))
+    name = f"{layout.name}, shards of {limit}"
+    with tempfile.TemporaryDirectory() as room, open(SETUP, encoding="utf-8") as file:
+        text = re.sub("(?m)^tape_limit = .*", f"tape_limit = {limit}", file.read())
+        setup = os.path.join(room, "setup.toml")
+        with open(setup, "w", encoding="utf-8") as file:
+            file.write(text)
+        paths, given = files_of(layout, dice, made, room)
+        out = os.path.join(room, "out")
+        words = [program, "import", os.path.join(MAPS, layout.mapping), *paths, "--out", out, "--shards", "--setup", setup, *["--rows"] * numbers]
+        ran = subprocess.run(words, capture_output=True, check=False)
+        shards, counts = cut_of(layout, given, parts, limit, numbers)
+        if differs(f"{name}: counts", counts, ran.stdout.decode().splitlines(), ran):
+            return False
+        for place, it in enumerate(shards, 1):
+            it["symbols"] = [f"{symbol},{first},{last}" for symbol, first, last in it["symbols"]]
+            for end in ("changes", "times", "symbols"):
+                if differs(f"{name}: {place}.{end}", it[end], lines_of(f"{out}.{place}.{end}"), ran):
+                    return False
+            own = lines_of(f"{out}.{place}.toml")
+            wanted = setup_of(text, [line.split(",")[0] for line in it["symbols"]], it["opened"])
+            if (tomllib.loads("\n".join(own)), own[:1]) != wanted:
+                print(f"{name}: {place}.toml: wanted {wanted}, got {own}"[:2000])
+                return False
+        if os.path.exists(f"{out}.{len(shards) + 1}.changes"):
+            print(f"{name}: a shard too many")
+            return False
+    print(f"{name}: equal: {counts[0]}; {counts[-1]}; status {ran.returncode}")
+    return True
 
 
 def lines_of(path):
@@ -508,6 +609,9 @@ def main(program, rows="100000", seed=None):
     good = [judge(program, layout, dice, int(rows) * layout.share // whole) for layout in LAYOUTS]
     good.append(judge(program, LAYOUTS[0], dice, 2000, numbers=True))
     good += [judge_trades(program, layout, dice, int(rows) * layout.share // whole) for layout in TRADES]
+    # A symbol that is cut, many symbols on one tape, and more symbols than a roster has.
+    good += [judge_shards(program, LAYOUTS[0], dice, count, limit, symbols, numbers) for count, limit, symbols, numbers in
+             ((2000, 66, 5, False), (2000, 67, 30, True), (4000, 500, 40, False), (6000, 20000, 2300, True))]
     return 0 if all(good) else 1
 
 

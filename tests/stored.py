@@ -59,8 +59,12 @@ class Call:
             came = [ran.returncode]
             for path, to in ((answers, self.answers_to), (errors, self.errors_to)):
                 came.append(b"" if to else open_bytes(path))
+            # No call alters a file that it was given.
+            kept = [(it, open_bytes(os.path.join(room, it)), text) for it, text in self.files.items() if isinstance(text, bytes)]
         for what, one, other in zip(("standard output", "standard error", "status"), (*came[1:], came[0]), (*self.wanted[1:], self.wanted[0])):
             compare(what, one, other)
+        for name, one, other in kept:
+            compare(name, one, other)
 
 
 def open_bytes(path):

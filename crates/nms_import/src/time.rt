@@ -286,7 +286,7 @@ fn point_and_fraction(text: &[u8]) -> Option<u64>
     }
 }
 
-/// Appends the line of a time. With `numbers` it has the number of the row. After an error nothing was appended.
+/// Appends the line of a time. With `numbers` it has the number of the row. After an error a first part of it may stand there.
 pub fn append_line(out: &mut Vec<u8>, numbers: bool, row: u64, time: u64) -> Result<(), AllocError>
     ensures { OnOk result (out.new.items ≡ out.old.items ++ line_of numbers row time) }
 {
@@ -301,47 +301,12 @@ pub fn append_line(out: &mut Vec<u8>, numbers: bool, row: u64, time: u64) -> Res
 fn append_numbered(out: &mut Vec<u8>, row: u64, time: u64) -> Result<(), AllocError>
     ensures { OnOk result (out.new.items ≡ out.old.items ++ numbered_line row time) }
 {
-    let (hours, seconds) = (time / 1_000_000_000_000, time / 1_000_000_000);
-    let (millis, micros) = (time / 1_000_000, time / 1000);
-    let (trillions, billions) = (row / 1_000_000_000_000, row / 1_000_000_000);
-    let (millions, thousands) = (row / 1_000_000, row / 1000);
-    out.extend_from_slice(&[
-        digit(hours, 100),
-        digit(hours, 10),
-        digit(hours, 1),
-        digit(seconds, 100),
-        digit(seconds, 10),
-        digit(seconds, 1),
-        digit(millis, 100),
-        digit(millis, 10),
-        digit(millis, 1),
-        digit(micros, 100),
-        digit(micros, 10),
-        digit(micros, 1),
-        digit(time, 100),
-        digit(time, 10),
-        digit(time, 1),
-        b',',
-        digit(trillions, 100),
-        digit(trillions, 10),
-        digit(trillions, 1),
-        digit(billions, 100),
-        digit(billions, 10),
-        digit(billions, 1),
-        digit(millions, 100),
-        digit(millions, 10),
-        digit(millions, 1),
-        digit(thousands, 100),
-        digit(thousands, 10),
-        digit(thousands, 1),
-        digit(row, 100),
-        digit(row, 10),
-        digit(row, 1),
-        b'\n',
-    ])
+    append_clock(out, time)?;
+    out.push(b',')?;
+    append_time(out, row)
 }
 
-/// Appends a time as 15 digits and a line feed.
+/// Appends a time, or a number, as 15 digits and a line feed.
 fn append_time(out: &mut Vec<u8>, time: u64) -> Result<(), AllocError>
     ensures { OnOk result (out.new.items ≡ out.old.items ++ times_text (time ∷ [])) }
 {
@@ -350,7 +315,7 @@ fn append_time(out: &mut Vec<u8>, time: u64) -> Result<(), AllocError>
     Ok(())
 }
 
-/// Appends a time as 15 digits.
+/// Appends a time, or the last 15 digits of a number, as 15 digits.
 pub fn append_clock(out: &mut Vec<u8>, time: u64) -> Result<(), AllocError>
     ensures { OnOk result (out.new.items ≡ out.old.items ++ fifteen_digits time) }
 {

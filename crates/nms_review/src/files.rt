@@ -4,6 +4,7 @@ use nms_fees::{Setup, read_setup};
 use nms_review_words::Request;
 use nms_scripts::SETUP_K;
 use std::alloc::Global;
+use std::os::unix::fs::MetadataExt;
 use std::rt::Files;
 use std::{fs, str};
 
@@ -22,6 +23,48 @@ pub(crate) fn open_word<T: Files>(
     place: usize,
 ) -> Result<T::File, Fault> {
     fs::open(rt, word_at(request, place)).map_err(|error| Fault::unread(error, About::Word(place)))
+}
+
+/// A new file at a path. A file that the request reads is never overwritten, whatever name or link leads to it.
+pub(crate) fn create_file<T: Files>(
+    rt: &T,
+    request: &Request,
+    path: &str,
+) -> Result<T::File, Fault> {
+    if let Some(about) = input_at(rt, request, path) {
+        return Err(Fault::usage(about, "it is read here, and would be overwritten"));
+    }
+    fs::create(rt, path).map_err(|_| Fault::of("E2", 1, About::Nothing))
+}
+
+/// The file that the request reads and that stands at a path, if there is one.
+fn input_at<T: Files>(rt: &T, request: &Request, path: &str) -> Option<About> {
+    let own = identity_of(rt, path)?;
+    for (place, word) in request.words.iter().enumerate() {
+        if identity_of(rt, word.as_str()) == Some(own) {
+            return Some(About::Word(place));
+        }
+    }
+    for (about, word) in [
+        (About::Setup, &request.setup),
+        (About::Times, &request.times),
+        (About::Symbols, &request.symbols),
+    ] {
+        if let Some(word) = word {
+            if identity_of(rt, word.as_str()) == Some(own) {
+                return Some(about);
+            }
+        }
+    }
+    None
+}
+
+/// The device and the number of a plain file at a path, if there is one. A terminal or a pipe is none.
+fn identity_of<T: Files>(rt: &T, path: &str) -> Option<(u64, u64)> {
+    match fs::metadata(rt, path) {
+        Ok(found) if found.is_file() => Some((found.dev(), found.ino())),
+        _ => None,
+    }
 }
 
 /// The bytes of a file.

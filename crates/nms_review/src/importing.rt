@@ -1,7 +1,8 @@
 //! The subcommand `import`: a vendor's files are opened one after another, and what they make is written to three files.
 use crate::answers::Answers;
+use crate::cutting::cut_files;
 use crate::fault::{About, Fault};
-use crate::files::{open_word, read_file, word_at};
+use crate::files::{create_file, open_word, read_file, word_at};
 use crate::importing_trades::{is_trade_map, serve_import_trades};
 use crate::screen::Screen;
 use crate::source::Source;
@@ -15,8 +16,8 @@ use nms_show::{Ending, Form, Item, write_line};
 use std::alloc::Global;
 use std::io::Write;
 use std::rt::Files;
+use std::str;
 use std::time::Clock;
-use std::{fs, str};
 
 /// The place of the first file's word: the mapping stands before it.
 const FILES: usize = 1;
@@ -37,7 +38,11 @@ where
         return serve_import_trades(rt, screen, setup, request, &text, answers);
     }
     match mapping_of(rt.alloc(), &text) {
-        Ok(mapping) => import_files(rt, screen, setup, request, &mapping, answers),
+        Ok(mapping) => if request.shards {
+            cut_files(rt, screen, setup, request, &mapping, answers)
+        } else {
+            import_files(rt, screen, setup, request, &mapping, answers)
+        },
         Err(fault) => tell_map_fault(rt, word_at(request, 0), &fault),
     }
 }
@@ -55,6 +60,7 @@ fn mapping_of(alloc: Global, text: &[u8]) -> Result<Mapping, MapFault> {
 struct Job<'a, F> {
     changes: Answers<F>,
     times: Answers<F>,
+    symbols: Answers<F>,
     work: Work,
     notes: Notes,
     told: Told<'a, Vec<u8>>,
@@ -77,6 +83,7 @@ where
     let mut job = Job {
         changes: create(rt, request, ".changes")?,
         times: create(rt, request, ".times")?,
+        symbols: create(rt, request, ".symbols")?,
         work: Work::new(alloc),
         notes: Notes::new(alloc, setup.roster(), mapping.order).map_err(|_| no_memory())?,
         told: Told::new(Vec::new(alloc)),
@@ -153,16 +160,27 @@ fn finish<T, W: Write>(
 where
     T: AllocGlobal + Eprint + Files,
 {
-    let mut symbols = create(rt, request, ".symbols")?;
-    write_symbols(&mut symbols, setup.roster(), &job.notes).map_err(|fault| fault_in(fault, 0))?;
+    write_symbols(&mut job.symbols, setup.roster(), &job.notes).map_err(|fault| fault_in(
+        fault, 0,
+    ))?;
     flush(&mut job.changes)?;
     flush(&mut job.times)?;
-    flush(&mut symbols)?;
-    let Some(sums) = job.tally.sums() else {
+    flush(&mut job.symbols)?;
+    tell_counts(half, &job.tally, &job.notes, answers)
+}
+
+/// Tells the counts, and what the import is doubted for.
+pub(crate) fn tell_counts<W: Write>(
+    half: Half,
+    tally: &Tally,
+    notes: &Notes,
+    answers: &mut W,
+) -> Result<Ending, Fault> {
+    let Some(sums) = tally.sums() else {
         return Err(fault_in(ImportFault::TooLong, FILES));
     };
-    write_tally(answers, half, &job.tally, &sums).map_err(|fault| fault_in(fault, 0))?;
-    match Guard::of(&sums, &job.notes) {
+    write_tally(answers, half, tally, &sums).map_err(|fault| fault_in(fault, 0))?;
+    match Guard::of(&sums, notes) {
         Some(guard) => Err(Fault::of(guard.code(), 7, About::Nothing)),
         None => Ok(Ending::Done),
     }
@@ -181,9 +199,7 @@ pub(crate) fn create<T: AllocGlobal + Files>(
     let Ok(path) = format!(in rt.alloc(); "{name}{end}") else {
         return Err(no_memory());
     };
-    let Ok(file) = fs::create(rt, path.as_str()) else {
-        return Err(unwritten());
-    };
+    let file = create_file(rt, request, path.as_str())?;
     Answers::new(rt.alloc(), file, false).map_err(|_| no_memory())
 }
 
@@ -193,7 +209,7 @@ pub(crate) fn flush<W: Write>(writer: &mut W) -> Result<(), Fault> {
 }
 
 /// Shows the rows that were refused or skipped, on standard error.
-fn show_told<T: Eprint>(rt: &T, told: &mut Told<'_, Vec<u8>>) {
+pub(crate) fn show_told<T: Eprint>(rt: &T, told: &mut Told<'_, Vec<u8>>) {
     if let Ok(text) = str::from_utf8(&told.errors) {
         let _ = rt.eprint(text);
     }
@@ -275,7 +291,7 @@ pub(crate) fn fault_in(fault: ImportFault, place: usize) -> Fault {
     Fault::of(fault.code(), fault.status(), About::Word(place))
 }
 
-fn no_memory() -> Fault {
+pub(crate) fn no_memory() -> Fault {
     Fault::of("E4", 5, About::Nothing)
 }
 

@@ -54,8 +54,11 @@ pub(crate) fn serve_import_trades<T, W: Write>(
 where
     T: AllocGlobal + Clock + Eprint + Files,
 {
-    if request.rows {
-        return Err(Fault::usage(About::Nothing, "a mapping of trades takes no --rows"));
+    if request.rows || request.shards {
+        return Err(Fault::usage(
+            About::Nothing,
+            "a mapping of trades takes no --rows and no --shards",
+        ));
     }
     match trade_map_of(rt.alloc(), text) {
         Ok(mapping) => import_trade_files(rt, screen, setup, request, &mapping, answers),

@@ -4,6 +4,7 @@
 mod answers;
 mod call;
 mod comparing;
+mod cutting;
 mod drawing;
 mod explaining;
 mod fault;

@@ -2,7 +2,7 @@
 use crate::answers::Answers;
 use crate::call::form_of;
 use crate::fault::{About, Fault};
-use crate::files::{open_word, word_at};
+use crate::files::{create_file, open_word, word_at};
 use crate::screen::Screen;
 use crate::source::Source;
 use nms_fees::Setup;
@@ -10,7 +10,6 @@ use nms_page::{Named, PageFault, write_page};
 use nms_review_words::Request;
 use nms_show::Ending;
 use nms_trades::{Layout, Timing, TradesFault};
-use std::fs;
 use std::io::Write;
 use std::rt::Files;
 use std::time::Clock;
@@ -37,9 +36,7 @@ where
     let executions = open_word(rt, request, EXECUTIONS)?;
     let mut changes = Source::new(rt, screen, changes);
     let mut executions = Source::new(rt, screen, executions);
-    let Ok(file) = fs::create(rt, path) else {
-        return Err(Fault::of("E2", 1, About::Nothing));
-    };
+    let file = create_file(rt, request, path)?;
     let Ok(mut page) = Answers::new(rt.alloc(), file, false) else {
         return Err(Fault::of("E4", 5, About::Nothing));
     };

@@ -77,6 +77,7 @@ fn request_in(alloc: Global, matches: &ArgMatches<'_>) -> Result<Request, AllocE
         html: value_text(alloc, inner, "html")?,
         own: inner.get_str("own") == Some("true"),
         rows: inner.get_str("rows") == Some("true"),
+        shards: inner.get_str("shards") == Some("true"),
         before: inner.get_str("before") == Some("true"),
         json: inner.get_str("json") == Some("true"),
         table: inner.get_str("table") == Some("true"),

@@ -38,6 +38,8 @@ pub struct Request {
     pub own: bool,
     /// Whether `--rows` was given.
     pub rows: bool,
+    /// Whether `--shards` was given.
+    pub shards: bool,
     /// Whether `--before` was given.
     pub before: bool,
     /// Whether `--json` was given.

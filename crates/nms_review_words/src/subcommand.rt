@@ -243,7 +243,7 @@ static DRAW: [Word; 10] = [
     SETUP,
 ];
 
-static IMPORT: [Word; 5] = [
+static IMPORT: [Word; 6] = [
     Word {
         name: "MAP",
         help: "The file of the mapping: how the vendor's files are laid out",
@@ -262,6 +262,11 @@ static IMPORT: [Word; 5] = [
     Word {
         name: "rows",
         help: "Writes the number of its row after each time",
+        form: WordForm::Flag,
+    },
+    Word {
+        name: "shards",
+        help: "Writes NAME.1.changes, NAME.2.changes and so on, each with at most 1,000 symbols and its setup",
         form: WordForm::Flag,
     },
     SETUP,

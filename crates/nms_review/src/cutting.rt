@@ -1,0 +1,256 @@
+//! The option `--shards` of `import`: a market's rows, sorted by symbol, are cut to shards, four files each.
+use crate::answers::Answers;
+use crate::fault::{About, Fault};
+use crate::files::{open_word, word_at};
+use crate::importing::{
+    create, fault_in, flush, no_memory, show_told, tell_counts, tell_map_fault,
+};
+use crate::screen::Screen;
+use crate::source::Source;
+use csv::{ByteRecord, Reader};
+use nms_fees::Setup;
+use nms_import::{
+    Columns, ImportFault, MapFault, Mapping, Notes, Order, Tally, Told, next_row, open_rows,
+};
+use nms_review_words::Request;
+use nms_shards::{
+    Cutting, LEAST_LIMIT, Shard, begin_shard, import_shard, write_listed, write_setup,
+};
+use nms_show::{Ending, Form, Item, write_line};
+use std::io::Write;
+use std::rt::Files;
+use std::time::Clock;
+
+/// The place of the first file's word: the mapping stands before it.
+const FILES: usize = 1;
+
+/// The files of the shard that is written, and what is kept from one of the vendor's files to the next.
+#[derive(Drop)]
+struct CutJob<'a, F> {
+    changes: Answers<F>,
+    times: Answers<F>,
+    cutting: Cutting,
+    row: ByteRecord,
+    text: Vec<u8>,
+    notes: Notes,
+    told: Told<'a, Vec<u8>>,
+    tally: Tally,
+    shards: u64,
+    openings: u64,
+}
+
+/// Cuts the rows of the files to shards, and tells the counts.
+pub(crate) fn cut_files<T, W: Write>(
+    rt: &T,
+    screen: Screen,
+    setup: &Setup,
+    request: &Request,
+    mapping: &Mapping,
+    answers: &mut W,
+) -> Result<Ending, Fault>
+where
+    T: AllocGlobal + Clock + Eprint + Files,
+{
+    if mapping.order != Order::Symbol {
+        let fault = MapFault::BadValue {
+            table: "time",
+            key: String::from_str(rt.alloc(), "order").map_err(|_| no_memory())?,
+            expected: "\"symbol\" with --shards: rows sorted by symbol",
+        };
+        return tell_map_fault(rt, word_at(request, 0), &fault);
+    }
+    if setup.tape_limit() < LEAST_LIMIT {
+        return Err(Fault::usage(About::Setup, "a setup with a tape_limit of 66 or more"));
+    }
+    let alloc = rt.alloc();
+    let mut job = CutJob {
+        changes: create_in(rt, request, 1, ".changes")?,
+        times: create_in(rt, request, 1, ".times")?,
+        cutting: Cutting::new(alloc, setup).map_err(|fault| fault_in(fault, 0))?,
+        row: ByteRecord::new(alloc),
+        text: Vec::new(alloc),
+        notes: Notes::of_symbols(alloc, 1, mapping.order).map_err(|_| no_memory())?,
+        told: Told::new(Vec::new(alloc)),
+        tally: Tally::none(),
+        shards: 1,
+        openings: 0,
+    };
+    for place in FILES..request.words.len() {
+        if !cut_file(rt, screen, setup, request, mapping, place, &mut job)? {
+            return Ok(Ending::SetupRefused);
+        }
+    }
+    finish_shard(rt, setup, request, &mut job)?;
+    tell_shards(job.shards, job.openings, answers)?;
+    tell_counts(mapping.meanings.half, &job.tally, &job.notes, answers)
+}
+
+/// Cuts the rows of one file. Returns whether it has the columns that the mapping names; else that is told.
+fn cut_file<'a, T>(
+    rt: &T,
+    screen: Screen,
+    setup: &Setup,
+    request: &'a Request,
+    mapping: &Mapping,
+    place: usize,
+    job: &mut CutJob<'a, T::File>,
+) -> Result<bool, Fault>
+where
+    T: AllocGlobal + Clock + Eprint + Files,
+{
+    let alloc = rt.alloc();
+    let file = open_word(rt, request, place)?;
+    let source = Source::new(rt, screen, file);
+    let form = mapping.file;
+    let mut reader = open_rows(alloc, form.delimiter, form.quotes, source);
+    job.row.clear();
+    if form.header {
+        next_row(&mut reader, &mut job.row).map_err(|fault| fault_in(fault, place))?;
+    }
+    let columns = match mapping.columns(alloc, &job.row) {
+        Ok(columns) => columns,
+        Err(fault) => {
+            tell_map_fault(rt, word_at(request, place), &fault)?;
+            return Ok(false);
+        }
+    };
+    job.told.enter(word_at(request, place));
+    let cut = cut_rows(
+        rt,
+        setup,
+        request,
+        mapping,
+        &columns,
+        place,
+        &mut reader,
+        job,
+    );
+    let mut source = reader.into_inner();
+    source.clear();
+    show_told(rt, &mut job.told);
+    cut?;
+    Ok(true)
+}
+
+/// Cuts the rows that a reader still has.
+fn cut_rows<'a, T>(
+    rt: &T,
+    setup: &Setup,
+    request: &'a Request,
+    mapping: &Mapping,
+    columns: &Columns,
+    place: usize,
+    reader: &mut Reader<Source<'_, T, T::File>>,
+    job: &mut CutJob<'a, T::File>,
+) -> Result<(), Fault>
+where
+    T: AllocGlobal + Clock + Eprint + Files,
+{
+    for part in 0..u64::MAX {
+        let stopped = import_shard(
+            columns,
+            &mapping.meanings,
+            setup.roster(),
+            request.rows,
+            part > 0,
+            &mut job.cutting,
+            &mut job.row,
+            &mut job.text,
+            reader,
+            &mut job.changes,
+            &mut job.times,
+            &mut job.notes,
+            &mut job.told,
+            &mut job.tally,
+        )
+        .map_err(|fault| fault_in(fault, place))?;
+        match stopped {
+            Shard::GoesOn => return Ok(()),
+            Shard::Full => next_shard(rt, setup, request, job)?,
+        }
+    }
+    Err(fault_in(ImportFault::TooLong, place))
+}
+
+/// Ends the shard and begins the next one.
+fn next_shard<T>(
+    rt: &T,
+    setup: &Setup,
+    request: &Request,
+    job: &mut CutJob<'_, T::File>,
+) -> Result<(), Fault>
+where
+    T: AllocGlobal + Files,
+{
+    finish_shard(rt, setup, request, job)?;
+    job.shards = sum_of(job.shards, 1)?;
+    job.changes = create_in(rt, request, job.shards, ".changes")?;
+    job.times = create_in(rt, request, job.shards, ".times")?;
+    let opened = begin_shard(
+        setup.roster(),
+        request.rows,
+        &mut job.cutting,
+        &mut job.text,
+        &mut job.changes,
+        &mut job.times,
+    )
+    .map_err(|fault| fault_in(fault, 0))?;
+    job.openings = sum_of(job.openings, opened)?;
+    Ok(())
+}
+
+/// The sum of two counts.
+fn sum_of(count: u64, more: u64) -> Result<u64, Fault> {
+    match count.checked_add(more) {
+        Some(count) => Ok(count),
+        None => Err(fault_in(ImportFault::TooLong, FILES)),
+    }
+}
+
+/// Writes what is left of the shard, its symbols and its setup.
+fn finish_shard<T>(
+    rt: &T,
+    setup: &Setup,
+    request: &Request,
+    job: &mut CutJob<'_, T::File>,
+) -> Result<(), Fault>
+where
+    T: AllocGlobal + Files,
+{
+    flush(&mut job.changes)?;
+    flush(&mut job.times)?;
+    let mut symbols = create_in(rt, request, job.shards, ".symbols")?;
+    write_listed(&mut symbols, &job.cutting).map_err(|fault| fault_in(fault, 0))?;
+    flush(&mut symbols)?;
+    let mut text = create_in(rt, request, job.shards, ".toml")?;
+    write_setup(&mut text, setup, &job.cutting).map_err(|fault| fault_in(fault, 0))?;
+    flush(&mut text)
+}
+
+/// Tells how many shards there are, and how many opening changes they have in addition to those of the rows.
+fn tell_shards<W: Write>(shards: u64, openings: u64, answers: &mut W) -> Result<(), Fault> {
+    write_line(
+        answers,
+        Form::Text { colours: false },
+        &[
+            Item::Number(shards),
+            Item::Text(if shards == 1 { " shard, " } else { " shards, " }),
+            Item::Number(openings),
+            Item::Text(" opening changes"),
+        ],
+    )?;
+    Ok(())
+}
+
+/// A new file of the name that `--out` gives, with the number of a shard and this end.
+fn create_in<T: AllocGlobal + Files>(
+    rt: &T,
+    request: &Request,
+    shard: u64,
+    end: &str,
+) -> Result<Answers<T::File>, Fault> {
+    match format!(in rt.alloc(); ".{shard}{end}") {
+        Ok(end) => create(rt, request, end.as_str()),
+        Err(_) => Err(no_memory()),
+    }
+}

@@ -1,0 +1,338 @@
+//! What is kept from row to row while a market's rows are cut: the symbol at hand, and the shard that is written.
+ghost use Rattle.std.specs.Prelude.{◌≡◌, ◌<◌, ◌≤◌, ◌+◌, ◌/◌, IfOk, IsTrue, OnOk, length, true};
+ghost use Rattle.nms_quote.specs.Roster.{sizes_of};
+ghost use Rattle.nms_quote.specs.declared.TheConstants.{MOST_SYMBOLS};
+ghost use Rattle.nms_shards.specs.Shard.{opened_with};
+ghost use Rattle.nms_shards.specs.declared.TheConstants.{LEAST_LIMIT};
+
+use crate::begun::Begun;
+use crate::rosters::{bare_roster, lot_lent, own_roster};
+use csv::ByteRecord;
+use nms_board::Boards;
+use nms_fees::Setup;
+use nms_import::{Cause, Columns, Entry, ImportFault, Meanings, entry_with, symbol_in};
+use nms_lines::name_of_sym;
+use nms_opening::{OpeningChanges, opening_of, reopened};
+use nms_quote::{Change, MOST_SYMBOLS, Roster, Sym, is_symbol_name};
+use nms_units::Lot;
+use std::alloc::Global;
+use std::marker::Model;
+use std::mem;
+
+/// A symbol of a shard.
+#[derive(Drop)]
+pub struct Listed {
+    /// Its name.
+    pub name: String,
+    /// Its round lot.
+    pub lot: Lot,
+    /// The version after its first change.
+    pub first: u64,
+    /// The version after its last change.
+    pub last: u64,
+}
+
+/// What a row of a market says.
+#[derive(Clone, Copy)]
+pub(crate) enum Said {
+    /// One more change of the symbol at hand.
+    More(Entry),
+    /// The first change of another symbol.
+    Begins(Entry),
+    /// A change of a symbol that has ended.
+    Returned,
+    /// No change.
+    Nothing(Cause),
+}
+
+/// What is kept from row to row.
+#[derive(Drop)]
+pub struct Cutting {
+    alloc: Global,
+    limit: u64,
+    begun: Begun,
+    bare: Roster,
+    own: Roster,
+    next: Roster,
+    board: Boards,
+    listed: Vec<Listed>,
+    count: u64,
+    opened: u64,
+    time: u64,
+    number: u64,
+    splits: bool,
+    scratch: Vec<u8>,
+}
+
+impl Model for Cutting {
+    ghost use Rattle.std.specs.Prelude.{◌≤◌, length};
+    ghost use Rattle.std.specs.Prelude.{◌≡◌};
+    ghost use Rattle.nms_quote.specs.Roster.{sizes_of};
+    ghost use Rattle.nms_quote.specs.declared.TheConstants.{MOST_CHANGES, MOST_SYMBOLS};
+    ghost use Rattle.nms_shards.specs.Shard.{Filled};
+    ghost use Rattle.nms_shards.specs.declared.TheConstants.{LEAST_LIMIT};
+
+    ghost Value = { Filled };
+
+    ghost view = { λ c. record { changes = c.count; limit = c.limit; symbols = length c.listed.items } };
+
+    ghost invariant = { λ c. (c.count ≤ c.limit) × (length c.listed.items ≤ MOST_SYMBOLS) × (LEAST_LIMIT ≤ c.limit) × (c.limit ≤ MOST_CHANGES) × (c.board.sizes ≡ sizes_of c.own) };
+}
+
+impl Cutting {
+    /// Before the first row. The setup lends participants, feeds, fees and round lots, and the limit of changes.
+    pub fn new(alloc: Global, lent: &Setup) -> Result<Cutting, ImportFault>
+        requires room { LEAST_LIMIT ≤ lent.now.tape_limit }
+        ensures filled { IfOk result (λ cutting. cutting ≡ record { changes = 0; limit = lent.now.tape_limit; symbols = 0 }) }
+    {
+        let limit = lent.tape_limit();
+        let bare = bare_roster(alloc, lent.roster())?;
+        let next = bare_roster(alloc, lent.roster())?;
+        let own = bare_roster(alloc, lent.roster())?;
+        let board = new_board(alloc, &own)?;
+        Ok(Cutting {
+            alloc,
+            limit,
+            begun: Begun::new(alloc),
+            bare,
+            own,
+            next,
+            board,
+            listed: Vec::new(alloc),
+            count: 0,
+            opened: 0,
+            time: 0,
+            number: 0,
+            splits: false,
+            scratch: Vec::new(alloc),
+        })
+    }
+
+    /// The symbols of the shard, in order.
+    pub fn listed(&self) -> &[Listed]
+        ensures { length result.now ≡ self.now.symbols }
+    {
+        &self.listed
+    }
+
+    /// A law: a shard has no more changes than its setup's tape takes, and no more symbols than a roster.
+    pub fn fits(&self)
+        ensures changes { self.now.changes ≤ self.now.limit }
+        ensures symbols { self.now.symbols ≤ MOST_SYMBOLS }
+    {
+        // A field that is read brings in what holds of each cutting.
+        let _count = self.count;
+    }
+
+    /// How many opening changes the shard begins with.
+    pub fn opened(&self) -> u64 {
+        self.opened
+    }
+
+    /// The roster of the symbol at hand.
+    pub(crate) fn own(&self) -> &Roster {
+        &self.own
+    }
+
+    /// What a row says. The shard stays as it is.
+    pub(crate) fn read(
+        &mut self,
+        columns: &Columns,
+        meanings: &Meanings,
+        lent: &Roster,
+        row: &ByteRecord,
+    ) -> Result<Said, ImportFault>
+        ensures stays { self.new ≡ self.old }
+    {
+        let text = columns.symbol.text(row);
+        match symbol_in(meanings, &self.own, text, &mut self.scratch)? {
+            Some(sym) => Ok(more_of(entry_with(columns, meanings, &self.own, row, Some(sym)))),
+            None => self.read_other(columns, meanings, lent, row),
+        }
+    }
+
+    /// What a row says of another symbol, whose name is in `scratch`.
+    fn read_other(
+        &mut self,
+        columns: &Columns,
+        meanings: &Meanings,
+        lent: &Roster,
+        row: &ByteRecord,
+    ) -> Result<Said, ImportFault>
+        ensures stays { self.new ≡ self.old }
+    {
+        if !is_symbol_name(&self.scratch) {
+            return Ok(begins(entry_with(columns, meanings, &self.bare, row, None)));
+        }
+        self.next = own_roster(self.alloc, lent, &self.scratch)?;
+        let sym = self.next.find_sym(&self.scratch);
+        let entry = entry_with(columns, meanings, &self.next, row, sym);
+        if entry.is_ok() && self.begun.contains(name_of_sym(&self.next, first_sym())) {
+            return Ok(Said::Returned);
+        }
+        Ok(begins(entry))
+    }
+
+    /// Whether the shard has room for one more change of the symbol at hand.
+    pub(crate) fn has_room(&self, change: &Change) -> bool
+        ensures { IsTrue result → self.now.changes < self.now.limit }
+    {
+        self.count < self.limit && self.board.takes(change)
+    }
+
+    /// Whether the shard takes one more symbol: it has fewer than 1,000, and changes for less than half of its tape.
+    pub(crate) fn takes_symbol(&self) -> bool
+        ensures { IsTrue result → (self.now.changes < self.now.limit / 2) × (self.now.symbols < MOST_SYMBOLS) }
+    {
+        self.listed.len() < usize::from(MOST_SYMBOLS) && self.count < self.limit / 2
+    }
+
+    /// Says whether the next shard goes on with the symbol at hand.
+    pub(crate) fn split(&mut self, splits: bool)
+        ensures stays { self.new ≡ self.old }
+    {
+        self.splits = splits;
+    }
+
+    /// Begins with the symbol that was read last, which is another.
+    pub(crate) fn begin_symbol(&mut self, lent: &Roster) -> Result<(), ImportFault>
+        requires room { self.old.symbols < MOST_SYMBOLS }
+        ensures changes { OnOk result (self.new.changes ≡ self.old.changes) }
+        ensures limit { OnOk result (self.new.limit ≡ self.old.limit) }
+    {
+        if !self.begun.add(name_of_sym(&self.next, first_sym())) {
+            return Err(ImportFault::NoMemory);
+        }
+        let board = new_board(self.alloc, &self.next)?;
+        mem::swap(&mut self.own, &mut self.next);
+        self.board = board;
+        let listed = listed_symbol(self.alloc, &self.own, lent, self.count + 1, self.count)?;
+        match self.listed.push(listed) {
+            Ok(()) => Ok(()),
+            Err(_) => Err(ImportFault::NoMemory),
+        }
+    }
+
+    /// Counts a change of the symbol at hand, made by the row of a number.
+    pub(crate) fn count(&mut self, number: u64, entry: &Entry)
+        requires room { self.old.changes < self.old.limit }
+        ensures changes { self.new.changes ≡ self.old.changes + 1 }
+        ensures limit { self.new.limit ≡ self.old.limit }
+    {
+        self.count += 1;
+        self.time = entry.time;
+        self.number = number;
+        if self.board.takes(&entry.change) {
+            self.board.apply(entry.change);
+        }
+        set_last(&mut self.listed, self.count);
+    }
+
+    /// Begins the next shard, and returns the opening changes of the symbol that goes on, if one does.
+    pub(crate) fn begin_shard(
+        &mut self,
+        lent: &Roster,
+    ) -> Result<Option<OpeningChanges>, ImportFault>
+        ensures opened { IfOk result (λ opening. self.new.changes ≡ opened_with opening) }
+        ensures limit { OnOk result (self.new.limit ≡ self.old.limit) }
+    {
+        self.listed.clear();
+        self.count = 0;
+        self.opened = 0;
+        if !self.splits || !self.board.has_sym(first_sym()) {
+            return Ok(None);
+        }
+        self.splits = false;
+        let opening = opening_of(&self.board, first_sym());
+        let changes = opening.as_slice().len() as u64;
+        self.board = reopen(self.alloc, &self.own, &self.board)?;
+        let listed = listed_symbol(self.alloc, &self.own, lent, 1, changes)?;
+        match self.listed.push(listed) {
+            Ok(()) => {}
+            Err(_) => return Err(ImportFault::NoMemory),
+        }
+        self.count = changes;
+        self.opened = changes;
+        Ok(Some(opening))
+    }
+
+    /// The row that made the last change, and its time.
+    pub(crate) fn last_change(&self) -> (u64, u64) {
+        (self.number, self.time)
+    }
+}
+
+/// A board of a roster, with nothing on it.
+fn new_board(alloc: Global, roster: &Roster) -> Result<Boards, ImportFault>
+    ensures { IfOk result (λ board. board.sizes ≡ sizes_of roster.now) }
+{
+    match Boards::new(alloc, roster) {
+        Ok(board) => Ok(board),
+        Err(_) => Err(ImportFault::NoMemory),
+    }
+}
+
+/// A board that shows the same, whose own changes are the opening ones.
+fn reopen(alloc: Global, roster: &Roster, board: &Boards) -> Result<Boards, ImportFault>
+    requires roster { board.now.sizes ≡ sizes_of roster.now }
+    requires listed { 0 < length board.now.sizes.lots }
+    ensures { IfOk result (λ new. new.sizes ≡ sizes_of roster.now) }
+{
+    match reopened(alloc, roster, board) {
+        Ok(board) => Ok(board),
+        Err(_) => Err(ImportFault::NoMemory),
+    }
+}
+
+/// The place of the only symbol of a roster.
+fn first_sym() -> Sym
+    ensures { result ≡ 0 }
+{
+    Sym::new(0).unwrap()
+}
+
+/// What a row of the symbol at hand says.
+fn more_of(entry: Result<Entry, Cause>) -> Said {
+    match entry {
+        Ok(entry) => Said::More(entry),
+        Err(cause) => Said::Nothing(cause),
+    }
+}
+
+/// What a row of a symbol that has not begun says.
+fn begins(entry: Result<Entry, Cause>) -> Said {
+    match entry {
+        Ok(entry) => Said::Begins(entry),
+        Err(cause) => Said::Nothing(cause),
+    }
+}
+
+/// The only symbol of a roster, with the versions of its changes.
+fn listed_symbol(
+    alloc: Global,
+    own: &Roster,
+    lent: &Roster,
+    first: u64,
+    last: u64,
+) -> Result<Listed, ImportFault> {
+    let name = name_of_sym(own, first_sym());
+    let lot = lot_lent(lent, name.as_bytes());
+    match String::from_str(alloc, name) {
+        Ok(name) => Ok(Listed {
+            name,
+            lot,
+            first,
+            last,
+        }),
+        Err(_) => Err(ImportFault::NoMemory),
+    }
+}
+
+/// Sets the version after the last change of the last symbol.
+fn set_last(listed: &mut Vec<Listed>, version: u64)
+    ensures { length listed.new.items ≡ length listed.old.items }
+{
+    if let Some(symbol) = listed.last_mut() {
+        symbol.last = version;
+    }
+}

@@ -1,0 +1,54 @@
+//! Rosters with the participants of a setup, and one symbol or none.
+use nms_import::ImportFault;
+use nms_quote::{Part, Roster, RosterFault};
+use nms_units::Lot;
+use std::alloc::Global;
+
+/// The round lot of a symbol that the setup does not list, in shares.
+const USUAL_LOT: u16 = 100;
+
+/// The participants of a roster, and no symbol.
+pub(crate) fn bare_roster(alloc: Global, lent: &Roster) -> Result<Roster, ImportFault> {
+    let Ok(mut roster) = Roster::new(alloc) else {
+        return Err(ImportFault::NoMemory);
+    };
+    match add_participants(&mut roster, lent) {
+        Ok(()) => Ok(roster),
+        Err(_) => Err(ImportFault::NoMemory),
+    }
+}
+
+/// The same with one symbol.
+pub(crate) fn own_roster(alloc: Global, lent: &Roster, name: &[u8]) -> Result<Roster, ImportFault> {
+    let Ok(mut roster) = Roster::new(alloc) else {
+        return Err(ImportFault::NoMemory);
+    };
+    match add_all(&mut roster, lent, name) {
+        Ok(()) => Ok(roster),
+        Err(_) => Err(ImportFault::NoMemory),
+    }
+}
+
+/// Adds the participants of a roster, and a symbol with the round lot that it has there.
+fn add_all(roster: &mut Roster, lent: &Roster, name: &[u8]) -> Result<(), RosterFault> {
+    add_participants(roster, lent)?;
+    let _ = roster.add_symbol(name, lot_lent(lent, name))?;
+    Ok(())
+}
+
+/// Adds the participants of another roster, in its order.
+fn add_participants(roster: &mut Roster, lent: &Roster) -> Result<(), RosterFault> {
+    for place in 0..lent.parts() as u8 {
+        let part = Part::new(place).unwrap();
+        let _ = roster.add_participant(lent.part_name(part).as_bytes(), lent.feed_of(part))?;
+    }
+    Ok(())
+}
+
+/// The round lot that a roster lists for a symbol; 100 shares if it lists none.
+pub(crate) fn lot_lent(lent: &Roster, name: &[u8]) -> Lot {
+    match lent.find_sym(name) {
+        Some(sym) => lent.lot_of(sym),
+        None => Lot::new(USUAL_LOT).unwrap(),
+    }
+}

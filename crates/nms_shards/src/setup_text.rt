@@ -1,0 +1,176 @@
+//! The two small texts beside a shard: its symbols, and its setup.
+ghost use Rattle.std.specs.Prelude.{◌<◌, length};
+
+use crate::cutting::Cutting;
+use nms_fee_book::Caps;
+use nms_fees::Setup;
+use nms_import::ImportFault;
+use nms_quote::{Feed, OrderSide, Part};
+use nms_show::{Form, Item, write_line};
+use nms_units::Price;
+use std::io::Write;
+
+/// Writes a line for each symbol of the shard: its name, and the versions after its first and its last change.
+pub fn write_listed<W: Write>(out: &mut W, cutting: &Cutting) -> Result<(), ImportFault> {
+    for listed in cutting.listed() {
+        line(
+            out,
+            &[
+                Item::Text(listed.name.as_str()),
+                Item::Text(","),
+                Item::Number(listed.first),
+                Item::Text(","),
+                Item::Number(listed.last),
+            ],
+        )?;
+    }
+    Ok(())
+}
+
+/// Writes the setup of the shard: the lent one with the shard's symbols in place of its own. A comment before it says how many
+/// opening changes the shard begins with.
+pub fn write_setup<W: Write>(
+    out: &mut W,
+    setup: &Setup,
+    cutting: &Cutting,
+) -> Result<(), ImportFault> {
+    line(
+        out,
+        &[
+            Item::Text("# opening changes: "),
+            Item::Number(cutting.opened()),
+        ],
+    )?;
+    write_settings(out, setup)?;
+    write_participants(out, setup)?;
+    write_symbols(out, cutting)
+}
+
+/// Writes the keys that stand before the tables.
+fn write_settings<W: Write>(out: &mut W, setup: &Setup) -> Result<(), ImportFault> {
+    for (key, number) in [
+        ("tape_limit = ", setup.tape_limit()),
+        ("queue = ", setup.queue() as u64),
+        ("desks = ", u64::from(setup.desks())),
+        ("feeds = ", u64::from(setup.feeds())),
+        ("caps = ", year_of(setup.caps())),
+    ] {
+        line(out, &[Item::Text(key), Item::Number(number)])?;
+    }
+    Ok(())
+}
+
+/// The year of the rule that has the caps, as a setup names it.
+fn year_of(caps: Caps) -> u64 {
+    match caps {
+        Caps::Of2005 => 2005,
+        Caps::Of2024 => 2024,
+    }
+}
+
+/// Writes a table for each participant, in order of place.
+fn write_participants<W: Write>(out: &mut W, setup: &Setup) -> Result<(), ImportFault> {
+    for place in 0..setup.roster().parts() as u8 {
+        let part = Part::new(place).unwrap();
+        write_participant(out, setup, part)?;
+    }
+    Ok(())
+}
+
+/// Writes the table of a participant.
+fn write_participant<W: Write>(out: &mut W, setup: &Setup, part: Part) -> Result<(), ImportFault>
+    requires { part < length setup.now.roster.parts }
+{
+    let roster = setup.roster();
+    text_line(out, "\n[[participant]]")?;
+    line(
+        out,
+        &[
+            Item::Text("name = \""),
+            Item::Text(roster.part_name(part)),
+            Item::Text("\""),
+        ],
+    )?;
+    line(
+        out,
+        &[
+            Item::Text("feed = \""),
+            Item::Text(letter_of(roster.feed_of(part))),
+            Item::Text("\""),
+        ],
+    )?;
+    amount_line(out, "fee = ", fee_at(setup, part, 10_000))?;
+    amount_line(out, "rate = ", fee_at(setup, part, 1))
+}
+
+/// The fee of a participant for a share at a price in 1/10,000 dollar, in nanodollars: at one dollar that is the key `fee` of
+/// its table, at 1/10,000 dollar the key `rate`.
+fn fee_at(setup: &Setup, part: Part, price: u64) -> i128 {
+    let Some(price) = Price::new(price) else {
+        return 0;
+    };
+    let with_fee = setup.fees().unit_cost(part, OrderSide::Buy, price).get();
+    with_fee - i128::from(price.get() * 100_000)
+}
+
+/// The letter of a feed.
+fn letter_of(feed: Feed) -> &'static str {
+    match feed {
+        Feed::A => "A",
+        Feed::B => "B",
+        Feed::C => "C",
+        Feed::D => "D",
+        Feed::E => "E",
+        Feed::F => "F",
+        Feed::G => "G",
+        Feed::H => "H",
+    }
+}
+
+/// Writes a table for each symbol of the shard.
+fn write_symbols<W: Write>(out: &mut W, cutting: &Cutting) -> Result<(), ImportFault> {
+    for listed in cutting.listed() {
+        text_line(out, "\n[[symbol]]")?;
+        line(
+            out,
+            &[
+                Item::Text("name = \""),
+                Item::Text(listed.name.as_str()),
+                Item::Text("\""),
+            ],
+        )?;
+        line(
+            out,
+            &[
+                Item::Text("lot = "),
+                Item::Number(u64::from(listed.lot.get())),
+            ],
+        )?;
+    }
+    Ok(())
+}
+
+/// Writes a key with a whole number, which may be negative.
+fn amount_line<W: Write>(out: &mut W, key: &str, amount: i128) -> Result<(), ImportFault> {
+    let sign = if amount < 0 { "-" } else { "" };
+    line(
+        out,
+        &[
+            Item::Text(key),
+            Item::Text(sign),
+            Item::Number(amount.unsigned_abs() as u64),
+        ],
+    )
+}
+
+fn text_line<W: Write>(out: &mut W, text: &str) -> Result<(), ImportFault> {
+    line(out, &[Item::Text(text)])
+}
+
+fn line<W: Write>(out: &mut W, items: &[Item<'_>]) -> Result<(), ImportFault> {
+    match write_line(out, Form::Text { colours: false }, items) {
+        Ok(()) => Ok(()),
+        Err(fault) if fault.status() == 5 => Err(ImportFault::NoMemory),
+        Err(_) => Err(ImportFault::WriteFault),
+    }
+}
