@@ -109,10 +109,20 @@ recorded_whole taped later more published roster before after none is counted wr
     subst (λ (l : List Change). Appends before after (changes_text roster l)) text written
 
 -- a board that stands for the opening changes of another shows alike
-pub opens_alike : (board next : Board) (taped : Taped) (sym_ : ℕ) → Opens board (tape_of taped) → taped.sizes ≡ board.sizes
+opens_alike : (board next : Board) (taped : Taped) (sym_ : ℕ) → Opens board (tape_of taped) → taped.sizes ≡ board.sizes
     → next ≡ fold after (opening taped.sizes) (tape_of taped) → sym_ < length board.sizes.lots → ShowAlike board next sym_
 opens_alike board next taped sym_ opens sizes is within =
     subst (λ (b : Board). ShowAlike board b sym_) (sym (rw (← sizes) is)) (opens.alike sym_ within)
+
+-- so does the board of a tape that took the opening changes, as they were read
+pub next_alike : (old begun fresh later : Taped) (board next : Board) (first all : List Change) → Opens board all → first ≡ all
+    → tape_of later ≡ first → board.sizes ≡ old.sizes → fresh.sizes ≡ old.sizes → begun ≡ fresh → later.sizes ≡ begun.sizes
+    → next ≡ fold after (opening later.sizes) (tape_of later)
+    → (sym_ : ℕ) → sym_ < length board.sizes.lots → ShowAlike board next sym_
+next_alike old begun fresh later board next first all opens same taken sized fits is kept stands sym_ within =
+    let tape : tape_of later ≡ all = taken ∙ same in
+    let sizes : later.sizes ≡ board.sizes = kept ∙ ap (λ (t : Taped). t.sizes) is ∙ fits ∙ sym sized in
+    opens_alike board next later sym_ (subst (λ (l : List Change). Opens board l) (sym tape) opens) sizes stands within
 
 -- one more of the changes was appended
 pub added_more : (taped now later : Taped) (xs : List Change) (i : ℕ) (x : Change) → i < length xs → x ≡ get_or xs i x

@@ -84,7 +84,6 @@ impl<'a, X: Write, Y: Write> Keeper<'a, X, Y> {
     /// The keeper of the next epoch, over a tape that was just opened and its files: its tape begins with the opening changes
     /// of this one's board, which are in its file and then published. So a look shows the same before and after. This one
     /// stays as it is.
-    #[tactic(auto, using(crate::proofs::KeeperFacts::opens_alike))]
     pub(crate) fn next<R: Wait>(
         &self,
         alloc: Global,
@@ -190,7 +189,7 @@ impl<'a, X: Write, Y: Write> Keeper<'a, X, Y> {
     }
 
     /// Takes a change in, and publishes after each 64.
-    #[tactic(auto, using(crate::proofs::KeeperFacts::longer_appended, crate::proofs::KeeperFacts::as_long_published))]
+    #[tactic(auto, using(crate::proofs::KeeperFacts::longer_appended))]
     pub(crate) fn take_in<R: Wait>(&mut self, rt: &R, change: &Change) -> Result<(), ServeFault>
         ensures sizes { self.new.publisher.sizes ≡ self.old.publisher.sizes }
         ensures longer { length (tape_of self.old.publisher) ≤ length (tape_of self.new.publisher) }
@@ -226,7 +225,7 @@ impl<'a, X: Write, Y: Write> Keeper<'a, X, Y> {
 
     /// Writes what is waiting to the tape's file, and the tape's length to the file beside it, and then publishes it. If
     /// either can't be written, nothing is published: so both writes have ended well before any desk sees the changes.
-    #[tactic(auto, using(crate::proofs::KeeperFacts::stands_still))]
+    #[tactic(auto, using(crate::proofs::KeeperFacts::stands_still, crate::proofs::KeeperFacts::as_long_published))]
     pub(crate) fn publish<R: Wait>(&mut self, rt: &R) -> Result<(), ServeFault>
         requires some { self.old.published < length (tape_of self.old.publisher) }
         ensures listed { OnOk result (Appends (Y.contents self.old.lengths) (Y.contents self.new.lengths) (length_line (length (tape_of self.old.publisher)))) }
@@ -234,6 +233,8 @@ impl<'a, X: Write, Y: Write> Keeper<'a, X, Y> {
         ensures published { OnOk result (changes self.new.publisher.published ≡ tape_of self.old.publisher) }
         ensures unpublished { OnErr result (self.new.publisher ≡ self.old.publisher) }
         ensures whole { OnOk result (self.new.publisher ≡ record self.old.publisher { published = committed self.old.publisher.published self.old.publisher.pending; pending = [] }) }
+        ensures sizes { self.new.publisher.sizes ≡ self.old.publisher.sizes }
+        ensures longer { length (tape_of self.old.publisher) ≤ length (tape_of self.new.publisher) }
     {
         match self.record() {
             Ok(()) => {}
