@@ -1,7 +1,8 @@
 #!/usr/bin/env bash
 # Prints how many changes a second the serving program takes from 1, 2, 4 and 8 pipes, each change recorded in the tape's
 # file, with its memory; and how long an answer takes on two pipes, from the write of the request to the answer's last
-# byte. The best of RUNS runs counts (3 if it is not set), of 1,000,000 changes and 60,000 requests. Needs a C compiler.
+# byte. The best of RUNS runs counts (3 if it is not set), of 1,000,000 changes and 60,000 requests. With DAY set, also a day
+# of 20,000,000 changes from one pipe, on tapes of 1,000,000: so it goes over epochs. Needs a C compiler.
 # The program is NMS_SERVE, or the one that ./nms_serve built.
 set -eu
 bench=$(cd "$(dirname "$0")" && pwd)
@@ -40,6 +41,25 @@ PY
     done
     awk -v f="$feeds" -v t="$best" -v m="$memory" 'BEGIN { printf "%-6d %15.0f %12d\n", f, 1e12 / t, m }'
 done
+
+if [ -n "${DAY:-}" ]; then
+    rm -f tape* pipe_*
+    sed 's/^tape_limit *=.*/tape_limit = 1000000/' "$load/1/setup-4.toml" >setup-day.toml
+    mkfifo pipe_a
+    for ((turn = 0; turn < 20; turn++)); do cat "$load/1/feed_a.csv"; done >pipe_a &
+    from=${EPOCHREALTIME/./}
+    memory=$(python3 - "$program" --setup setup-day.toml --feed A=pipe_a --tape tape <<'PY'
+import resource, subprocess, sys
+subprocess.run(sys.argv[1:], stdin=subprocess.DEVNULL, stderr=subprocess.DEVNULL, check=True)
+print(resource.getrusage(resource.RUSAGE_CHILDREN).ru_maxrss)
+PY
+)
+    took=$((${EPOCHREALTIME/./} - from))
+    wait
+    last=$(ls tape.*.published | sed 's/tape.//; s/.published//' | sort -n | tail -1)
+    awk -v t="$took" -v m="$memory" -v e="$last" 'BEGIN { printf "day    %15.0f %12d   up to epoch %d\n", 20e12 / t, m, e }'
+    rm -f tape*
+fi
 
 "${CC:-cc}" -O2 -o round_trips "$bench/round_trips.c"
 awk -F, '/^O/ { a[n++] = $0 } END {

@@ -23,6 +23,8 @@ import threading
 import time
 import tomllib
 
+import rules
+
 # The most bytes of a line, and the most changes of a batch.
 MOST_LINE, MOST_BATCH = 4096, 64
 # Seconds that a run may take.
@@ -61,13 +63,18 @@ def records(text):
 
 
 def blocks(text):
-    """The answers of a stream, each with all its lines."""
+    """The answers of a stream, each with all its lines, and with the epoch that it is of: `EPOCH,k` goes over to a later one."""
     lines = text.split(b"\n")
     if lines.pop():
         raise ValueError("the answers end within a line")
-    found, place = [], 0
+    found, place, epoch = [], 0, 0
     while place < len(lines):
         kind, *fields = lines[place].split(b",")
+        if kind == b"EPOCH":
+            if int(fields[0]) <= epoch or lines[place + 1 : place + 2] in ([], [b"EPOCH"]):
+                raise ValueError(f"{lines[place]} in epoch {epoch}")
+            epoch, place = int(fields[0]), place + 1
+            kind, *fields = lines[place].split(b",")
         end = place + 1
         if kind == b"THRU":
             end += int(fields[-1])
@@ -77,8 +84,49 @@ def blocks(text):
             raise ValueError(f"{lines[place]} begins no answer")
         if end > len(lines):
             raise ValueError("the last answer is cut")
-        found.append(b"".join(line + b"\n" for line in lines[place:end]))
+        found.append((epoch, b"".join(line + b"\n" for line in lines[place:end])))
         place = end
+    return found
+
+
+def read_epochs(tape):
+    """The epochs of a run: of each the changes of its tape, and the lengths that were published."""
+    epochs = []
+    while os.path.exists(path := f"{tape}.{len(epochs)}" if epochs else tape):
+        with open(path, "rb") as file, open(f"{path}.published", encoding="ascii") as lengths:
+            epochs.append((file.read().split(b"\n"), [int(line) for line in lengths.read().split()]))
+    return epochs
+
+
+def said_in(line):
+    """A change of a tape, as the plain slow program of the rules has it."""
+    kind, *fields = line.decode().split(",")
+    if kind == "R":
+        return kind, fields[0], int(fields[1])
+    if kind != "Q":
+        return (kind, *fields)
+    sides = {side: (rules.price_of(price), int(shares)) if price else None for side, price, shares in (("BID", *fields[3:5]), ("OFFER", *fields[5:7]))}
+    return kind, *fields[:3], sides
+
+
+def line_of(part, sym, state, sides):
+    """A quote as it stands on the tape."""
+    texts = (f"{rules.dollars(it[0])},{it[1]}" if it else "," for it in sides)
+    return f"Q,{part},{sym},{state},{','.join(texts)}".encode()
+
+
+def opening_of(lines, parts, lots):
+    """The opening changes of a tape's board, from all that it says: of each symbol its lot, if it is not the setup's, and then
+    the sides that stand in order of receipt, each with those of its participant that came before."""
+    tape, found = [said_in(line) for line in lines], []
+    for sym, opened in lots.items():
+        now = rules.lot(tape, sym, lots)
+        if now != opened:
+            found.append(f"R,{sym},{now}".encode())
+        held = {part: [rules.content(tape, part, sym, side) for side in ("BID", "OFFER")] for part in parts}
+        for since, part in sorted({(it[2], part) for part, sides in held.items() for it in sides if it}):
+            sides = [it and (it[:2] if it[2] <= since else None) for it in held[part]]
+            found.append(line_of(part, sym, rules.state(tape, part, sym), sides))
     return found
 
 
@@ -106,58 +154,86 @@ def script_of(changes, published, asked, queue):
     return waiting, b"".join(line + b"\n" for line in lines)
 
 
-def expected(tool, setup, changes, published, clients):
-    """What TOOL answers: for each client a list of answers, from the versions that its answers name."""
+def expected(tool, setup, epochs, clients):
+    """What TOOL answers, for each epoch a script: for each client a list of answers, from the epochs and versions of its own."""
     with open(setup, "rb") as file:
         queue = tomllib.load(file)["queue"]
-    asked, wanted = [], [[None] * len(asks) for asks, _ in clients]
+    asked, wanted = [[] for _ in epochs], [[None] * len(asks) for asks, _ in clients]
     for client, (asks, answers) in enumerate(clients):
-        version = 0
-        for place, (ask, answer) in enumerate(zip(asks, answers)):
-            version = version_of(answer) if version_of(answer) is not None else version
+        version, last = 0, 0
+        for place, (ask, (epoch, answer)) in enumerate(zip(asks, answers)):
+            version = version_of(answer) if version_of(answer) is not None else version if epoch == last else 0
+            last = epoch
             if ask.split(b",")[0] in (b"N", b"E", b"O"):
-                asked.append((version, client, place, ask))
+                asked[epoch].append((version, client, place, ask))
             else:
                 wanted[client][place] = b"ERR,%d,L1\n" % (place + 1)
-    order, script = script_of(changes, published, asked, queue)
-    words = [tool, "script", "--setup", setup]
-    ran = subprocess.run(words, input=script, stdout=subprocess.PIPE, check=False, timeout=3600)
-    if ran.returncode != 0:
-        raise ValueError(f"{tool} ended with {ran.returncode}")
-    text = b"".join(line + b"\n" for line in ran.stdout.split(b"\n")[:-1] if not line.startswith(b"PUB,"))
-    for (_, client, place, _), block in zip(order, blocks(text), strict=True):
-        wanted[client][place] = re.sub(rb"^ERR,\d+", b"ERR,%d" % (place + 1), block)
+    for (changes, published), asks in zip(epochs, asked):
+        order, script = script_of(changes, published, asks, queue)
+        words = [tool, "script", "--setup", setup]
+        ran = subprocess.run(words, input=script, stdout=subprocess.PIPE, check=False, timeout=3600)
+        if ran.returncode != 0:
+            raise ValueError(f"{tool} ended with {ran.returncode}")
+        text = b"".join(line + b"\n" for line in ran.stdout.split(b"\n")[:-1] if not line.startswith(b"PUB,"))
+        for (_, client, place, _), (_, block) in zip(order, blocks(text), strict=True):
+            wanted[client][place] = re.sub(rb"^ERR,\d+", b"ERR,%d" % (place + 1), block)
     return wanted
 
 
+def check_epochs(what, setup, epochs):
+    """Whether each epoch's tape is whole and published in batches, and begins with the opening changes of the one before; and
+    how many opening changes each has."""
+    with open(setup, "rb") as file:
+        told = tomllib.load(file)
+    limit, lots = told["tape_limit"], {it["name"]: it["lot"] for it in told["symbol"]}
+    parts, before, good, counts = [it["name"] for it in told["participant"]], None, True, []
+    for number, (changes, published) in enumerate(epochs):
+        name, begun = f"{what}: epoch {number}", 0
+        good &= check(f"{name}: the tape ends with a line", changes.pop() == b"")
+        if before is not None:
+            opened = opening_of(before, parts, lots)
+            good &= check(f"{name}: its opening changes", changes[: len(opened)] == opened, (changes[:9], opened[:9]))
+            good &= check(f"{name}: they are published at once", not opened or published[:1] == [len(opened)], published[:9])
+            good &= check(f"{name}: the tape before it was full", len(before) == limit and len(changes) > len(opened), len(before))
+            begun = len(opened)
+        rest = published[begun > 0 :]
+        rising = all(low < high <= low + MOST_BATCH for low, high in zip([begun, *rest], rest))
+        good &= check(f"{name}: the published lengths rise by 1 to {MOST_BATCH}", rising, published[:50])
+        good &= check(f"{name}: the whole tape was published", (published or [0])[-1] == len(changes) <= limit, (published[-3:], len(changes)))
+        before = changes
+        counts.append(begun)
+    return good, counts
+
+
+def taken_in(epochs, begun):
+    """The changes of feeds in all epochs, in order: those of the tapes without the opening changes."""
+    return [line for (changes, _), count in zip(epochs, begun) for line in changes[count:]]
+
+
 def replay(what, tool, setup, tape, streams):
-    """Checks a run that is over: its tape's file, and each client's requests and answers as bytes."""
-    with open(tape, "rb") as file:
-        changes = file.read().split(b"\n")
-    with open(f"{tape}.published", encoding="ascii") as file:
-        published = [int(line) for line in file.read().split()]
-    good = check(f"{what}: the tape ends with a line", changes.pop() == b"")
-    rising = all(low < high <= low + MOST_BATCH for low, high in zip([0, *published], published))
-    good &= check(f"{what}: the published lengths rise by 1 to {MOST_BATCH}", rising, published[:50])
-    good &= check(f"{what}: the whole tape was published", (published or [0])[-1] == len(changes), (published[-3:], len(changes)))
+    """Checks a run that is over: its tape's files, and each client's requests and answers as bytes."""
+    epochs = read_epochs(tape)
+    good, begun = check_epochs(what, setup, epochs)
     try:
         clients = [(records(asks), blocks(answers)) for asks, answers in streams]
     except ValueError as error:
         return check(f"{what}: the answers are whole", False, error)
     for number, (asks, answers) in enumerate(clients, 1):
         good &= check(f"{what}: client {number} has an answer to each request", len(asks) == len(answers), (len(asks), len(answers)))
-        versions = [it for it in map(version_of, answers) if it is not None]
-        good &= check(f"{what}: the versions of client {number} do not fall", versions == sorted(versions))
-        stray = set(versions) - {0, *published}
+        versions = [(epoch, version_of(it)) for epoch, it in answers if version_of(it) is not None]
+        good &= check(f"{what}: the epochs and versions of client {number} do not fall", versions == sorted(versions))
+        known = {(epoch, version) for epoch, (_, published) in enumerate(epochs) for version in published}
+        known |= {(epoch, 0) for epoch, count in enumerate(begun) if not count}
+        stray = set(versions) - known
         good &= check(f"{what}: each version of client {number} was published", not stray, sorted(stray)[:9])
     if not good:
         return False
     try:
-        wanted = expected(tool, setup, changes, published, clients)
+        wanted = expected(tool, setup, epochs, clients)
     except ValueError as error:
         return check(f"{what}: it is a script", False, error)
     for number, ((asks, answers), want) in enumerate(zip(clients, wanted), 1):
-        wrong = next(((ask, got, it) for ask, got, it in zip(asks, answers, want) if got != it), None)
+        wrong = next(((ask, got, it) for ask, (_, got), it in zip(asks, answers, want) if got != it), None)
         good &= check(f"{what}: the answers of client {number} are the script's", wrong is None, wrong)
     return good
 
@@ -167,23 +243,24 @@ def replay(what, tool, setup, tape, streams):
 class Drawn:
     """A setup with its feeds' texts, what they say, and the clients' requests."""
 
-    def __init__(self, chance):
+    def __init__(self, chance, is_short):
         self.chance = chance
         self.feeds = chance.choice([1, 2, 2, 3, 4, 8])
         self.desks, self.queue = chance.choice([1, 2, 4, 16]), chance.choice([2, 16, 64, 1024])
         self.parts = {f"P{letter}{place}": letter for letter in LETTERS[: self.feeds] for place in range(chance.choice([1, 2, 4]))}
         self.syms = ["ABC", "BRK.A", "PNY", "XYZ"][: chance.choice([1, 2, 4])]
         self.base = chance.choice([100_000, 9_999, 1_234_500])
+        self.limit = 2 * len(self.syms) * (2 * len(self.parts) + 1) + chance.choice([0, 0, 1, 30, 300]) if is_short else 1_000_000
         self.texts, self.said, self.read, self.refused = {}, {}, {}, {}
         for letter in LETTERS[: self.feeds]:
-            self.draw_feed(letter, chance.choice([0, 20, 400, 3000]))
+            self.draw_feed(letter, chance.choice([0, 20, 400, 3000]) + 5 * self.limit * (is_short and letter == "A"))
         self.clients = [self.draw_requests(chance.choice([0, 5, 200, 800])) for _ in range(min(self.desks, chance.choice([1, 1, 2, 3])))]
 
     def setup(self):
         fee = 'fee = {fee}, rate = {rate}'
         rows = [f'{{name = "{name}", feed = "{feed}", {fee.format(fee=3_000_000 - 100_000 * i, rate=300 - i)}}}' for i, (name, feed) in enumerate(self.parts.items())]
         syms = [f'{{name = "{name}", lot = 100}}' for name in self.syms]
-        head = f"tape_limit = 1000000\nqueue = {self.queue}\ndesks = {self.desks}\nfeeds = {self.feeds}\n"
+        head = f"tape_limit = {self.limit}\nqueue = {self.queue}\ndesks = {self.desks}\nfeeds = {self.feeds}\n"
         return f"{head}participant = [{', '.join(rows)}]\nsymbol = [{', '.join(syms)}]\n"
 
     def price(self):
@@ -328,10 +405,10 @@ def is_merge(tape, said, feed_of):
     return parts == said
 
 
-def run_at_random(seed, program, tool):
-    """A run over FIFOs, and its replay."""
+def run_at_random(seed, program, tool, is_short=False):
+    """A run over FIFOs, and its replay; with a short tape over at least five epochs."""
     chance, what = random.Random(seed), f"run {seed}"
-    drawn, room = Drawn(chance), Room(program, tool)
+    drawn, room = Drawn(chance, is_short), Room(program, tool)
     setup, tape = room.write("setup.toml", drawn.setup()), room.path("tape")
     words, threads, pace = ["--setup", setup, "--tape", tape], [], chance.choice([0, 0.0005, 0.003])
     for letter, text in drawn.texts.items():
@@ -350,8 +427,10 @@ def run_at_random(seed, program, tool):
     good = check(f"{what}: its status", status == (6 if refused else 0), (status, errors))
     for caller in callers:
         caller.join(10)
-    with open(tape, "rb") as file:
-        changes = file.read().split(b"\n")[:-1]
+    epochs = read_epochs(tape)
+    counts = check_epochs(what, setup, epochs)[1]
+    changes = taken_in(epochs, counts)
+    good &= check(f"{what}: its epochs", len(epochs) > 4 if is_short else len(epochs) == 1, len(epochs))
     kinds = {name.encode(): letter for name, letter in drawn.parts.items()}
     good &= check(f"{what}: the tape is a merge of the feeds", is_merge(changes, drawn.said, lambda line: "A" if line.startswith(b"R") else kinds[line.split(b",")[1]]))
     for letter in drawn.texts:
@@ -424,7 +503,7 @@ def refused_words(program, tool):
             it.ends(it.room.start("--setup", it.setup, "--tape", "t", *words, cwd=it.room.folder), 2, f"usage: {said}")
     with Failing(program, tool, "a tape with something in it") as it:
         it.room.write("tape", "Q\n")
-        it.ends(it.room.start(*it.words("/dev/null")), 2, "usage: there is something in the tape's file, or in FILE.published, already")
+        it.ends(it.room.start(*it.words("/dev/null")), 2, "usage: there is something in the tape's file, or in FILE.published or FILE.1, already")
         it.tape_is(b"Q\n")
     with Failing(program, tool, "no setup") as it:
         it.ends(it.room.start("--setup", it.room.path("none"), "--tape", it.tape, "--feed", "A=a"), 1, "E1: the setup could not be read")
@@ -471,10 +550,101 @@ def failing_paths(program, tool):
         os.close(reader)
 
 
+SHORT = SETUP.replace("1000000", "10")
+
+
+def bytes_of(path):
+    with open(path, "rb") as file:
+        return file.read()
+
+
 def full_tape(program, tool):
-    with Failing(program, tool, "a tape that is full", SETUP.replace("1000000", "3")) as it:
-        feed = it.room.write("a", GOOD * 2 + OTHER * 5)
-        it.ends(it.room.start(*it.words(feed, it.room.fifo("b")), stdin=subprocess.PIPE), 7, "E7: the tape is full")
+    """A tape that is full: the next epoch goes on in files of its own, which have to be empty."""
+    with Failing(program, tool, "a tape without room for epochs", SETUP.replace("1000000", "9")) as it:
+        said = "E6: tape_limit has no room for twice the most opening changes: 2 a participant and 1, for each symbol"
+        it.ends(it.room.start(*it.words("/dev/null")), 3, said)
+        check(f"{it.what}: no file is made", not os.path.exists(it.tape))
+    for name in ("tape.1", "tape.1.published"):
+        with Failing(program, tool, f"{name} with something in it", SHORT) as it:
+            it.room.write(name, "Q\n")
+            it.ends(it.room.start(*it.words("/dev/null")), 2, "usage: there is something in the tape's file, or in FILE.published or FILE.1, already")
+    for count, last in ((10, 0), (11, 1), (18, 1), (19, 2)):
+        with Failing(program, tool, f"{count} changes on tapes of 10", SHORT) as it:
+            # Two sides of one participant stand with two receipts: the second epoch begins with two opening changes.
+            feed = it.room.write("a", GOOD + b"".join(GOOD.replace(b"10.01", b"10.%02d" % (place + 2)) for place in range(count - 1)))
+            status, _, errors = end_of(it.what, it.room.start(*it.words(feed)))
+            told = f", up to epoch {last}\n" if last else " times\n"
+            check(it.what, status == 0 and f"nms_serve: {count} changes, published " in errors and errors.endswith(told), (status, errors))
+            check(f"{it.what}: its files", len(read_epochs(it.tape)) == last + 1)
+            replay(it.what, tool, it.setup, it.tape, [])
+    for name, said in (
+        ("tape.2", "E2: there is something in the tape of the next epoch already"),
+        ("tape.2.published", "E2: there is something in the file of published lengths of the next epoch already"),
+    ):
+        with Failing(program, tool, f"{name} with something in it", SHORT) as it:
+            it.room.write(name, "Q\n")
+            feed = it.room.write("a", (GOOD + OTHER) * 20)
+            it.ends(it.room.start(*it.words(feed, it.room.fifo("b")), stdin=subprocess.PIPE), 1, said)
+            counts = [text.count(b"\n") for text in map(bytes_of, (it.tape, f"{it.tape}.1"))]
+            check(f"{it.what}: the tapes before it are whole", counts == [10, 10], counts)
+    for name, said in (("tape.1", "E2: the tape could not be written"), ("tape.1.published", "E2: the file of published lengths could not be written")):
+        with Failing(program, tool, f"a full disk for {name}", SHORT) as it:
+            os.symlink("/dev/full", it.room.path(name))
+            feed = it.room.write("a", (GOOD + OTHER) * 20)
+            it.ends(it.room.start(*it.words(feed, it.room.fifo("b")), stdin=subprocess.PIPE), 1, said)
+
+
+def epoch_borders(program, tool):
+    """A client that asks before and after each change goes over at each border, and is shown the same quotations there."""
+    with Failing(program, tool, "a client at each border", SHORT) as it:
+        fifo, asks, answers = it.room.fifo("a"), [], []
+        started, epoch, version = it.room.start(*it.words(fifo), stdin=subprocess.PIPE), 0, 0
+
+        def asked(line):
+            """The answer to a request, with the epoch's line before it."""
+            asks.append(line)
+            answers.append(first := ask(started, line))
+            if first.startswith(b"EPOCH,"):
+                answers.append(ask(started, b""))
+            return b"".join(answers[-2:] if first.startswith(b"EPOCH,") else answers[-1:])
+
+        with open(fifo, "wb", buffering=0) as feed:
+            shown = None
+            for turn in range(60):
+                feed.write(GOOD)
+                border = version == 10
+                epoch, version = (epoch + 1, 2) if border else (epoch, version + 1)
+                # Both sides stand with one receipt: one opening change, then this change.
+                lines = b""
+                for _ in range(1000):
+                    answer = asked(b"N,0,ABC\n")
+                    lines += answer
+                    if b",ABC,%d," % version in answer:
+                        break
+                wanted = [b"EPOCH,%d" % epoch] * border
+                if not check(f"{it.what}: turn {turn}", [line for line in lines.split(b"\n") if line.startswith(b"EPOCH")] == wanted, lines[-300:]):
+                    break
+                rows = re.sub(rb",\d+(?=,N,|\n)", b"", answer.split(b"\n")[-2] + b"\n").split(b",")[4:]
+                check(f"{it.what}: turn {turn} shows the same", shown in (None, rows), (shown, rows))
+                shown = rows
+        check(f"{it.what}: its epochs", epoch > 5, epoch)
+        started.stdin.close()
+        Heard(started).ends(it.what, 0)
+        replay(it.what, tool, it.setup, it.tape, [(b"".join(asks), b"".join(answers))])
+    with Failing(program, tool, "a client that asks nothing for some epochs", SHORT) as it:
+        fifo = it.room.fifo("a")
+        started = it.room.start(*it.words(fifo), stdin=subprocess.PIPE)
+        heard = Heard(started)
+        with open(fifo, "wb", buffering=0) as feed:
+            feed.write((GOOD + OTHER) * 25)
+            for _ in range(1000):
+                first = ask(started, b"N,0,ABC\n")
+                if first.startswith(b"EPOCH,"):
+                    break
+                time.sleep(0.01)
+            check(f"{it.what}: it is in the latest", first in (b"EPOCH,%d\n" % epoch for epoch in range(1, 8)), first)
+        started.stdin.close()
+        heard.ends(it.what, 0)
 
 
 def refused_records(program, tool):
@@ -677,6 +847,26 @@ def kept_feeds(program, tool):
         heard.ends(it.what, 6, 5)
         check(f"{it.what}: its summary", "feed A: 203 records, 1 refused" in heard.lines, heard.lines)
         it.tape_is(b"".join(stood(line) for line in [GOOD, OTHER] + [GOOD] * 200))
+    with Failing(program, tool, "a kept feed that is removed and made again") as it:
+        fifo = it.room.fifo("a")
+        started = it.room.start(*it.words(fifo, "/dev/null", "--keep"), stdin=subprocess.PIPE)
+        heard, sent = Heard(started), 0
+        for turn in range(20):
+            with open(fifo, "wb", buffering=0) as feed:
+                feed.write(GOOD + OTHER * (turn % 3))
+                sent += 1 + turn % 3
+                if turn % 4:
+                    check(f"{it.what}: turn {turn} is read", seen(started, sent))
+            # Where this is not waited for, the former FIFO still has what was sent.
+            os.remove(fifo)
+            time.sleep(0.02 * (turn % 2))
+            it.room.fifo("a")
+        check(f"{it.what}: all is read", seen(started, sent))
+        time.sleep(0.1)
+        check(f"{it.what}: the last is waited for", started.poll() is None)
+        started.stdin.close()
+        heard.ends(it.what, 0, 5)
+        check(f"{it.what}: its summary", f"feed A: {sent} records, 0 refused" in heard.lines, heard.lines)
     with Failing(program, tool, "a kept feed with a writer, when the clients end") as it:
         fifo = it.room.fifo("a")
         started = it.room.start(*it.words(fifo, "/dev/null", "--keep"), stdin=subprocess.PIPE)
@@ -697,9 +887,10 @@ def kept_feeds(program, tool):
         Heard(started).ends(it.what, 0, 5)
     for what, text, status, said in (
         ("a half line of a kept feed, strict", GOOD + OTHER[:-9], 6, "E5: A:2: L1"),
-        ("a kept feed that waits, and a tape that is full", GOOD * 4, 7, "E7: the tape is full"),
+        ("a kept feed that waits, and a next tape that is not empty", (GOOD + OTHER) * 20, 1, "E2: there is something in the tape of the next epoch already"),
     ):
-        with Failing(program, tool, what, SETUP.replace("1000000", "3")) as it:
+        with Failing(program, tool, what, SHORT) as it:
+            it.room.write("tape.2", "Q\n")
             fifos = it.room.fifo("a"), it.room.fifo("b")
             started = it.room.start(*it.words(*fifos, "--keep", "--strict", "--stale", "9", "--wait"), stdin=subprocess.PIPE)
             for fifo, line in ((fifos[1], b""), (fifos[0], text)):
@@ -832,10 +1023,11 @@ def main():
         runs, seed = int((sys.argv[3:] or [20])[0]), int((sys.argv[4:] or [611])[0])
         waiting = threading.Thread(target=silent_feeds, args=(program, tool))
         waiting.start()
-        for part in (refused_words, failing_paths, full_tape, refused_records, torn_feeds, held_requests, kept_feeds, written_first, signals, little_memory):
+        for part in (refused_words, failing_paths, full_tape, epoch_borders, refused_records, torn_feeds, held_requests, kept_feeds, written_first, signals, little_memory):
             part(program, tool)
         for number in range(runs):
             run_at_random(seed + number, program, tool)
+            run_at_random(seed + 1000 + number, program, tool, is_short=True)
         waiting.join()
         check("silent feeds were tested to their end", Count.silences == 1)
     print(f"{Count.passed} passed, {Count.failed} failed")

@@ -1,4 +1,5 @@
 mod AnswerFacts
+mod EpochFacts
 mod KnownFacts
 mod ProgressFacts
 mod RequestFacts

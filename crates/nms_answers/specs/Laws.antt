@@ -1,4 +1,4 @@
--- The law above a client's answers: they are a script's. This product's own rule.
+-- The laws above a client's answers: they are a script's, and its epochs never fall. This product's own rule.
 use Rattle.std.specs.Prelude.{ℕ, ◌≡◌, ◌++◌, ◌∷◌, List, [], true, Option, Some, None}
 use Rattle.std.specs.List.{AllByRecursion}
 use Rattle.nms_quote.specs.Tape.{Tape}
@@ -7,8 +7,10 @@ use Rattle.nms_lines.specs.Layout.{Record, field, kind_named}
 use Rattle.nms_flow.specs.Run.{Event}
 use Rattle.nms_scripts.specs.Script as script
 use Rattle.nms_answers.specs.Requests.{is_asked}
-use Rattle.nms_answers.specs.Streams.{AnswersFrom}
+use Rattle.nms_answers.specs.Epochs.{KeepsEpochs}
+use Rattle.nms_answers.specs.Streams.{AnswersFrom, ServesFrom}
 use Rattle.nms_answers.specs.Told.{look_at}
+use Rattle.nms_answers.specs.declared.epoch_desk.EpochDesk.{EpochDesk}
 
 -- a record of a kind that asks for a look
 abbrev pub IsAsked : Record → Type 0
@@ -27,3 +29,15 @@ abbrev pub AnswersAsAScript : Type 0
 AnswersAsAScript = (settings : Settings) (number : ℕ) (requests : List Record) (looks : List (Option Tape)) (told : List Record)
     → AllByRecursion IsAsked requests → AnswersFrom settings number requests looks told
     → (events : List Event) × script.AnswersFrom settings number requests events told × AreLooksAt settings looks events
+
+-- what is told of the requests of a client that goes over from epoch to epoch is what is told of them in one
+abbrev pub ServesAsAnswers : Type 0
+ServesAsAnswers = (settings : Settings) (number : ℕ) (requests : List Record) (old new : EpochDesk) (looks : List (Option Tape))
+    (told shown : List Record)
+    → ServesFrom settings number requests old new looks told shown → AnswersFrom settings number requests looks told
+
+-- its epochs never fall, and in one epoch each version begins with all that it saw before
+abbrev pub EpochsNeverFall : Type 0
+EpochsNeverFall = (settings : Settings) (number : ℕ) (requests : List Record) (old new : EpochDesk) (looks : List (Option Tape))
+    (told shown : List Record)
+    → ServesFrom settings number requests old new looks told shown → KeepsEpochs old new

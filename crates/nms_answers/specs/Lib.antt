@@ -1,6 +1,7 @@
 pub use Rattle.nms_scripts.specs.Script as Script
 pub use Rattle.nms_versions.specs.Taped as Taped
 pub use Rattle.nms_whole.specs.Lines as WholeLines
+pub mod Epochs
 pub mod Faults
 pub mod Laws
 pub mod Progress

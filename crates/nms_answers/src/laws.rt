@@ -1,8 +1,15 @@
-//! The law above a client's answers: `specs/Laws`. The function does nothing: its contract is the law.
-ghost use Rattle.nms_answers.specs.Laws.{AnswersAsAScript};
+//! The laws above a client's answers: `specs/Laws`. Each function does nothing: its contract is the law.
+ghost use Rattle.nms_answers.specs.Laws.{AnswersAsAScript, EpochsNeverFall, ServesAsAnswers};
 
 /// What a client is told of its requests is what a script of the same records tells, if each of its looks sees the
 /// version that the client's answer is on.
 pub fn a_client_is_answered_as_a_script()
     ensures { AnswersAsAScript }
+{}
+
+/// A client that goes over from epoch to epoch is told of its requests what is told of them in one. Its epochs never fall, and
+/// in one epoch each version that it sees begins with all that it saw of it before.
+pub fn a_client_goes_from_epoch_to_epoch()
+    ensures answers { ServesAsAnswers }
+    ensures epochs { EpochsNeverFall }
 {}

@@ -3,6 +3,8 @@
 
 mod answer_fault;
 mod answering;
+mod epoch_desk;
+mod epoch_request;
 mod laws;
 mod request;
 mod request_counts;
@@ -13,7 +15,9 @@ pub const MOST_REQUESTS: u64 = 1 << 40;
 
 pub use answer_fault::AnswerFault;
 pub use answering::{answer_best, answer_order, answer_through};
-pub use laws::a_client_is_answered_as_a_script;
+pub use epoch_desk::{EpochDesk, LaterDesks};
+pub use epoch_request::answer_latest;
+pub use laws::{a_client_goes_from_epoch_to_epoch, a_client_is_answered_as_a_script};
 pub use request::answer_request;
 pub use request_counts::RequestCounts;
 pub use request_stream::answer_stream;

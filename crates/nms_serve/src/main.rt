@@ -4,6 +4,7 @@
 mod opening;
 mod program_fault;
 mod setting_up;
+mod tape_paths;
 mod telling;
 
 use nms_serve_words::{Request, WordsFault, read_words};

@@ -1,14 +1,13 @@
 //! A request served: its files are opened, the board is opened, and the run is run.
 use crate::program_fault::ProgramFault;
+use crate::tape_paths::TapePaths;
 use crate::telling::{tell_client, tell_feed, tell_tape};
 use nms_fees::Setup;
 use nms_serve_words::{ClientPaths, FeedPath, Request};
 use nms_serving::{
-    ClientStreams, Door, Doors, Guarded, Means, Run, ServeFault, Served, Stream, serve,
+    ClientStreams, Door, Doors, Means, Run, ServeFault, Served, has_room_for_epochs, serve,
 };
 use std::alloc::{AllocError, Global};
-use std::fs;
-use std::fs::{File, OpenOptions};
 use std::sync::Wait;
 use std::thread::Threads;
 
@@ -25,6 +24,9 @@ pub(crate) fn serve_request<R: Threads + Wait + Sync>(
     }
     if request.clients.len() > usize::from(setup.desks()) {
         return Err(ProgramFault::MoreClients);
+    }
+    if !has_room_for_epochs(setup) {
+        return Err(ProgramFault::ShortTape);
     }
     let alloc = host.alloc();
     let (Ok(feeds), Ok(clients)) = (
@@ -52,12 +54,14 @@ fn serve_streams<R: Threads + Wait + Sync>(
     doors: &Doors<'_>,
     path: &str,
 ) -> Result<u8, ProgramFault> {
-    let (tape, lengths) = open_files(means.host, means.alloc, path)?;
-    let (tape, lengths) = (
-        Guarded::new(tape, means.run),
-        Guarded::new(lengths, means.run),
-    );
-    let served = match serve(means, doors, tape, lengths) {
+    let paths = TapePaths {
+        host: means.host,
+        alloc: means.alloc,
+        run: means.run,
+        path,
+    };
+    let (tape, lengths) = paths.open_first()?;
+    let served = match serve(means, doors, tape, lengths, &paths) {
         Ok(served) => served,
         Err(fault) => return Err(ProgramFault::Serving(fault)),
     };
@@ -76,7 +80,7 @@ fn tell_served(host: &HostRuntime, served: &Served) {
     for end in &served.clients {
         tell_client(host, end);
     }
-    tell_tape(host, served.changes, served.publishings);
+    tell_tape(host, served.changes, served.publishings, served.epochs);
 }
 
 /// The exit status of a run that came to its end.
@@ -85,29 +89,6 @@ fn status_of(served: &Served) -> u8 {
         6
     } else {
         0
-    }
-}
-
-/// Opens the file of the tape, and the file of the lengths beside it. Each has to be empty, or missing.
-fn open_files(host: &HostRuntime, alloc: Global, tape: &str) -> Result<(File, File), ProgramFault> {
-    let Ok(lengths) = format!(in alloc; "{tape}.published") else {
-        return Err(no_memory());
-    };
-    let tape = open_empty(host, tape, Stream::Tape)?;
-    let lengths = open_empty(host, lengths.as_str(), Stream::Lengths)?;
-    Ok((tape, lengths))
-}
-
-/// Opens a file to write it, which has to be empty or missing.
-fn open_empty(host: &HostRuntime, path: &str, stream: Stream) -> Result<File, ProgramFault> {
-    if let Ok(found) = fs::metadata(host, path) {
-        if found.len() > 0 {
-            return Err(ProgramFault::TapeThere);
-        }
-    }
-    match OpenOptions::new().write(true).create(true).open(host, path) {
-        Ok(file) => Ok(file),
-        Err(_) => Err(ProgramFault::Serving(ServeFault::NotOpened(stream))),
     }
 }
 

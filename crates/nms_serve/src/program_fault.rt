@@ -25,9 +25,12 @@ pub(crate) enum ProgramFault {
     /// The setup is refused.
     #[error("{0}")]
     Setup(SetupFault),
-    /// There is something in the tape's file already.
-    #[error("usage: there is something in the tape's file, or in FILE.published, already")]
+    /// There is something in one of the tape's files already.
+    #[error("usage: there is something in the tape's file, or in FILE.published or FILE.1, already")]
     TapeThere,
+    /// The tape of the setup has no room for epochs.
+    #[error("E6: tape_limit has no room for twice the most opening changes: 2 a participant and 1, for each symbol")]
+    ShortTape,
     /// The run ended early, or did not begin.
     #[error("{0}")]
     Serving(ServeFault),
@@ -43,6 +46,7 @@ impl ProgramFault {
             | ProgramFault::MoreClients
             | ProgramFault::TapeThere => 2,
             ProgramFault::NoSetup => 1,
+            ProgramFault::ShortTape => 3,
             ProgramFault::Setup(fault) => fault.status(),
             ProgramFault::Serving(fault) => fault.status(),
         }

@@ -41,7 +41,13 @@ pub(crate) fn tell_client(host: &HostRuntime, end: &ClientEnd) {
     };
 }
 
-/// Reports what the tape came to.
-pub(crate) fn tell_tape(host: &HostRuntime, changes: u64, publishings: u64) {
-    let _ = eprintln!(host; "nms_serve: {changes} changes, published {publishings} times");
+/// Reports what the tape came to. The first epoch has no number.
+pub(crate) fn tell_tape(host: &HostRuntime, changes: u64, publishings: u64, epochs: u64) {
+    let _ = if epochs == 0 {
+        eprintln!(host; "nms_serve: {changes} changes, published {publishings} times")
+    } else {
+        eprintln!(host;
+            "nms_serve: {changes} changes, published {publishings} times, up to epoch {epochs}"
+        )
+    };
 }

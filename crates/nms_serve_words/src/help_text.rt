@@ -11,6 +11,8 @@ pub(crate) const AFTER_HELP: &str =
     "A path may be a FIFO: it is read, or written, as its other end comes and goes.
 Without --client, requests come from standard input and answers go to standard
 output. Beside the tape's file, FILE.published has its length at each publishing.
+Where the tape has as many changes as the setup's tape_limit, an epoch begins: its tape
+is FILE.1, then FILE.2 and so on, and EPOCH,1 stands before a client's first answer there.
 
 With --keep a feed's FIFO is at its end when its writer has left and all clients
 have ended: until then it waits for its next writer.
@@ -24,7 +26,7 @@ Exit statuses:
   0  all streams ended, and no record was refused
   1  a stream could not be opened, read or written
   2  the words were refused
-  3  the setup was refused
+  3  the setup was refused, or its tape_limit has no room for epochs
   5  out of memory
   6  all streams ended, and a record was refused
   7  a board could not begin, or its tape was full

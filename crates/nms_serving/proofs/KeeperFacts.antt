@@ -1,8 +1,135 @@
--- How many changes of a tape were published.
-use Rattle.std.proofs.Common.{◌≤◌, length, arith, length-append}
-use Rattle.nms_versions.specs.Published.{changes}
+-- What a keeper's tape, its board and its published version are to one another.
+use Rattle.std.proofs.Common.{ℕ, ◌≡◌, ◌+◌, ◌<◌, ◌≤◌, ◌++◌, List, [], ◌∷◌, Option, Some, None, length, take, drop, fold}
+use Rattle.std.proofs.Common.{refl, sym, ap, subst, ◌∙◌, arith, length-append, append_assoc}
+use Rattle.std.proofs.lemmas.List.{append-nil, take_more}
+use Rattle.std.proofs.lemmas.List.Sums.{fold-append}
+use Rattle.std.specs.Prelude.{get_or}
+use Rattle.std.specs.Io.KnownBytes.{Appends}
+use Rattle.nms_quote.specs.Roster.{Listing, Sizes}
+use Rattle.nms_quote.specs.declared.change.Change.{Change}
+use Rattle.nms_board.specs.Cells.{Board, after, opening}
+use Rattle.nms_change_text.specs.ChangeText.{changes_text}
+use Rattle.nms_opening.specs.Alike.{ShowAlike}
+use Rattle.nms_opening.specs.Opening.{Opens}
+use Rattle.nms_versions.specs.Published.{changes, committed}
 use Rattle.nms_versions.specs.Taped.{Taped, tape_of}
 
--- not more than were appended
+-- not more were published than were appended
 pub published_within : (taped : Taped) → length (changes taped.published) ≤ length (tape_of taped)
 published_within taped = omega (arith, length-append (changes taped.published) taped.pending)
+
+-- the board of a tape that was just opened
+pub stands_empty : (sizes : Sizes) (taped : Taped) (board : Board) → board ≡ opening sizes → tape_of taped ≡ []
+    → board ≡ fold after (opening sizes) (tape_of taped)
+stands_empty sizes taped board is none = rw none is
+
+-- one more change was appended, and applied to the board
+pub stands_on : (taped later : Taped) (board new : Board) (change : Change) → board ≡ fold after (opening taped.sizes) (tape_of taped)
+    → later ≡ record taped { pending = taped.pending ++ change ∷ [] } → new ≡ after board change
+    → new ≡ fold after (opening later.sizes) (tape_of later)
+stands_on taped later board new change stood is moved =
+    let more : fold after (opening taped.sizes) (changes taped.published ++ (taped.pending ++ change ∷ [])) ≡ after board change =
+    ap (fold after (opening taped.sizes)) (sym (append_assoc (changes taped.published) taped.pending (change ∷ [])))
+    ∙ fold-append after (opening taped.sizes) (tape_of taped) (change ∷ [])
+    ∙ ap (λ (b : Board). after b change) (sym stood) in
+    rw is (moved ∙ sym more)
+
+pub sized_on : (taped later : Taped) (board new : Board) (change : Change) → board.sizes ≡ taped.sizes
+    → later ≡ record taped { pending = taped.pending ++ change ∷ [] } → new ≡ after board change → new.sizes ≡ later.sizes
+sized_on taped later board new change sized is moved = ap (λ (b : Board). b.sizes) moved ∙ sized ∙ sym (ap (λ (t : Taped). t.sizes) is)
+
+-- the tape is the same after a publishing
+whole_tape : (taped later : Taped) → later ≡ record taped { published = committed taped.published taped.pending; pending = [] }
+    → changes later.published ≡ tape_of taped → tape_of later ≡ tape_of taped
+whole_tape taped later is whole =
+    ap (λ (p : List Change). changes later.published ++ p) (ap (λ (t : Taped). t.pending) is) ∙ append-nil (changes later.published) ∙ whole
+
+pub stands_still : (taped later : Taped) (board : Board) → board ≡ fold after (opening taped.sizes) (tape_of taped)
+    → later ≡ record taped { published = committed taped.published taped.pending; pending = [] }
+    → changes later.published ≡ tape_of taped → board ≡ fold after (opening later.sizes) (tape_of later)
+stands_still taped later board stood is whole =
+    let sizes : later.sizes ≡ taped.sizes = ap (λ (t : Taped). t.sizes) is in
+    rw (sizes, whole_tape taped later is whole) stood
+
+-- the tape grows, and a publishing takes nothing from it
+pub longer_appended : (taped later : Taped) (change : Change) → later ≡ record taped { pending = taped.pending ++ change ∷ [] }
+    → length (tape_of taped) ≤ length (tape_of later)
+longer_appended taped later change is =
+    rw is (omega (
+      arith,
+      length-append (changes taped.published) taped.pending,
+      length-append (changes taped.published) (taped.pending ++ change ∷ []),
+      length-append taped.pending (change ∷ []),
+    ))
+
+pub as_long_published : (taped later : Taped)
+    → later ≡ record taped { published = committed taped.published taped.pending; pending = [] }
+    → changes later.published ≡ tape_of taped → length (tape_of later) ≡ length (tape_of taped)
+as_long_published taped later is whole = ap length (whole_tape taped later is whole)
+
+-- of an empty tape nothing was published, and nothing waits
+empty_parts : (one other : List Change) → one ++ other ≡ [] → (one ≡ []) × (other ≡ [])
+empty_parts [] other none = (refl, none)
+empty_parts (x ∷ one) other none = absurd (cc)
+
+pub none_published : (taped : Taped) → tape_of taped ≡ [] → changes taped.published ≡ []
+none_published taped none = (empty_parts (changes taped.published) taped.pending none).0
+
+pub none_waiting : (taped : Taped) → tape_of taped ≡ [] → changes taped.published ≡ tape_of taped
+none_waiting taped none = none_published taped none ∙ sym none
+
+-- nothing was written
+pub appends_nothing : (known : Option (List ℕ)) (roster : Listing) (more : List Change) → more ≡ []
+    → Appends known known (changes_text roster more)
+appends_nothing None roster more none = tt
+appends_nothing (Some bytes) roster more none = rw none (sym (append-nil bytes))
+
+-- changes appended to an empty tape are the tape
+pub taken_whole : (taped later : Taped) (more : List Change) → tape_of taped ≡ []
+    → later ≡ record taped { pending = taped.pending ++ more } → tape_of later ≡ more
+taken_whole taped later more none is =
+    let parts = empty_parts (changes taped.published) taped.pending none in
+    rw is (ap (λ (p : List Change). p ++ (taped.pending ++ more)) parts.0 ∙ ap (λ (p : List Change). p ++ more) parts.1)
+
+pub some_waiting : (taped later : Taped) (more : List Change) (published : ℕ) → tape_of taped ≡ []
+    → later ≡ record taped { pending = taped.pending ++ more } → published ≡ length (changes later.published) → 0 < length more
+    → published < length (tape_of later)
+some_waiting taped later more published none is counted some =
+    let shown : changes later.published ≡ [] = ap (λ (t : Taped). changes t.published) is ∙ none_published taped none in
+    omega (arith, counted, ap length shown, ap length (taken_whole taped later more none is), some)
+
+-- and what is written of them is all of them
+pub recorded_whole : (taped later : Taped) (more : List Change) (published : ℕ) (roster : Listing) (before after : Option (List ℕ))
+    → tape_of taped ≡ [] → later ≡ record taped { pending = taped.pending ++ more } → published ≡ length (changes later.published)
+    → Appends before after (changes_text roster (drop published (tape_of later))) → Appends before after (changes_text roster more)
+recorded_whole taped later more published roster before after none is counted written =
+    let zero : published ≡ 0 = counted ∙ ap length (ap (λ (t : Taped). changes t.published) is ∙ none_published taped none) in
+    let text : drop published (tape_of later) ≡ more =
+    ap (λ (n : ℕ). drop n (tape_of later)) zero ∙ taken_whole taped later more none is in
+    subst (λ (l : List Change). Appends before after (changes_text roster l)) text written
+
+-- a board that stands for the opening changes of another shows alike
+opens_alike : (board next : Board) (taped : Taped) (sym_ : ℕ) → Opens board (tape_of taped) → taped.sizes ≡ board.sizes
+    → next ≡ fold after (opening taped.sizes) (tape_of taped) → sym_ < length board.sizes.lots → ShowAlike board next sym_
+opens_alike board next taped sym_ opens sizes is within =
+    subst (λ (b : Board). ShowAlike board b sym_) (sym (rw (← sizes) is)) (opens.alike sym_ within)
+
+-- so does the board of a tape that took the opening changes, as they were read
+pub next_alike : (old begun fresh later : Taped) (board next : Board) (first all : List Change) → Opens board all → first ≡ all
+    → tape_of later ≡ first → board.sizes ≡ old.sizes → fresh.sizes ≡ old.sizes → begun ≡ fresh → later.sizes ≡ begun.sizes
+    → next ≡ fold after (opening later.sizes) (tape_of later)
+    → (sym_ : ℕ) → sym_ < length board.sizes.lots → ShowAlike board next sym_
+next_alike old begun fresh later board next first all opens same taken sized fits is kept stands sym_ within =
+    let tape : tape_of later ≡ all = taken ∙ same in
+    let sizes : later.sizes ≡ board.sizes = kept ∙ ap (λ (t : Taped). t.sizes) is ∙ fits ∙ sym sized in
+    opens_alike board next later sym_ (subst (λ (l : List Change). Opens board l) (sym tape) opens) sizes stands within
+
+-- one more of the changes was appended
+pub added_more : (taped now later : Taped) (xs : List Change) (i : ℕ) (x : Change) → i < length xs → x ≡ get_or xs i x
+    → now ≡ record taped { pending = taped.pending ++ take i xs } → later ≡ record now { pending = now.pending ++ x ∷ [] }
+    → later ≡ record taped { pending = taped.pending ++ take (i + 1) xs }
+added_more taped now later xs i x within at was is =
+    let more : take (i + 1) xs ≡ take i xs ++ x ∷ [] = take_more xs i x within ∙ ap (λ (y : Change). take i xs ++ y ∷ []) (sym at) in
+    is ∙ ap (λ (t : Taped). record t { pending = t.pending ++ x ∷ [] }) was
+    ∙ ap (λ (p : List Change). record taped { pending = p })
+    (append_assoc taped.pending (take i xs) (x ∷ []) ∙ ap (λ (p : List Change). taped.pending ++ p) (sym more))

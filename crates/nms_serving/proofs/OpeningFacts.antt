@@ -26,3 +26,11 @@ pub opened_sizes : (settings : Settings) (opening : _) (desks : List Knowing) �
 opened_sizes settings opening desks is k d below =
     let many : k < settings.desks = omega (arith, below, ap length is, length-replicate settings.desks (unseeing opening settings)) in
     rw is (ap (λ (it : Knowing). it.sizes) (get_or-replicate settings.desks k (unseeing opening settings) d many))
+
+-- and are of its opening
+pub opened_openings : (settings : Settings) (opening : _) (desks : List Knowing)
+    → desks ≡ replicate settings.desks (unseeing opening settings)
+    → (k : ℕ) (d : Knowing) → k < length desks → (slice_index_or desks k d).opening ≡ opening
+opened_openings settings opening desks is k d below =
+    let many : k < settings.desks = omega (arith, below, ap length is, length-replicate settings.desks (unseeing opening settings)) in
+    rw is (ap (λ (it : Knowing). it.opening) (get_or-replicate settings.desks k (unseeing opening settings) d many))

@@ -1,3 +1,5 @@
+pub mod Faults
 pub mod Lengths
+pub mod Room
 pub mod Silences
 pub mod Streams

@@ -4,11 +4,12 @@ ghost use Rattle.nms_quote.specs.Roster.{sizes_of};
 
 use crate::door::Door;
 use crate::guarded::Guarded;
+use crate::handover::{House, Slot, SlotOf};
 use crate::run::Run;
 use crate::serve_fault::ServeFault;
 use crate::serving::Means;
 use crate::stream::Stream;
-use nms_answers::{RequestCounts, answer_stream};
+use nms_answers::{EpochDesk, RequestCounts, answer_stream};
 use nms_versions::Desk;
 use std::fs::File;
 use std::io::{Read, Write};
@@ -40,15 +41,18 @@ pub struct ClientEnd {
 }
 
 /// Answers the requests of the client of this number, from 1, to the end of their stream. A fault ends the run.
-pub(crate) fn serve_client<R: Threads + Wait + Sync>(
+pub(crate) fn serve_client<R: Threads + Wait + Sync, H: House>(
     means: &Means<'_, R>,
     number: u8,
     streams: &ClientStreams<'_>,
-    mut desk: Desk,
+    desk: Desk,
+    slot: &Slot<H>,
 ) -> ClientEnd
+    requires house { H.sizes ≡ sizes_of means.now.run.now.setup.now.roster }
     requires sizes { desk.sizes ≡ sizes_of means.now.run.now.setup.now.roster }
 {
-    let counts = match answer_client(means, number, streams, &mut desk) {
+    let mut desk = EpochDesk { epoch: 0, desk };
+    let counts = match answer_client(means, number, streams, &mut desk, slot) {
         Ok(counts) => Some(counts),
         Err(fault) => {
             means.run.fail(fault);
@@ -60,20 +64,29 @@ pub(crate) fn serve_client<R: Threads + Wait + Sync>(
 }
 
 /// Opens a client's streams, and answers its requests.
-fn answer_client<R: Threads + Wait + Sync>(
+fn answer_client<R: Threads + Wait + Sync, H: House>(
     means: &Means<'_, R>,
     number: u8,
     streams: &ClientStreams<'_>,
-    desk: &mut Desk,
+    desk: &mut EpochDesk,
+    slot: &Slot<H>,
 ) -> Result<RequestCounts, ServeFault>
-    requires sizes { desk.old.sizes ≡ sizes_of means.now.run.now.setup.now.roster }
+    requires house { H.sizes ≡ sizes_of means.now.run.now.setup.now.roster }
+    requires sizes { desk.old.desk.sizes ≡ sizes_of means.now.run.now.setup.now.roster }
 {
     let host = means.host;
     match streams {
-        ClientStreams::Standard => answer_from(means, number, desk, host.stdin(), host.stdout()),
+        ClientStreams::Standard => answer_from(
+            means,
+            number,
+            desk,
+            slot,
+            host.stdin(),
+            host.stdout(),
+        ),
         ClientStreams::Paths { input, output } => {
             let (requests, answers) = open_both(means, number, input, output);
-            answer_from(means, number, desk, requests?, answers?)
+            answer_from(means, number, desk, slot, requests?, answers?)
         }
     }
 }
@@ -110,14 +123,16 @@ fn opened(run: &Run<'_>, outcome: io::Result<File>, stream: Stream) -> Result<Fi
 }
 
 /// Answers the requests of a stream, once they are held no longer.
-fn answer_from<R: Wait, S: Read + Drop, W: Write + Drop>(
+fn answer_from<R: Wait, S: Read + Drop, W: Write + Drop, H: House>(
     means: &Means<'_, R>,
     number: u8,
-    desk: &mut Desk,
+    desk: &mut EpochDesk,
+    slot: &Slot<H>,
     requests: S,
     answers: W,
 ) -> Result<RequestCounts, ServeFault>
-    requires sizes { desk.old.sizes ≡ sizes_of means.now.run.now.setup.now.roster }
+    requires house { H.sizes ≡ sizes_of means.now.run.now.setup.now.roster }
+    requires sizes { desk.old.desk.sizes ≡ sizes_of means.now.run.now.setup.now.roster }
 {
     let run = means.run;
     run.pass_gate(means.rt);
@@ -126,6 +141,7 @@ fn answer_from<R: Wait, S: Read + Drop, W: Write + Drop>(
         means.alloc,
         run.setup,
         desk,
+        &SlotOf { rt: means.rt, slot },
         Guarded::new(requests, run),
         &mut answers,
     ) {

@@ -6,7 +6,8 @@ use crate::run::Run;
 use std::alloc::Global;
 use std::fs::{File, OpenOptions};
 use std::io::{ErrorKind, Read, Write};
-use std::os::unix::fs::FileTypeExt;
+use std::os::fd::AsRawFd;
+use std::os::unix::fs::{FileTypeExt, MetadataExt};
 use std::thread::Threads;
 use std::time::Duration;
 use std::{fs, io, thread};
@@ -53,6 +54,29 @@ impl<'a> Door<'a> {
             return Err(io::Error::from(ErrorKind::BrokenPipe));
         }
         how.open(files, self.path)
+    }
+
+    /// Opens the FIFO to read it, and waits for no writer: it has one while this opens it, and none afterwards. The second
+    /// opening goes by the first, so both are of one FIFO, though the path may name another by then.
+    pub(crate) fn open_anew(
+        &self,
+        files: &HostRuntime,
+        alloc: Global,
+        run: &Run<'_>,
+    ) -> io::Result<File> {
+        let writer = self.open(files, run, OpenOptions::new().read(true).write(true))?;
+        let Ok(path) = format!(in alloc; "/proc/self/fd/{}", writer.as_raw_fd()) else {
+            return Err(io::Error::from(ErrorKind::OutOfMemory));
+        };
+        Door::new(path.as_str()).open_to_read(files, run)
+    }
+
+    /// Whether there is another FIFO now than the one that was opened: that was removed, and one was made again.
+    pub(crate) fn is_renewed(&self, host: &HostRuntime, opened: &File) -> bool {
+        let (Ok(now), Ok(then)) = (fs::metadata(host, self.path), opened.metadata()) else {
+            return false;
+        };
+        now.file_type().is_fifo() && (now.ino() != then.ino() || now.dev() != then.dev())
     }
 
     /// Whether there is a FIFO, or a pipe without a name.

@@ -48,7 +48,8 @@ pub(crate) fn feed_all<R: Wait>(
 }
 
 /// Opens a feed's path, and sends the changes of its stream. A FIFO whose writer left is read on, if the run goes on so:
-/// this end stays open, so that no writer finds it closed. What a writer left without its line feed is refused before.
+/// this end stays open, so that no writer finds it closed. What a writer left without its line feed is refused before. A FIFO
+/// that was removed and made again is opened anew.
 fn read_feed<R: Wait>(
     means: &Means<'_, R>,
     door: &Door<'_>,
@@ -70,6 +71,13 @@ fn read_feed<R: Wait>(
         read_writer(means, &mut file, &watcher, counts, sender)?;
         if is_last {
             return Ok(());
+        }
+        if door.is_renewed(means.host, &file) {
+            let Ok(again) = door.open_anew(means.host, means.alloc, run) else {
+                return Err(ServeFault::NotOpened(Stream::Feed(feed)));
+            };
+            file = again;
+            continue;
         }
         thread::sleep(means.host, Duration::from_millis(REST));
     }

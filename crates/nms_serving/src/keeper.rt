@@ -1,7 +1,12 @@
 //! The taker's side of the board: each batch of changes is on the tape's file before it is published.
-ghost use Rattle.std.specs.Prelude.{◌≡◌, ◌+◌, ◌<◌, ◌≤◌, ◌++◌, ◌∷◌, [], drop, length, OnErr, OnOk};
+ghost use Rattle.std.specs.Prelude.{◌≡◌, ℕ, ◌+◌, ◌<◌, ◌≤◌, ◌++◌, ◌∷◌, [], drop, fold, length, IfOk, OnErr, OnOk};
 ghost use Rattle.std.specs.Io.KnownBytes.{Appends};
 ghost use Rattle.nms_change_text.specs.ChangeText.{changes_text};
+ghost use Rattle.nms_quote.specs.Roster.{sizes_of};
+ghost use Rattle.nms_quote.specs.declared.TheConstants.{MOST_CHANGES};
+ghost use Rattle.nms_board.specs.Cells.{after, opening};
+ghost use Rattle.nms_opening.specs.Alike.{ShowAlike};
+ghost use Rattle.nms_opening.specs.Opening.{Opens};
 ghost use Rattle.nms_serving.specs.Lengths.{length_line};
 ghost use Rattle.nms_versions.specs.Published.{changes, committed};
 ghost use Rattle.nms_versions.specs.Taped.{tape_of};
@@ -10,18 +15,23 @@ use crate::MOST_BATCH;
 use crate::serve_fault::ServeFault;
 use crate::stream::Stream;
 use itoa::Buffer;
+use nms_board::Boards;
 use nms_change_text::append_changes;
 use nms_lines::write_text;
+use nms_opening::opening;
 use nms_quote::{Change, Roster};
-use nms_versions::{AppendFault, Publisher};
+use nms_versions::{AppendFault, Publisher, Receipt};
 use std::alloc::{AllocError, Global};
 use std::io::Write;
 use std::sync::Wait;
 
-/// Takes changes in, writes each batch to the tape's file and then publishes it. It is not `Drop`: end it by `end`.
+/// Takes the changes of one epoch in, writes each batch to the tape's file and then publishes it. It is not `Drop`: end it by
+/// `end`.
 pub(crate) struct Keeper<'a, X: Write, Y: Write> {
     roster: &'a Roster,
-    publisher: Publisher,
+    pub(crate) publisher: Publisher,
+    /// The board of the tape, from which the next epoch begins.
+    board: Boards,
     /// The file of the tape.
     tape: X,
     /// The file of the lengths that were published.
@@ -33,22 +43,36 @@ pub(crate) struct Keeper<'a, X: Write, Y: Write> {
     publishings: u64,
     ghost counted: { published ≡ length (changes publisher.published) },
     ghost often: { publishings ≤ published },
+    ghost limited: { publisher.limit ≤ MOST_CHANGES },
+    ghost rostered: { publisher.sizes ≡ sizes_of roster.now },
+    ghost sized: { board.sizes ≡ publisher.sizes },
+    ghost standing: { board ≡ fold after (opening publisher.sizes) (tape_of publisher) },
 }
 
 impl<'a, X: Write, Y: Write> Keeper<'a, X, Y> {
-    /// Keeps a tape that was just opened.
+    /// Keeps a tape that was just opened, with a board that has nothing on it.
+    #[tactic(auto, using(crate::proofs::KeeperFacts::stands_empty))]
     pub(crate) fn new(
         alloc: Global,
         roster: &'a Roster,
         publisher: Publisher,
+        board: Boards,
         tape: X,
         lengths: Y,
-    ) -> Self {
+    ) -> Self
+        requires limit { publisher.limit ≤ MOST_CHANGES }
+        requires sizes { publisher.sizes ≡ sizes_of roster.now }
+        requires empty { tape_of publisher ≡ [] }
+        requires board { board ≡ opening publisher.sizes }
+        ensures publisher { result.publisher ≡ publisher }
+        ensures files { (result.tape ≡ tape) × (result.lengths ≡ lengths) × (result.roster.now ≡ roster.now) }
+    {
         let mut publisher = publisher;
         let published = publisher.receipt().version();
         Keeper {
             roster,
             publisher,
+            board,
             tape,
             lengths,
             text: Vec::new(alloc),
@@ -57,9 +81,93 @@ impl<'a, X: Write, Y: Write> Keeper<'a, X, Y> {
         }
     }
 
+    /// The keeper of the next epoch, over a tape that was just opened and its files: its tape begins with the opening changes
+    /// of this one's board, which are in its file and then published. So a look shows the same before and after. This one
+    /// stays as it is.
+    pub(crate) fn next<R: Wait>(
+        &self,
+        alloc: Global,
+        rt: &R,
+        publisher: Publisher,
+        tape: X,
+        lengths: Y,
+    ) -> Result<Self, ServeFault>
+    where
+        X: Drop,
+        Y: Drop,
+        requires limit { publisher.limit ≤ MOST_CHANGES }
+        requires empty { tape_of publisher ≡ [] }
+        requires sizes { publisher.sizes ≡ self.now.publisher.sizes }
+        ensures opening { IfOk result (λ next. next.publisher.opening ≡ publisher.opening) }
+        ensures sizes { IfOk result (λ next. next.publisher.sizes ≡ publisher.sizes) }
+        ensures opens { IfOk result (λ next. Opens self.now.board (tape_of next.publisher)) }
+        ensures published { IfOk result (λ next. changes next.publisher.published ≡ tape_of next.publisher) }
+        ensures recorded { IfOk result (λ next. Appends (X.contents tape) (X.contents next.tape) (changes_text self.now.roster.now (tape_of next.publisher))) }
+        ensures alike { IfOk result (λ next. (sym : ℕ) → sym < length self.now.board.sizes.lots → ShowAlike self.now.board next.board sym) }
+    {
+        let (Ok(changes), Ok(board)) = (
+            opening(alloc, &self.board),
+            Boards::new(alloc, self.roster),
+        ) else {
+            let _changes = publisher.close(rt);
+            return Err(ServeFault::NoMemory);
+        };
+        let mut next = Keeper::new(alloc, self.roster, publisher, board, tape, lengths);
+        match next.open_with(rt, &changes) {
+            Ok(()) => Ok(next),
+            Err(fault) => {
+                next.end(rt);
+                Err(fault)
+            }
+        }
+    }
+
+    /// Takes the opening changes of an epoch in, writes them and then publishes them, all at once.
+    #[tactic(auto, using(crate::proofs::KeeperFacts::none_published, crate::proofs::KeeperFacts::none_waiting, crate::proofs::KeeperFacts::appends_nothing, crate::proofs::KeeperFacts::taken_whole, crate::proofs::KeeperFacts::some_waiting, crate::proofs::KeeperFacts::recorded_whole))]
+    fn open_with<R: Wait>(&mut self, rt: &R, first: &[Change]) -> Result<(), ServeFault>
+        requires empty { tape_of self.old.publisher ≡ [] }
+        ensures opening { OnOk result (self.new.publisher.opening ≡ self.old.publisher.opening) }
+        ensures sizes { OnOk result (self.new.publisher.sizes ≡ self.old.publisher.sizes) }
+        ensures taken { OnOk result (tape_of self.new.publisher ≡ first.now) }
+        ensures published { OnOk result (changes self.new.publisher.published ≡ tape_of self.new.publisher) }
+        ensures recorded { OnOk result (Appends (X.contents self.old.tape) (X.contents self.new.tape) (changes_text self.old.roster.now first.now)) }
+    {
+        if first.is_empty() {
+            return Ok(());
+        }
+        match self.append_all(first) {
+            Ok(()) => {}
+            Err(fault) => return Err(fault),
+        }
+        self.publish(rt)
+    }
+
+    /// Appends changes to the tape, in order.
+    fn append_all(&mut self, first: &[Change]) -> Result<(), ServeFault>
+        ensures added { OnOk result (self.new.publisher ≡ record self.old.publisher { pending = self.old.publisher.pending ++ first.now }) }
+        ensures kept { (self.new.tape ≡ self.old.tape) × (self.new.roster.now ≡ self.old.roster.now) × (self.new.published ≡ self.old.published) }
+    {
+        for change in first {
+            match self.append(change) {
+                Ok(()) => {}
+                Err(fault) => return Err(fault),
+            }
+        }
+        Ok(())
+    }
+
+    /// Word of what is published, for a desk.
+    pub(crate) fn receipt(&mut self) -> Receipt
+        ensures opening { result.opening ≡ self.old.publisher.opening }
+        ensures same { self.new.publisher ≡ self.old.publisher }
+    {
+        self.publisher.receipt()
+    }
+
     /// How many changes were taken in.
     pub(crate) fn changes(&self) -> u64
-        ensures { result ≡ length (tape_of self.now.publisher) }
+        ensures count { result ≡ length (tape_of self.now.publisher) }
+        ensures within { result ≤ MOST_CHANGES }
     {
         self.publisher.tape().len() as u64
     }
@@ -81,7 +189,11 @@ impl<'a, X: Write, Y: Write> Keeper<'a, X, Y> {
     }
 
     /// Takes a change in, and publishes after each 64.
-    pub(crate) fn take_in<R: Wait>(&mut self, rt: &R, change: &Change) -> Result<(), ServeFault> {
+    #[tactic(auto, using(crate::proofs::KeeperFacts::longer_appended))]
+    pub(crate) fn take_in<R: Wait>(&mut self, rt: &R, change: &Change) -> Result<(), ServeFault>
+        ensures sizes { self.new.publisher.sizes ≡ self.old.publisher.sizes }
+        ensures longer { length (tape_of self.old.publisher) ≤ length (tape_of self.new.publisher) }
+    {
         match self.append(change) {
             Ok(()) => {}
             Err(fault) => return Err(fault),
@@ -93,28 +205,36 @@ impl<'a, X: Write, Y: Write> Keeper<'a, X, Y> {
     }
 
     /// Appends a change to the tape.
+    #[tactic(auto, using(crate::proofs::KeeperFacts::stands_on, crate::proofs::KeeperFacts::sized_on))]
     fn append(&mut self, change: &Change) -> Result<(), ServeFault>
         ensures added { OnOk result (self.new.publisher ≡ record self.old.publisher { pending = self.old.publisher.pending ++ change.now ∷ [] }) }
         ensures unchanged { OnErr result (self.new.publisher ≡ self.old.publisher) }
+        ensures kept { (self.new.tape ≡ self.old.tape) × (self.new.roster.now ≡ self.old.roster.now) × (self.new.published ≡ self.old.published) }
     {
-        if !self.publisher.holds(change) {
+        if !self.board.takes(change) {
             return Err(ServeFault::TapeFull);
         }
         match self.publisher.append(*change) {
-            Ok(()) => Ok(()),
-            Err(AppendFault::NoMemory) => Err(ServeFault::NoMemory),
-            Err(AppendFault::TapeFull) => Err(ServeFault::TapeFull),
+            Ok(()) => {}
+            Err(AppendFault::NoMemory) => return Err(ServeFault::NoMemory),
+            Err(AppendFault::TapeFull) => return Err(ServeFault::TapeFull),
         }
+        self.board.apply(*change);
+        Ok(())
     }
 
     /// Writes what is waiting to the tape's file, and the tape's length to the file beside it, and then publishes it. If
     /// either can't be written, nothing is published: so both writes have ended well before any desk sees the changes.
+    #[tactic(auto, using(crate::proofs::KeeperFacts::stands_still, crate::proofs::KeeperFacts::as_long_published))]
     pub(crate) fn publish<R: Wait>(&mut self, rt: &R) -> Result<(), ServeFault>
         requires some { self.old.published < length (tape_of self.old.publisher) }
         ensures listed { OnOk result (Appends (Y.contents self.old.lengths) (Y.contents self.new.lengths) (length_line (length (tape_of self.old.publisher)))) }
         ensures recorded { OnOk result (Appends (X.contents self.old.tape) (X.contents self.new.tape) (changes_text self.old.roster.now (drop self.old.published (tape_of self.old.publisher)))) }
         ensures published { OnOk result (changes self.new.publisher.published ≡ tape_of self.old.publisher) }
         ensures unpublished { OnErr result (self.new.publisher ≡ self.old.publisher) }
+        ensures whole { OnOk result (self.new.publisher ≡ record self.old.publisher { published = committed self.old.publisher.published self.old.publisher.pending; pending = [] }) }
+        ensures sizes { self.new.publisher.sizes ≡ self.old.publisher.sizes }
+        ensures longer { length (tape_of self.old.publisher) ≤ length (tape_of self.new.publisher) }
     {
         match self.record() {
             Ok(()) => {}
@@ -159,6 +279,7 @@ impl<'a, X: Write, Y: Write> Keeper<'a, X, Y> {
         let Keeper {
             roster: _,
             publisher,
+            board: _board,
             tape: _tape,
             lengths: _lengths,
             text: _text,

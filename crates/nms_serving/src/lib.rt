@@ -4,10 +4,13 @@
 
 mod client;
 mod door;
+mod epochs;
 mod feeding;
 mod guarded;
+mod handover;
 mod keeper;
 mod report;
+mod room;
 mod run;
 mod serve_fault;
 mod serving;
@@ -21,11 +24,16 @@ mod watching;
 /// The most changes of a batch: the taker publishes after so many, or when none is waiting. This product's own rule.
 pub const MOST_BATCH: u64 = 64;
 
+/// The most epochs after the first: 2^32. This product's own rule.
+pub const MOST_EPOCHS: u64 = 1 << 32;
+
 pub use client::{ClientEnd, ClientStreams};
 pub use door::Door;
+pub use epochs::EpochFiles;
 pub use feeding::FeedEnd;
 pub use guarded::Guarded;
 pub use report::{Heard, Refused};
+pub use room::has_room_for_epochs;
 pub use run::{Run, Ways};
 pub use serve_fault::ServeFault;
 pub use serving::{Means, Served, serve};

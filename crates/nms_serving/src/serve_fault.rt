@@ -1,4 +1,7 @@
-//! Why a run ended early.
+//! Why a run ended early (specs/Faults).
+ghost use Rattle.std.specs.Prelude.{◌≡◌};
+ghost use Rattle.nms_serving.specs.Faults.{code_of, of_client, of_feed, status_of};
+
 use crate::stream::{Stream, letter_of};
 use nms_answers::AnswerFault;
 use nms_feeds::FeedFault;
@@ -31,39 +34,55 @@ pub enum ServeFault {
     },
     /// E6: no board was opened, or a thread could not be started.
     NotBegun,
-    /// E7: a change came when the tape had as many as it may.
+    /// E7: a change came when the tape had as many as it may, and no epoch could begin.
     TapeFull,
+    /// E7: there were as many epochs as there may be (`MOST_EPOCHS`).
+    TooManyEpochs,
+    /// E2: there is something in the file of the next epoch's tape, or of its lengths, already.
+    NotEmpty(Stream),
     /// E8: a client's look gave no reading. Clients are counted from 1.
     NoReading(u8),
 }
 
 impl ServeFault {
     /// The code of the fault, `E1` to `E8`.
-    pub fn code(self) -> &'static str {
+    pub fn code(self) -> &'static str
+        ensures { result.now ≡ code_of self }
+    {
         match self {
             ServeFault::NotOpened(_) | ServeFault::NotRead(_) => "E1",
-            ServeFault::NotWritten(_) => "E2",
+            ServeFault::NotWritten(_) | ServeFault::NotEmpty(_) => "E2",
             ServeFault::TooLong(_) => "E3",
             ServeFault::NoMemory => "E4",
             ServeFault::Refused { .. } => "E5",
             ServeFault::NotBegun => "E6",
-            ServeFault::TapeFull => "E7",
+            ServeFault::TapeFull | ServeFault::TooManyEpochs => "E7",
             ServeFault::NoReading(_) => "E8",
         }
     }
 
     /// The exit status of a program that it ends: 1 for a stream, 5 for memory, 6 for records, 7 for the board.
-    pub fn status(self) -> u8 {
+    pub fn status(self) -> u8
+        ensures { result ≡ status_of self }
+    {
         match self {
-            ServeFault::NotOpened(_) | ServeFault::NotRead(_) | ServeFault::NotWritten(_) => 1,
+            ServeFault::NotOpened(_)
+            | ServeFault::NotRead(_)
+            | ServeFault::NotWritten(_)
+            | ServeFault::NotEmpty(_) => 1,
             ServeFault::NoMemory => 5,
             ServeFault::TooLong(_) | ServeFault::Refused { .. } => 6,
-            ServeFault::NotBegun | ServeFault::TapeFull | ServeFault::NoReading(_) => 7,
+            ServeFault::NotBegun
+            | ServeFault::TapeFull
+            | ServeFault::TooManyEpochs
+            | ServeFault::NoReading(_) => 7,
         }
     }
 
     /// The fault of a feed that was not read to its end.
-    pub(crate) fn of_feed(feed: Feed, fault: FeedFault) -> Self {
+    pub(crate) fn of_feed(feed: Feed, fault: FeedFault) -> Self
+        ensures { result ≡ of_feed feed fault }
+    {
         match fault {
             FeedFault::Failed => ServeFault::NotRead(Stream::Feed(feed)),
             FeedFault::TooLong => ServeFault::TooLong(Stream::Feed(feed)),
@@ -77,7 +96,9 @@ impl ServeFault {
     }
 
     /// The fault of a client that was not served to its end.
-    pub(crate) fn of_client(client: u8, fault: AnswerFault) -> Self {
+    pub(crate) fn of_client(client: u8, fault: AnswerFault) -> Self
+        ensures { result ≡ of_client client fault }
+    {
         match fault {
             AnswerFault::ReadFault => ServeFault::NotRead(Stream::Requests(client)),
             AnswerFault::WriteFault => ServeFault::NotWritten(Stream::Answers(client)),
@@ -104,6 +125,13 @@ impl fmt::Display for ServeFault {
             } => write!(f, ": {}:{number}: {}", letter_of(*feed), fault.code()),
             ServeFault::NotBegun => f.write_str(": the board could not begin"),
             ServeFault::TapeFull => f.write_str(": the tape is full"),
+            ServeFault::TooManyEpochs => f.write_str(": there are too many epochs"),
+            ServeFault::NotEmpty(stream) => {
+                write!(
+                    f,
+                    ": there is something in {stream} of the next epoch already"
+                )
+            }
             ServeFault::NoReading(client) => write!(f, ": client {client} had no reading"),
         }
     }

@@ -2,20 +2,24 @@
 ghost use Rattle.std.specs.Prelude.{◌≡◌, ◌<◌, ℕ, [], length, slice_index_or, IfErr};
 ghost use Rattle.std.specs.List.{AllByRecursion};
 ghost use Rattle.nms_quote.specs.Roster.{sizes_of};
-ghost use Rattle.nms_versions.specs.Taped.{Knowing};
+ghost use Rattle.nms_versions.specs.Taped.{Knowing, tape_of};
 
 use crate::client::{ClientEnd, ClientStreams, serve_client};
 use crate::door::Door;
+use crate::epochs::{EpochFiles, Epochs, NextEpoch};
 use crate::feeding::{FeedEnd, feed_all};
+use crate::handover::{House, Slot};
 use crate::keeper::Keeper;
 use crate::run::Run;
 use crate::serve_fault::ServeFault;
 use crate::taking::{Doors, take_all};
 use crate::watching::watch_feeds;
+use nms_board::Boards;
 use nms_feed::{Sender, Taker, open_lane};
 use nms_versions::{Desk, open_tape};
-use std::alloc::Global;
+use std::alloc::{AllocError, Global};
 use std::io::Write;
+use std::marker::Brand;
 use std::sync::Wait;
 use std::thread;
 use std::thread::{JoinHandle, Scope, Threads};
@@ -47,23 +51,27 @@ pub struct Served {
     pub feeds: Vec<FeedEnd>,
     /// The clients, in order.
     pub clients: Vec<ClientEnd>,
-    /// How many changes the tape has.
+    /// How many changes of feeds were taken.
     pub changes: u64,
     /// How often changes were published.
     pub publishings: u64,
+    /// How many epochs began after the first.
+    pub epochs: u64,
 }
 
 /// Opens a board, and serves feeds and clients, each in a thread of its own, until all of them have ended or a fault ends
-/// the run (`Run::fault`). What the feeds send is taken, written to the tape's file and published meanwhile. All threads
-/// have ended when it returns.
+/// the run (`Run::fault`). What the feeds send is taken, written to the tape's file and published meanwhile. Where the tape
+/// has as many changes as it may, a new epoch goes on in files of its own. All threads have ended when it returns.
 ///
-/// There is a door for each feed of the setup, in order; clients beyond the desks of the setup are not served. `NotBegun`
-/// if no board was opened. No other fault is returned: those of a run that began are `Run::fault`.
-pub fn serve<R: Threads + Wait + Sync, X: Write + Drop, Y: Write + Drop>(
+/// There is a door for each feed of the setup, in order; clients beyond the desks of the setup are not served. `tape` and
+/// `lengths` are the files of the first epoch, `files` opens those of later ones. `NotBegun` if no board was opened. No other
+/// fault is returned: those of a run that began are `Run::fault`.
+pub fn serve<R: Threads + Wait + Sync, X: Write + Drop, Y: Write + Drop, F: EpochFiles<X, Y>>(
     means: &Means<'_, R>,
     doors: &Doors<'_>,
     tape: X,
     lengths: Y,
+    files: &F,
 ) -> Result<Served, ServeFault>
     ensures begun { IfErr result (λ fault. fault ≡ ServeFault.NotBegun) }
 {
@@ -71,52 +79,119 @@ pub fn serve<R: Threads + Wait + Sync, X: Write + Drop, Y: Write + Drop>(
     let Ok((senders, taker)) = open_lane(means.alloc, setup.queue(), setup.feeds()) else {
         return Err(ServeFault::NotBegun);
     };
+    let Ok(board) = Boards::new(means.alloc, setup.roster()) else {
+        return Err(ServeFault::NotBegun);
+    };
+    let _limit = setup.tape_limit();
     let Ok((publisher, desks)) = open_tape(means.alloc, means.rt, setup) else {
         return Err(ServeFault::NotBegun);
     };
-    let mut keeper = Keeper::new(means.alloc, setup.roster(), publisher, tape, lengths);
+    let keeper = Keeper::new(means.alloc, setup.roster(), publisher, board, tape, lengths);
     let ends = Ends {
         senders,
         taker,
         desks,
     };
-    let served = serve_board(means, doors, &mut keeper, ends);
-    keeper.end(means.rt);
-    Ok(served)
+    serve_board::<Brand, R, X, Y, F>(means, doors, files, keeper, ends)
 }
 
 /// Serves feeds and clients on a board that was just opened.
-fn serve_board<R: Threads + Wait + Sync, X: Write, Y: Write>(
+fn serve_board<
+    H: House + Send + Sync,
+    R: Threads + Wait + Sync,
+    X: Write + Drop,
+    Y: Write + Drop,
+    F: EpochFiles<X, Y>,
+>(
     means: &Means<'_, R>,
     doors: &Doors<'_>,
-    keeper: &mut Keeper<'_, X, Y>,
+    files: &F,
+    keeper: Keeper<'_, X, Y>,
+    ends: Ends,
+) -> Result<Served, ServeFault>
+    requires house { H.sizes ≡ sizes_of means.now.run.now.setup.now.roster }
+    requires keeper { keeper.publisher.sizes ≡ H.sizes }
+    requires fresh { AllByRecursion (λ sender. sender.sent ≡ []) ends.senders.items }
+    requires sizes { (k : ℕ) (d : Knowing) → k < length ends.desks.items → (slice_index_or ends.desks.items k d).sizes ≡ sizes_of means.now.run.now.setup.now.roster }
+    ensures begun { IfErr result (λ fault. fault ≡ ServeFault.NotBegun) }
+{
+    let slots: Vec<Slot<H>> = match slots_of(means.alloc, doors.clients.len()) {
+        Ok(slots) => slots,
+        Err(_) => {
+            keeper.end(means.rt);
+            return Err(ServeFault::NotBegun);
+        }
+    };
+    let next = NextEpoch {
+        files,
+        slots: &slots,
+    };
+    let mut epochs = Epochs::new(keeper);
+    let served = serve_epochs(means, doors, &next, &mut epochs, ends);
+    epochs.end(means.rt);
+    Ok(served)
+}
+
+/// An empty slot for each client.
+fn slots_of<H: House>(alloc: Global, clients: usize) -> Result<Vec<Slot<H>>, AllocError> {
+    let mut slots = Vec::new(alloc);
+    for _ in 0..clients {
+        slots.push(Slot::new())?;
+    }
+    Ok(slots)
+}
+
+/// Serves feeds and clients, epoch after epoch.
+fn serve_epochs<
+    H: House + Send + Sync,
+    R: Threads + Wait + Sync,
+    X: Write + Drop,
+    Y: Write + Drop,
+    F: EpochFiles<X, Y>,
+>(
+    means: &Means<'_, R>,
+    doors: &Doors<'_>,
+    next: &NextEpoch<'_, F, H>,
+    epochs: &mut Epochs<'_, H, X, Y>,
     ends: Ends,
 ) -> Served
+    requires house { H.sizes ≡ sizes_of means.now.run.now.setup.now.roster }
     requires fresh { AllByRecursion (λ sender. sender.sent ≡ []) ends.senders.items }
     requires sizes { (k : ℕ) (d : Knowing) → k < length ends.desks.items → (slice_index_or ends.desks.items k d).sizes ≡ sizes_of means.now.run.now.setup.now.roster }
 {
-    let (_keeper, served) = thread::scope(
+    let (_epochs, served) = thread::scope(
         thread::scope_env(),
         means.rt,
-        move |scope| -> (&mut Keeper<'_, X, Y>, Served)
+        move |scope| -> (&mut Epochs<'_, H, X, Y>, Served)
+            requires house { H.sizes ≡ sizes_of means.now.run.now.setup.now.roster }
             requires fresh { AllByRecursion (λ sender. sender.sent ≡ []) ends.senders.items }
             requires sizes { (k : ℕ) (d : Knowing) → k < length ends.desks.items → (slice_index_or ends.desks.items k d).sizes ≡ sizes_of means.now.run.now.setup.now.roster }
         {
-            let served = run_threads(scope, means, doors, keeper, ends);
-            (keeper, served)
+            let served = run_threads(scope, means, doors, next, epochs, ends);
+            (epochs, served)
         },
     );
     served
 }
 
 /// Starts a thread for each feed and each client, takes what the feeds send until all have ended, and hears them out.
-fn run_threads<'s, E, R: Threads + Wait + Sync, X: Write, Y: Write>(
+fn run_threads<
+    's,
+    E,
+    H: House + Send + Sync,
+    R: Threads + Wait + Sync,
+    X: Write + Drop,
+    Y: Write + Drop,
+    F: EpochFiles<X, Y>,
+>(
     scope: &'s Scope<'s, E>,
     means: &'s Means<'s, R>,
     doors: &'s Doors<'s>,
-    keeper: &mut Keeper<'_, X, Y>,
+    next: &'s NextEpoch<'s, F, H>,
+    epochs: &mut Epochs<'_, H, X, Y>,
     ends: Ends,
 ) -> Served
+    requires house { H.sizes ≡ sizes_of means.now.run.now.setup.now.roster }
     requires fresh { AllByRecursion (λ sender. sender.sent ≡ []) ends.senders.items }
     requires sizes { (k : ℕ) (d : Knowing) → k < length ends.desks.items → (slice_index_or ends.desks.items k d).sizes ≡ sizes_of means.now.run.now.setup.now.roster }
 {
@@ -128,16 +203,17 @@ fn run_threads<'s, E, R: Threads + Wait + Sync, X: Write, Y: Write>(
     let mut feeds = Vec::new(means.alloc);
     let mut clients = Vec::new(means.alloc);
     // All clients have begun before the first feed looks whether they have ended.
-    start_clients(scope, means, doors.clients, desks, &mut clients);
+    start_clients(scope, means, doors.clients, next.slots, desks, &mut clients);
     start_feeds(scope, means, doors.feeds, senders, &mut feeds);
     start_watch(scope, means);
-    take_all(means, doors, keeper, &mut taker);
+    take_all(means, doors, next, epochs, &mut taker);
     means.run.finish();
     Served {
         feeds: join_all(means, feeds),
         clients: join_all(means, clients),
-        changes: keeper.changes(),
-        publishings: keeper.publishings(),
+        changes: epochs.changes(),
+        publishings: epochs.publishings(),
+        epochs: epochs.number(),
     }
 }
 
@@ -181,18 +257,21 @@ fn start_feed<'s, E, R: Wait + Sync>(
 }
 
 /// Starts a thread for each client.
-fn start_clients<'s, E, R: Threads + Wait + Sync>(
+fn start_clients<'s, E, H: House + Send + Sync, R: Threads + Wait + Sync>(
     scope: &'s Scope<'s, E>,
     means: &'s Means<'s, R>,
     clients: &'s [ClientStreams<'s>],
+    slots: &'s [Slot<H>],
     desks: Vec<Desk>,
     handles: &mut Vec<JoinHandle<ClientEnd>>,
 )
+    requires house { H.sizes ≡ sizes_of means.now.run.now.setup.now.roster }
     requires sizes { (k : ℕ) (d : Knowing) → k < length desks.items → (slice_index_or desks.items k d).sizes ≡ sizes_of means.now.run.now.setup.now.roster }
 {
     let mut number = 0u8;
     for desk in desks {
-        let Some(streams) = clients.get(usize::from(number)) else {
+        let place = usize::from(number);
+        let (Some(streams), Some(slot)) = (clients.get(place), slots.get(place)) else {
             return;
         };
         let Some(next) = number.checked_add(1) else {
@@ -200,27 +279,30 @@ fn start_clients<'s, E, R: Threads + Wait + Sync>(
             return;
         };
         number = next;
-        start_client(scope, means, number, streams, desk, handles);
+        start_client(scope, means, number, streams, slot, desk, handles);
     }
 }
 
 /// Starts the thread of the client of this number.
-fn start_client<'s, E, R: Threads + Wait + Sync>(
+fn start_client<'s, E, H: House + Send + Sync, R: Threads + Wait + Sync>(
     scope: &'s Scope<'s, E>,
     means: &'s Means<'s, R>,
     number: u8,
     streams: &'s ClientStreams<'s>,
+    slot: &'s Slot<H>,
     desk: Desk,
     handles: &mut Vec<JoinHandle<ClientEnd>>,
 )
+    requires house { H.sizes ≡ sizes_of means.now.run.now.setup.now.roster }
     requires sizes { desk.sizes ≡ sizes_of means.now.run.now.setup.now.roster }
 {
     let run = means.run;
     run.begin_client();
     let started = scope.spawn(
         move || -> ClientEnd
+            requires house { H.sizes ≡ sizes_of means.now.run.now.setup.now.roster }
             requires sizes { desk.sizes ≡ sizes_of means.now.run.now.setup.now.roster }
-        { serve_client(means, number, streams, desk) },
+        { serve_client(means, number, streams, desk, slot) },
     );
     keep(run, started.ok(), handles);
 }

@@ -1,7 +1,11 @@
 //! The taker's loop: it takes what the feeds send, and publishes it, until all streams have ended.
+ghost use Rattle.std.specs.Prelude.{◌≡◌};
+ghost use Rattle.nms_quote.specs.Roster.{sizes_of};
+
 use crate::client::ClientStreams;
 use crate::door::{Door, Side};
-use crate::keeper::Keeper;
+use crate::epochs::{EpochFiles, Epochs, NextEpoch};
+use crate::handover::House;
 use crate::serving::Means;
 use nms_feed::Taker;
 use std::io::Write;
@@ -18,30 +22,40 @@ pub struct Doors<'a> {
 }
 
 /// Takes the changes that the feeds send, and publishes them after each 64 and when none is waiting, until all feeds and
-/// clients have ended. Requests that are held go on once the first change of each feed is published. After a fault it takes them for nothing, so that no feed waits for room.
-pub(crate) fn take_all<R: Threads + Wait + Sync, X: Write, Y: Write>(
+/// clients have ended. Requests that are held go on once the first change of each feed is published. After a fault it takes
+/// them for nothing, so that no feed waits for room.
+pub(crate) fn take_all<
+    R: Threads + Wait + Sync,
+    X: Write + Drop,
+    Y: Write + Drop,
+    F: EpochFiles<X, Y>,
+    H: House,
+>(
     means: &Means<'_, R>,
     doors: &Doors<'_>,
-    keeper: &mut Keeper<'_, X, Y>,
+    next: &NextEpoch<'_, F, H>,
+    epochs: &mut Epochs<'_, H, X, Y>,
     taker: &mut Taker,
-) {
+)
+    requires house { H.sizes ≡ sizes_of means.now.run.now.setup.now.roster }
+{
     let run = means.run;
     let mut are_woken = false;
     for _ in means.rt.forever() {
         // The run is looked at before the lane: what a stream sent before its end is still found.
         let is_over = run.is_over();
         if run.is_gate_shut() && run.have_feeds_begun() {
-            take_waiting(means, keeper, taker);
+            take_waiting(means, next, epochs, taker);
             run.open_gate();
         }
         if run.is_stopped() && !are_woken {
             wake_all(means, doors);
             are_woken = true;
         }
-        if take_one(means, keeper, taker) {
+        if take_one(means, next, epochs, taker) {
             continue;
         }
-        publish(means, keeper);
+        publish(means, epochs);
         if is_over {
             return;
         }
@@ -51,30 +65,36 @@ pub(crate) fn take_all<R: Threads + Wait + Sync, X: Write, Y: Write>(
 }
 
 /// Takes all that was sent before the call, and publishes it: what the lane holds, which has as many places as the queue.
-fn take_waiting<R: Wait, X: Write, Y: Write>(
+fn take_waiting<R: Wait, X: Write + Drop, Y: Write + Drop, F: EpochFiles<X, Y>, H: House>(
     means: &Means<'_, R>,
-    keeper: &mut Keeper<'_, X, Y>,
+    next: &NextEpoch<'_, F, H>,
+    epochs: &mut Epochs<'_, H, X, Y>,
     taker: &mut Taker,
-) {
+)
+    requires house { H.sizes ≡ sizes_of means.now.run.now.setup.now.roster }
+{
     for _ in 0..means.run.setup.queue() {
-        if !take_one(means, keeper, taker) {
+        if !take_one(means, next, epochs, taker) {
             break;
         }
     }
-    publish(means, keeper);
+    publish(means, epochs);
 }
 
 /// Takes a change, if there is one, and returns whether there was.
-fn take_one<R: Wait, X: Write, Y: Write>(
+fn take_one<R: Wait, X: Write + Drop, Y: Write + Drop, F: EpochFiles<X, Y>, H: House>(
     means: &Means<'_, R>,
-    keeper: &mut Keeper<'_, X, Y>,
+    next: &NextEpoch<'_, F, H>,
+    epochs: &mut Epochs<'_, H, X, Y>,
     taker: &mut Taker,
-) -> bool {
+) -> bool
+    requires house { H.sizes ≡ sizes_of means.now.run.now.setup.now.roster }
+{
     let Some(change) = taker.take(means.rt) else {
         return false;
     };
     if !means.run.is_stopped() {
-        match keeper.take_in(means.rt, &change) {
+        match epochs.take_in(means, next, &change) {
             Ok(()) => {}
             Err(fault) => means.run.fail(fault),
         }
@@ -83,11 +103,14 @@ fn take_one<R: Wait, X: Write, Y: Write>(
 }
 
 /// Publishes what is waiting, unless a fault has ended the run.
-fn publish<R: Wait, X: Write, Y: Write>(means: &Means<'_, R>, keeper: &mut Keeper<'_, X, Y>) {
-    if means.run.is_stopped() || keeper.waiting() == 0 {
+fn publish<R: Wait, X: Write, Y: Write, H: House>(
+    means: &Means<'_, R>,
+    epochs: &mut Epochs<'_, H, X, Y>,
+) {
+    if means.run.is_stopped() {
         return;
     }
-    match keeper.publish(means.rt) {
+    match epochs.publish(means.rt) {
         Ok(()) => {}
         Err(fault) => means.run.fail(fault),
     }

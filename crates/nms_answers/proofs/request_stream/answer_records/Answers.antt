@@ -3,7 +3,7 @@ use Rattle.std.proofs.Common.{Bool, true, false, cond, refl, sym, arith, ◌≡�
 use mir.Val.{bool_byte}
 use Rattle.nms_answers.specs.declared.TheConstants.{MOST_REQUESTS}
 use Rattle.nms_answers.specs.declared.request_stream.Progress.TheVariants as progress
-use Rattle.nms_answers.proofs.KnownFacts.{keeps_itself, keeps_on}
+use Rattle.nms_answers.proofs.EpochFacts.{stays_itself, stays_on}
 use Rattle.nms_answers.proofs.ProgressFacts.{answers_all, comes_first}
 use Rattle.nms_answers.proofs.request_stream.answer_records.Goals as goal
 
@@ -11,7 +11,8 @@ pub loop-done-init : goal.loop-done-init
 loop-done-init g c = record {
   come = λ bytes reads. comes_first g.R.Read.remaining c.args.setup.now bytes c.args.reader.now c.args.desk.now
       (g.W.Write.contents c.args.answers.now) reads;
-  knows = keeps_itself c.args.desk.now c.args.desk.now refl;
+  knows = stays_itself c.args.desk.now;
+  sizes = c.requires.sizes;
   few = lit≤ tt;
   within = lit≤ tt;
 }
@@ -26,7 +27,7 @@ returns-in-Ok-Ended-clause-answered g c bytes reads =
 
 pub returns-in-Ok-Ended-clause-knows : goal.returns-in-Ok-Ended-clause-knows
 returns-in-Ok-Ended-clause-knows g c =
-    keeps_on c.args.desk.now c.loop-done.desk c.advance.new.desk c.loop-done.invariant.knows c.advance.ensures.knows
+    stays_on c.args.desk.now c.loop-done.desk c.advance.new.desk c.loop-done.invariant.knows c.advance.ensures.knows
 
 pub returns-in-Err-clause-stopped : goal.returns-in-Err-clause-stopped
 returns-in-Err-clause-stopped g c bytes reads =
@@ -40,7 +41,7 @@ returns-in-Err-clause-cut g c bytes reads =
 
 pub returns-in-Err-clause-knows : goal.returns-in-Err-clause-knows
 returns-in-Err-clause-knows g c =
-    keeps_on c.args.desk.now c.loop-done.desk c.advance.new.desk c.loop-done.invariant.knows c.advance.ensures.knows
+    stays_on c.args.desk.now c.loop-done.desk c.advance.new.desk c.loop-done.invariant.knows c.advance.ensures.knows
 
 byte_of : (b : Bool) → bool_byte b ≡ cond b 1 0
 byte_of true = refl
@@ -64,7 +65,8 @@ loop-done-preserved g c =
           let came = c.in-Ok-Answered.ensures.came bytes (g.W.Write.contents c.args.answers.now) c.args.desk.now c.loop-done.refused
           (c.loop-done.invariant.come bytes reads) in
           rw more (rw answered at came);
-      knows = keeps_on c.args.desk.now c.loop-done.desk c.advance.new.desk c.loop-done.invariant.knows c.advance.ensures.knows;
+      knows = stays_on c.args.desk.now c.loop-done.desk c.advance.new.desk c.loop-done.invariant.knows c.advance.ensures.knows;
+      sizes = c.advance.ensures.sizes;
       few = omega (arith, more, at_most_one c.in-Ok-Answered.more, c.loop-done.invariant.few);
       within = omega (arith, not_last, c.loop-done.invariant.within);
     }

@@ -1,0 +1,25 @@
+//! A client's desk of one epoch, and what gives it the desks of later ones (specs/Epochs).
+ghost use Rattle.std.specs.Prelude.{◌≡◌, ◌<◌, IfSome};
+ghost use Rattle.nms_quote.specs.Roster.{Sizes};
+
+use nms_versions::Desk;
+
+/// A client's desk of one epoch of a run. An epoch is one tape with its board; they are counted from 0.
+#[derive(Drop)]
+pub struct EpochDesk {
+    /// The number of the epoch.
+    pub epoch: u64,
+    /// The desk, which looks at what is published in that epoch.
+    pub desk: Desk,
+}
+
+/// What gives a client its desk of a later epoch.
+pub trait LaterDesks {
+    // The sizes of the roster, which all epochs of a run have.
+    ghost sizes: { Sizes };
+
+    /// The client's desk of the latest epoch, if that is later than `epoch`.
+    fn later(&self, epoch: u64) -> Option<EpochDesk>
+        ensures later { IfSome result (λ next. epoch < next.epoch) }
+        ensures sizes { IfSome result (λ next. next.desk.sizes ≡ sizes) };
+}

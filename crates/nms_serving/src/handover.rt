@@ -1,0 +1,90 @@
+//! How clients come by their desks of later epochs: the taker lays each in its client's slot.
+ghost use Rattle.std.specs.Prelude.{◌≡◌, ◌<◌, IfSome};
+ghost use Rattle.nms_quote.specs.Roster.{sizes_of};
+
+use nms_answers::{EpochDesk, LaterDesks};
+use std::marker::{Brand, PhantomData};
+use std::sync::atomic::{AtomicU64, Ordering};
+use std::sync::{Mutex, Wait};
+
+/// What all epochs of a run have. Each run picks its own; no value of it is made.
+pub(crate) trait House {
+    ghost use Rattle.nms_quote.specs.Roster.{Sizes};
+
+    // The sizes of the roster.
+    ghost sizes: { Sizes };
+}
+
+impl House for Brand {
+    ghost use Rattle.std.specs.Prelude.{[]};
+
+    ghost sizes = { record { parts = 0; lots = [] } };
+}
+
+/// A desk of the run's roster.
+#[derive(Drop)]
+pub(crate) struct HouseDesk<H: House> {
+    desk: EpochDesk,
+    of: PhantomData<H>,
+    ghost sizes: { desk.desk.sizes ≡ H.sizes },
+}
+
+/// Where a client finds its desk of the latest epoch, once it has not gone over to it.
+#[derive(Drop)]
+pub(crate) struct Slot<H: House> {
+    /// The latest epoch whose desk was laid here; 0 if none was.
+    epoch: AtomicU64,
+    desk: Mutex<Option<HouseDesk<H>>>,
+}
+
+impl<H: House> Slot<H> {
+    /// With no desk.
+    pub(crate) fn new() -> Self {
+        Slot {
+            epoch: AtomicU64::new(0),
+            desk: Mutex::new(None),
+        }
+    }
+
+    /// Lays a desk here, in place of that of an earlier epoch to which the client never went over.
+    pub(crate) fn lay<R: Wait>(&self, rt: &R, desk: EpochDesk)
+        requires sizes { desk.desk.sizes ≡ H.sizes }
+    {
+        let epoch = desk.epoch;
+        *self.desk.lock(rt) = Some(HouseDesk {
+            desk,
+            of: PhantomData,
+        });
+        self.epoch.store(epoch, Ordering::SeqCst);
+    }
+
+    /// Takes the desk, if its epoch is later than that.
+    fn take<R: Wait>(&self, rt: &R, epoch: u64) -> Option<EpochDesk>
+        ensures later { IfSome result (λ next. epoch < next.epoch) }
+        ensures sizes { IfSome result (λ next. next.desk.sizes ≡ H.sizes) }
+    {
+        if self.epoch.load(Ordering::SeqCst) <= epoch {
+            return None;
+        }
+        let laid = self.desk.lock(rt).take();
+        let Some(HouseDesk { desk, of: _ }) = laid else {
+            return None;
+        };
+        if epoch < desk.epoch { Some(desk) } else { None }
+    }
+}
+
+/// A client's slot, with what it takes to wait for its lock.
+#[derive(Drop)]
+pub(crate) struct SlotOf<'a, R, H: House> {
+    pub(crate) rt: &'a R,
+    pub(crate) slot: &'a Slot<H>,
+}
+
+impl<R: Wait, H: House> LaterDesks for SlotOf<'_, R, H> {
+    ghost sizes = { H.sizes };
+
+    fn later(&self, epoch: u64) -> Option<EpochDesk> {
+        self.slot.take(self.rt, epoch)
+    }
+}
