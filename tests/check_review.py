@@ -241,6 +241,17 @@ def one_found(program, path):
     must((ran.returncode, told) == (6, "200000; refused: 1\n    L6: 1\n") and head.startswith(wanted), f"{ran.returncode}, {ran.stdout[:500]!r}")
 
 
+def too_many(file):
+    """A script of one record more than the most."""
+    file.write(b"F\n" * 10_000_001)
+
+
+def one_too_many(program, path):
+    ran = called(program, ["tape", "given.changes"], capture_output=True, cwd=os.path.dirname(path))
+    said = b"nms_review: given.changes: E3: it has more than 10,000,000 records\n"
+    must((ran.returncode, ran.stderr) == (6, said), f"{ran.returncode}, {ran.stderr[:500]!r}")
+
+
 def many_symbols(file):
     """A setup of 100,000 symbols, the last of which has the name of the first."""
     file.write(b'tape_limit = 3\nqueue = 2\ndesks = 1\nparticipant = [{name = "N", feed = "A", fee = 0, rate = 0}]\n')
@@ -336,7 +347,8 @@ def flagged(program, path):
 TRIALS = [
     ("closed", refused), ("reader_gone", refused), ("long", long_records), ("far_name", long_names), ("far_fields", long_fields),
     ("mark", marked), ("mark_in_parts", nothing), ("harmless", each_byte), ("small_memory", large), ("no_memory", larger),
-    ("one_found", among), ("name_found", many_symbols), ("pieces", each_other), ("columns", narrow), ("flagged", no_change),
+    ("one_found", among), ("one_too_many", too_many), ("name_found", many_symbols), ("pieces", each_other), ("columns", narrow),
+    ("flagged", no_change),
 ]
 
 
