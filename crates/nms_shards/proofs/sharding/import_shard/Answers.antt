@@ -1,5 +1,5 @@
 -- `import_shard`: clause `rows`, and the turns of its loop.
-use Rattle.std.proofs.Common.{ℕ, ◌≡◌, ◌+◌, ◌++◌, [], List, Bool, true, false, Ok, if◌then◌else◌, ap, arith, refl, sym}
+use Rattle.std.proofs.Common.{◌≡◌, ◌+◌, ◌++◌, [], List, Bool, true, false, Ok, if◌then◌else◌, ap, arith, refl, sym}
 use Rattle.std.proofs.Common.{subst, ◌∙◌, append_assoc, length, length-append}
 use Rattle.std.proofs.lemmas.List.{append-nil}
 use Rattle.nms_lines.specs.Layout.{Record}
