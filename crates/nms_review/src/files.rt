@@ -40,23 +40,29 @@ pub(crate) fn create_file<T: Files>(
 /// The file that the request reads and that stands at a path, if there is one.
 fn input_at<T: Files>(rt: &T, request: &Request, path: &str) -> Option<About> {
     let own = identity_of(rt, path)?;
-    for (place, word) in request.words.iter().enumerate() {
-        if identity_of(rt, word.as_str()) == Some(own) {
+    for place in 0..request.words.len() {
+        if identity_of(rt, word_at(request, place)) == Some(own) {
             return Some(About::Word(place));
         }
     }
-    for (about, word) in [
-        (About::Setup, &request.setup),
-        (About::Times, &request.times),
-        (About::Symbols, &request.symbols),
-    ] {
-        if let Some(word) = word {
-            if identity_of(rt, word.as_str()) == Some(own) {
-                return Some(about);
-            }
-        }
+    if is_at(rt, &request.setup, own) {
+        return Some(About::Setup);
+    }
+    if is_at(rt, &request.times, own) {
+        return Some(About::Times);
+    }
+    if is_at(rt, &request.symbols, own) {
+        return Some(About::Symbols);
     }
     None
+}
+
+/// Whether a word, if it was given, leads to this file.
+fn is_at<T: Files>(rt: &T, word: &Option<String>, own: (u64, u64)) -> bool {
+    match word {
+        Some(word) => identity_of(rt, word.as_str()) == Some(own),
+        None => false,
+    }
 }
 
 /// The device and the number of a plain file at a path, if there is one. A terminal or a pipe is none.

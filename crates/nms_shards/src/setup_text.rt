@@ -1,5 +1,5 @@
 //! The two small texts beside a shard: its symbols, and its setup.
-ghost use Rattle.std.specs.Prelude.{◌<◌, length};
+ghost use Rattle.std.specs.Prelude.{◌<◌, ◌≤◌, ◌≤ℤ◌, length, negsuc, pos};
 
 use crate::cutting::Cutting;
 use nms_fee_book::Caps;
@@ -83,34 +83,23 @@ fn write_participant<W: Write>(out: &mut W, setup: &Setup, part: Part) -> Result
 {
     let roster = setup.roster();
     text_line(out, "\n[[participant]]")?;
-    line(
-        out,
-        &[
-            Item::Text("name = \""),
-            Item::Text(roster.part_name(part)),
-            Item::Text("\""),
-        ],
-    )?;
-    line(
-        out,
-        &[
-            Item::Text("feed = \""),
-            Item::Text(letter_of(roster.feed_of(part))),
-            Item::Text("\""),
-        ],
-    )?;
+    quoted_line(out, "name", roster.part_name(part))?;
+    quoted_line(out, "feed", letter_of(roster.feed_of(part)))?;
     amount_line(out, "fee = ", fee_at(setup, part, 10_000))?;
     amount_line(out, "rate = ", fee_at(setup, part, 1))
 }
 
 /// The fee of a participant for a share at a price in 1/10,000 dollar, in nanodollars: at one dollar that is the key `fee` of
 /// its table, at 1/10,000 dollar the key `rate`.
-fn fee_at(setup: &Setup, part: Part, price: u64) -> i128 {
-    let Some(price) = Price::new(price) else {
-        return 0;
-    };
-    let with_fee = setup.fees().unit_cost(part, OrderSide::Buy, price).get();
-    with_fee - i128::from(price.get() * 100_000)
+fn fee_at(setup: &Setup, part: Part, price: u64) -> i128
+    requires there { 0 < price }
+    requires low_price { price ≤ 10000 }
+    ensures low { negsuc 10000001010000000 ≤ℤ result }
+    ensures high { result ≤ℤ pos 10000000010000000 }
+{
+    let quoted = Price::new(price).unwrap();
+    let with_fee = setup.fees().unit_cost(part, OrderSide::Buy, quoted).get();
+    with_fee - i128::from(price * 100_000)
 }
 
 /// The letter of a feed.
@@ -131,14 +120,7 @@ fn letter_of(feed: Feed) -> &'static str {
 fn write_symbols<W: Write>(out: &mut W, cutting: &Cutting) -> Result<(), ImportFault> {
     for listed in cutting.listed() {
         text_line(out, "\n[[symbol]]")?;
-        line(
-            out,
-            &[
-                Item::Text("name = \""),
-                Item::Text(listed.name.as_str()),
-                Item::Text("\""),
-            ],
-        )?;
+        quoted_line(out, "name", listed.name.as_str())?;
         line(
             out,
             &[
@@ -150,8 +132,24 @@ fn write_symbols<W: Write>(out: &mut W, cutting: &Cutting) -> Result<(), ImportF
     Ok(())
 }
 
+/// Writes a key with a text in quotes.
+fn quoted_line<'x, W: Write>(out: &mut W, key: &'x str, text: &'x str) -> Result<(), ImportFault> {
+    line(
+        out,
+        &[
+            Item::Text(key),
+            Item::Text(" = \""),
+            Item::Text(text),
+            Item::Text("\""),
+        ],
+    )
+}
+
 /// Writes a key with a whole number, which may be negative.
-fn amount_line<W: Write>(out: &mut W, key: &str, amount: i128) -> Result<(), ImportFault> {
+fn amount_line<W: Write>(out: &mut W, key: &str, amount: i128) -> Result<(), ImportFault>
+    requires low { negsuc 10000001010000000 ≤ℤ amount }
+    requires high { amount ≤ℤ pos 10000000010000000 }
+{
     let sign = if amount < 0 { "-" } else { "" };
     line(
         out,
