@@ -8,12 +8,13 @@ use crate::client::{ClientEnd, ClientStreams, serve_client};
 use crate::door::Door;
 use crate::epochs::{EpochFiles, Epochs, NextEpoch};
 use crate::feeding::{FeedEnd, feed_all};
-use crate::handover::{House, Slot};
+use crate::handover::{House, Slot, SlotOf};
 use crate::keeper::Keeper;
 use crate::run::Run;
 use crate::serve_fault::ServeFault;
 use crate::taking::{Doors, take_all};
 use crate::watching::watch_feeds;
+use nms_answers::LaterDesks;
 use nms_board::Boards;
 use nms_feed::{Sender, Taker, open_lane};
 use nms_versions::{Desk, open_tape};
@@ -279,30 +280,31 @@ fn start_clients<'s, E, H: House + Send + Sync, R: Threads + Wait + Sync>(
             return;
         };
         number = next;
-        start_client(scope, means, number, streams, slot, desk, handles);
+        let later = SlotOf { rt: means.rt, slot };
+        start_client(scope, means, number, streams, later, desk, handles);
     }
 }
 
 /// Starts the thread of the client of this number.
-fn start_client<'s, E, H: House + Send + Sync, R: Threads + Wait + Sync>(
+fn start_client<'s, E, L: LaterDesks + Send + Drop + 's, R: Threads + Wait + Sync>(
     scope: &'s Scope<'s, E>,
     means: &'s Means<'s, R>,
     number: u8,
     streams: &'s ClientStreams<'s>,
-    slot: &'s Slot<H>,
+    later: L,
     desk: Desk,
     handles: &mut Vec<JoinHandle<ClientEnd>>,
 )
-    requires house { H.sizes ≡ sizes_of means.now.run.now.setup.now.roster }
+    requires house { L.sizes ≡ sizes_of means.now.run.now.setup.now.roster }
     requires sizes { desk.sizes ≡ sizes_of means.now.run.now.setup.now.roster }
 {
     let run = means.run;
     run.begin_client();
     let started = scope.spawn(
         move || -> ClientEnd
-            requires house { H.sizes ≡ sizes_of means.now.run.now.setup.now.roster }
+            requires house { L.sizes ≡ sizes_of means.now.run.now.setup.now.roster }
             requires sizes { desk.sizes ≡ sizes_of means.now.run.now.setup.now.roster }
-        { serve_client(means, number, streams, desk, slot) },
+        { serve_client(means, number, streams, desk, &later) },
     );
     keep(run, started.ok(), handles);
 }
