@@ -8,7 +8,7 @@ use crate::client::{ClientEnd, ClientStreams, serve_client};
 use crate::door::Door;
 use crate::epochs::{EpochFiles, Epochs, NextEpoch};
 use crate::feeding::{FeedEnd, feed_all};
-use crate::handover::{House, Slot, SlotOf};
+use crate::handover::{House, HouseDesk, Sizing, Slot, SlotOf};
 use crate::keeper::Keeper;
 use crate::run::Run;
 use crate::serve_fault::ServeFault;
@@ -98,7 +98,7 @@ pub fn serve<R: Threads + Wait + Sync, X: Write + Drop, Y: Write + Drop, F: Epoc
 
 /// Serves feeds and clients on a board that was just opened.
 fn serve_board<
-    H: House + Send + Sync,
+    B: Sizing + Send + Sync,
     R: Threads + Wait + Sync,
     X: Write + Drop,
     Y: Write + Drop,
@@ -110,13 +110,13 @@ fn serve_board<
     keeper: Keeper<'_, X, Y>,
     ends: Ends,
 ) -> Result<Served, ServeFault>
-    requires house { H.sizes ≡ sizes_of means.now.run.now.setup.now.roster }
-    requires keeper { keeper.publisher.sizes ≡ H.sizes }
+    requires house { B.sizes ≡ sizes_of means.now.run.now.setup.now.roster }
+    requires keeper { keeper.publisher.sizes ≡ B.sizes }
     requires fresh { AllByRecursion (λ sender. sender.sent ≡ []) ends.senders.items }
     requires sizes { (k : ℕ) (d : Knowing) → k < length ends.desks.items → (slice_index_or ends.desks.items k d).sizes ≡ sizes_of means.now.run.now.setup.now.roster }
     ensures begun { IfErr result (λ fault. fault ≡ ServeFault.NotBegun) }
 {
-    let slots: Vec<Slot<H>> = match slots_of(means.alloc, doors.clients.len()) {
+    let slots: Vec<Slot<HouseDesk<B>>> = match slots_of(means.alloc, doors.clients.len()) {
         Ok(slots) => slots,
         Err(_) => {
             keeper.end(means.rt);
@@ -144,7 +144,7 @@ fn slots_of<H: House>(alloc: Global, clients: usize) -> Result<Vec<Slot<H>>, All
 
 /// Serves feeds and clients, epoch after epoch.
 fn serve_epochs<
-    H: House + Send + Sync,
+    H: House + Send,
     R: Threads + Wait + Sync,
     X: Write + Drop,
     Y: Write + Drop,
@@ -179,7 +179,7 @@ fn serve_epochs<
 fn run_threads<
     's,
     E,
-    H: House + Send + Sync,
+    H: House + Send,
     R: Threads + Wait + Sync,
     X: Write + Drop,
     Y: Write + Drop,
@@ -258,7 +258,7 @@ fn start_feed<'s, E, R: Wait + Sync>(
 }
 
 /// Starts a thread for each client.
-fn start_clients<'s, E, H: House + Send + Sync, R: Threads + Wait + Sync>(
+fn start_clients<'s, E, H: House + Send, R: Threads + Wait + Sync>(
     scope: &'s Scope<'s, E>,
     means: &'s Means<'s, R>,
     clients: &'s [ClientStreams<'s>],
