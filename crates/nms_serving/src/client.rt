@@ -4,12 +4,11 @@ ghost use Rattle.nms_quote.specs.Roster.{sizes_of};
 
 use crate::door::Door;
 use crate::guarded::Guarded;
-use crate::handover::{House, Slot, SlotOf};
 use crate::run::Run;
 use crate::serve_fault::ServeFault;
 use crate::serving::Means;
 use crate::stream::Stream;
-use nms_answers::{EpochDesk, RequestCounts, answer_stream};
+use nms_answers::{EpochDesk, LaterDesks, RequestCounts, answer_stream};
 use nms_versions::Desk;
 use std::fs::File;
 use std::io::{Read, Write};
@@ -41,18 +40,18 @@ pub struct ClientEnd {
 }
 
 /// Answers the requests of the client of this number, from 1, to the end of their stream. A fault ends the run.
-pub(crate) fn serve_client<R: Threads + Wait + Sync, H: House>(
+pub(crate) fn serve_client<R: Threads + Wait + Sync, L: LaterDesks>(
     means: &Means<'_, R>,
     number: u8,
     streams: &ClientStreams<'_>,
     desk: Desk,
-    slot: &Slot<H>,
+    later: &L,
 ) -> ClientEnd
-    requires house { H.sizes ≡ sizes_of means.now.run.now.setup.now.roster }
+    requires house { L.sizes ≡ sizes_of means.now.run.now.setup.now.roster }
     requires sizes { desk.sizes ≡ sizes_of means.now.run.now.setup.now.roster }
 {
     let mut desk = EpochDesk { epoch: 0, desk };
-    let counts = match answer_client(means, number, streams, &mut desk, slot) {
+    let counts = match answer_client(means, number, streams, &mut desk, later) {
         Ok(counts) => Some(counts),
         Err(fault) => {
             means.run.fail(fault);
@@ -64,14 +63,14 @@ pub(crate) fn serve_client<R: Threads + Wait + Sync, H: House>(
 }
 
 /// Opens a client's streams, and answers its requests.
-fn answer_client<R: Threads + Wait + Sync, H: House>(
+fn answer_client<R: Threads + Wait + Sync, L: LaterDesks>(
     means: &Means<'_, R>,
     number: u8,
     streams: &ClientStreams<'_>,
     desk: &mut EpochDesk,
-    slot: &Slot<H>,
+    later: &L,
 ) -> Result<RequestCounts, ServeFault>
-    requires house { H.sizes ≡ sizes_of means.now.run.now.setup.now.roster }
+    requires house { L.sizes ≡ sizes_of means.now.run.now.setup.now.roster }
     requires sizes { desk.old.desk.sizes ≡ sizes_of means.now.run.now.setup.now.roster }
 {
     let host = means.host;
@@ -80,13 +79,13 @@ fn answer_client<R: Threads + Wait + Sync, H: House>(
             means,
             number,
             desk,
-            slot,
+            later,
             host.stdin(),
             host.stdout(),
         ),
         ClientStreams::Paths { input, output } => {
             let (requests, answers) = open_both(means, number, input, output);
-            answer_from(means, number, desk, slot, requests?, answers?)
+            answer_from(means, number, desk, later, requests?, answers?)
         }
     }
 }
@@ -123,15 +122,15 @@ fn opened(run: &Run<'_>, outcome: io::Result<File>, stream: Stream) -> Result<Fi
 }
 
 /// Answers the requests of a stream, once they are held no longer.
-fn answer_from<R: Wait, S: Read + Drop, W: Write + Drop, H: House>(
+fn answer_from<R: Wait, S: Read + Drop, W: Write + Drop, L: LaterDesks>(
     means: &Means<'_, R>,
     number: u8,
     desk: &mut EpochDesk,
-    slot: &Slot<H>,
+    later: &L,
     requests: S,
     answers: W,
 ) -> Result<RequestCounts, ServeFault>
-    requires house { H.sizes ≡ sizes_of means.now.run.now.setup.now.roster }
+    requires house { L.sizes ≡ sizes_of means.now.run.now.setup.now.roster }
     requires sizes { desk.old.desk.sizes ≡ sizes_of means.now.run.now.setup.now.roster }
 {
     let run = means.run;
@@ -141,7 +140,7 @@ fn answer_from<R: Wait, S: Read + Drop, W: Write + Drop, H: House>(
         means.alloc,
         run.setup,
         desk,
-        &SlotOf { rt: means.rt, slot },
+        later,
         Guarded::new(requests, run),
         &mut answers,
     ) {

@@ -8,25 +8,57 @@ use std::sync::atomic::{AtomicU64, Ordering};
 use std::sync::{Mutex, Wait};
 
 /// What all epochs of a run have. Each run picks its own; no value of it is made.
-pub(crate) trait House {
+pub(crate) trait Sizing {
     ghost use Rattle.nms_quote.specs.Roster.{Sizes};
 
     // The sizes of the roster.
     ghost sizes: { Sizes };
 }
 
-impl House for Brand {
+impl Sizing for Brand {
     ghost use Rattle.std.specs.Prelude.{[]};
 
     ghost sizes = { record { parts = 0; lots = [] } };
 }
 
+/// A desk of the run's roster, as it is laid down for a client.
+pub(crate) trait House: Drop {
+    ghost use Rattle.nms_quote.specs.Roster.{Sizes};
+
+    // The sizes of the roster.
+    ghost sizes: { Sizes };
+
+    /// Of a desk.
+    fn keep(desk: EpochDesk) -> Self
+        requires sizes { desk.desk.sizes ≡ sizes };
+
+    /// The desk.
+    fn give(self) -> EpochDesk
+        ensures sizes { result.desk.sizes ≡ sizes };
+}
+
 /// A desk of the run's roster.
 #[derive(Drop)]
-pub(crate) struct HouseDesk<H: House> {
+pub(crate) struct HouseDesk<B: Sizing> {
     desk: EpochDesk,
-    of: PhantomData<H>,
-    ghost sizes: { desk.desk.sizes ≡ H.sizes },
+    of: PhantomData<B>,
+    ghost sizes: { desk.desk.sizes ≡ B.sizes },
+}
+
+impl<B: Sizing> House for HouseDesk<B> {
+    ghost sizes = { B.sizes };
+
+    fn keep(desk: EpochDesk) -> Self {
+        HouseDesk {
+            desk,
+            of: PhantomData,
+        }
+    }
+
+    fn give(self) -> EpochDesk {
+        let HouseDesk { desk, of: _ } = self;
+        desk
+    }
 }
 
 /// Where a client finds its desk of the latest epoch, once it has not gone over to it.
@@ -34,7 +66,7 @@ pub(crate) struct HouseDesk<H: House> {
 pub(crate) struct Slot<H: House> {
     /// The latest epoch whose desk was laid here; 0 if none was.
     epoch: AtomicU64,
-    desk: Mutex<Option<HouseDesk<H>>>,
+    desk: Mutex<Option<H>>,
 }
 
 impl<H: House> Slot<H> {
@@ -51,10 +83,7 @@ impl<H: House> Slot<H> {
         requires sizes { desk.desk.sizes ≡ H.sizes }
     {
         let epoch = desk.epoch;
-        *self.desk.lock(rt) = Some(HouseDesk {
-            desk,
-            of: PhantomData,
-        });
+        *self.desk.lock(rt) = Some(H::keep(desk));
         self.epoch.store(epoch, Ordering::SeqCst);
     }
 
@@ -67,9 +96,10 @@ impl<H: House> Slot<H> {
             return None;
         }
         let laid = self.desk.lock(rt).take();
-        let Some(HouseDesk { desk, of: _ }) = laid else {
+        let Some(kept) = laid else {
             return None;
         };
+        let desk = kept.give();
         if epoch < desk.epoch { Some(desk) } else { None }
     }
 }

@@ -8,12 +8,13 @@ use crate::client::{ClientEnd, ClientStreams, serve_client};
 use crate::door::Door;
 use crate::epochs::{EpochFiles, Epochs, NextEpoch};
 use crate::feeding::{FeedEnd, feed_all};
-use crate::handover::{House, Slot};
+use crate::handover::{House, HouseDesk, Sizing, Slot, SlotOf};
 use crate::keeper::Keeper;
 use crate::run::Run;
 use crate::serve_fault::ServeFault;
 use crate::taking::{Doors, take_all};
 use crate::watching::watch_feeds;
+use nms_answers::LaterDesks;
 use nms_board::Boards;
 use nms_feed::{Sender, Taker, open_lane};
 use nms_versions::{Desk, open_tape};
@@ -97,7 +98,7 @@ pub fn serve<R: Threads + Wait + Sync, X: Write + Drop, Y: Write + Drop, F: Epoc
 
 /// Serves feeds and clients on a board that was just opened.
 fn serve_board<
-    H: House + Send + Sync,
+    B: Sizing + Send + Sync,
     R: Threads + Wait + Sync,
     X: Write + Drop,
     Y: Write + Drop,
@@ -109,13 +110,13 @@ fn serve_board<
     keeper: Keeper<'_, X, Y>,
     ends: Ends,
 ) -> Result<Served, ServeFault>
-    requires house { H.sizes ≡ sizes_of means.now.run.now.setup.now.roster }
-    requires keeper { keeper.publisher.sizes ≡ H.sizes }
+    requires house { B.sizes ≡ sizes_of means.now.run.now.setup.now.roster }
+    requires keeper { keeper.publisher.sizes ≡ B.sizes }
     requires fresh { AllByRecursion (λ sender. sender.sent ≡ []) ends.senders.items }
     requires sizes { (k : ℕ) (d : Knowing) → k < length ends.desks.items → (slice_index_or ends.desks.items k d).sizes ≡ sizes_of means.now.run.now.setup.now.roster }
     ensures begun { IfErr result (λ fault. fault ≡ ServeFault.NotBegun) }
 {
-    let slots: Vec<Slot<H>> = match slots_of(means.alloc, doors.clients.len()) {
+    let slots: Vec<Slot<HouseDesk<B>>> = match slots_of(means.alloc, doors.clients.len()) {
         Ok(slots) => slots,
         Err(_) => {
             keeper.end(means.rt);
@@ -143,7 +144,7 @@ fn slots_of<H: House>(alloc: Global, clients: usize) -> Result<Vec<Slot<H>>, All
 
 /// Serves feeds and clients, epoch after epoch.
 fn serve_epochs<
-    H: House + Send + Sync,
+    H: House + Send,
     R: Threads + Wait + Sync,
     X: Write + Drop,
     Y: Write + Drop,
@@ -178,7 +179,7 @@ fn serve_epochs<
 fn run_threads<
     's,
     E,
-    H: House + Send + Sync,
+    H: House + Send,
     R: Threads + Wait + Sync,
     X: Write + Drop,
     Y: Write + Drop,
@@ -257,7 +258,7 @@ fn start_feed<'s, E, R: Wait + Sync>(
 }
 
 /// Starts a thread for each client.
-fn start_clients<'s, E, H: House + Send + Sync, R: Threads + Wait + Sync>(
+fn start_clients<'s, E, H: House + Send, R: Threads + Wait + Sync>(
     scope: &'s Scope<'s, E>,
     means: &'s Means<'s, R>,
     clients: &'s [ClientStreams<'s>],
@@ -279,30 +280,31 @@ fn start_clients<'s, E, H: House + Send + Sync, R: Threads + Wait + Sync>(
             return;
         };
         number = next;
-        start_client(scope, means, number, streams, slot, desk, handles);
+        let later = SlotOf { rt: means.rt, slot };
+        start_client(scope, means, number, streams, later, desk, handles);
     }
 }
 
 /// Starts the thread of the client of this number.
-fn start_client<'s, E, H: House + Send + Sync, R: Threads + Wait + Sync>(
+fn start_client<'s, E, L: LaterDesks + Send + Drop + 's, R: Threads + Wait + Sync>(
     scope: &'s Scope<'s, E>,
     means: &'s Means<'s, R>,
     number: u8,
     streams: &'s ClientStreams<'s>,
-    slot: &'s Slot<H>,
+    later: L,
     desk: Desk,
     handles: &mut Vec<JoinHandle<ClientEnd>>,
 )
-    requires house { H.sizes ≡ sizes_of means.now.run.now.setup.now.roster }
+    requires house { L.sizes ≡ sizes_of means.now.run.now.setup.now.roster }
     requires sizes { desk.sizes ≡ sizes_of means.now.run.now.setup.now.roster }
 {
     let run = means.run;
     run.begin_client();
     let started = scope.spawn(
         move || -> ClientEnd
-            requires house { H.sizes ≡ sizes_of means.now.run.now.setup.now.roster }
+            requires house { L.sizes ≡ sizes_of means.now.run.now.setup.now.roster }
             requires sizes { desk.sizes ≡ sizes_of means.now.run.now.setup.now.roster }
-        { serve_client(means, number, streams, desk, slot) },
+        { serve_client(means, number, streams, desk, &later) },
     );
     keep(run, started.ok(), handles);
 }
