@@ -1,5 +1,5 @@
 -- A board that goes along the changes, one more change at a time.
-use Rattle.std.proofs.Common.{ℕ, ◌≡◌, ◌+◌, ◌<◌, ◌++◌, ◌∷◌, [], Bool, false, arith, ap, get_or, length, subst, sym, take, ◌∙◌}
+use Rattle.std.proofs.Common.{ℕ, ◌≡◌, ◌+◌, ◌<◌, ◌++◌, ◌∷◌, [], false, arith, ap, get_or, length, subst, sym, take, ◌∙◌}
 use Rattle.std.specs.Prelude.{Result, Ok, Err, OnOk, is_err}
 use Rattle.std.proofs.lemmas.List.{take_more}
 use Rattle.nms_quote.specs.Roster.{Sizes}

@@ -1,6 +1,6 @@
 -- The best protected prices of versions: which prices trade through them, and when one more change leaves them.
-use Rattle.std.proofs.Common.{ℕ, ◌≡◌, ◌+◌, ◌/◌, ◌<◌, ◌≤◌, ◌++◌, ◌∷◌, ◌||◌, ◌&&◌, [], Bool, true, false, List, Option, Some, None, arith}
-use Rattle.std.proofs.Common.{inl, inr, refl, sym, ap, subst, ◌∙◌, length, slice_get, nat_lt, take}
+use Rattle.std.proofs.Common.{ℕ, ◌≡◌, ◌+◌, ◌<◌, ◌≤◌, ◌∷◌, ◌||◌, ◌&&◌, [], Bool, true, false, List, Option, Some, None, arith}
+use Rattle.std.proofs.Common.{inl, inr, refl, sym, ap, ◌∙◌, length, slice_get, nat_lt}
 use Rattle.std.specs.Prelude.{fold, if◌then◌else◌}
 use Rattle.std.specs.List.{filter_map, list_any, range_with_len}
 use Rattle.std.proofs.lemmas.Bool.{cases_lt, le-ltb, lt-ltb}
@@ -11,8 +11,8 @@ use Rattle.nms_quote.specs.declared.side_quote.Side.TheVariants.{Bid, Offer}
 use Rattle.nms_quote.specs.declared.change.Change.{Change}
 use Rattle.nms_board.specs.Cells.{Board, StandsFor, after}
 use Rattle.nms_board.specs.Quotation.{quotation_of, quotations}
-use Rattle.nms_board.specs.Shown.{rows_held, seen_on}
-use Rattle.nms_board.specs.View.{Seen, view_of}
+use Rattle.nms_board.specs.Shown.{rows_held}
+use Rattle.nms_board.specs.View.{Seen}
 use Rattle.nms_board.specs.declared.row.Row.{Row}
 use Rattle.nms_board.proofs.Offered.{seen_stands}
 use Rattle.nms_rules.specs.Through.{is_through}

@@ -1,8 +1,9 @@
 -- The standing of an execution on its own version, by the quotations that it trades through there.
-use Rattle.std.proofs.Common.{ℕ, ◌≡◌, ◌<◌, ◌+◌, ◌-◌, All, ◌++◌, ◌∷◌, ◌||◌, [], zero, suc, Bool, true, false, List, arith, refl, sym, ap, ◌∙◌, filter, length, length-append, map, nat_lt}
+use Rattle.std.proofs.Common.{ℕ, ◌≡◌, ◌<◌, ◌+◌, ◌-◌, All, ◌∷◌, ◌||◌, [], zero, suc, Bool, true, false, List, arith, refl, sym, ap, ◌∙◌}
+use Rattle.std.proofs.Common.{filter, length, length-append, map, nat_lt}
 use Rattle.std.specs.Prelude.{◌==◌, not}
 use Rattle.std.proofs.lemmas.Bool.{and_parts, eqb-true, lt-ltb}
-use Rattle.std.specs.List.{list_any, range_with_len}
+use Rattle.std.specs.List.{list_any}
 use Rattle.std.proofs.lemmas.List.{length-map}
 use Rattle.std.proofs.lemmas.List.Elements.{All-append, All-filter, All-map}
 use Rattle.std.proofs.lemmas.List.Sorted.{All-permutation, list_any-IsPermutation}
@@ -16,7 +17,7 @@ use Rattle.nms_board.specs.Ranking.{IsRankOrder, ranked}
 use Rattle.nms_board.specs.View.{view_of}
 use Rattle.nms_board.specs.declared.row.Row.{Row}
 use Rattle.nms_rules.specs.Through.{is_through}
-use Rattle.nms_trades.specs.Around.{any_version, goes_through_at, own_standing, standing_of, standing_over}
+use Rattle.nms_trades.specs.Around.{any_version, goes_through_at, own_standing, standing_over}
 use Rattle.nms_trades.specs.Found.{is_alone, standing_in}
 use Rattle.nms_trades.specs.Judged.{passed_at, whole_price}
 use Rattle.nms_trades.specs.declared.execution.Execution.{Execution}

@@ -1,9 +1,8 @@
 -- The protected prices of a participant in a symbol: what a board holds of them, when a change leaves them, and when they
 -- are inferior to a price.
-use Rattle.std.proofs.Common.{ℕ, ◌≡◌, ◌≢◌, ◌+◌, ◌*◌, ◌<◌, ◌≤◌, ◌==◌, ◌&&◌, zero, suc, Bool, true, false, List, [], arith}
+use Rattle.std.proofs.Common.{ℕ, ◌≡◌, ◌≢◌, ◌+◌, ◌*◌, ◌<◌, ◌≤◌, ◌==◌, ◌&&◌, zero, suc, Bool, true, false, List, arith}
 use Rattle.std.proofs.Common.{refl, sym, ap, ◌∙◌, length, nat_lt, slice_get, slice_index, Option, Some, None, unwrap_or, eq-eqb, ltb-true}
-use Rattle.std.specs.Prelude.{not}
-use Rattle.std.proofs.lemmas.Bool.{and_from, and_parts, cases_eq, false≢true}
+use Rattle.std.proofs.lemmas.Bool.{and_from, and_parts, false≢true}
 use Rattle.std.proofs.lemmas.List.{get_or-set_other}
 use Rattle.std.proofs.lemmas.Option.{unwrap_or-slice_get}
 use Rattle.nms_quote.specs.Roster.{Sizes, holds}
@@ -12,7 +11,7 @@ use Rattle.nms_quote.specs.declared.side_quote.Side.{Side}
 use Rattle.nms_quote.specs.declared.side_quote.Side.TheVariants.{Bid, Offer}
 use Rattle.nms_quote.specs.declared.change.Change.{Change}
 use Rattle.nms_quote.specs.declared.change.Change.TheVariants.{Lot, Quote, State, Withdraw}
-use Rattle.nms_board.specs.Cells.{Board, StandsFor, after, cell_of, cells_after, change_cell, lots_after, place_of, quoted, restated}
+use Rattle.nms_board.specs.Cells.{Board, StandsFor, after, cell_of, cells_after, lots_after, place_of, quoted, restated}
 use Rattle.nms_board.specs.Cells.{withdraw_from, withdrawn}
 use Rattle.nms_board.specs.History.{content_at, lot_at, on_side, receipt_of, state_at}
 use Rattle.nms_board.specs.Quotation.{quotation, quotation_of}
@@ -22,8 +21,7 @@ use Rattle.nms_board.specs.declared.cell.Cell.{Cell}
 use Rattle.nms_board.specs.declared.row.Row.{Row}
 use Rattle.nms_board.proofs.Offered.{change_cell_elsewhere}
 use Rattle.nms_trades.specs.Around.{is_inferior}
-use Rattle.nms_trades.specs.Judged.{whole_price}
-use Rattle.nms_trades.specs.Parts.{AreParts, limits_both, part_at, part_held, protected_price, touches}
+use Rattle.nms_trades.specs.Parts.{AreParts, limits_both, part_at, part_held, touches}
 use Rattle.nms_trades.specs.Track.{HasTrack, holds_of, nothing}
 use Rattle.nms_trades.specs.declared.track.Test.TheVariants as test
 use Rattle.nms_trades.specs.declared.track.Track.{Track}

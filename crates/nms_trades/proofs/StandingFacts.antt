@@ -1,5 +1,5 @@
 -- The standing of a price over versions, by the best prices of each.
-use Rattle.std.proofs.Common.{ℕ, ◌≡◌, ◌≤◌, ◌+◌, ◌-◌, zero, suc, Bool, List, [], ◌∷◌, refl, ap, ◌∙◌}
+use Rattle.std.proofs.Common.{ℕ, ◌≡◌, ◌+◌, ◌-◌, Bool, List, [], ◌∷◌, refl, ap}
 use Rattle.std.specs.List.{list_any, range_with_len}
 use Rattle.nms_quote.specs.Roster.{Sizes}
 use Rattle.nms_quote.specs.Tape.{Tape, version}
@@ -7,7 +7,6 @@ use Rattle.nms_board.specs.View.{view_of}
 use Rattle.nms_trades.specs.Around.{any_version, goes_through_at, standing_of, standing_over}
 use Rattle.nms_trades.specs.Bests.{best_at}
 use Rattle.nms_trades.specs.Track.{holds_of}
-use Rattle.nms_trades.specs.declared.standing.Standing.{Standing}
 use Rattle.nms_trades.specs.declared.track.Test.TheVariants as test
 use Rattle.nms_quote.specs.declared.side_quote.Side.{Side}
 use Rattle.nms_quote.specs.declared.side_quote.Side.TheVariants.{Bid, Offer}
@@ -29,11 +28,14 @@ pub standing_by : (sizes : Sizes) (tape : Tape) (symbol millionths first last : 
     (any_version (λ n. holds_of test.Clean millionths (best_at sizes tape symbol n)) first last)
     ≡ standing_over (goes_through_at sizes tape symbol millionths) first last
 standing_by sizes tape symbol millionths first last =
-    let through : (n : ℕ) → holds_of test.Through millionths (best_at sizes tape symbol n) ≡ goes_through_at sizes tape symbol millionths n =
+    let through : (n : ℕ) → holds_of test.Through millionths (best_at sizes tape symbol n)
+    ≡ goes_through_at sizes tape symbol millionths n =
     λ n. best_decides millionths (view_of sizes (version n tape) symbol) in
     rw (
-      any_alike (λ n. holds_of test.Through millionths (best_at sizes tape symbol n)) (goes_through_at sizes tape symbol millionths) through _,
-      any_alike (λ n. holds_of test.Clean millionths (best_at sizes tape symbol n)) (λ n. not (goes_through_at sizes tape symbol millionths n))
+      any_alike (λ n. holds_of test.Through millionths (best_at sizes tape symbol n))
+          (goes_through_at sizes tape symbol millionths) through _,
+      any_alike (λ n. holds_of test.Clean millionths (best_at sizes tape symbol n)) (λ n. not
+          (goes_through_at sizes tape symbol millionths n))
           (λ n. ap not (through n)) _,
     ) refl
 

@@ -1,5 +1,6 @@
 -- Versions whose limits a track's marks have.
-use Rattle.std.proofs.Common.{ℕ, ◌≡◌, ◌≢◌, ◌+◌, ◌-◌, ◌<◌, ◌≤◌, ◌||◌, zero, suc, Bool, true, false, List, [], ◌∷◌, ◌++◌, get_or, length, slice_get, Option, Some, None, arith, inl, inr, refl, length-append, sym, ap, subst, ◌∙◌}
+use Rattle.std.proofs.Common.{ℕ, ◌≡◌, ◌≢◌, ◌+◌, ◌-◌, ◌<◌, ◌≤◌, ◌||◌, zero, suc, Bool, true, false, List, [], ◌∷◌, ◌++◌, get_or, length}
+use Rattle.std.proofs.Common.{slice_get, Option, Some, arith, inl, inr, refl, length-append, sym, ap, subst, ◌∙◌}
 use Rattle.std.proofs.lemmas.Bool.{cases_lt, cases_eq}
 use Rattle.std.proofs.lemmas.List.{get_or_append_left, get_or_default, get_or_push}
 use Rattle.std.proofs.lemmas.Option.{slice_get-get_or, slice_get_past, slice_get_read}
@@ -146,7 +147,8 @@ unmarked_at : (version : ℕ) (limits : Limits) (marks : List Mark) → 0 < leng
     → IsMarked version limits marks marks
 unmarked_at version limits marks some last all upto is counted has =
     let at_last : all upto ≡ (mark_at marks (length marks - 1)).limits =
-    is.holds (length marks - 1) upto (omega arith) (is.within (length marks - 1) (omega arith)) (omega arith) (λ more. absurd (no_next more)) in
+    is.holds (length marks - 1) upto (omega arith) (is.within (length marks - 1) (omega arith)) (omega arith) (λ more. absurd
+    (no_next more)) in
     subst (λ n. IsTrack all n marks) (sym counted)
     (track_stays all upto marks is (ap all (sym counted) ∙ has ∙ sym last ∙ sym at_last))
   where
@@ -275,7 +277,8 @@ has_push all tracks track each is place below =
     elim (cases_lt place (length tracks)) [
       | inl earlier ↦
           let same : slice_get (tracks ++ track ∷ []) place ≡ slice_get tracks place =
-          there ∙ ap Some (get_or_append_left tracks (track ∷ []) track place earlier) ∙ sym (slice_get-get_or tracks place track earlier) in
+          there ∙ ap Some (get_or_append_left tracks (track ∷ []) track place earlier) ∙ sym
+          (slice_get-get_or tracks place track earlier) in
           subst (HasTrack all 0) (sym same) (each place earlier)
       | inr last ↦
           let same : slice_get (tracks ++ track ∷ []) place ≡ Some track =

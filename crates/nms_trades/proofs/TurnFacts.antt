@@ -1,5 +1,6 @@
 -- One more turn: it stands among the turns, and what was found before it stays.
-use Rattle.std.proofs.Common.{◌≡◌, ◌≢◌, ◌<◌, ◌+◌, ◌++◌, ◌∷◌, ℕ, [], List, Contains, Option, Some, None, slice_get, slice_set, length, take, get_or}
+use Rattle.std.proofs.Common.{◌≡◌, ◌≢◌, ◌<◌, ◌+◌, ◌++◌, ◌∷◌, ℕ, [], List, Contains, Option, Some, None, slice_get, slice_set, length}
+use Rattle.std.proofs.Common.{take, get_or}
 use Rattle.std.proofs.Common.{arith, inl, inr, subst, sym, ap, ◌∙◌}
 use Rattle.std.proofs.lemmas.Bool.{cases_eq, cases_lt}
 use Rattle.std.proofs.lemmas.List.{get_or_default, take_more}
@@ -30,7 +31,8 @@ have_sorted turns sorted k same had place below =
     (own.0, Contains-permutation turns sorted own.0 same own.1, own.2)
 
 -- with the finding of one more turn
-pub answered_more : (Holds : Execution → Finding → Type 0) (executions : List Execution) (old new : List (Option Finding)) (turns : List Turn)
+pub answered_more : (Holds : Execution → Finding → Type 0) (executions : List Execution) (old new : List (Option Finding))
+    (turns : List Turn)
     (k : ℕ) (turn : Turn) → k < length turns → turn ≡ get_or turns k turn
     → ((execution : Execution) → slice_get executions turn.place ≡ Some execution
     → IsAnswered Holds execution (slice_get new turn.place))
@@ -53,7 +55,8 @@ answered_more Holds executions old new turns k turn within is own others before 
     ]
 
 -- the same of the turn that is read
-pub answered_next : (Holds : Execution → Finding → Type 0) (executions : List Execution) (old new : List (Option Finding)) (turns : List Turn)
+pub answered_next : (Holds : Execution → Finding → Type 0) (executions : List Execution) (old new : List (Option Finding))
+    (turns : List Turn)
     (k : ℕ) (d : Turn) → k < length turns
     → ((execution : Execution) → slice_get executions (get_or turns k d).place ≡ Some execution
     → IsAnswered Holds execution (slice_get new (get_or turns k d).place))
@@ -64,7 +67,8 @@ answered_next Holds executions old new turns k d within own others before =
     others before
 
 -- where each execution had its turn, each has its finding
-pub answered_all : (Holds : Execution → Finding → Type 0) (executions : List Execution) (answers : List (Option Finding)) (turns : List Turn)
+pub answered_all : (Holds : Execution → Finding → Type 0) (executions : List Execution) (answers : List (Option Finding))
+    (turns : List Turn)
     → HaveTurns turns (length executions) → AreAnsweredIn Holds executions answers turns
     → (place : ℕ) (execution : Execution) → slice_get executions place ≡ Some execution
     → IsAnswered Holds execution (slice_get answers place)

@@ -1,7 +1,6 @@
 -- The best protected prices of each version, kept as marks: one where they change. This product's own rule.
 use Rattle.std.specs.Prelude.{ℕ, ◌≡◌, ◌+◌, ◌<◌, ◌≤◌, Bool, true, false, ◌&&◌, ◌||◌, List, get_or, length, nat_lt, not, slice_get}
 use Rattle.std.specs.Prelude.{Option, Some, None}
-use Rattle.nms_quote.specs.declared.side_quote.Side.{Side}
 use Rattle.nms_quote.specs.declared.side_quote.Side.TheVariants.{Bid, Offer}
 use Rattle.nms_trades.specs.Judged.{whole_price}
 use Rattle.nms_trades.specs.declared.track.Limits.{Limits}

@@ -1,7 +1,8 @@
 //! The best protected prices of each version, kept as marks: one where they change: `specs/Track`.
 ghost use Rattle.std.specs.Prelude.{◌≡◌, ◌≢◌, ◌+◌, ◌<◌, ◌≤◌, ℕ, true, IfOk, OnOk, length, slice_get};
 ghost use Rattle.nms_trades.specs.Around.{any_version};
-ghost use Rattle.nms_trades.specs.Track.{HasTrack, IsMarked, IsNoted, IsTrack, bid_above, holds_of, mark_at, nothing, offer_below, passes_limits};
+ghost use Rattle.nms_trades.specs.Track.{HasTrack, IsMarked, IsNoted, IsTrack, bid_above, holds_of, mark_at, nothing, offer_below};
+ghost use Rattle.nms_trades.specs.Track.{passes_limits};
 
 use crate::limits::whole_price;
 use nms_quote::Side;

@@ -8,10 +8,12 @@ use Rattle.nms_trades.proofs.bests.note_all.Goals as goal
 
 pub loop-place-preserved : goal.loop-place-preserved
 loop-place-preserved c =
-    let is : c.unwrap.result ≡ c.loop-place.place = some_is c.new.result _ c.loop-place.place c.unwrap.result c.new.ensures c.unwrap.ensures in
+    let is : c.unwrap.result ≡ c.loop-place.place =
+    some_is c.new.result _ c.loop-place.place c.unwrap.result c.new.ensures c.unwrap.ensures in
     noted_more (λ k. k) c.args.board.now.applied (λ s. limits_of (seen_on c.args.board.now s)) c.loop-place.place c.args.bests.now.items
     c.loop-place.bests.items c.note_sym.new.bests.items (λ i j same. same) c.loop-place.invariant c.in_ok-note_sym.ensures.count
-    (c.in_ok-note_sym.ensures.own c.loop-place.place (sym is)) (λ other apart. c.in_ok-note_sym.ensures.others other (λ same. apart (same ∙ is)))
+    (c.in_ok-note_sym.ensures.own c.loop-place.place (sym is)) (λ other apart. c.in_ok-note_sym.ensures.others other (λ same. apart
+    (same ∙ is)))
 
 pub returns : goal.returns
 returns c =

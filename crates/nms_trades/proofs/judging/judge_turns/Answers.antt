@@ -21,6 +21,7 @@ pub returns-clause-answered : goal.returns-clause-answered
 returns-clause-answered c = λ had.
     let all : take c.loop-turn.turn-index c.args.turns.now ≡ c.args.turns.now =
     take_all c.loop-turn.turn-index c.args.turns.now (omega (arith, c.loop-turn-test.false)) in
-    answered_all (IsStanding (sizes_of c.args.roster.now) c.args.changes.now) c.args.executions.now c.loop-turn.answers.items c.args.turns.now had
+    answered_all (IsStanding (sizes_of c.args.roster.now) c.args.changes.now) c.args.executions.now
+    c.loop-turn.answers.items c.args.turns.now had
     (subst (λ (turns : List Turn). AreAnsweredIn (IsStanding (sizes_of c.args.roster.now) c.args.changes.now) c.args.executions.now
     c.loop-turn.answers.items turns) all c.loop-turn.invariant.answered)

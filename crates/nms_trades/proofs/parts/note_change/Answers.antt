@@ -17,7 +17,8 @@ returns-in-Quote-clause-touched c = λ s p in_syms in_parts touched.
 pub returns-in-Quote-clause-others : goal.returns-in-Quote-clause-others
 returns-in-Quote-clause-others c = λ s p in_syms in_parts kept.
     then_ok c.note_part.result (c.note_part.ensures.others (place_of p s)
-    (apart_in c.args.board.now c.in-Quote.part c.in-Quote.sym p s c.stands_for_a_tape.ensures.shape.parts (rw c.in-Quote.is at c.requires.held)
+    (apart_in c.args.board.now c.in-Quote.part c.in-Quote.sym p s c.stands_for_a_tape.ensures.shape.parts
+    (rw c.in-Quote.is at c.requires.held)
     in_parts (rw c.in-Quote.is at kept)))
 
 pub returns-in-State-clause-touched : goal.returns-in-State-clause-touched
@@ -28,7 +29,8 @@ returns-in-State-clause-touched c = λ s p in_syms in_parts touched.
 pub returns-in-State-clause-others : goal.returns-in-State-clause-others
 returns-in-State-clause-others c = λ s p in_syms in_parts kept.
     then_ok c.note_part-in-State.result (c.note_part-in-State.ensures.others (place_of p s)
-    (apart_in c.args.board.now c.in-State.part c.in-State.sym p s c.stands_for_a_tape.ensures.shape.parts (rw c.in-State.is at c.requires.held)
+    (apart_in c.args.board.now c.in-State.part c.in-State.sym p s c.stands_for_a_tape.ensures.shape.parts
+    (rw c.in-State.is at c.requires.held)
     in_parts (rw c.in-State.is at kept)))
 
 pub returns-in-Withdraw-clause-touched : goal.returns-in-Withdraw-clause-touched

@@ -1,6 +1,6 @@
 -- `any_version`: by `found_at`, `none_more` and `no_version`.
-use Rattle.std.proofs.Common.{◌<◌, ◌≤◌, ◌+◌, ◌∙◌, arith, length, sym}
-use Rattle.nms_trades.specs.Track.{holds_of, mark_at}
+use Rattle.std.proofs.Common.{◌+◌, ◌∙◌, arith, sym}
+use Rattle.nms_trades.specs.Track.{holds_of}
 use Rattle.nms_trades.proofs.TrackFacts.{found_at, no_version, none_more}
 use Rattle.nms_trades.proofs.track.any_version.Goals as goal
 

@@ -1,5 +1,5 @@
 -- `mark_of`: the mark stands from `low` on and before `high`.
-use Rattle.std.proofs.Common.{ℕ, ◌<◌, ◌≤◌, ◌-◌, length}
+use Rattle.std.proofs.Common.{◌<◌, ◌≤◌, ◌-◌, length}
 use Rattle.nms_trades.specs.Track.{mark_at}
 use Rattle.nms_trades.proofs.track.mark_of.Given as goal
 

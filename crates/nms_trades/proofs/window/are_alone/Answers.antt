@@ -1,5 +1,5 @@
 -- `are_alone`: one execution more, by `All-more`.
-use Rattle.std.proofs.Common.{◌≡◌, ◌∙◌, All, arith, length, subst, sym, take, true}
+use Rattle.std.proofs.Common.{◌≡◌, ◌∙◌, All, arith, subst, sym, take, true}
 use Rattle.std.proofs.lemmas.List.{take_all}
 use Rattle.std.proofs.lemmas.List.Elements.{All-more}
 use Rattle.nms_trades.specs.Found.{is_alone}

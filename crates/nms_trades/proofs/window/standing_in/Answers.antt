@@ -1,10 +1,9 @@
 -- `standing_in`: with a window of one version by `own_in`, else by the track of the symbol.
-use Rattle.std.proofs.Common.{◌≡◌, ◌∙◌, ap, false, get_or, length, subst, sym}
+use Rattle.std.proofs.Common.{◌∙◌, ap, get_or, length, subst, sym}
 use Rattle.nms_quote.specs.Roster.{sizes_of}
 use Rattle.std.proofs.lemmas.Option.{slice_get-get_or}
 use Rattle.nms_trades.specs.Bests.{best_at}
 use Rattle.nms_trades.specs.Track.{IsTrack}
-use Rattle.nms_trades.specs.Found.{is_alone}
 use Rattle.nms_trades.proofs.OwnFacts.{own_in}
 use Rattle.nms_trades.proofs.TrackFacts.{has_at, has_within}
 use Rattle.nms_trades.proofs.window.standing_in.Goals as goal
