@@ -38,15 +38,6 @@ def clock(nanos):
     return f"{seconds // 3600:02}{seconds // 60 % 60:02}{seconds % 60:02}{nanos % SECOND:09}"
 
 
-DAY, SECOND = 86_400 * 10**9, 10**9
-
-
-def clock(nanos):
-    """Nanoseconds since midnight as 15 digits."""
-    seconds = nanos // SECOND
-    return f"{seconds // 3600:02}{seconds // 60 % 60:02}{seconds % 60:02}{nanos % SECOND:09}"
-
-
 def drawn_change(chance):
     """A change as a line, and as the plain program has it."""
     part, sym, letter = chance.choice(PARTS), chance.choice(["ABC", "ABC", "PNY"]), chance.choice("AAAAMH")
@@ -180,48 +171,6 @@ class Times:
         first, last = self.version(sym, max(nanos - wide, 0)), self.version(sym, min(nanos + wide, DAY - 1))
         own, second = self.version(sym, nanos), self.version(sym, max(nanos - SECOND, 0))
         return own, range(first, last + 1), range(second, own + 1)
-
-    def drawn(self, chance):
-        """A time near one of a change, and as a text."""
-        nanos = chance.choice([*self.all, 34_200 * SECOND]) + chance.choice([0, 0, -1, 1, 1000, 200_000_000, -SECOND, SECOND, SECOND + 1])
-        nanos = chance.choices([nanos, chance.choice([0, 1, DAY - 1])], [30, 1])[0]
-        text = clock(nanos)
-        return nanos, text[:6] + text[6:].rstrip("0") if chance.random() < 0.5 else text
-
-
-class Times:
-    """The times of a file of changes: over all of them, or by symbol."""
-
-    def __init__(self, chance, by_symbol=False):
-        self.by_symbol, self.all, self.spans = by_symbol, [], {}
-        self.before, self.alone = chance.random() < 0.3, by_symbol and chance.random() < 0.15
-
-    def sorted(self, pairs):
-        """The changes in the order of a file of these times. By symbol no change is of all symbols, and one symbol may have none."""
-        if not self.by_symbol:
-            return pairs
-        own = {sym: [it for it in pairs if it[1][0] != "X" and it[1][1 if it[1][0] == "R" else 2] == sym] for sym in SYMS}
-        if self.alone:
-            own["PNY"] = []
-        self.spans["ABC"] = (0, len(own["ABC"]))
-        if own["PNY"]:
-            self.spans["PNY"] = (len(own["ABC"]), len(own["ABC"]) + len(own["PNY"]))
-        return own["ABC"] + own["PNY"]
-
-    def draw(self, chance, pairs):
-        """Draws a time for each change."""
-        if not self.by_symbol:
-            self.spans = {sym: (0, len(pairs)) for sym in SYMS}
-        step = chance.choice([3, 40_000_000, 300_000_000])
-        for first, last in sorted(set(self.spans.values())):
-            now = 34_200 * SECOND
-            for _ in range(first, last):
-                now += chance.choice([0, 0, 1, chance.randrange(step), chance.randrange(step)])
-                self.all.append(now)
-
-    def version(self, sym, nanos):
-        first, last = self.spans[sym]
-        return first + sum(it < nanos if self.before else it <= nanos for it in self.all[first:last])
 
     def drawn(self, chance):
         """A time near one of a change, and as a text."""
