@@ -4,8 +4,8 @@
     tests/trades_judge.py PROGRAM [EXECUTIONS [SEED]]
 
 EXECUTIONS is 20,000 if it is not given. The plain program looks back over all changes at each execution, by the rules that
-rules.py has, and compares prices in 1/1,000,000 dollar. Two files of three have times, with ties; half of those are sorted by
-symbol. One record in ten is refused, in each
+rules.py has, and compares prices in 1/1,000,000 dollar; with times it does so at each version of a window, and of the second
+before. Two files of three have times, with ties; half of those are sorted by symbol. One record in ten is refused, in each
 way that a record can be. The lines, the same as JSON, and the table as JSON must be those of the plain program. It prints the
 seed, and at a difference the first execution that differs with the changes up to its version. The last line is
 `N passed, M failed`; status 1 at a difference.
@@ -25,8 +25,8 @@ OPENING = {"ABC": 100, "PNY": 100}
 CHANGES, EACH = 150, 250
 WORDS = {"C": "NOTREGULAR-CLAIMED", "O": "AUCTION-CLAIMED", "I": "ISO-CLAIMED", "J": "SWEPT-CLAIMED", "K": "BENCHMARK-CLAIMED", "P": "STOPPED-CLAIMED",
          "Q": "CONTINGENT-CLAIMED", "E": "EXEMPT-CLAIMED", "T": "HOURS-CLAIMED", "Z": "SEQUENCE-CLAIMED"}
-CAUSES = ["SELFHELP-CLAIMED", "NOTREGULAR-CLAIMED", "AUCTION-CLAIMED", "CROSSED", "ISO-CLAIMED", "SWEPT-CLAIMED", "BENCHMARK-CLAIMED", "STOPPED-CLAIMED",
-          "CONTINGENT-CLAIMED", "EXEMPT-CLAIMED", "HOURS-CLAIMED", "SEQUENCE-CLAIMED"]
+CAUSES = ["SELFHELP-CLAIMED", "NOTREGULAR-CLAIMED", "AUCTION-CLAIMED", "CROSSED", "ISO-CLAIMED", "SWEPT-CLAIMED", "BENCHMARK-CLAIMED", "FLICKER",
+          "STOPPED-CLAIMED", "CONTINGENT-CLAIMED", "EXEMPT-CLAIMED", "HOURS-CLAIMED", "SEQUENCE-CLAIMED"]
 
 
 DAY, SECOND = 86_400 * 10**9, 10**9
@@ -100,21 +100,34 @@ def passed(sides, millionths):
     return [(side, it) for side, sign, found in sides for it in found if sign * it[0] * 100 < sign * millionths]
 
 
-def judged(sides, millionths, shares, part, words, named):
-    """What is found of an execution: its rows, each with how much it takes, and the causes."""
+def is_inferior(sides, on, part, millionths):
+    """Whether a participant shows a protected quotation on a side, at a price or inferior to it."""
+    return any(it[3] == part and sign * it[0] * 100 >= sign * millionths for side, sign, found in sides if side == on for it in found)
+
+
+def judged(look, when, millionths, shares, part, words, named):
+    """What is found of an execution: its standing, its rows, each with how much it takes and whether it flickered, and the
+    causes. The versions are its own, those of its window, and those of the second before, if its time is known."""
+    version, window, second = when
+    sides = look(version)
     through = passed(sides, millionths)
     (bids, offers), left, rows = (it[2] for it in sides), shares, []
     for side, it in through:
         if it[3] not in named:
             takes = min(left, it[1])
             left -= takes
-            rows.append((side, it[3], it[0], it[1], it[2], abs(it[0] * 100 - millionths), takes))
+            flickers = any(is_inferior(look(n), side, it[3], millionths) for n in second)
+            rows.append((side, it[3], it[0], it[1], it[2], abs(it[0] * 100 - millionths), takes, flickers))
     causes = set(words)
     if len(rows) < len(through):
         causes.add("SELFHELP-CLAIMED")
+    if rows and all(it[7] for it in rows):
+        causes.add("FLICKER")
     if bids and offers and bids[0][0] > offers[0][0]:
         causes.add("CROSSED")
-    return bool(through), rows, [it for it in CAUSES if it in causes]
+    several = {bool(passed(look(n), millionths)) for n in window}
+    standing = "PERHAPS" if len(several) == 2 else "THROUGH" if several == {True} else "CLEAN"
+    return standing, rows, [it for it in CAUSES if it in causes]
 
 
 class Times:
@@ -123,6 +136,7 @@ class Times:
     def __init__(self, chance, by_symbol=False):
         self.by_symbol, self.all, self.spans = by_symbol, [], {}
         self.before, self.alone = chance.random() < 0.3, by_symbol and chance.random() < 0.15
+        self.window = chance.choice([None, None, 0, 1, 5_000_000, 400_000_000, SECOND, 3600 * SECOND, DAY])
 
     def sorted(self, pairs):
         """The changes in the order of a file of these times. By symbol no change is of all symbols, and one symbol may have none."""
@@ -151,6 +165,13 @@ class Times:
         first, last = self.spans[sym]
         return first + sum(it < nanos if self.before else it <= nanos for it in self.all[first:last])
 
+    def when(self, sym, nanos):
+        """The version at a time, those of its window, and those of the second before."""
+        wide = self.window or 0
+        first, last = self.version(sym, max(nanos - wide, 0)), self.version(sym, min(nanos + wide, DAY - 1))
+        own, second = self.version(sym, nanos), self.version(sym, max(nanos - SECOND, 0))
+        return own, range(first, last + 1), range(second, own + 1)
+
     def drawn(self, chance):
         """A time near one of a change, and as a text."""
         nanos = chance.choice([*self.all, 34_200 * SECOND]) + chance.choice([0, 0, -1, 1, 1000, 200_000_000, -SECOND, SECOND, SECOND + 1])
@@ -160,13 +181,17 @@ class Times:
 
 
 def count():
-    return {"executions": 0, "through": 0, "no_cause": 0, "rows": 0, "shares": 0, "dollars": 0, "worst": 0}
+    return {"executions": 0, "perhaps": 0, "through": 0, "no_cause": 0, "rows": 0, "shares": 0, "dollars": 0, "worst": 0}
 
 
-def add(to, is_through, rows, causes, whole=True):
+def add(to, standing, rows, causes, whole=True):
     if whole:
         to["executions"] += 1
-        to["through"] += is_through
+        to["perhaps"] += standing == "PERHAPS"
+        to["through"] += standing == "THROUGH"
+    if standing != "THROUGH":
+        return
+    if whole:
         to["no_cause"] += bool(rows) and not set(causes) - {"SELFHELP-CLAIMED"}
     to["rows"] += len(rows)
     to["shares"] += sum(it[6] for it in rows)
@@ -186,10 +211,10 @@ def day(chance, first):
     total, refused = count(), 0
     for number in range(EACH):
         sym, version = chance.choice(["ABC", "ABC", "PNY"]), chance.choice([0, 1, len(pairs), *range(len(pairs))])
-        text, nanos = str(version), None
+        when, text, nanos = (version, range(version, version + 1), ()), str(version), None
         if times and chance.random() < 0.8:
             nanos, digits = times.drawn(chance)
-            text, version = "@" + digits, times.version(sym, nanos) if sym in times.spans else None
+            text, when = "@" + digits, times.when(sym, nanos) if sym in times.spans else None
         millionths = chance.choice([chance.randrange(9_990_000, 10_020_000, 10_000), chance.randrange(9_980_000, 10_030_000),
                                     chance.randrange(9_980_000, 10_030_000, 50), 1, 9_999_999_999_999])
         shares, part = chance.choice([1, 50, 100, 300, 5000, 999_999_999]), chance.choice(["", *PARTS])
@@ -206,35 +231,37 @@ def day(chance, first):
                 continue
             place, bad, column, code = chance.choice(BAD if times else [*BAD, *UNTIMED])
             fields[place] = bad
-            if version is None and place > 6:
+            if when is None and place > 6:
                 column, code = 3, "X13"
             records.append(",".join(fields))
             answers.append([f"REFUSED,{number + 1},{column},{code}"])
             continue
         records.append(",".join(fields))
-        if version is None:
+        if when is None:
             refused += 1
             answers.append([f"REFUSED,{number + 1},3,X13"])
             continue
-        is_through, rows, causes = judged(sides_at(tape, seen, sym, version), millionths, shares, part, words, named)
+        version = when[0]
+        standing, rows, causes = judged(lambda n: sides_at(tape, seen, sym, n), when, millionths, shares, part, words, named)
         if nanos is not None:
             half_hour = nanos // (1800 * SECOND)
-            add(tables["half_hour"].setdefault(f"{half_hour // 2:02}:{half_hour % 2 * 3}0", count()), is_through, rows, causes)
+            add(tables["half_hour"].setdefault(f"{half_hour // 2:02}:{half_hour % 2 * 3}0", count()), standing, rows, causes)
         for table, key in (("executed", part or "(none)"), ("symbol", sym)):
-            add(tables[table].setdefault(key, count()), is_through, rows, causes)
-        add(total, is_through, rows, causes)
-        if not is_through:
+            add(tables[table].setdefault(key, count()), standing, rows, causes)
+        add(total, standing, rows, causes)
+        if standing == "CLEAN":
             answers.append([f"CLEAN,{name},{version}"])
             continue
-        for cause in causes:
-            add(tables["cause"].setdefault(cause, count()), is_through, rows, causes)
-        for row in rows:
-            add(tables["passed"].setdefault(row[1], count()), is_through, [row], causes, whole=False)
+        if standing == "THROUGH":
+            for cause in causes:
+                add(tables["cause"].setdefault(cause, count()), standing, rows, causes)
+            for row in rows:
+                add(tables["passed"].setdefault(row[1], count()), standing, [row], causes, whole=False)
         worst = fine(max((it[5] for it in rows), default=0))
-        head = f"THROUGH,{name},{version},{len(rows)},{worst},{sum(it[6] for it in rows)},{'+'.join(causes) or 'NONE'}"
+        head = f"{standing},{name},{version},{len(rows)},{worst},{sum(it[6] for it in rows)},{'+'.join(causes) or 'NONE'}"
         answers.append([head] + [
-            f"ROW,{side},{who},{rules.dollars(at)},{size},{receipt},{fine(by)},{'OWN' if who == part else ''}"
-            for side, who, at, size, receipt, by, _ in rows])
+            f"ROW,{side},{who},{rules.dollars(at)},{size},{receipt},{fine(by)},{'+'.join(['OWN'] * (who == part) + ['FLICKER'] * flickers)}"
+            for side, who, at, size, receipt, by, _, flickers in rows])
     return pairs, times, records, answers, table_of(total, refused, tables)
 
 
@@ -243,7 +270,7 @@ def table_of(total, refused, tables):
     def item(what, name, it):
         return {"what": what, "name": name, **it, "dollars": fine(it["dollars"]) + "000", "worst": fine(it["worst"]) + "000"}
     executions, through = total["executions"], total["through"]
-    objects = [{"what": "totals", "executions": executions, "refused": refused, "clean": executions - through,
+    objects = [{"what": "totals", "executions": executions, "refused": refused, "clean": executions - through - total["perhaps"], "perhaps": total["perhaps"],
                 "through": through, "no_cause": total["no_cause"], "per_10000": through * 10_000 // executions,
                 "rows": total["rows"], "shares": total["shares"], "dollars": fine(total["dollars"]) + "000"}]
     symbols = sorted(SYMS, key=lambda it: -tables["symbol"].get(it, count())["shares"])
@@ -262,12 +289,12 @@ def objects_of(answers):
         elif head[0] == "CLEAN":
             yield {"what": "clean", "id": head[1], "version": int(head[2])}
         else:
-            yield {"what": "through", "id": head[1], "version": int(head[2]), "count": int(head[3]), "worst": head[4],
+            yield {"what": head[0].lower(), "id": head[1], "version": int(head[2]), "count": int(head[3]), "worst": head[4],
                    "shares": int(head[5]), "cause": head[6]}
         for line in lines[1:]:
             _, side, who, price, size, receipt, by, own = line.split(",")
             yield {"what": "row", "id": head[1], "side": side, "participant": who, "price": price, "shares": int(size),
-                   "receipt": int(receipt), "by": by, "own": own == "OWN"}
+                   "receipt": int(receipt), "by": by, "own": "OWN" in own, "flicker": "FLICKER" in own}
 
 
 def ran(program, folder, status, *options):
@@ -286,6 +313,8 @@ def difference(program, folder, made):
         options += ["--times", "t"]
         if times.before:
             options.append("--before")
+        if times.window is not None:
+            options += ["--window", str(times.window)]
         if times.by_symbol:
             files.append(("s", [f"{sym},{first + 1},{last}" for sym, (first, last) in times.spans.items()]))
             options += ["--symbols", "s"]

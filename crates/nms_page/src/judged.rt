@@ -6,7 +6,9 @@ ghost use Rattle.nms_quote.specs.declared.TheConstants.{MOST_CHANGES};
 use nms_drawing::Mark;
 use nms_fees::Setup;
 use nms_quote::Change;
-use nms_trades::{Execution, Finding, Records, Timing, TradesFault, judge_all, read_timed};
+use nms_trades::{
+    Execution, Finding, Records, Standing, Timing, TradesFault, judge_all, read_timed,
+};
 use std::alloc::Global;
 use std::io::Read;
 
@@ -45,6 +47,6 @@ pub(crate) fn mark_of(execution: &Execution, finding: &Finding) -> Mark {
         number: execution.number,
         version: execution.version,
         millionths: execution.millionths,
-        through: !finding.is_clean(),
+        through: finding.standing == Standing::Through,
     }
 }

@@ -13,8 +13,8 @@ use nms_lines::{name_of_part, name_of_sym};
 use nms_quote::{Change, Roster, Side, Sym};
 use nms_show::{Ending, Form, Item, ShowFault};
 use nms_trades::{
-    Cause, Deal, Execution, Finding, Layout, Timing, TradesFault, difference, is_helped, sums_of,
-    write_answers, write_table,
+    Cause, Deal, Execution, Finding, Layout, Standing, Sums, Timing, TradesFault, difference,
+    is_helped, sums_of, write_answers, write_table,
 };
 use std::alloc::{AllocError, Global};
 use std::io::{Read, Write};
@@ -191,7 +191,7 @@ fn flagged_of(alloc: Global, judged: &Judged) -> Result<Flagged, AllocError> {
         let Some(finding) = finding else {
             continue;
         };
-        if finding.is_clean() {
+        if finding.standing == Standing::Clean {
             continue;
         }
         if flagged.places.len() < MOST_SHOWN {
@@ -271,7 +271,7 @@ fn write_one<P: Write>(
         ],
     )?;
     mark(page, "</p>")?;
-    write_causes(execution, finding, sums.helped, page)?;
+    write_causes(execution, finding, &sums, page)?;
     mark(page, ROWS)?;
     for (side, row) in &finding.passed {
         write_row(roster, execution, *side, row, page)?;
@@ -321,13 +321,18 @@ fn write_deal<P: Write>(
 fn write_causes<P: Write>(
     execution: &Execution,
     finding: &Finding,
-    helped: bool,
+    sums: &Sums,
     page: &mut P,
 ) -> Result<(), ShowFault> {
     mark(page, "<p>Exceptions:</p>\n<ul>")?;
     let mut has_one = false;
     for cause in Cause::ALL {
-        if cause.applies(&execution.claims, finding.crossed, helped) {
+        if cause.applies(
+            &execution.claims,
+            finding.crossed,
+            sums.helped,
+            sums.is_flickering(),
+        ) {
             has_one = true;
             mark(page, "<li>")?;
             say(

@@ -30,6 +30,7 @@ pub(crate) fn words_of(cause: Cause) -> &'static str {
         Cause::Sweep => "an intermarket sweep order, (b)(5): claimed",
         Cause::Swept => "intermarket sweep orders sent at the same time, (b)(6): claimed",
         Cause::Benchmark => "a benchmark price, (b)(7): claimed",
+        Cause::Flicker => "flickering quotations, (b)(8): found by the board",
         Cause::Stopped => "a stopped order, (b)(9): claimed",
         Cause::Contingent => "a qualified contingent trade: claimed",
         Cause::Exempt => "marked exempt, without a reason: claimed",

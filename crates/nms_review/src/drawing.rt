@@ -102,7 +102,7 @@ where
 {
     let symbols = given_symbols(rt, request)?;
     let symbols = symbols.as_ref().map(Vec::as_slice);
-    let timing = timing_of(frame.times, symbols, false);
+    let timing = timing_of(frame.times, symbols, false, 0);
     let changes = open_word(rt, request, 0)?;
     let executions = match fs::open(rt, path) {
         Ok(file) => file,

@@ -31,11 +31,11 @@ pub(crate) fn serve_trades<T, W: Write>(
 where
     T: AllocGlobal + Clock + Eprint + Files,
 {
-    check_times(request)?;
+    let window = window_of(request)?;
     let times = given_times(rt, request)?;
     let symbols = given_symbols(rt, request)?;
     let symbols = symbols.as_ref().map(Vec::as_slice);
-    let timing = timing_of(times.as_ref(), symbols, request.before);
+    let timing = timing_of(times.as_ref(), symbols, request.before, window);
     if let Some(path) = &request.html {
         let path = path.as_str();
         return serve_page(rt, screen, setup, request, timing.as_ref(), path, answers);
@@ -90,12 +90,31 @@ fn own_fault(fault: TradesFault) -> Fault {
     }
 }
 
-/// Whether the options of times go with a file of times.
-fn check_times(request: &Request) -> Result<(), Fault> {
-    if request.times.is_none() && (request.before || request.symbols.is_some()) {
-        return Err(Fault::usage(About::Nothing, "--before and --symbols need --times"));
+/// The nanoseconds that `--window` gives; 0 if it is not given.
+fn window_of(request: &Request) -> Result<u64, Fault> {
+    let is_timed = request.times.is_some();
+    if !is_timed && (request.window.is_some() || request.before || request.symbols.is_some()) {
+        return Err(Fault::usage(
+            About::Nothing,
+            "--window, --before and --symbols need --times",
+        ));
     }
-    Ok(())
+    let Some(word) = &request.window else {
+        return Ok(0);
+    };
+    nanoseconds_in(word.as_str()).ok_or(Fault::usage(
+        About::Nothing,
+        "--window takes nanoseconds, as a number of at most 15 digits",
+    ))
+}
+
+/// A number of 1 to 15 digits.
+fn nanoseconds_in(word: &str) -> Option<u64> {
+    if word.len() <= 15 && word.bytes().all(|byte| byte.is_ascii_digit()) {
+        word.parse::<u64>().ok()
+    } else {
+        None
+    }
 }
 
 /// The text of the file that `--symbols` names, if it names one.
@@ -114,12 +133,14 @@ pub(crate) fn timing_of<'a>(
     times: Option<&'a Times>,
     symbols: Option<&'a [u8]>,
     before: bool,
+    window: u64,
 ) -> Option<Timing<'a>> {
     match times {
         Some(times) => Some(Timing {
             times,
             symbols,
             before,
+            window,
         }),
         None => None,
     }

@@ -75,6 +75,7 @@ fn request_in(alloc: Global, matches: &ArgMatches<'_>) -> Result<Request, AllocE
         from: value_text(alloc, inner, "from")?,
         to: value_text(alloc, inner, "to")?,
         html: value_text(alloc, inner, "html")?,
+        window: value_text(alloc, inner, "window")?,
         own: inner.get_str("own") == Some("true"),
         rows: inner.get_str("rows") == Some("true"),
         shards: inner.get_str("shards") == Some("true"),

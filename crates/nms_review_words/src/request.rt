@@ -34,6 +34,8 @@ pub struct Request {
     pub to: Option<String>,
     /// The page that `--html` names.
     pub html: Option<String>,
+    /// The nanoseconds that `--window` gives, as they were written.
+    pub window: Option<String>,
     /// Whether `--own` was given.
     pub own: bool,
     /// Whether `--rows` was given.

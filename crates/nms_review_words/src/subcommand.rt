@@ -302,7 +302,7 @@ static WHEN: [Word; 7] = [
     JSON,
 ];
 
-static TRADES: [Word; 9] = [
+static TRADES: [Word; 10] = [
     CHANGES,
     Word {
         name: "EXECUTIONS",
@@ -318,6 +318,11 @@ static TRADES: [Word; 9] = [
         name: "html",
         help: "Also writes a page for the file: the counts, and each execution that traded through with its picture",
         form: WordForm::Valued("PAGE"),
+    },
+    Word {
+        name: "window",
+        help: "Judges each execution on all versions within so many nanoseconds of its time, with --times",
+        form: WordForm::Valued("NS"),
     },
     Word {
         name: "before",

@@ -1,4 +1,12 @@
+mod AlongFacts
+mod BestFacts
+mod BestSteps
+mod OkFacts
+mod OwnFacts
+mod PartFacts
 mod PowerFacts
 mod RankFacts
+mod StandingFacts
+mod TrackFacts
 mod TurnFacts
 mod WholeFacts

@@ -1,13 +1,18 @@
 pub use Rattle.nms_quote.specs.Tape as Tape
 pub use Rattle.nms_board.specs.View as View
 pub use Rattle.nms_rules.specs.Through as Through
+pub mod Around
+pub mod Bests
 pub mod Causes
 pub mod Counts
 pub mod Faults
 pub mod FinePrice
+pub mod Found
 pub mod Judged
 pub mod Lines
+pub mod Parts
 pub mod Reading
 pub mod Sums
+pub mod Track
 pub mod Turns
 pub mod When

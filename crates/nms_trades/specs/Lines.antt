@@ -1,5 +1,5 @@
 -- The lines of an execution. This product's own rule.
-use Rattle.std.specs.Prelude.{ℕ, ◌==◌, Bool, List, [], ◌∷◌, codes, Option, Some, None, if◌then◌else◌}
+use Rattle.std.specs.Prelude.{ℕ, ◌==◌, Bool, true, false, List, [], ◌∷◌, codes, Option, Some, None}
 use Rattle.std.specs.Fmt.{decimal}
 use Rattle.nms_quote.specs.Members.{has_part}
 use Rattle.nms_quote.specs.declared.side_quote.Side.{Side}
@@ -9,6 +9,8 @@ use Rattle.nms_lines.specs.Layout.{Record}
 use Rattle.nms_trades.specs.Faults.{code_of, column_of}
 use Rattle.nms_trades.specs.declared.execution.Execution.{Execution}
 use Rattle.nms_trades.specs.declared.execution_file.Refusal.{Refusal}
+use Rattle.nms_trades.specs.declared.standing.Standing.{Standing}
+use Rattle.nms_trades.specs.declared.standing.Standing.TheVariants as standing
 
 -- a record that is refused: its number, the column and the code
 abbrev pub refusal_record : Refusal → Record
@@ -22,10 +24,23 @@ abbrev pub side_word : Side → List ℕ
 side_word Bid = codes "BID"
 side_word Offer = codes "OFFER"
 
--- the word of a row that is of the participant that executed
-abbrev pub own_word : Option ℕ → ℕ → List ℕ
-own_word None part = []
-own_word (Some executed) part = if executed == part then codes "OWN" else []
+-- the word of a standing
+abbrev pub standing_word : Standing → List ℕ
+standing_word standing.Clean = codes "CLEAN"
+standing_word standing.Perhaps = codes "PERHAPS"
+standing_word standing.Through = codes "THROUGH"
+
+-- whether a row is of the participant that executed
+abbrev pub is_own : Option ℕ → ℕ → Bool
+is_own None part = false
+is_own (Some executed) part = executed == part
+
+-- the marks of a row: whether it is of the participant that executed, and whether it flickered
+abbrev pub marks_of : (own flickers : Bool) → List ℕ
+marks_of false false = []
+marks_of true false = codes "OWN"
+marks_of false true = codes "FLICKER"
+marks_of true true = codes "OWN+FLICKER"
 
 -- whether self-help takes a row out: the execution names its participant
 abbrev pub is_helped : Execution → Row → Bool

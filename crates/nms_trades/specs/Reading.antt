@@ -36,6 +36,9 @@ deal_in text =
 abbrev pub when_of : Execution → When
 when_of execution = record {
   version = execution.version;
+  first = execution.first;
+  last = execution.last;
+  second_before = execution.second_before;
   time = execution.time;
 }
 
@@ -53,6 +56,9 @@ pub record IsOn (roster : Listing) (changes : ℕ) (execution : Execution) : Typ
   pub sym : execution.sym < length roster.syms
   pub part : IfSome execution.part (λ part. part < length roster.parts)
   pub version : execution.version ≤ changes
+  pub first : execution.first ≤ changes
+  pub last : execution.last ≤ changes
+  pub second_before : execution.second_before ≤ changes
   pub price : execution.millionths ≤ 9999999999999
 
 -- the execution that a record says, but for its flags

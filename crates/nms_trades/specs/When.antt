@@ -3,7 +3,7 @@ use Rattle.std.specs.Prelude.{ℕ, ◌≤◌, ◌+◌, ◌==◌, All, Bool, List
 use Rattle.std.specs.Prelude.{nat_lt, slice_get, slice_index, IfSome, Option, Some, None, Result, Ok, Err}
 use Rattle.std.specs.Prelude.{if◌then◌else◌}
 use Rattle.nms_units.specs.Digits.{number_in}
-use Rattle.nms_times.specs.Clock.{time_reading}
+use Rattle.nms_times.specs.Clock.{earlier_by, later_by, time_reading}
 use Rattle.nms_times.specs.Times.{version_at, version_before}
 use Rattle.nms_times.specs.declared.rising.Rising.{Rising}
 use Rattle.nms_trades.specs.declared.clock.Clock.{Clock}
@@ -17,16 +17,19 @@ abbrev pub version_by : (before : Bool) → Rising → ℕ → ℕ
 version_by before rising t =
     if before then rising.before + version_before rising.times.now t else rising.before + version_at rising.times.now t
 
--- an execution at a time
+-- an execution at a time: its version, those of its window, and that of one second before
 abbrev pub timed : Clock → Rising → ℕ → When
 timed clock rising t = record {
   version = version_by clock.before rising t;
+  first = version_by clock.before rising (earlier_by clock.window t);
+  last = version_by clock.before rising (later_by clock.window t);
+  second_before = version_by clock.before rising (earlier_by 1000000000 t);
   time = Some t;
 }
 
--- an execution on a version, whose time is not known
+-- an execution on a version, whose time is not known: that version alone
 abbrev pub untimed : ℕ → When
-untimed n = record { version = n; time = None }
+untimed n = record { version = n; first = n; last = n; second_before = n; time = None }
 
 -- the times of a symbol's changes, if the file of symbols has it
 abbrev pub among : Clock → ℕ → Option (Option Rising) → Result When TradeFault

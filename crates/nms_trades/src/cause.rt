@@ -4,6 +4,9 @@ ghost use Rattle.nms_trades.specs.Causes.{applies, word_of};
 
 use crate::claims::Claims;
 
+/// How many causes there are.
+pub const CAUSES: usize = 13;
+
 /// Why a trade-through may be lawful, in the order of 17 CFR 242.611(b); then what no paragraph of it says.
 #[derive(Clone, Copy, Debug, PartialEq, Eq)]
 pub enum Cause {
@@ -21,6 +24,9 @@ pub enum Cause {
     Swept,
     /// (b)(7): a benchmark price is claimed.
     Benchmark,
+    /// (b)(8): within one second before, each participant that is left had shown a protected quotation at the price or
+    /// inferior to it.
+    Flicker,
     /// (b)(9): a stopped order is claimed.
     Stopped,
     /// A qualified contingent trade is claimed.
@@ -35,7 +41,7 @@ pub enum Cause {
 
 impl Cause {
     /// Each of them, in order.
-    pub const ALL: [Cause; 12] = [
+    pub const ALL: [Cause; CAUSES] = [
         Cause::SelfHelp,
         Cause::NotRegular,
         Cause::SinglePriced,
@@ -43,6 +49,7 @@ impl Cause {
         Cause::Sweep,
         Cause::Swept,
         Cause::Benchmark,
+        Cause::Flicker,
         Cause::Stopped,
         Cause::Contingent,
         Cause::Exempt,
@@ -62,6 +69,7 @@ impl Cause {
             Cause::Sweep => "ISO-CLAIMED",
             Cause::Swept => "SWEPT-CLAIMED",
             Cause::Benchmark => "BENCHMARK-CLAIMED",
+            Cause::Flicker => "FLICKER",
             Cause::Stopped => "STOPPED-CLAIMED",
             Cause::Contingent => "CONTINGENT-CLAIMED",
             Cause::Exempt => "EXEMPT-CLAIMED",
@@ -70,9 +78,10 @@ impl Cause {
         }
     }
 
-    /// Whether it applies: by what is claimed, by the crossed market, and by the rows that self-help takes out.
-    pub fn applies(self, claims: &Claims, crossed: bool, helped: bool) -> bool
-        ensures { result ≡ applies self claims.now crossed helped }
+    /// Whether it applies: by what is claimed, by the crossed market, by the rows that self-help takes out, and by
+    /// whether those that are left flickered.
+    pub fn applies(self, claims: &Claims, crossed: bool, helped: bool, flickering: bool) -> bool
+        ensures { result ≡ applies self claims.now crossed helped flickering }
     {
         match self {
             Cause::SelfHelp => helped,
@@ -82,6 +91,7 @@ impl Cause {
             Cause::Sweep => claims.sweep,
             Cause::Swept => claims.swept,
             Cause::Benchmark => claims.benchmark,
+            Cause::Flicker => flickering,
             Cause::Stopped => claims.stopped,
             Cause::Contingent => claims.contingent,
             Cause::Exempt => claims.exempt,

@@ -11,6 +11,9 @@ use nms_times::{Rising, TimeOfDay, Times, find_span};
 use nms_units::parse_digits;
 use std::alloc::Global;
 
+/// The nanoseconds of a second.
+const SECOND: u64 = 1_000_000_000;
+
 /// The times of the changes, and how versions are found by them.
 #[derive(Clone, Copy)]
 pub struct Timing<'a> {
@@ -20,6 +23,8 @@ pub struct Timing<'a> {
     pub symbols: Option<&'a [u8]>,
     /// Whether the changes of an execution's own time are left out.
     pub before: bool,
+    /// The nanoseconds before and after an execution's time whose versions it is judged on too.
+    pub window: u64,
 }
 
 /// The times of each symbol's changes, and how versions are found by them.
@@ -33,6 +38,8 @@ pub(crate) struct Clock<'a> {
     pub(crate) rising: Vec<Option<Rising<'a>>>,
     /// Whether the changes of an execution's own time are left out.
     pub(crate) before: bool,
+    /// The nanoseconds before and after an execution's time whose versions it is judged on too.
+    pub(crate) window: u64,
 }
 
 /// When an execution took place.
@@ -40,6 +47,12 @@ pub(crate) struct Clock<'a> {
 pub(crate) struct When {
     /// The version that was in force.
     pub(crate) version: u64,
+    /// The first version of its window.
+    pub(crate) first: u64,
+    /// The last version of its window.
+    pub(crate) last: u64,
+    /// The version that was in force one second before; `version` if the time is not known.
+    pub(crate) second_before: u64,
     /// The time, if the record has one.
     pub(crate) time: Option<TimeOfDay>,
 }
@@ -50,6 +63,9 @@ impl Clock<'_> {
         requires { AreOfChanges self.now.changes self.now.rising.items }
         ensures when { result ≡ when_in self.now sym text.now }
         ensures version { IfOk result (λ when. when.version ≤ self.now.changes) }
+        ensures first { IfOk result (λ when. when.first ≤ self.now.changes) }
+        ensures last { IfOk result (λ when. when.last ≤ self.now.changes) }
+        ensures second_before { IfOk result (λ when. when.second_before ≤ self.now.changes) }
     {
         if let Some(digits) = time_text(text) {
             let Some(time) = TimeOfDay::parse(digits) else {
@@ -62,6 +78,9 @@ impl Clock<'_> {
             Some(version) if version > self.changes => Err(TradeFault::Beyond),
             Some(version) => Ok(When {
                 version,
+                first: version,
+                last: version,
+                second_before: version,
                 time: None,
             }),
         }
@@ -72,6 +91,9 @@ impl Clock<'_> {
         requires { AreOfChanges self.now.changes self.now.rising.items }
         ensures when { result ≡ at_time self.now sym (Some time) }
         ensures version { IfOk result (λ when. when.version ≤ self.now.changes) }
+        ensures first { IfOk result (λ when. when.first ≤ self.now.changes) }
+        ensures last { IfOk result (λ when. when.last ≤ self.now.changes) }
+        ensures second_before { IfOk result (λ when. when.second_before ≤ self.now.changes) }
     {
         if !self.has_times {
             return Err(TradeFault::NoTimes);
@@ -91,9 +113,15 @@ impl Clock<'_> {
         requires { rising.now.before + length rising.now.times.now ≤ self.now.changes }
         ensures when { result ≡ timed self.now rising.now time }
         ensures version { result.version ≤ self.now.changes }
+        ensures first { result.first ≤ self.now.changes }
+        ensures last { result.last ≤ self.now.changes }
+        ensures second_before { result.second_before ≤ self.now.changes }
     {
         When {
             version: version_by(self.before, rising, time),
+            first: version_by(self.before, rising, time.earlier_by(self.window)),
+            last: version_by(self.before, rising, time.later_by(self.window)),
+            second_before: version_by(self.before, rising, time.earlier_by(SECOND)),
             time: Some(time),
         }
     }
@@ -139,6 +167,7 @@ pub(crate) fn clock_of<'a>(
             has_times: false,
             rising: Vec::new(alloc),
             before: false,
+            window: 0,
         });
     };
     if let Err(fault) = timing.times.check_len(changes) {
@@ -153,6 +182,7 @@ pub(crate) fn clock_of<'a>(
         has_times: true,
         rising,
         before: timing.before,
+        window: timing.window,
     })
 }
 

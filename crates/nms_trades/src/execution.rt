@@ -34,6 +34,12 @@ pub struct Execution {
     pub deal: Option<Deal>,
     /// The version of the changes that was in force.
     pub version: u64,
+    /// The first version of its window: `version` without one.
+    pub first: u64,
+    /// The last version of its window: `version` without one.
+    pub last: u64,
+    /// The version that was in force one second before; `version` if the time is not known.
+    pub second_before: u64,
     /// The time of day, if the record has one.
     pub time: Option<TimeOfDay>,
     /// Where it was executed; `None` off an exchange.

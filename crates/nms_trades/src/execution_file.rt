@@ -94,13 +94,14 @@ fn take_record(
     requires on { All (IsOn roster.now clock.now.changes) records.old.executions.items }
     ensures { All (IsOn roster.now clock.now.changes) records.new.executions.items }
 {
-    let is_pushed = match read_execution(row, roster, clock, number) {
-        Ok(execution) => records.executions.push(execution).is_ok(),
-        Err(fault) => records.refused.push(Refusal { number, fault }).is_ok(),
-    };
-    if is_pushed {
-        Ok(())
-    } else {
-        Err(TradesFault::Executions(RecordFault::NoMemory))
+    match read_execution(row, roster, clock, number) {
+        Ok(execution) => match records.executions.push(execution) {
+            Ok(()) => Ok(()),
+            Err(_) => Err(TradesFault::Executions(RecordFault::NoMemory)),
+        },
+        Err(fault) => match records.refused.push(Refusal { number, fault }) {
+            Ok(()) => Ok(()),
+            Err(_) => Err(TradesFault::Executions(RecordFault::NoMemory)),
+        },
     }
 }

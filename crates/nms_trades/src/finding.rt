@@ -1,7 +1,8 @@
 //! What is found of an execution.
 ghost use Rattle.std.specs.Prelude.{◌≡◌, not};
-ghost use Rattle.nms_trades.specs.Counts.{passes};
+ghost use Rattle.nms_trades.specs.Counts.{flickers_at, passes};
 
+use crate::standing::Standing;
 use nms_board::Row;
 use nms_quote::Side;
 
@@ -12,13 +13,25 @@ pub struct Finding {
     pub passed: Vec<(Side, Row)>,
     /// Whether the best protected bid was above the best protected offer (17 CFR 242.611(b)(4)).
     pub crossed: bool,
+    /// Whether it trades through on the versions of its window; without one, on its version.
+    pub standing: Standing,
+    /// Of each of the quotations, in their order, whether it flickered: within one second before, its participant's protected
+    /// quotation on that side was at the price or inferior to it (242.611(b)(8)). Empty if that was not looked for.
+    pub flickers: Vec<bool>,
 }
 
 impl Finding {
-    /// Whether no protected quotation is traded through.
+    /// Whether no protected quotation of its version is traded through.
     pub fn is_clean(&self) -> bool
         ensures { result ≡ not (passes self.now) }
     {
         self.passed.is_empty()
+    }
+
+    /// Whether the quotation at a place among them flickered.
+    pub fn is_flickering(&self, place: usize) -> bool
+        ensures { result ≡ flickers_at self.now place }
+    {
+        self.flickers.get(place).copied().unwrap_or(false)
     }
 }

@@ -1,5 +1,5 @@
 //! Executions judged on the versions that they name, by one board that is moved forward: `specs/Judged`.
-ghost use Rattle.std.specs.Prelude.{◌≡◌, ◌≢◌, ◌≤◌, ◌<◌, ◌++◌, ℕ, All, IfOk, OnOk, Some, length, map, slice_get, true};
+ghost use Rattle.std.specs.Prelude.{◌≡◌, ◌≢◌, ◌≤◌, ◌<◌, ◌++◌, [], ℕ, All, IfOk, OnOk, Some, length, map, slice_get, true};
 ghost use Rattle.std.specs.List.{filter};
 ghost use Rattle.nms_board.specs.Ranking.{ranked};
 ghost use Rattle.nms_board.specs.View.{rows_on};
@@ -7,20 +7,26 @@ ghost use Rattle.nms_board.specs.declared.row.Row.{Row};
 ghost use Rattle.nms_quote.specs.Roster.{holds, sizes_of};
 ghost use Rattle.nms_quote.specs.declared.TheConstants.{MOST_CHANGES};
 ghost use Rattle.nms_rules.specs.Through.{is_through};
-ghost use Rattle.nms_trades.specs.Judged.{GoesAlong, IsFound, IsFoundOn, whole_price};
+ghost use Rattle.nms_trades.specs.Around.{own_standing};
+ghost use Rattle.nms_trades.specs.Found.{IsJudged, IsReady, IsStanding};
+ghost use Rattle.nms_trades.specs.Judged.{GoesAlong, IsFoundOn, whole_price};
 ghost use Rattle.nms_trades.specs.Reading.{IsOn};
 ghost use Rattle.nms_trades.specs.Turns.{AreAnswered, HaveTurns, IsAnswered};
 ghost use Rattle.nms_trades.specs.declared.execution.Execution.{Execution};
 
 use crate::execution::Execution;
 use crate::finding::Finding;
+use crate::flickering::judge_flickers;
 use crate::limits::{is_crossed, is_through, rows_ranked, whole_price};
 use crate::order::{Turn, turns_of};
+use crate::standing::Standing;
+use crate::track::Track;
+use crate::window::{bests_for, standing_in};
 use nms_board::{BoardFault, Boards, Row, View};
 use nms_quote::{Change, Roster, Side};
 use std::alloc::{AllocError, Global};
 
-/// Judges an execution on the version that it names.
+/// Judges an execution on its version, and on those of its window.
 ///
 /// The board is moved forward to that version; where it is past it, a new one is made.
 pub(crate) fn judge(
@@ -28,21 +34,25 @@ pub(crate) fn judge(
     roster: &Roster,
     changes: &[Change],
     board: &mut Boards,
+    bests: &[Track],
     execution: &Execution,
 ) -> Result<Finding, BoardFault>
     requires held { All (λ change. holds (sizes_of roster.now) change ≡ true) changes.now }
     requires few { length changes.now ≤ MOST_CHANGES }
-    requires within { execution.now.version ≤ length changes.now }
-    requires price { execution.now.millionths ≤ 9999999999999 }
+    requires on { IsOn roster.now (length changes.now) execution.now }
+    requires ready { IsReady (sizes_of roster.now) changes.now bests.now execution.now }
     requires at { GoesAlong (sizes_of roster.now) changes.now board.old }
     ensures at { GoesAlong (sizes_of roster.now) changes.now board.new }
-    ensures found { IfOk result (IsFound (sizes_of roster.now) changes.now execution.now) }
+    ensures found { IfOk result (IsStanding (sizes_of roster.now) changes.now execution.now) }
 {
     match move_to(alloc, roster, changes, board, execution.version) {
         Ok(()) => {
             let view = board.view(execution.sym);
             match find_on(alloc, &view, execution.millionths) {
-                Ok(finding) => Ok(finding),
+                Ok(found) => {
+                    let standing = standing_in(roster, changes, bests, execution, &found);
+                    Ok(Finding { standing, ..found })
+                }
                 Err(_) => Err(BoardFault::NoMemory),
             }
         }
@@ -105,7 +115,9 @@ fn reopen(
 /// Judges a price in 1/1,000,000 dollar on what is seen. It takes memory only where a quotation is traded through.
 fn find_on(alloc: Global, view: &View, millionths: u64) -> Result<Finding, AllocError>
     requires { millionths ≤ 9999999999999 }
-    ensures { IfOk result (IsFoundOn view.now millionths) }
+    ensures found { IfOk result (IsFoundOn view.now millionths) }
+    ensures standing { IfOk result (λ finding. finding.standing ≡ own_standing finding.passed.items) }
+    ensures flickers { IfOk result (λ finding. finding.flickers.items ≡ []) }
 {
     let bids = rows_ranked(view, Side::Bid);
     let offers = rows_ranked(view, Side::Offer);
@@ -113,7 +125,13 @@ fn find_on(alloc: Global, view: &View, millionths: u64) -> Result<Finding, Alloc
     push_passed(&mut passed, Side::Bid, millionths, bids.as_slice())?;
     push_passed(&mut passed, Side::Offer, millionths, offers.as_slice())?;
     let crossed = is_crossed(bids.as_slice(), offers.as_slice());
-    Ok(Finding { passed, crossed })
+    let standing = Standing::of(!passed.is_empty(), passed.is_empty());
+    Ok(Finding {
+        passed,
+        crossed,
+        standing,
+        flickers: Vec::new(alloc),
+    })
 }
 
 /// Adds the rows of a side that a price trades through.
@@ -136,7 +154,8 @@ fn push_passed(
     Ok(())
 }
 
-/// Judges executions, each on the version that it names, and gives their findings in the order of the executions.
+/// Judges executions, each on the version that was in force, on those of its window, and on those of the second before it, and
+/// gives their findings in the order of the executions.
 ///
 /// They are judged by version, so that one board moves along the changes once and none is looked back at.
 pub fn judge_all(
@@ -148,7 +167,29 @@ pub fn judge_all(
     requires held { All (λ change. holds (sizes_of roster.now) change ≡ true) changes.now }
     requires few { length changes.now ≤ MOST_CHANGES }
     requires on { All (IsOn roster.now (length changes.now)) executions.now }
-    ensures found { IfOk result (λ answers. AreAnswered (sizes_of roster.now) changes.now executions.now answers.items) }
+    ensures found { IfOk result (λ answers. AreAnswered (IsJudged (sizes_of roster.now) changes.now) executions.now answers.items) }
+    ensures places { IfOk result (λ answers. length answers.items ≡ length executions.now) }
+{
+    match judge_standings(alloc, roster, changes, executions) {
+        Ok(mut answers) => match judge_flickers(alloc, roster, changes, executions, &mut answers) {
+            Ok(()) => Ok(answers),
+            Err(fault) => Err(fault),
+        },
+        Err(fault) => Err(fault),
+    }
+}
+
+/// The same, but flickering quotations are not looked for.
+fn judge_standings(
+    alloc: Global,
+    roster: &Roster,
+    changes: &[Change],
+    executions: &[Execution],
+) -> Result<Vec<Option<Finding>>, BoardFault>
+    requires held { All (λ change. holds (sizes_of roster.now) change ≡ true) changes.now }
+    requires few { length changes.now ≤ MOST_CHANGES }
+    requires on { All (IsOn roster.now (length changes.now)) executions.now }
+    ensures found { IfOk result (λ answers. AreAnswered (IsStanding (sizes_of roster.now) changes.now) executions.now answers.items) }
     ensures places { IfOk result (λ answers. length answers.items ≡ length executions.now) }
 {
     let Ok(turns) = turns_of(alloc, executions) else {
@@ -157,6 +198,7 @@ pub fn judge_all(
     let Ok(mut answers) = no_answers(alloc, executions.len()) else {
         return Err(BoardFault::NoMemory);
     };
+    let bests = bests_for(alloc, roster, changes, executions)?;
     match Boards::new(alloc, roster) {
         Ok(mut board) => {
             judge_turns(
@@ -164,6 +206,7 @@ pub fn judge_all(
                 roster,
                 changes,
                 &mut board,
+                &bests,
                 executions,
                 &turns,
                 &mut answers,
@@ -191,6 +234,7 @@ fn judge_turns(
     roster: &Roster,
     changes: &[Change],
     board: &mut Boards,
+    bests: &[Track],
     executions: &[Execution],
     turns: &[Turn],
     answers: &mut Vec<Option<Finding>>,
@@ -198,14 +242,17 @@ fn judge_turns(
     requires held { All (λ change. holds (sizes_of roster.now) change ≡ true) changes.now }
     requires few { length changes.now ≤ MOST_CHANGES }
     requires on { All (IsOn roster.now (length changes.now)) executions.now }
+    requires ready { All (IsReady (sizes_of roster.now) changes.now bests.now) executions.now }
     requires at { GoesAlong (sizes_of roster.now) changes.now board.old }
     requires places { length answers.old.items ≡ length executions.now }
     ensures places { length answers.new.items ≡ length executions.now }
     ensures answered { HaveTurns turns.now (length executions.now)
-        → OnOk result (AreAnswered (sizes_of roster.now) changes.now executions.now answers.new.items) }
+        → OnOk result (AreAnswered (IsStanding (sizes_of roster.now) changes.now) executions.now answers.new.items) }
 {
     for turn in turns {
-        judge_turn(alloc, roster, changes, board, executions, turn, answers)?;
+        judge_turn(
+            alloc, roster, changes, board, bests, executions, turn, answers,
+        )?;
     }
     Ok(())
 }
@@ -216,6 +263,7 @@ fn judge_turn(
     roster: &Roster,
     changes: &[Change],
     board: &mut Boards,
+    bests: &[Track],
     executions: &[Execution],
     turn: &Turn,
     answers: &mut Vec<Option<Finding>>,
@@ -223,19 +271,20 @@ fn judge_turn(
     requires held { All (λ change. holds (sizes_of roster.now) change ≡ true) changes.now }
     requires few { length changes.now ≤ MOST_CHANGES }
     requires on { All (IsOn roster.now (length changes.now)) executions.now }
+    requires ready { All (IsReady (sizes_of roster.now) changes.now bests.now) executions.now }
     requires at { GoesAlong (sizes_of roster.now) changes.now board.old }
     requires places { length answers.old.items ≡ length executions.now }
     ensures at { GoesAlong (sizes_of roster.now) changes.now board.new }
     ensures places { length answers.new.items ≡ length executions.now }
     ensures own { (execution : Execution) → slice_get executions.now turn.now.place ≡ Some execution
-        → OnOk result (IsAnswered (sizes_of roster.now) changes.now execution (slice_get answers.new.items turn.now.place)) }
+        → OnOk result (IsAnswered (IsStanding (sizes_of roster.now) changes.now) execution (slice_get answers.new.items turn.now.place)) }
     ensures others { (other : ℕ) → other ≢ turn.now.place → slice_get answers.new.items other ≡ slice_get answers.old.items other }
 {
     let place = turn.place;
     if place >= executions.len() {
         return Ok(());
     }
-    let finding = judge(alloc, roster, changes, board, &executions[place])?;
+    let finding = judge(alloc, roster, changes, board, bests, &executions[place])?;
     answers[place] = Some(finding);
     Ok(())
 }

@@ -2,6 +2,7 @@
 //! whose and by how much, and which exceptions it claims (17 CFR 242.611(a), (b)).
 #![tactic(auto)]
 
+mod bests;
 mod cause;
 mod claims;
 mod clock;
@@ -9,6 +10,7 @@ mod execution;
 mod execution_file;
 mod finding;
 mod flags;
+mod flickering;
 mod judging;
 mod laws;
 mod limits;
@@ -18,14 +20,18 @@ mod millionths;
 mod money_through;
 mod object;
 mod order;
+mod parts;
 mod reading;
+mod standing;
 mod table;
 mod tally;
+mod track;
 mod trade_fault;
 mod trades;
 mod trades_fault;
+mod window;
 
-pub use cause::Cause;
+pub use cause::{CAUSES, Cause};
 pub use claims::Claims;
 pub use clock::Timing;
 pub use execution::{Deal, Execution};
@@ -37,6 +43,7 @@ pub use lines::write_answers;
 pub use millionths::{MOST_MILLIONTHS, millionths_in, push_millionths};
 pub use money_through::{Sums, difference, is_helped, sums_of};
 pub use reading::is_name;
+pub use standing::Standing;
 pub use table::write_table;
 pub use trade_fault::TradeFault;
 pub use trades::{Layout, judge_file, read_timed};

@@ -1,7 +1,7 @@
 //! The lines of one execution as CSV: `specs/Lines`.
 ghost use Rattle.std.specs.Prelude.{◌≡◌, ◌++◌, ◌∷◌, [], OnOk};
 ghost use Rattle.nms_lines.specs.Text.{text_of};
-ghost use Rattle.nms_trades.specs.Lines.{clean_record, own_word, refusal_record, side_word};
+ghost use Rattle.nms_trades.specs.Lines.{clean_record, is_own, marks_of, refusal_record, side_word, standing_word};
 
 use crate::cause::Cause;
 use crate::execution::Execution;
@@ -9,6 +9,7 @@ use crate::execution_file::Refusal;
 use crate::finding::Finding;
 use crate::millionths::push_millionths;
 use crate::money_through::{Sums, difference, is_helped};
+use crate::standing::Standing;
 use nms_board::Row;
 use nms_lines::{end_record, name_of_part, push_number, push_price, push_text};
 use nms_quote::{Part, Roster, Side};
@@ -36,7 +37,7 @@ pub(crate) fn append_clean(out: &mut Vec<u8>, execution: &Execution) -> Result<(
     end_record(out)
 }
 
-/// Appends that an execution traded through, and the rows that are left.
+/// Appends that an execution traded through, or on some versions of its window, and the rows of its version that are left.
 pub(crate) fn append_through(
     out: &mut Vec<u8>,
     roster: &Roster,
@@ -44,7 +45,7 @@ pub(crate) fn append_through(
     finding: &Finding,
     sums: &Sums,
 ) -> Result<(), AllocError> {
-    out.extend_from_slice(b"THROUGH")?;
+    out.extend_from_slice(word_of_standing(finding.standing).as_bytes())?;
     out.push(b',')?;
     out.extend_from_slice(execution.name.as_slice())?;
     push_number(out, execution.version)?;
@@ -52,9 +53,9 @@ pub(crate) fn append_through(
     push_millionths(out, sums.worst)?;
     push_number(out, u64::from(sums.shares))?;
     out.push(b',')?;
-    append_causes(out, execution, finding.crossed, sums.helped)?;
+    append_causes(out, execution, finding.crossed, sums)?;
     end_record(out)?;
-    append_rows(out, roster, execution, &finding.passed)
+    append_rows(out, roster, execution, finding)
 }
 
 /// Appends the causes that apply, joined by `+`, or `NONE`.
@@ -62,11 +63,16 @@ pub(crate) fn append_causes(
     out: &mut Vec<u8>,
     execution: &Execution,
     crossed: bool,
-    helped: bool,
+    sums: &Sums,
 ) -> Result<(), AllocError> {
     let mut first = true;
     for cause in Cause::ALL {
-        if !cause.applies(&execution.claims, crossed, helped) {
+        if !cause.applies(
+            &execution.claims,
+            crossed,
+            sums.helped,
+            sums.is_flickering(),
+        ) {
             continue;
         }
         if !first {
@@ -86,11 +92,19 @@ fn append_rows(
     out: &mut Vec<u8>,
     roster: &Roster,
     execution: &Execution,
-    passed: &[(Side, Row)],
+    finding: &Finding,
 ) -> Result<(), AllocError> {
-    for (side, row) in passed {
+    for place in 0..finding.passed.len() {
+        let (side, row) = &finding.passed[place];
         if !is_helped(execution, row) {
-            append_row(out, roster, execution, *side, row)?;
+            append_row(
+                out,
+                roster,
+                execution,
+                *side,
+                row,
+                finding.is_flickering(place),
+            )?;
         }
     }
     Ok(())
@@ -103,6 +117,7 @@ fn append_row(
     execution: &Execution,
     side: Side,
     row: &Row,
+    flickers: bool,
 ) -> Result<(), AllocError> {
     out.extend_from_slice(b"ROW")?;
     push_text(out, word_of_side(side))?;
@@ -111,7 +126,7 @@ fn append_row(
     push_number(out, u64::from(row.size))?;
     push_number(out, row.receipt)?;
     push_millionths(out, difference(row, execution.millionths))?;
-    push_text(out, word_of_own(&execution.part, row.part))?;
+    push_text(out, marks_of(is_own(&execution.part, row.part), flickers))?;
     end_record(out)
 }
 
@@ -125,12 +140,35 @@ pub(crate) fn word_of_side(side: Side) -> &'static str
     }
 }
 
-/// `OWN` for a row of the participant that executed.
-pub(crate) fn word_of_own(executed: &Option<Part>, part: Part) -> &'static str
-    ensures { result.now ≡ own_word executed.now part }
+/// The word of a standing.
+pub(crate) fn word_of_standing(standing: Standing) -> &'static str
+    ensures { result.now ≡ standing_word standing }
+{
+    match standing {
+        Standing::Clean => "CLEAN",
+        Standing::Perhaps => "PERHAPS",
+        Standing::Through => "THROUGH",
+    }
+}
+
+/// Whether a row is of the participant that executed.
+pub(crate) fn is_own(executed: &Option<Part>, part: Part) -> bool
+    ensures { result ≡ is_own executed.now part }
 {
     match executed {
-        Some(executed) if *executed == part => "OWN",
-        Some(_) | None => "",
+        Some(executed) => *executed == part,
+        None => false,
+    }
+}
+
+/// The marks of a row: `OWN` for one of the participant that executed, `FLICKER` for one that flickered.
+fn marks_of(own: bool, flickers: bool) -> &'static str
+    ensures { result.now ≡ marks_of own flickers }
+{
+    match (own, flickers) {
+        (false, false) => "",
+        (true, false) => "OWN",
+        (false, true) => "FLICKER",
+        (true, true) => "OWN+FLICKER",
     }
 }

@@ -6,6 +6,7 @@ use crate::finding::Finding;
 use crate::line::{append_clean, append_refusal, append_through};
 use crate::money_through::sums_of;
 use crate::object::{write_clean, write_refusal, write_through};
+use crate::standing::Standing;
 use crate::trades_fault::TradesFault;
 use nms_lines::write_text;
 use nms_quote::Roster;
@@ -94,13 +95,13 @@ fn write_found<W: Write>(
         return Err(TradesFault::TooLong);
     };
     if form.is_json() {
-        if finding.is_clean() {
+        if finding.standing == Standing::Clean {
             return Ok(write_clean(alloc, answers, execution)?);
         }
         return Ok(write_through(alloc, answers, text, roster, execution, finding, &sums)?);
     }
     text.clear();
-    let appended = if finding.is_clean() {
+    let appended = if finding.standing == Standing::Clean {
         append_clean(text, execution)
     } else {
         append_through(text, roster, execution, finding, &sums)

@@ -1,7 +1,7 @@
 //! How much an execution traded through: rows, shares and dollars.
 ghost use Rattle.std.specs.Prelude.{◌≡◌, ◌≤◌};
 ghost use Rattle.nms_trades.specs.Lines.{is_helped};
-ghost use Rattle.nms_trades.specs.Sums.{difference};
+ghost use Rattle.nms_trades.specs.Sums.{all_flicker, difference};
 
 use crate::execution::Execution;
 use crate::finding::Finding;
@@ -21,9 +21,18 @@ pub struct Sums {
     pub dollars: i128,
     /// Whether self-help takes a row out.
     pub helped: bool,
+    /// How many of the rows that are left flickered.
+    pub flickers: u64,
 }
 
 impl Sums {
+    /// Whether rows are left, and all of them flickered.
+    pub fn is_flickering(&self) -> bool
+        ensures { result ≡ all_flicker self.now }
+    {
+        self.count > 0 && self.flickers == self.count
+    }
+
     /// Nothing.
     pub(crate) fn none() -> Sums {
         Sums {
@@ -32,6 +41,7 @@ impl Sums {
             shares: 0,
             dollars: 0,
             helped: false,
+            flickers: 0,
         }
     }
 }
@@ -59,14 +69,20 @@ pub fn is_helped(execution: &Execution, row: &Row) -> bool
 /// millionths of a dollar.
 pub fn sums_of(execution: &Execution, finding: &Finding) -> Option<Sums> {
     let mut sums = Sums::none();
-    for (_, row) in &finding.passed {
-        sums = with_row(sums, execution, row)?;
+    for place in 0..finding.passed.len() {
+        let row = &finding.passed[place].1;
+        sums = with_row(sums, execution, row, finding.is_flickering(place))?;
     }
     Some(sums)
 }
 
 /// The same with one more row.
-pub(crate) fn with_row(sums: Sums, execution: &Execution, row: &Row) -> Option<Sums> {
+pub(crate) fn with_row(
+    sums: Sums,
+    execution: &Execution,
+    row: &Row,
+    flickers: bool,
+) -> Option<Sums> {
     let mut sums = sums;
     if is_helped(execution, row) {
         sums.helped = true;
@@ -77,6 +93,9 @@ pub(crate) fn with_row(sums: Sums, execution: &Execution, row: &Row) -> Option<S
         .size
         .min(execution.shares.get().checked_sub(sums.shares)?);
     sums.count = sums.count.checked_add(1)?;
+    if flickers {
+        sums.flickers = sums.flickers.checked_add(1)?;
+    }
     sums.worst = sums.worst.max(by);
     sums.shares = sums.shares.checked_add(taken)?;
     sums.dollars = sums.dollars.checked_add(cost_of(by, taken)?)?;

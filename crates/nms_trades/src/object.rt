@@ -2,9 +2,10 @@
 use crate::execution::Execution;
 use crate::execution_file::Refusal;
 use crate::finding::Finding;
-use crate::line::{append_causes, word_of_own, word_of_side};
+use crate::line::{append_causes, is_own, word_of_side};
 use crate::millionths::push_millionths;
 use crate::money_through::{Sums, difference, is_helped};
+use crate::standing::Standing;
 use nms_board::Row;
 use nms_lines::name_of_part;
 use nms_quote::{Roster, Side};
@@ -62,19 +63,42 @@ pub(crate) fn write_through<W: Write>(
         return Err(ShowFault::NoMemory);
     };
     let (worst, causes) = text.split_at(cut.min(text.len()));
-    write_head(alloc, answers, execution, sums, behind_comma(worst), causes)?;
-    for (side, row) in &finding.passed {
+    let what = what_of(finding.standing);
+    write_head(
+        alloc,
+        answers,
+        what,
+        execution,
+        sums,
+        behind_comma(worst),
+        causes,
+    )?;
+    for place in 0..finding.passed.len() {
+        let (side, row) = &finding.passed[place];
         if !is_helped(execution, row) {
-            write_passed(alloc, answers, text, roster, execution, *side, row)?;
+            let flickers = finding.is_flickering(place);
+            write_passed(
+                alloc, answers, text, roster, execution, *side, row, flickers,
+            )?;
         }
     }
     Ok(())
+}
+
+/// The name of a standing.
+fn what_of(standing: Standing) -> &'static str {
+    match standing {
+        Standing::Clean => "clean",
+        Standing::Perhaps => "perhaps",
+        Standing::Through => "through",
+    }
 }
 
 /// Writes that an execution traded through, with these texts.
 fn write_head<'a, W: Write>(
     alloc: Global,
     answers: &mut W,
+    what: &'a str,
     execution: &'a Execution,
     sums: &Sums,
     worst: &'a [u8],
@@ -84,7 +108,7 @@ fn write_head<'a, W: Write>(
         alloc,
         answers,
         &[
-            ("what", Item::Text("through")),
+            ("what", Item::Text(what)),
             ("id", Item::Bytes(execution.name.as_slice())),
             ("version", Item::Number(execution.version)),
             ("count", Item::Number(sums.count)),
@@ -104,7 +128,7 @@ fn append_texts(
 ) -> Result<usize, AllocError> {
     push_millionths(text, sums.worst)?;
     let cut = text.len();
-    append_causes(text, execution, crossed, sums.helped)?;
+    append_causes(text, execution, crossed, sums)?;
     Ok(cut)
 }
 
@@ -117,6 +141,7 @@ fn write_passed<W: Write>(
     execution: &Execution,
     side: Side,
     row: &Row,
+    flickers: bool,
 ) -> Result<(), ShowFault> {
     text.clear();
     if push_millionths(text, difference(row, execution.millionths)).is_err() {
@@ -129,6 +154,7 @@ fn write_passed<W: Write>(
         execution,
         side,
         row,
+        flickers,
         behind_comma(text),
     )
 }
@@ -141,9 +167,10 @@ fn write_row<'a, W: Write>(
     execution: &'a Execution,
     side: Side,
     row: &Row,
+    flickers: bool,
     by: &'a [u8],
 ) -> Result<(), ShowFault> {
-    let own = !word_of_own(&execution.part, row.part).is_empty();
+    let own = is_own(&execution.part, row.part);
     write_object(
         alloc,
         answers,
@@ -157,6 +184,7 @@ fn write_row<'a, W: Write>(
             ("receipt", Item::Number(row.receipt)),
             ("by", Item::Bytes(by)),
             ("own", Item::Flag(own)),
+            ("flicker", Item::Flag(flickers)),
         ],
     )
 }

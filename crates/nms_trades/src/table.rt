@@ -1,8 +1,8 @@
 //! The counts and sums of all executions, as tables.
 ghost use Rattle.std.specs.Prelude.{◌≡◌, IfOk, filter, length};
-ghost use Rattle.nms_trades.specs.Counts.{is_found, is_passed};
+ghost use Rattle.nms_trades.specs.Counts.{is_found, is_perhaps, is_through, stands};
 
-use crate::cause::Cause;
+use crate::cause::{CAUSES, Cause};
 use crate::execution::Execution;
 use crate::execution_file::Records;
 use crate::finding::Finding;
@@ -43,7 +43,8 @@ fn tally_of(
 ) -> Result<Tally, TradesFault>
     requires { length findings.now ≡ length executions.now }
     ensures executions { IfOk result (λ tally. tally.all.executions ≡ length (filter is_found findings.now)) }
-    ensures through { IfOk result (λ tally. tally.all.through ≡ length (filter is_passed findings.now)) }
+    ensures perhaps { IfOk result (λ tally. tally.all.perhaps ≡ length (filter (stands is_perhaps) findings.now)) }
+    ensures through { IfOk result (λ tally. tally.all.through ≡ length (filter (stands is_through) findings.now)) }
 {
     let Ok(mut tally) = Tally::none(alloc, roster.parts() + 1, roster.syms()) else {
         return Err(TradesFault::Show(ShowFault::NoMemory));
@@ -71,7 +72,7 @@ fn write_tally<W: Write>(
 ) -> Result<(), ShowFault> {
     write_all(alloc, &tally.all, refused, form, answers)?;
     write_head(form, "cause", answers)?;
-    for place in 0..12 {
+    for place in 0..CAUSES {
         let name = Item::Text(Cause::ALL[place].word());
         write_count(alloc, "cause", name, &tally.causes[place], form, answers)?;
     }
@@ -92,7 +93,7 @@ fn write_all<W: Write>(
     form: Form,
     answers: &mut W,
 ) -> Result<(), ShowFault> {
-    let clean = all.executions - all.through.min(all.executions);
+    let clean = clean_of(all);
     let rate = rate_of(all);
     if form.is_json() {
         return write_object(
@@ -103,6 +104,7 @@ fn write_all<W: Write>(
                 ("executions", Item::Number(all.executions)),
                 ("refused", Item::Number(refused)),
                 ("clean", Item::Number(clean)),
+                ("perhaps", Item::Number(all.perhaps)),
                 ("through", Item::Number(all.through)),
                 ("no_cause", Item::Number(all.open)),
                 ("per_10000", rate),
@@ -120,6 +122,8 @@ fn write_all<W: Write>(
             Item::Text(" executions = "),
             Item::Number(clean),
             Item::Text(" clean + "),
+            Item::Number(all.perhaps),
+            Item::Text(" perhaps + "),
             Item::Number(all.through),
             Item::Text(" through, "),
             Item::Number(all.open),
@@ -141,6 +145,12 @@ fn write_all<W: Write>(
             Item::Text(" dollars"),
         ],
     )
+}
+
+/// How many executions traded through nothing on any version of their windows.
+fn clean_of(all: &Count) -> u64 {
+    let rest = all.executions - all.through.min(all.executions);
+    rest - all.perhaps.min(rest)
 }
 
 /// How many of 10,000 executions traded through, rounded down.
@@ -171,6 +181,7 @@ fn write_head<W: Write>(form: Form, name: &str, answers: &mut W) -> Result<(), S
         &[
             column(Item::Strong(name), 18, false),
             column(Item::Strong("executions"), 10, true),
+            column(Item::Strong("perhaps"), 8, true),
             column(Item::Strong("through"), 8, true),
             column(Item::Strong("no cause"), 8, true),
             column(Item::Strong("rows"), 8, true),
@@ -202,6 +213,7 @@ fn write_count<'a, W: Write>(
                 ("what", Item::Text(what)),
                 ("name", name),
                 ("executions", Item::Number(count.executions)),
+                ("perhaps", Item::Number(count.perhaps)),
                 ("through", Item::Number(count.through)),
                 ("no_cause", Item::Number(count.open)),
                 ("rows", Item::Number(count.rows)),
@@ -217,6 +229,7 @@ fn write_count<'a, W: Write>(
         &[
             column(name, 18, false),
             column(Item::Number(count.executions), 10, true),
+            column(Item::Number(count.perhaps), 8, true),
             column(Item::Number(count.through), 8, true),
             column(Item::Number(count.open), 8, true),
             column(Item::Number(count.rows), 8, true),

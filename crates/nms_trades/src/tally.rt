@@ -1,11 +1,12 @@
 //! How many executions traded through, and how much: of all, by cause, by participant, by symbol and by half hour.
 ghost use Rattle.std.specs.Prelude.{◌≡◌, ◌<◌, ◌+◌, IfOk, IfSome, OnSome};
-ghost use Rattle.nms_trades.specs.Counts.{passes_once};
+ghost use Rattle.nms_trades.specs.Counts.{is_perhaps, is_through, stands_once};
 
-use crate::cause::Cause;
+use crate::cause::{CAUSES, Cause};
 use crate::execution::Execution;
 use crate::finding::Finding;
 use crate::money_through::{Sums, sums_of, with_row};
+use crate::standing::Standing;
 use nms_times::TimeOfDay;
 use std::alloc::{AllocError, Global};
 
@@ -20,6 +21,8 @@ const HALF_HOUR: u64 = 1_800_000_000_000;
 pub(crate) struct Count {
     /// Executions.
     pub(crate) executions: u64,
+    /// Those that traded through on some versions of their windows, and not on others.
+    pub(crate) perhaps: u64,
     /// Those that traded through.
     pub(crate) through: u64,
     /// Those of them to which no cause applies.
@@ -38,10 +41,12 @@ impl Count {
     /// Nothing.
     pub(crate) fn none() -> Count
         ensures executions { result.executions ≡ 0 }
+        ensures perhaps { result.perhaps ≡ 0 }
         ensures through { result.through ≡ 0 }
     {
         Count {
             executions: 0,
+            perhaps: 0,
             through: 0,
             open: 0,
             rows: 0,
@@ -54,14 +59,19 @@ impl Count {
     /// With one more execution.
     fn with(self, finding: &Finding, is_open: bool, sums: &Sums) -> Option<Count>
         ensures executions { IfSome result (λ count. count.executions ≡ self.executions + 1) }
-        ensures through { IfSome result (λ count. count.through ≡ self.through + passes_once finding.now) }
+        ensures perhaps { IfSome result (λ count. count.perhaps ≡ self.perhaps + stands_once is_perhaps finding.now) }
+        ensures through { IfSome result (λ count. count.through ≡ self.through + stands_once is_through finding.now) }
     {
         let mut count = self;
         count.executions = count.executions.checked_add(1)?;
-        if finding.is_clean() {
-            return Some(count);
+        match finding.standing {
+            Standing::Clean => return Some(count),
+            Standing::Perhaps => {
+                count.perhaps = count.perhaps.checked_add(1)?;
+                return Some(count);
+            }
+            Standing::Through => count.through = count.through.checked_add(1)?,
         }
-        count.through = count.through.checked_add(1)?;
         if is_open {
             count.open = count.open.checked_add(1)?;
         }
@@ -71,6 +81,7 @@ impl Count {
     /// With what was traded through.
     fn with_sums(self, sums: &Sums) -> Option<Count>
         ensures executions { IfSome result (λ count. count.executions ≡ self.executions) }
+        ensures perhaps { IfSome result (λ count. count.perhaps ≡ self.perhaps) }
         ensures through { IfSome result (λ count. count.through ≡ self.through) }
     {
         let mut count = self;
@@ -87,7 +98,7 @@ impl Count {
 pub(crate) struct Tally {
     pub(crate) all: Count,
     /// By cause, in the order of `Cause::ALL`.
-    pub(crate) causes: [Count; 12],
+    pub(crate) causes: [Count; CAUSES],
     /// By participant that executed, and last off an exchange.
     pub(crate) executed: Vec<Count>,
     /// By participant that was traded through.
@@ -102,11 +113,12 @@ impl Tally {
     /// Nothing, for a number of participants and symbols.
     pub(crate) fn none(alloc: Global, parts: usize, syms: usize) -> Result<Tally, AllocError>
         ensures executions { IfOk result (λ tally. tally.all.executions ≡ 0) }
+        ensures perhaps { IfOk result (λ tally. tally.all.perhaps ≡ 0) }
         ensures through { IfOk result (λ tally. tally.all.through ≡ 0) }
     {
         Ok(Tally {
             all: Count::none(),
-            causes: [Count::none(); 12],
+            causes: [Count::none(); CAUSES],
             executed: counts(alloc, parts)?,
             passed: counts(alloc, parts)?,
             syms: counts(alloc, syms)?,
@@ -117,10 +129,11 @@ impl Tally {
     /// Counts one more execution. `None` comes only of sums that no number holds.
     pub(crate) fn add(&mut self, execution: &Execution, finding: &Finding) -> Option<()>
         ensures executions { OnSome result (self.new.all.executions ≡ self.old.all.executions + 1) }
-        ensures through { OnSome result (self.new.all.through ≡ self.old.all.through + passes_once finding.now) }
+        ensures perhaps { OnSome result (self.new.all.perhaps ≡ self.old.all.perhaps + stands_once is_perhaps finding.now) }
+        ensures through { OnSome result (self.new.all.through ≡ self.old.all.through + stands_once is_through finding.now) }
     {
         let sums = sums_of(execution, finding)?;
-        let is_open = sums.count > 0 && !has_cause(execution, finding);
+        let is_open = sums.count > 0 && !has_cause(execution, finding, &sums);
         let all = self.all.with(finding, is_open, &sums)?;
         self.add_places(execution, finding, is_open, &sums)?;
         self.all = all;
@@ -147,7 +160,7 @@ impl Tally {
             let half_hour = half_hour_of(time);
             self.half_hours[half_hour] = self.half_hours[half_hour].with(finding, is_open, sums)?;
         }
-        if finding.is_clean() {
+        if finding.standing != Standing::Through {
             return Some(());
         }
         self.add_causes(execution, finding, is_open, sums)?;
@@ -162,8 +175,13 @@ impl Tally {
         is_open: bool,
         sums: &Sums,
     ) -> Option<()> {
-        for place in 0..12 {
-            if Cause::ALL[place].applies(&execution.claims, finding.crossed, sums.helped) {
+        for place in 0..CAUSES {
+            if Cause::ALL[place].applies(
+                &execution.claims,
+                finding.crossed,
+                sums.helped,
+                sums.is_flickering(),
+            ) {
                 self.causes[place] = self.causes[place].with(finding, is_open, sums)?;
             }
         }
@@ -173,8 +191,9 @@ impl Tally {
     /// Counts the rows that an execution traded through, each for its participant.
     fn add_rows(&mut self, execution: &Execution, finding: &Finding) -> Option<()> {
         let mut before = Sums::none();
-        for (_, row) in &finding.passed {
-            let after = with_row(before, execution, row)?;
+        for place in 0..finding.passed.len() {
+            let row = &finding.passed[place].1;
+            let after = with_row(before, execution, row, finding.is_flickering(place))?;
             if let Some(count) = self.passed.get_mut(usize::from(row.part.get())) {
                 let own = Sums {
                     count: after.count.checked_sub(before.count)?,
@@ -182,6 +201,7 @@ impl Tally {
                     shares: after.shares.checked_sub(before.shares)?,
                     dollars: after.dollars.checked_sub(before.dollars)?,
                     helped: false,
+                    flickers: 0,
                 };
                 *count = count.with_sums(&own)?;
             }
@@ -201,8 +221,14 @@ fn counts(alloc: Global, count: usize) -> Result<Vec<Count>, AllocError> {
 }
 
 /// Whether a cause applies to an execution as a whole: any but self-help, which takes out rows.
-pub(crate) fn has_cause(execution: &Execution, finding: &Finding) -> bool {
-    Cause::ALL.iter().any(|cause| cause.applies(&execution.claims, finding.crossed, false))
+fn has_cause(execution: &Execution, finding: &Finding, sums: &Sums) -> bool {
+    let flickering = sums.is_flickering();
+    Cause::ALL.iter().any(|cause| cause.applies(
+        &execution.claims,
+        finding.crossed,
+        false,
+        flickering,
+    ))
 }
 
 /// The place of a time's half hour of the day.

@@ -1,0 +1,179 @@
+//! The best protected prices of each symbol in each version: `specs/Bests`.
+ghost use Rattle.std.specs.Prelude.{◌≡◌, ◌≢◌, ◌≤◌, ◌<◌, ℕ, ◌+◌, ◌++◌, ◌∷◌, [], All, IfOk, OnOk, None, false, fold, length, slice_get, true};
+ghost use Rattle.nms_board.specs.Cells.{StandsFor, after, takes};
+ghost use Rattle.nms_board.specs.History.{concerns};
+ghost use Rattle.nms_board.specs.Shown.{seen_on};
+ghost use Rattle.nms_quote.specs.Roster.{holds, sizes_of};
+ghost use Rattle.nms_quote.specs.Tape.{Tape, version};
+ghost use Rattle.nms_quote.specs.declared.TheConstants.{MOST_CHANGES};
+ghost use Rattle.nms_trades.specs.Bests.{AreBests, beats_bid, beats_offer, higher_bid, limits_of, lower_offer};
+ghost use Rattle.nms_trades.specs.Track.{AreNoted, IsNoted};
+
+use crate::track::{Limits, Track, no_tracks, note_at};
+use nms_board::{BoardFault, Boards, Row, View, other_symbols_stay};
+use nms_quote::{Change, Roster, Side, Sym};
+use std::alloc::{AllocError, Global};
+
+/// The best protected prices of each symbol, by its place, in each version of the changes. One board moves along them once.
+pub(crate) fn bests_of(
+    alloc: Global,
+    roster: &Roster,
+    changes: &[Change],
+) -> Result<Vec<Track>, BoardFault>
+    requires held { All (λ change. holds (sizes_of roster.now) change ≡ true) changes.now }
+    requires few { length changes.now ≤ MOST_CHANGES }
+    ensures { IfOk result (λ bests. AreBests (sizes_of roster.now) changes.now (length changes.now) bests.items) }
+{
+    let mut board = match Boards::new(alloc, roster) {
+        Ok(board) => board,
+        Err(fault) => return Err(fault),
+    };
+    let Ok(mut bests) = no_tracks(alloc, roster.syms()) else {
+        return Err(BoardFault::NoMemory);
+    };
+    for change in changes {
+        if take_change(&mut board, change, &mut bests).is_err() {
+            return Err(BoardFault::NoMemory);
+        }
+    }
+    Ok(bests)
+}
+
+/// Moves a board over one more change, and notes the best prices of the symbols that it concerns.
+fn take_change(
+    board: &mut Boards,
+    change: &Change,
+    bests: &mut Vec<Track>,
+) -> Result<(), AllocError>
+    requires taken { takes board.old change.now ≡ true }
+    requires count { length bests.old.items ≡ length board.old.sizes.lots }
+    ensures after { board.new ≡ after board.old change.now }
+    ensures stands { (tape : Tape) → StandsFor board.old tape → StandsFor board.new (tape ++ change.now ∷ []) }
+    ensures count { OnOk result (length bests.new.items ≡ length bests.old.items) }
+    ensures bests { (tape : Tape) (n : ℕ) → StandsFor board.old (version n tape) → n < length tape
+        → version (n + 1) tape ≡ version n tape ++ change.now ∷ []
+        → AreBests board.old.sizes tape n bests.old.items → OnOk result (AreBests board.old.sizes tape (n + 1) bests.new.items) }
+{
+    other_symbols_stay();
+    board.apply(*change);
+    note_change(board, change, bests)
+}
+
+/// Notes the best prices after a change, of the symbols that it concerns.
+fn note_change(board: &Boards, change: &Change, bests: &mut Vec<Track>) -> Result<(), AllocError>
+    requires held { holds board.now.sizes change.now ≡ true }
+    requires count { length bests.old.items ≡ length board.now.sizes.lots }
+    ensures count { OnOk result (length bests.new.items ≡ length bests.old.items) }
+    ensures concerned { (sym : ℕ) → sym < length bests.old.items → concerns sym change.now ≡ true
+        → OnOk result (IsNoted board.now.applied (limits_of (seen_on board.now sym)) (slice_get bests.old.items sym)
+        (slice_get bests.new.items sym)) }
+    ensures others { (sym : ℕ) → sym < length bests.old.items → concerns sym change.now ≡ false
+        → OnOk result (slice_get bests.new.items sym ≡ slice_get bests.old.items sym) }
+{
+    match *change {
+        Change::Quote { sym, .. } => note_sym(board, sym, bests),
+        Change::State { sym, .. } => note_sym(board, sym, bests),
+        Change::Lot { sym, .. } => note_sym(board, sym, bests),
+        Change::Withdraw { .. } => note_all(board, bests),
+    }
+}
+
+/// Notes the best prices of each symbol.
+fn note_all(board: &Boards, bests: &mut Vec<Track>) -> Result<(), AllocError>
+    requires { length bests.old.items ≡ length board.now.sizes.lots }
+    ensures { OnOk result (AreNoted (λ sym. sym) board.now.applied (λ sym. limits_of (seen_on board.now sym)) (length bests.old.items)
+        bests.old.items bests.new.items) }
+{
+    // A board has at most `MOST_SYMBOLS` symbols.
+    board.stands_for_a_tape();
+    for place in 0..bests.len() {
+        note_sym(board, Sym::new(place as u16).unwrap(), bests)?;
+    }
+    Ok(())
+}
+
+/// Notes the best prices of a symbol.
+fn note_sym(board: &Boards, sym: Sym, bests: &mut Vec<Track>) -> Result<(), AllocError>
+    requires { sym < length bests.old.items }
+    ensures count { length bests.new.items ≡ length bests.old.items }
+    ensures own { (own : ℕ) → own ≡ sym → OnOk result (IsNoted board.now.applied (limits_of (seen_on board.now own))
+        (slice_get bests.old.items own) (slice_get bests.new.items own)) }
+    ensures others { (other : ℕ) → other ≢ sym → slice_get bests.new.items other ≡ slice_get bests.old.items other }
+{
+    let limits = limits_of(&board.view(sym));
+    note_at(bests, usize::from(sym.get()), board.applied(), limits)
+}
+
+/// The best protected prices of what is seen.
+fn limits_of(view: &View) -> Limits
+    ensures { result ≡ limits_of view.now }
+{
+    Limits {
+        bid: highest_bid(view.rows(Side::Bid)),
+        offer: lowest_offer(view.rows(Side::Offer)),
+    }
+}
+
+/// The price of the highest protected bid, if there is one.
+fn highest_bid(rows: &[Row]) -> Option<u64>
+    ensures { result ≡ fold higher_bid None rows.now }
+{
+    let mut best = None;
+    for row in rows {
+        best = higher_bid(best, row);
+    }
+    best
+}
+
+/// The higher of a bid and a row's, if it is protected.
+fn higher_bid(best: Option<u64>, row: &Row) -> Option<u64>
+    ensures { result ≡ higher_bid best row.now }
+{
+    if row.protected && beats_bid(row.price.get(), best) {
+        Some(row.price.get())
+    } else {
+        best
+    }
+}
+
+/// Whether a price is above a bid, or there is none.
+fn beats_bid(price: u64, best: Option<u64>) -> bool
+    ensures { result ≡ beats_bid price best }
+{
+    match best {
+        Some(bid) => price > bid,
+        None => true,
+    }
+}
+
+/// The price of the lowest protected offer, if there is one.
+fn lowest_offer(rows: &[Row]) -> Option<u64>
+    ensures { result ≡ fold lower_offer None rows.now }
+{
+    let mut best = None;
+    for row in rows {
+        best = lower_offer(best, row);
+    }
+    best
+}
+
+/// The lower of an offer and a row's, if it is protected.
+fn lower_offer(best: Option<u64>, row: &Row) -> Option<u64>
+    ensures { result ≡ lower_offer best row.now }
+{
+    if row.protected && beats_offer(row.price.get(), best) {
+        Some(row.price.get())
+    } else {
+        best
+    }
+}
+
+/// Whether a price is below an offer, or there is none.
+fn beats_offer(price: u64, best: Option<u64>) -> bool
+    ensures { result ≡ beats_offer price best }
+{
+    match best {
+        Some(offer) => price < offer,
+        None => true,
+    }
+}

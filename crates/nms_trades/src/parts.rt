@@ -1,0 +1,153 @@
+//! The protected prices of each participant in each symbol in each version: `specs/Parts`.
+ghost use Rattle.std.specs.Prelude.{◌≡◌, ◌≢◌, ◌≤◌, ◌<◌, ℕ, ◌+◌, ◌*◌, ◌++◌, ◌∷◌, [], All, IfOk, OnOk, false, length, slice_get, true};
+ghost use Rattle.nms_board.specs.Cells.{StandsFor, after, place_of, takes};
+ghost use Rattle.nms_board.specs.declared.TheConstants.{MOST_ROWS};
+ghost use Rattle.nms_quote.specs.Roster.{holds, sizes_of};
+ghost use Rattle.nms_quote.specs.Tape.{Tape, version};
+ghost use Rattle.nms_quote.specs.declared.TheConstants.{MOST_CHANGES};
+ghost use Rattle.nms_trades.specs.Parts.{AreParts, part_held, protected_price, touches};
+ghost use Rattle.nms_trades.specs.Track.{AreNoted, IsNoted};
+
+use crate::track::{Limits, Track, no_tracks, note_at};
+use nms_board::{BoardFault, Boards, MOST_ROWS, Row};
+use nms_quote::{Change, Part, Roster, Side, Sym};
+use std::alloc::{AllocError, Global};
+
+/// The protected prices of each participant in each symbol, `MOST_ROWS` places a symbol, in each version of the changes. One
+/// board moves along them once.
+pub(crate) fn parts_of(
+    alloc: Global,
+    roster: &Roster,
+    changes: &[Change],
+) -> Result<Vec<Track>, BoardFault>
+    requires held { All (λ change. holds (sizes_of roster.now) change ≡ true) changes.now }
+    requires few { length changes.now ≤ MOST_CHANGES }
+    ensures parts { IfOk result (λ tracks. AreParts (sizes_of roster.now) changes.now (length changes.now) tracks.items) }
+    ensures count { IfOk result (λ tracks. length tracks.items ≡ MOST_ROWS * length (sizes_of roster.now).lots) }
+    ensures narrow { length roster.now.parts ≤ MOST_ROWS }
+{
+    let mut board = match Boards::new(alloc, roster) {
+        Ok(board) => board,
+        Err(fault) => return Err(fault),
+    };
+    let Ok(mut tracks) = no_tracks(alloc, MOST_ROWS * roster.syms()) else {
+        return Err(BoardFault::NoMemory);
+    };
+    for change in changes {
+        if take_change(&mut board, change, &mut tracks).is_err() {
+            return Err(BoardFault::NoMemory);
+        }
+    }
+    Ok(tracks)
+}
+
+/// Moves a board over one more change, and notes the prices that it touches.
+fn take_change(
+    board: &mut Boards,
+    change: &Change,
+    tracks: &mut Vec<Track>,
+) -> Result<(), AllocError>
+    requires taken { takes board.old change.now ≡ true }
+    requires count { length tracks.old.items ≡ MOST_ROWS * length board.old.sizes.lots }
+    ensures after { board.new ≡ after board.old change.now }
+    ensures stands { (tape : Tape) → StandsFor board.old tape → StandsFor board.new (tape ++ change.now ∷ []) }
+    ensures count { OnOk result (length tracks.new.items ≡ length tracks.old.items) }
+    ensures parts { (tape : Tape) (n : ℕ) → StandsFor board.old (version n tape) → n < length tape
+        → version (n + 1) tape ≡ version n tape ++ change.now ∷ []
+        → AreParts board.old.sizes tape n tracks.old.items → OnOk result (AreParts board.old.sizes tape (n + 1) tracks.new.items) }
+{
+    board.apply(*change);
+    note_change(board, change, tracks)
+}
+
+/// Notes the prices after a change, of the participants and symbols that it touches.
+fn note_change(board: &Boards, change: &Change, tracks: &mut Vec<Track>) -> Result<(), AllocError>
+    requires held { holds board.now.sizes change.now ≡ true }
+    requires count { length tracks.old.items ≡ MOST_ROWS * length board.now.sizes.lots }
+    ensures count { OnOk result (length tracks.new.items ≡ length tracks.old.items) }
+    ensures touched { (sym part : ℕ) → sym < length board.now.sizes.lots → part < board.now.sizes.parts
+        → touches sym part change.now ≡ true
+        → OnOk result (IsNoted board.now.applied (part_held board.now sym part) (slice_get tracks.old.items (place_of part sym))
+        (slice_get tracks.new.items (place_of part sym))) }
+    ensures others { (sym part : ℕ) → sym < length board.now.sizes.lots → part < board.now.sizes.parts
+        → touches sym part change.now ≡ false
+        → OnOk result (slice_get tracks.new.items (place_of part sym) ≡ slice_get tracks.old.items (place_of part sym)) }
+{
+    // A board has at most `MOST_ROWS` participants.
+    board.stands_for_a_tape();
+    match *change {
+        Change::Quote { part, sym, .. } => note_part(board, part, sym, tracks),
+        Change::State { part, sym, .. } => note_part(board, part, sym, tracks),
+        Change::Withdraw { part } => note_syms(board, part, tracks),
+        Change::Lot { sym, .. } => note_parts(board, sym, tracks),
+    }
+}
+
+/// Notes the prices of a participant in each symbol.
+fn note_syms(board: &Boards, part: Part, tracks: &mut Vec<Track>) -> Result<(), AllocError>
+    requires part { part < board.now.sizes.parts }
+    requires count { length tracks.old.items ≡ MOST_ROWS * length board.now.sizes.lots }
+    ensures { OnOk result (AreNoted (λ sym. place_of part sym) board.now.applied (λ sym. part_held board.now sym part)
+        (length board.now.sizes.lots) tracks.old.items tracks.new.items) }
+{
+    // A board has at most `MOST_SYMBOLS` symbols.
+    board.stands_for_a_tape();
+    for place in 0..tracks.len() / MOST_ROWS {
+        note_part(board, part, Sym::new(place as u16).unwrap(), tracks)?;
+    }
+    Ok(())
+}
+
+/// Notes the prices of each participant in a symbol.
+fn note_parts(board: &Boards, sym: Sym, tracks: &mut Vec<Track>) -> Result<(), AllocError>
+    requires sym { sym < length board.now.sizes.lots }
+    requires count { length tracks.old.items ≡ MOST_ROWS * length board.now.sizes.lots }
+    ensures { OnOk result (AreNoted (λ part. place_of part sym) board.now.applied (λ part. part_held board.now sym part)
+        board.now.sizes.parts tracks.old.items tracks.new.items) }
+{
+    for place in 0..board.parts() {
+        note_part(board, Part::new(place).unwrap(), sym, tracks)?;
+    }
+    Ok(())
+}
+
+/// Notes the prices of a participant in a symbol.
+fn note_part(
+    board: &Boards,
+    part: Part,
+    sym: Sym,
+    tracks: &mut Vec<Track>,
+) -> Result<(), AllocError>
+    requires part { part < board.now.sizes.parts }
+    requires sym { sym < length board.now.sizes.lots }
+    requires count { length tracks.old.items ≡ MOST_ROWS * length board.now.sizes.lots }
+    ensures count { length tracks.new.items ≡ length tracks.old.items }
+    ensures own { (s p : ℕ) → s ≡ sym → p ≡ part → OnOk result (IsNoted board.now.applied (part_held board.now s p)
+        (slice_get tracks.old.items (place_of p s)) (slice_get tracks.new.items (place_of p s))) }
+    ensures others { (other : ℕ) → other ≢ place_of part sym → slice_get tracks.new.items other ≡ slice_get tracks.old.items other }
+{
+    // A board has at most `MOST_ROWS` participants and `MOST_SYMBOLS` symbols.
+    board.stands_for_a_tape();
+    let limits = Limits {
+        bid: protected_price(board.row(Side::Bid, part, sym)),
+        offer: protected_price(board.row(Side::Offer, part, sym)),
+    };
+    note_at(tracks, place_of(part, sym), board.applied(), limits)
+}
+
+/// The place of a participant in a symbol.
+pub(crate) fn place_of(part: Part, sym: Sym) -> usize
+    ensures { result ≡ place_of part sym }
+{
+    MOST_ROWS * usize::from(sym.get()) + usize::from(part.get())
+}
+
+/// The price of a quotation, if it is protected.
+fn protected_price(row: Option<Row>) -> Option<u64>
+    ensures { result ≡ protected_price row }
+{
+    match row {
+        Some(row) if row.protected => Some(row.price.get()),
+        Some(_) | None => None,
+    }
+}

@@ -1,0 +1,94 @@
+//! The standing of an execution on the versions of its window: `specs/Found`.
+ghost use Rattle.std.specs.Prelude.{◌≡◌, ◌≤◌, ℕ, All, IfOk, length, true};
+ghost use Rattle.nms_quote.specs.Roster.{Sizes, holds, sizes_of};
+ghost use Rattle.nms_quote.specs.Tape.{Tape};
+ghost use Rattle.nms_quote.specs.declared.TheConstants.{MOST_CHANGES};
+ghost use Rattle.nms_trades.specs.Around.{own_standing};
+ghost use Rattle.nms_trades.specs.Bests.{best_at};
+ghost use Rattle.nms_trades.specs.Found.{IsReady, is_alone, standing_in};
+ghost use Rattle.nms_trades.specs.Judged.{IsFound};
+ghost use Rattle.nms_trades.specs.Reading.{IsOn};
+ghost use Rattle.nms_trades.specs.Track.{IsTrack};
+
+use crate::bests::bests_of;
+use crate::execution::Execution;
+use crate::finding::Finding;
+use crate::standing::Standing;
+use crate::track::{Mark, Test, Track, any_version};
+use nms_board::{BoardFault, rows_have_one_rank_order};
+use nms_quote::{Change, Roster};
+use std::alloc::Global;
+
+/// The best protected prices of each symbol in each version, if an execution has a window of several versions; else none.
+pub(crate) fn bests_for(
+    alloc: Global,
+    roster: &Roster,
+    changes: &[Change],
+    executions: &[Execution],
+) -> Result<Vec<Track>, BoardFault>
+    requires held { All (λ change. holds (sizes_of roster.now) change ≡ true) changes.now }
+    requires few { length changes.now ≤ MOST_CHANGES }
+    requires on { All (IsOn roster.now (length changes.now)) executions.now }
+    ensures { IfOk result (λ bests. All (IsReady (sizes_of roster.now) changes.now bests.items) executions.now) }
+{
+    if are_alone(executions) {
+        return Ok(Vec::new(alloc));
+    }
+    bests_of(alloc, roster, changes)
+}
+
+/// Whether each execution has a window of one version.
+fn are_alone(executions: &[Execution]) -> bool
+    ensures { result ≡ true → All (λ execution. is_alone execution ≡ true) executions.now }
+{
+    for execution in executions {
+        if !is_alone(execution) {
+            return false;
+        }
+    }
+    true
+}
+
+/// Whether an execution's version is the only one of its window.
+fn is_alone(execution: &Execution) -> bool
+    ensures { result ≡ is_alone execution.now }
+{
+    execution.first == execution.version && execution.last == execution.version
+}
+
+/// The standing of an execution on the versions of its window, by what is found on its own version and by the best prices of
+/// its symbol.
+pub(crate) fn standing_in(
+    roster: &Roster,
+    changes: &[Change],
+    bests: &[Track],
+    execution: &Execution,
+    found: &Finding,
+) -> Standing
+    requires on { IsOn roster.now (length changes.now) execution.now }
+    requires ready { IsReady (sizes_of roster.now) changes.now bests.now execution.now }
+    requires found { IsFound (sizes_of roster.now) changes.now execution.now found.now }
+    requires own { found.now.standing ≡ own_standing found.now.passed.items }
+    ensures { result ≡ standing_in (sizes_of roster.now) changes.now execution.now }
+{
+    // The clauses alone speak of the roster and the changes.
+    let _ = roster;
+    let _ = changes;
+    rows_have_one_rank_order();
+    if is_alone(execution) {
+        return found.standing;
+    }
+    standing_over(execution, &bests[usize::from(execution.sym.get())].marks)
+}
+
+/// The standing of an execution on the versions of its window, by the best prices of its symbol.
+fn standing_over(execution: &Execution, marks: &[Mark]) -> Standing
+    requires { execution.now.millionths ≤ 9999999999999 }
+    ensures { (sizes : Sizes) (tape : Tape) (upto : ℕ) → IsTrack (best_at sizes tape execution.now.sym) upto marks.now
+        → execution.now.last ≤ upto → result ≡ standing_in sizes tape execution.now }
+{
+    let (price, first, last) = (execution.millionths, execution.first, execution.last);
+    let some_through = any_version(marks, Test::Through, price, first, last);
+    let some_clean = any_version(marks, Test::Clean, price, first, last);
+    Standing::of(some_through, some_clean)
+}
