@@ -37,7 +37,7 @@ svg{width:100%;max-width:45em;height:auto}\n\
 
 /// What the findings are.
 const ABOUT: &str =
-    "<p>Each execution was judged on the version of the changes that its record names (17 CFR 242.611(a)). \
+    "<p>Each execution was judged on the version of the changes that its record names, or that was in force at its time (17 CFR 242.611(a)). \
 A protected bid above its price, or a protected offer below it, is traded through. An exception that is claimed is not checked.</p>";
 
 /// What the pictures are.

@@ -22,7 +22,7 @@ pub(crate) fn form_of(screen: Screen, request: &Request) -> Form {
     }
 }
 
-/// The symbol that a word names, where there is one and the setup has it.
+/// The symbol that a word names, if there is one and the setup has it.
 pub(crate) fn sym_at(setup: &Setup, request: &Request, place: usize) -> Option<Sym>
     ensures { IfSome result (λ sym. sym < length setup.now.roster.syms) }
 {
@@ -81,7 +81,7 @@ fn no_feed() -> Fault {
     Fault::usage(About::Feed, "it is the letter of no feed of the setup")
 }
 
-/// How a request ends that has read a file: where the reading failed, the system's reason is told.
+/// How a request ends that has read a file: where the reading failed, the system's reason is reported.
 pub(crate) fn ended<T: Clock + Eprint, R>(
     source: &mut Source<'_, T, R>,
     served: Result<Ending, Fault>,

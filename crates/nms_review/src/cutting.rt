@@ -39,7 +39,7 @@ struct CutJob<'a, F> {
     openings: u64,
 }
 
-/// Cuts the rows of the files to shards, and tells the counts.
+/// Cuts the rows of the files to shards, and reports the counts.
 pub(crate) fn cut_files<T, W: Write>(
     rt: &T,
     screen: Screen,
@@ -85,7 +85,7 @@ where
     tell_counts(mapping.meanings.half, &job.tally, &job.notes, answers)
 }
 
-/// Cuts the rows of one file. Returns whether it has the columns that the mapping names; else that is told.
+/// Cuts the rows of one file. Returns whether it has the columns that the mapping names; else that is reported.
 fn cut_file<'a, T>(
     rt: &T,
     screen: Screen,
@@ -227,7 +227,7 @@ where
     flush(&mut text)
 }
 
-/// Tells how many shards there are, and how many opening changes they have in addition to those of the rows.
+/// Reports how many shards there are, and how many opening changes they have in addition to those of the rows.
 fn tell_shards<W: Write>(shards: u64, openings: u64, answers: &mut W) -> Result<(), Fault> {
     write_line(
         answers,

@@ -67,7 +67,7 @@ struct Job<'a, F> {
     tally: Tally,
 }
 
-/// Makes changes of the files, and tells the counts.
+/// Makes changes of the files, and reports the counts.
 fn import_files<T, W: Write>(
     rt: &T,
     screen: Screen,
@@ -98,7 +98,7 @@ where
     finish(rt, setup, request, half, &mut job, answers)
 }
 
-/// Makes changes of one file. Returns whether it has the columns that the mapping names; else that is told.
+/// Makes changes of one file. Returns whether it has the columns that the mapping names; else that is reported.
 fn import_file<'a, T>(
     rt: &T,
     screen: Screen,
@@ -169,7 +169,7 @@ where
     tell_counts(half, &job.tally, &job.notes, answers)
 }
 
-/// Tells the counts, and what the import is doubted for.
+/// Reports the counts, and what the import is doubted for.
 pub(crate) fn tell_counts<W: Write>(
     half: Half,
     tally: &Tally,
@@ -216,7 +216,7 @@ pub(crate) fn show_told<T: Eprint>(rt: &T, told: &mut Told<'_, Vec<u8>>) {
     told.errors.clear();
 }
 
-/// Tells on standard error why a mapping is refused: its table, its key and what is expected there.
+/// Reports on standard error why a mapping is refused: its table, its key and what is expected there.
 pub(crate) fn tell_map_fault<'x, T>(
     rt: &T,
     file: &'x str,

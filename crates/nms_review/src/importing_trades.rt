@@ -75,7 +75,7 @@ struct TradeJob<'a, F> {
     tally: TradeTally,
 }
 
-/// Makes executions of the files, and tells the counts.
+/// Makes executions of the files, and reports the counts.
 fn import_trade_files<T, W: Write>(
     rt: &T,
     screen: Screen,
@@ -102,7 +102,7 @@ where
     finish(&mut job, answers)
 }
 
-/// Makes executions of one file. Returns whether it has the columns that the mapping names; else that is told.
+/// Makes executions of one file. Returns whether it has the columns that the mapping names; else that is reported.
 fn import_trade_file<'a, T>(
     rt: &T,
     screen: Screen,

@@ -34,7 +34,7 @@ use std::time::Clock;
 use std::{env, io};
 use telling::tell_fault;
 
-/// Told where a word is not UTF-8, and where memory ran out for the words.
+/// Printed if a word is not UTF-8, or if memory ran out for the words.
 const NO_TEXT: &str = "nms_review: usage: a word of the call is not UTF-8\n";
 
 const NO_MEMORY: &str = "nms_review: G2: memory ran out for the words\n";
@@ -89,7 +89,7 @@ where
     }
 }
 
-/// Serves a request, and writes out all that it answered, also where it could not be served to its end.
+/// Serves a request, and writes out all that it answered, also if it could not be served to its end.
 fn serve_whole<T>(rt: &T, screen: Screen, request: &Request) -> Result<Ending, Fault>
 where
     T: AllocGlobal + Clock + Eprint + Files + Print,
@@ -127,13 +127,13 @@ fn tell_refusal<E: Write>(errors: &mut E, text: &str) -> u8 {
     2
 }
 
-/// Tells a text on standard error, and gives the status. What standard error does not take changes no status.
+/// Prints a text on standard error, and gives the status. What standard error does not take changes no status.
 fn tell_early<E: Write>(errors: &mut E, text: &str, status: u8) -> u8 {
     let _ = errors.write_all(text.as_bytes());
     status
 }
 
-/// Words as they are lent; `None` where there is no memory.
+/// Words as they are lent; `None` if there is no memory.
 fn words_of<'a>(alloc: Global, own: &'a [String]) -> Option<Vec<&'a str>> {
     let mut words = Vec::new(alloc);
     for word in own {
@@ -142,7 +142,7 @@ fn words_of<'a>(alloc: Global, own: &'a [String]) -> Option<Vec<&'a str>> {
     Some(words)
 }
 
-/// The words behind the program's name, or why there are none.
+/// The words after the program's name, or why there are none.
 fn own_words<T: AllocGlobal + Env>(rt: &T) -> Result<Vec<String>, ErrorKind> {
     let all = env::args(rt).map_err(|error| error.kind())?;
     let mut words = Vec::new(rt.alloc());

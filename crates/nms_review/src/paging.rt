@@ -80,7 +80,7 @@ pub(crate) fn page_fault(fault: PageFault, executions: About, other: About) -> F
     }
 }
 
-/// How a request ends that has read changes and executions: if the reading of one failed, the system's reason is told.
+/// How a request ends that has read changes and executions: if the reading of one failed, the system's reason is reported.
 pub(crate) fn both_ended<T: Clock + Eprint, R>(
     changes: &mut Source<'_, T, R>,
     executions: &mut Source<'_, T, R>,

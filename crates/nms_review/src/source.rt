@@ -36,7 +36,7 @@ impl<'a, T: Clock + Eprint, R: Read + OpenFile> Source<'a, T, R> {
 }
 
 impl<T: Clock + Eprint, R> Source<'_, T, R> {
-    /// Why the file could not be read to its end, where that is so.
+    /// Why the file could not be read to its end, if that is so.
     pub(crate) fn failed(&self) -> Option<io::Error> {
         self.failed
     }
@@ -49,7 +49,7 @@ impl<T: Clock + Eprint, R> Source<'_, T, R> {
         }
     }
 
-    /// Counts what was read, and shows how far it is where it is time for that.
+    /// Counts what was read, and shows how far it is when it is time for that.
     fn show(&mut self, bytes: &[u8]) {
         let Some(progress) = &mut self.progress else {
             return;

@@ -1,10 +1,10 @@
-//! What is told of a request that was not served.
+//! What is reported of a request that was not served.
 use crate::fault::{About, Fault};
 use nms_review_words::{Request, Sub};
 use nms_show::{Form, Item, ShowFault, write_line};
 use std::io::{ErrorKind, Write};
 
-/// What each code says, of those that end a request. Where a record stands, `explain` tells.
+/// What each code says, of those that end a request. `explain` reports where a record stands.
 static SENTENCES: [(&'static str, &'static str); 37] = [
     ("E1", "it could not be read"),
     ("E2", "the output could not be written"),
@@ -78,10 +78,10 @@ static SENTENCES: [(&'static str, &'static str); 37] = [
     ),
 ];
 
-/// What of the records and of memory is told in other words.
+/// What is said in other words of records and of memory.
 const REFUSED: &str = "a record was refused";
 
-/// Tells a fault of a request, and gives the exit status.
+/// Reports a fault of a request, and gives the exit status.
 pub(crate) fn tell_fault<E: Write>(fault: &Fault, request: &Request, errors: &mut E) -> u8 {
     if write_fault(fault, request, errors).is_ok() {
         let _ = write_tip(fault, request, errors);
@@ -154,7 +154,7 @@ fn kind_of(fault: &Fault, request: &Request) -> Option<&'static str> {
     }
 }
 
-/// The word that a fault is about; nothing where it is about none.
+/// The word that a fault is about; nothing if it is about none.
 fn word_of(about: About, request: &Request) -> &str {
     let word = match about {
         About::Nothing => None,

@@ -7,7 +7,7 @@ use clap::error::ErrorKind;
 use clap::{ArgMatches, Error};
 use std::alloc::{AllocError, Global};
 
-/// What stands behind the parser's text where an option stands before its subcommand.
+/// What follows the parser's text if an option stands before its subcommand.
 const OPTION_TIP: &str = "
 tip: give options behind the subcommand: nms_review stream CHANGES --setup FILE
 ";
@@ -23,7 +23,7 @@ pub fn read_words<'a>(alloc: Global, words: &'a [&'a str]) -> Result<Request, Wo
     }
 }
 
-/// The parser's text, or want of memory.
+/// The parser's text, or that memory ran out.
 fn fault_of(alloc: Global, words: &[&str], error: &Error) -> WordsFault {
     let kind = error.kind();
     if kind == ErrorKind::OutOfMemory {
@@ -118,7 +118,7 @@ fn is_option_form(form: WordForm) -> bool {
     }
 }
 
-/// The text of an option's value, where it has one.
+/// The text of an option's value, if it has one.
 fn value_text(
     alloc: Global,
     matches: &ArgMatches<'_>,

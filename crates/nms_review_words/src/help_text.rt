@@ -1,6 +1,6 @@
-//! What the help says behind the subcommands.
+//! What the help says after the subcommands.
 
-/// The version that `--version` tells.
+/// The version that `--version` reports.
 pub(crate) const VERSION: &str = "0.2.0";
 
 pub(crate) const ABOUT: &str =

@@ -7,12 +7,12 @@ pub enum Sub {
     Explain,
     /// Writes the changes that a script takes, as a file of changes. Its own word is `SCRIPT`.
     Tape,
-    /// Shows any version. Its own words are `VERSION` and `CHANGES`, and `SYM` may stand behind them.
+    /// Shows any version. Its own words are `VERSION` and `CHANGES`, and `SYM` may stand after them.
     At,
     /// Writes the opening changes of a version. Its own words are `VERSION` and `CHANGES`.
     Opening,
     /// Writes a line where a best bid, a best offer or a market changes. Its own word is `CHANGES`, and `SYM` may stand
-    /// behind it.
+    /// after it.
     Stream,
     /// Judges every plan in the output of a script or a live run. Its own words are `CHANGES` and `ANSWERS`.
     Check,
@@ -66,7 +66,7 @@ pub(crate) enum WordForm {
     OfKinds,
     /// The last of its own words, which may be repeated, and which it needs once.
     Several,
-    /// A word that may stand behind those.
+    /// A word that may stand after those.
     Optional,
     /// The last of its own words, which may be repeated, or left out.
     AnyNumber,

@@ -130,7 +130,7 @@ fn streams_of<'a>(
     Ok(streams)
 }
 
-/// The fault of want of memory.
+/// The fault if memory runs out.
 fn no_memory() -> ProgramFault {
     ProgramFault::Serving(ServeFault::NoMemory)
 }

@@ -20,7 +20,7 @@ pub fn read_words<'a>(alloc: Global, words: &'a [&'a str]) -> Result<Request, Wo
     }
 }
 
-/// The parser's text, or want of memory.
+/// The parser's text, or that memory ran out.
 fn fault_of(alloc: Global, error: &Error) -> WordsFault {
     let kind = error.kind();
     if kind == ErrorKind::OutOfMemory {

@@ -10,3 +10,4 @@ mod StandingFacts
 mod TrackFacts
 mod TurnFacts
 mod WholeFacts
+mod LineFacts

@@ -1,14 +1,20 @@
 -- The lines of an execution. This product's own rule.
-use Rattle.std.specs.Prelude.{ℕ, ◌==◌, Bool, true, false, List, [], ◌∷◌, codes, Option, Some, None}
+use Rattle.std.specs.Prelude.{ℕ, ◌==◌, ◌++◌, Bool, true, false, List, [], ◌∷◌, codes, Option, Some, None, if◌then◌else◌, suc}
 use Rattle.std.specs.Fmt.{decimal}
+use Rattle.nms_units.specs.Price.{price_text}
 use Rattle.nms_quote.specs.Members.{has_part}
+use Rattle.nms_quote.specs.Roster.{Listing, part_text}
 use Rattle.nms_quote.specs.declared.side_quote.Side.{Side}
 use Rattle.nms_quote.specs.declared.side_quote.Side.TheVariants.{Bid, Offer}
 use Rattle.nms_board.specs.declared.row.Row.{Row}
 use Rattle.nms_lines.specs.Layout.{Record}
+use Rattle.nms_trades.specs.FinePrice.{fine_text}
+use Rattle.nms_trades.specs.Sums.{difference}
+use Rattle.nms_trades.specs.Counts.{flickers_at}
 use Rattle.nms_trades.specs.Faults.{code_of, column_of}
 use Rattle.nms_trades.specs.declared.execution.Execution.{Execution}
 use Rattle.nms_trades.specs.declared.execution_file.Refusal.{Refusal}
+use Rattle.nms_trades.specs.declared.finding.Finding.{Finding}
 use Rattle.nms_trades.specs.declared.standing.Standing.{Standing}
 use Rattle.nms_trades.specs.declared.standing.Standing.TheVariants as standing
 
@@ -45,3 +51,25 @@ marks_of true true = codes "OWN+FLICKER"
 -- whether self-help takes a row out: the execution names its participant
 abbrev pub is_helped : Execution → Row → Bool
 is_helped execution row = has_part execution.claims.self_help row.part
+
+-- what is quoted in a row
+abbrev pub quotation_fields : Listing → Side → Row → List (List ℕ)
+quotation_fields roster side row =
+    side_word side ∷ part_text roster row.part ∷ price_text row.price ∷ decimal row.size ∷ decimal row.receipt ∷ []
+
+-- a row that was traded through
+abbrev pub row_record : Listing → Execution → Side → Row → Bool → Record
+row_record roster execution side row flickers = codes "ROW" ∷ quotation_fields roster side row
+    ++ fine_text (difference row execution.millionths) ∷ marks_of (is_own execution.part row.part) flickers ∷ []
+
+-- that record, or none if self-help takes the row out
+abbrev pub records_of_row : Listing → Execution → Side → Row → Bool → List Record
+records_of_row roster execution side row flickers =
+    if is_helped execution row then [] else row_record roster execution side row flickers ∷ []
+
+-- the records of rows that stand from a place on among those traded through
+unfoldable pub row_records : Listing → Execution → Finding → (place : ℕ) → List (Side × Row) → List Record
+row_records roster execution finding place [] = []
+row_records roster execution finding place (passed ∷ rest) =
+    records_of_row roster execution passed.0 passed.1 (flickers_at finding place)
+    ++ row_records roster execution finding (suc place) rest

@@ -28,7 +28,7 @@ use std::alloc::{AllocError, Global};
 
 /// Judges an execution on its version, and on those of its window.
 ///
-/// The board is moved forward to that version; where it is past it, a new one is made.
+/// The board is moved forward to that version; if it is past it, a new one is made.
 pub(crate) fn judge(
     alloc: Global,
     roster: &Roster,
@@ -86,7 +86,7 @@ fn move_to(
     }
 }
 
-/// Makes a new board where one is past a version.
+/// Makes a new board if one is past a version.
 fn reopen(
     alloc: Global,
     roster: &Roster,
@@ -112,7 +112,7 @@ fn reopen(
     }
 }
 
-/// Judges a price in 1/1,000,000 dollar on what is seen. It takes memory only where a quotation is traded through.
+/// Judges a price in 1/1,000,000 dollar on what is seen. It takes memory only if a quotation is traded through.
 fn find_on(alloc: Global, view: &View, millionths: u64) -> Result<Finding, AllocError>
     requires { millionths ≤ 9999999999999 }
     ensures found { IfOk result (IsFoundOn view.now millionths) }

@@ -1,7 +1,7 @@
 //! The lines of one execution as CSV: `specs/Lines`.
-ghost use Rattle.std.specs.Prelude.{◌≡◌, ◌++◌, ◌∷◌, [], OnOk};
-ghost use Rattle.nms_lines.specs.Text.{text_of};
-ghost use Rattle.nms_trades.specs.Lines.{clean_record, is_own, marks_of, refusal_record, side_word, standing_word};
+ghost use Rattle.std.specs.Prelude.{◌≡◌, ◌++◌, ◌∷◌, [], OnOk, codes};
+ghost use Rattle.nms_lines.specs.Text.{later_fields, text_of};
+ghost use Rattle.nms_trades.specs.Lines.{clean_record, is_own, marks_of, quotation_fields, records_of_row, refusal_record, row_record, row_records, side_word, standing_word};
 
 use crate::cause::Cause;
 use crate::execution::Execution;
@@ -93,21 +93,39 @@ fn append_rows(
     roster: &Roster,
     execution: &Execution,
     finding: &Finding,
-) -> Result<(), AllocError> {
+) -> Result<(), AllocError>
+    ensures { OnOk result (out.new.items ≡ out.old.items
+        ++ text_of (row_records roster.now execution.now finding.now 0 finding.now.passed.items)) }
+{
     for place in 0..finding.passed.len() {
         let (side, row) = &finding.passed[place];
-        if !is_helped(execution, row) {
-            append_row(
-                out,
-                roster,
-                execution,
-                *side,
-                row,
-                finding.is_flickering(place),
-            )?;
-        }
+        append_left(
+            out,
+            roster,
+            execution,
+            *side,
+            row,
+            finding.is_flickering(place),
+        )?;
     }
     Ok(())
+}
+
+/// Appends a row that was traded through, if self-help does not take it out.
+fn append_left(
+    out: &mut Vec<u8>,
+    roster: &Roster,
+    execution: &Execution,
+    side: Side,
+    row: &Row,
+    flickers: bool,
+) -> Result<(), AllocError>
+    ensures { OnOk result (out.new.items ≡ out.old.items ++ text_of (records_of_row roster.now execution.now side row.now flickers)) }
+{
+    if is_helped(execution, row) {
+        return Ok(());
+    }
+    append_row(out, roster, execution, side, row, flickers)
 }
 
 /// Appends a row that was traded through.
@@ -118,16 +136,30 @@ fn append_row(
     side: Side,
     row: &Row,
     flickers: bool,
-) -> Result<(), AllocError> {
+) -> Result<(), AllocError>
+    ensures { OnOk result (out.new.items ≡ out.old.items ++ text_of (row_record roster.now execution.now side row.now flickers ∷ [])) }
+{
+    append_quotation(out, roster, side, row)?;
+    push_millionths(out, difference(row, execution.millionths))?;
+    push_text(out, marks_of(is_own(&execution.part, row.part), flickers))?;
+    end_record(out)
+}
+
+/// Appends the first fields of a row: what is quoted there.
+fn append_quotation(
+    out: &mut Vec<u8>,
+    roster: &Roster,
+    side: Side,
+    row: &Row,
+) -> Result<(), AllocError>
+    ensures { OnOk result (out.new.items ≡ out.old.items ++ (codes "ROW" ++ later_fields (quotation_fields roster.now side row.now))) }
+{
     out.extend_from_slice(b"ROW")?;
     push_text(out, word_of_side(side))?;
     push_text(out, name_of_part(roster, row.part))?;
     push_price(out, row.price)?;
     push_number(out, u64::from(row.size))?;
-    push_number(out, row.receipt)?;
-    push_millionths(out, difference(row, execution.millionths))?;
-    push_text(out, marks_of(is_own(&execution.part, row.part), flickers))?;
-    end_record(out)
+    push_number(out, row.receipt)
 }
 
 /// The word for a side.
