@@ -344,11 +344,30 @@ def flagged(program, path):
         must((b"in the answers alone" in page) == bool(more) and more in page, "what is left out is not said")
 
 
+def told_apart(program, path):
+    """A page says of an execution that it traded through on some versions of its window, and of a row that it flickered."""
+    room = os.path.dirname(path)
+    files = {
+        "given.changes": b"Q,P,ABC,A,9.98,500,10.02,200\nQ,N,ABC,A,9.97,300,10.02,400\nQ,P,ABC,A,9.98,500,10.00,200\n",
+        "given.times": b"093000000000000\n093000400000000\n093000500000000\n",
+        "given.executions": b"D,some,ABC,10.01,100,B,@0930004995,,\nD,all,ABC,10.01,100,B,@0930006,,\n",
+    }
+    for name, text in files.items():
+        with open(os.path.join(room, name), "wb") as file:
+            file.write(text)
+    words = ["trades", "given.changes", "given.executions", "--times", "given.times", "--window", "1000000", "--html", "page.html"]
+    ran = called(program, words, capture_output=True, cwd=room)
+    sections = dict(re.findall(rb"<h3>\n(\w+)\n</h3>([\s\S]*?)</section>", read(room, "page.html")))
+    must((ran.returncode, sorted(sections)) == (0, [b"all", b"some"]), f"{ran.returncode}, {sorted(sections)}, {ran.stderr!r}")
+    must(b" PERHAPS: " in sections[b"some"] and b"PERHAPS" not in sections[b"all"], "PERHAPS is not told apart")
+    must(b"FLICKER\n</td>" in sections[b"all"] and b"FLICKER\n</td>" not in sections[b"some"], "FLICKER is not told apart")
+
+
 TRIALS = [
     ("closed", refused), ("reader_gone", refused), ("long", long_records), ("far_name", long_names), ("far_fields", long_fields),
     ("mark", marked), ("mark_in_parts", nothing), ("harmless", each_byte), ("small_memory", large), ("no_memory", larger),
     ("one_found", among), ("one_too_many", too_many), ("name_found", many_symbols), ("pieces", each_other), ("columns", narrow),
-    ("flagged", no_change),
+    ("flagged", no_change), ("told_apart", nothing),
 ]
 
 

@@ -40,6 +40,10 @@ const ABOUT: &str =
     "<p>Each execution was judged on the version of the changes that its record names, or that was in force at its time (17 CFR 242.611(a)). \
 A protected bid above its price, or a protected offer below it, is traded through. An exception that is claimed is not checked.</p>";
 
+/// What is said of an execution that traded through on some versions of its window.
+const PERHAPS: &str =
+    " PERHAPS: within the window of its time it traded through on some versions, and on others it did not.";
+
 /// What the pictures are.
 const PICTURES: &str =
     "<p>Each picture has a few changes of the symbol before the execution and after it, by version: the best bid as a \
@@ -111,7 +115,10 @@ fn write_whole<P: Write>(
     mark(page, ABOUT)?;
     mark(page, "<h2>Counts and sums</h2>\n<pre>")?;
     write_counts(alloc, roster, judged, page)?;
-    mark(page, "</pre>\n<h2>Those that traded through</h2>")?;
+    mark(
+        page,
+        "</pre>\n<h2>Those that traded through, or perhaps did</h2>",
+    )?;
     let Ok(flagged) = flagged_of(alloc, judged) else {
         return Err(PageFault::Drawing(DrawingFault::NoMemory));
     };
@@ -173,7 +180,7 @@ struct Flagged {
     more: u64,
 }
 
-/// The executions that a page shows: the first that traded through.
+/// The executions that a page shows: the first that traded through, or perhaps did.
 fn flagged_of(alloc: Global, judged: &Judged) -> Result<Flagged, AllocError> {
     let mut flagged = Flagged {
         places: Vec::new(alloc),
@@ -258,6 +265,9 @@ fn write_one<P: Write>(
     say(page, &[Item::Bytes(execution.name.as_slice())])?;
     mark(page, "</h3>\n<p>")?;
     write_deal(roster, execution, page)?;
+    if finding.standing == Standing::Perhaps {
+        say(page, &[Item::Text(PERHAPS)])?;
+    }
     say(
         page,
         &[
@@ -273,8 +283,10 @@ fn write_one<P: Write>(
     mark(page, "</p>")?;
     write_causes(execution, finding, &sums, page)?;
     mark(page, ROWS)?;
-    for (side, row) in &finding.passed {
-        write_row(roster, execution, *side, row, page)?;
+    for place in 0..finding.passed.len() {
+        let (side, row) = &finding.passed[place];
+        let flickers = finding.is_flickering(place);
+        write_row(roster, execution, *side, row, flickers, page)?;
     }
     mark(page, "</tbody>\n</table>")?;
     write_scene(roster, scene, &finding.passed, page)?;
@@ -358,18 +370,20 @@ fn write_row<P: Write>(
     execution: &Execution,
     side: Side,
     row: &Row,
+    flickers: bool,
     page: &mut P,
 ) -> Result<(), ShowFault> {
     let side = match side {
         Side::Bid => "BID",
         Side::Offer => "OFFER",
     };
-    let note = if is_helped(execution, row) {
-        "left out: self-help"
-    } else if execution.part == Some(row.part) {
-        "OWN"
-    } else {
-        ""
+    let own = execution.part == Some(row.part);
+    let note = match (is_helped(execution, row), own, flickers) {
+        (true, _, _) => "left out: self-help",
+        (false, true, true) => "OWN+FLICKER",
+        (false, true, false) => "OWN",
+        (false, false, true) => "FLICKER",
+        (false, false, false) => "",
     };
     mark(page, "<tr><td>")?;
     say(page, &[Item::Text(side)])?;
