@@ -76,7 +76,8 @@ impl Model for Cutting {
 
     ghost view = { λ c. record { changes = c.count; limit = c.limit; symbols = length c.listed.items } };
 
-    ghost invariant = { λ c. (c.count ≤ c.limit) × (length c.listed.items ≤ MOST_SYMBOLS) × (LEAST_LIMIT ≤ c.limit) × (c.limit ≤ MOST_CHANGES) × (c.board.sizes ≡ sizes_of c.own) };
+    ghost invariant = { λ c. (c.count ≤ c.limit) × (length c.listed.items ≤ MOST_SYMBOLS)
+        × (LEAST_LIMIT ≤ c.limit) × (c.limit ≤ MOST_CHANGES) × (c.board.sizes ≡ sizes_of c.own) };
 }
 
 impl Cutting {
