@@ -1,4 +1,7 @@
 //! The option `--shards` of `import`: a market's rows, sorted by symbol, are cut to shards, four files each.
+ghost use Rattle.std.specs.Prelude.{◌≤◌};
+ghost use Rattle.nms_shards.specs.declared.TheConstants.{LEAST_LIMIT};
+
 use crate::answers::Answers;
 use crate::fault::{About, Fault};
 use crate::files::{open_word, word_at};
@@ -52,35 +55,75 @@ where
     T: AllocGlobal + Clock + Eprint + Files,
 {
     if mapping.order != Order::Symbol {
-        let fault = MapFault::BadValue {
-            table: "time",
-            key: String::from_str(rt.alloc(), "order").map_err(|_| no_memory())?,
-            expected: "\"symbol\" with --shards: rows sorted by symbol",
-        };
-        return tell_map_fault(rt, word_at(request, 0), &fault);
+        return refuse_order(rt, request);
     }
     if setup.tape_limit() < LEAST_LIMIT {
         return Err(Fault::usage(About::Setup, "a setup with a tape_limit of 66 or more"));
     }
+    match begin_job(rt, setup, request, mapping) {
+        Ok(mut job) => cut_all(rt, screen, setup, request, mapping, &mut job, answers),
+        Err(fault) => Err(fault),
+    }
+}
+
+/// Reports that the mapping's order is not by symbol.
+fn refuse_order<T: AllocGlobal + Eprint>(rt: &T, request: &Request) -> Result<Ending, Fault> {
+    let key = String::from_str(rt.alloc(), "order").map_err(|_| no_memory())?;
+    let fault = MapFault::BadValue {
+        table: "time",
+        key,
+        expected: "\"symbol\" with --shards: rows sorted by symbol",
+    };
+    tell_map_fault(rt, word_at(request, 0), &fault)
+}
+
+/// Begins the first shard.
+fn begin_job<'a, T: AllocGlobal + Files>(
+    rt: &T,
+    setup: &Setup,
+    request: &'a Request,
+    mapping: &Mapping,
+) -> Result<CutJob<'a, T::File>, Fault>
+    requires room { LEAST_LIMIT ≤ setup.now.tape_limit }
+{
     let alloc = rt.alloc();
-    let mut job = CutJob {
-        changes: create_in(rt, request, 1, ".changes")?,
-        times: create_in(rt, request, 1, ".times")?,
-        cutting: Cutting::new(alloc, setup).map_err(|fault| fault_in(fault, 0))?,
+    let changes = create_in(rt, request, 1, ".changes")?;
+    let times = create_in(rt, request, 1, ".times")?;
+    let cutting = Cutting::new(alloc, setup).map_err(|fault| fault_in(fault, 0))?;
+    let notes = Notes::of_symbols(alloc, 1, mapping.order).map_err(|_| no_memory())?;
+    Ok(CutJob {
+        changes,
+        times,
+        cutting,
         row: ByteRecord::new(alloc),
         text: Vec::new(alloc),
-        notes: Notes::of_symbols(alloc, 1, mapping.order).map_err(|_| no_memory())?,
+        notes,
         told: Told::new(Vec::new(alloc)),
         tally: Tally::none(),
         shards: 1,
         openings: 0,
-    };
+    })
+}
+
+/// Cuts the rows of all files, and reports the counts.
+fn cut_all<'a, T, W: Write>(
+    rt: &T,
+    screen: Screen,
+    setup: &Setup,
+    request: &'a Request,
+    mapping: &Mapping,
+    job: &mut CutJob<'a, T::File>,
+    answers: &mut W,
+) -> Result<Ending, Fault>
+where
+    T: AllocGlobal + Clock + Eprint + Files,
+{
     for place in FILES..request.words.len() {
-        if !cut_file(rt, screen, setup, request, mapping, place, &mut job)? {
+        if !cut_file(rt, screen, setup, request, mapping, place, job)? {
             return Ok(Ending::SetupRefused);
         }
     }
-    finish_shard(rt, setup, request, &mut job)?;
+    finish_shard(rt, setup, request, job)?;
     tell_shards(job.shards, job.openings, answers)?;
     tell_counts(mapping.meanings.half, &job.tally, &job.notes, answers)
 }
