@@ -10,7 +10,8 @@ page a line of four spaces and `./nms_review WORDS` is a call, or one of `./nms_
 after it is what it writes, with the words `status N` in the text between them where N is not 0. Beside these the program
 meets a closed output, one whose reader has gone, records of a million bytes, records whose fields and lists are longer than
 any that is right, byte order marks before quotes, each byte of a file once, a setup of many symbols, streams of several
-pieces, a day with more versions than a picture has columns, a page of as many executions as it shows and of one more, the
+pieces, a day with more versions than a picture has columns, a page of as many executions as it shows and of one more, a symbol
+that is cut to four shards, a script of one record too many, the
 imports of examples/import/, and the random files that the judges JUDGES compare with a plain slow program.
 """
 import gzip
@@ -363,11 +364,57 @@ def told_apart(program, path):
     must(b"FLICKER\n</td>" in sections[b"all"] and b"FLICKER\n</td>" not in sections[b"some"], "FLICKER is not told apart")
 
 
+MAP = b"""[column]
+time = 1
+participant = 2
+symbol = 3
+bid = 4
+bid_size = 5
+offer = 6
+offer_size = 7
+[size]
+unit = "shares"
+[time]
+order = "symbol"
+"""
+SETUP = b"""tape_limit = 66
+queue = 2
+desks = 1
+[[participant]]
+name = "N"
+feed = "A"
+fee = 0
+rate = 0
+[[participant]]
+name = "P"
+feed = "A"
+fee = 0
+rate = 0
+[[symbol]]
+name = "ABC"
+lot = 100
+"""
+
+
+def cut_often(program, path):
+    """A symbol of 200 rows on tapes of 66 changes is cut three times: what each further shard begins with is counted."""
+    room = os.path.dirname(path)
+    rows = b"".join(b"0930%02d,%s,ABC,9.%d,300,10.%d,200\n" % (it // 4, (b"N", b"P")[it % 2], 80 + it % 10, 10 + it % 7) for it in range(200))
+    for name, text in (("given.toml", MAP), ("setup.toml", SETUP), ("given.csv", rows)):
+        with open(os.path.join(room, name), "wb") as file:
+            file.write(text)
+    words = ["import", "given.toml", "given.csv", "--out", "out", "--setup", "setup.toml", "--shards"]
+    ran = called(program, words, capture_output=True, cwd=room)
+    lines = [read(room, f"out.{it}.changes").count(b"\n") for it in range(1, 5)]
+    said = b"4 shards, %d opening changes\n200 rows = 200 changes + 0 refused + 0 skipped\n" % (sum(lines) - 200)
+    must((ran.returncode, ran.stdout, lines[:3], sum(lines)) == (0, said, [66] * 3, 206), f"{ran.returncode}, {ran.stdout!r}, {lines}, {ran.stderr!r}")
+
+
 TRIALS = [
     ("closed", refused), ("reader_gone", refused), ("long", long_records), ("far_name", long_names), ("far_fields", long_fields),
     ("mark", marked), ("mark_in_parts", nothing), ("harmless", each_byte), ("small_memory", large), ("no_memory", larger),
     ("one_found", among), ("one_too_many", too_many), ("name_found", many_symbols), ("pieces", each_other), ("columns", narrow),
-    ("flagged", no_change), ("told_apart", nothing),
+    ("flagged", no_change), ("told_apart", nothing), ("cut_often", nothing),
 ]
 
 
