@@ -11,8 +11,8 @@ after it is what it writes, with the words `status N` in the text between them w
 meets a closed output, one whose reader has gone, records of a million bytes, records whose fields and lists are longer than
 any that is right, byte order marks before quotes, each byte of a file once, a setup of many symbols, streams of several
 pieces, a day with more versions than a picture has columns, a page of as many executions as it shows and of one more, a symbol
-that is cut to four shards, a script of one record too many, the
-imports of examples/import/, and the random files that the judges JUDGES compare with a plain slow program.
+that is cut to four shards, a script of one record too many, the imports of examples/import/, and the random files that the judges
+JUDGES compare with a plain slow program.
 """
 import gzip
 import os
