@@ -1,9 +1,10 @@
 //! The lines of one execution as CSV: `specs/Lines`.
-ghost use Rattle.std.specs.Prelude.{◌≡◌, ◌++◌, ◌∷◌, [], OnOk, codes};
+ghost use Rattle.std.specs.Prelude.{◌≡◌, ◌++◌, ◌∷◌, [], IfOk, OnOk, codes, true, if◌then◌else◌};
 ghost use Rattle.nms_lines.specs.Text.{later_fields, text_of};
-ghost use Rattle.nms_trades.specs.Lines.{clean_record, is_own, marks_of, quotation_fields, records_of_row, refusal_record, row_record, row_records, side_word, standing_word};
+ghost use Rattle.nms_trades.specs.Sums.{all_flicker};
+ghost use Rattle.nms_trades.specs.Lines.{causes_text, clean_record, is_own, marks_of, next_word, quotation_fields, records_of_row, refusal_record, row_record, row_records, side_word, standing_word};
 
-use crate::cause::Cause;
+use crate::cause::{CAUSES, Cause};
 use crate::execution::Execution;
 use crate::execution_file::Refusal;
 use crate::finding::Finding;
@@ -64,27 +65,41 @@ pub(crate) fn append_causes(
     execution: &Execution,
     crossed: bool,
     sums: &Sums,
-) -> Result<(), AllocError> {
-    let mut first = true;
-    for cause in Cause::ALL {
-        if !cause.applies(
-            &execution.claims,
-            crossed,
-            sums.helped,
-            sums.is_flickering(),
-        ) {
-            continue;
-        }
-        if !first {
-            out.push(b'+')?;
-        }
-        out.extend_from_slice(cause.word().as_bytes())?;
-        first = false;
+) -> Result<(), AllocError>
+    ensures { OnOk result (out.new.items ≡ out.old.items
+        ++ causes_text execution.now.claims crossed sums.now.helped (all_flicker sums.now)) }
+{
+    let flickering = sums.is_flickering();
+    let mut some = false;
+    for place in 0..CAUSES {
+        let cause = Cause::ALL[place];
+        let applies = cause.applies(&execution.claims, crossed, sums.helped, flickering);
+        some = append_cause(out, some, cause, applies)?;
     }
-    if first {
+    if !some {
         out.extend_from_slice(b"NONE")?;
     }
     Ok(())
+}
+
+/// Appends a cause if it applies, after a plus if one stands before it. Returns whether one stands there now.
+fn append_cause(
+    out: &mut Vec<u8>,
+    some: bool,
+    cause: Cause,
+    applies: bool,
+) -> Result<bool, AllocError>
+    ensures text { OnOk result (out.new.items ≡ out.old.items ++ next_word some applies cause) }
+    ensures some { IfOk result (λ it. it ≡ (if applies then true else some)) }
+{
+    if !applies {
+        return Ok(some);
+    }
+    if some {
+        out.push(b'+')?;
+    }
+    out.extend_from_slice(cause.word().as_bytes())?;
+    Ok(true)
 }
 
 /// Appends the rows that self-help does not take out.
