@@ -1,8 +1,8 @@
 //! The lines of one execution as CSV: `specs/Lines`.
-ghost use Rattle.std.specs.Prelude.{◌≡◌, ◌++◌, ◌∷◌, [], IfOk, OnOk, codes, true, if◌then◌else◌};
+ghost use Rattle.std.specs.Prelude.{◌≡◌, ◌++◌, ◌∷◌, ◌<◌, [], IfOk, OnOk, codes, get_or, true, if◌then◌else◌};
 ghost use Rattle.nms_lines.specs.Text.{later_fields, text_of};
 ghost use Rattle.nms_trades.specs.Sums.{all_flicker};
-ghost use Rattle.nms_trades.specs.Lines.{causes_text, clean_record, is_own, marks_of, next_word, quotation_fields, records_of_row, refusal_record, row_record, row_records, side_word, standing_word};
+ghost use Rattle.nms_trades.specs.Lines.{all_causes, causes_text, clean_record, is_own, marks_of, next_word, quotation_fields, records_of_row, refusal_record, row_record, row_records, side_word, standing_word};
 
 use crate::cause::{CAUSES, Cause};
 use crate::execution::Execution;
@@ -72,7 +72,7 @@ pub(crate) fn append_causes(
     let flickering = sums.is_flickering();
     let mut some = false;
     for place in 0..CAUSES {
-        let cause = Cause::ALL[place];
+        let cause = cause_at(place);
         let applies = cause.applies(&execution.claims, crossed, sums.helped, flickering);
         some = append_cause(out, some, cause, applies)?;
     }
@@ -80,6 +80,14 @@ pub(crate) fn append_causes(
         out.extend_from_slice(b"NONE")?;
     }
     Ok(())
+}
+
+/// The cause at a place.
+fn cause_at(place: usize) -> Cause
+    requires { place < 13 }
+    ensures { result ≡ get_or all_causes place result }
+{
+    Cause::ALL[place]
 }
 
 /// Appends a cause if it applies, after a plus if one stands before it. Returns whether one stands there now.
