@@ -9,7 +9,7 @@ use Rattle.nms_quote.specs.declared.side_quote.Side.TheVariants.{Bid, Offer}
 use Rattle.nms_board.specs.declared.row.Row.{Row}
 use Rattle.nms_lines.specs.Layout.{Record}
 use Rattle.nms_trades.specs.FinePrice.{fine_text}
-use Rattle.nms_trades.specs.Sums.{difference}
+use Rattle.nms_trades.specs.Sums.{all_flicker, difference}
 use Rattle.nms_trades.specs.Causes.{applies, word_of}
 use Rattle.nms_trades.specs.Counts.{flickers_at}
 use Rattle.nms_trades.specs.Faults.{code_of, column_of}
@@ -19,6 +19,7 @@ use Rattle.nms_trades.specs.declared.claims.Claims.{Claims}
 use Rattle.nms_trades.specs.declared.execution.Execution.{Execution}
 use Rattle.nms_trades.specs.declared.execution_file.Refusal.{Refusal}
 use Rattle.nms_trades.specs.declared.finding.Finding.{Finding}
+use Rattle.nms_trades.specs.declared.money_through.Sums.{Sums}
 use Rattle.nms_trades.specs.declared.standing.Standing.{Standing}
 use Rattle.nms_trades.specs.declared.standing.Standing.TheVariants as standing
 
@@ -102,3 +103,15 @@ causes_text claims crossed helped flickering = joined_or_none (plus_words claims
 -- what a cause adds to those before it, of which there are some or none
 abbrev pub next_word : (some applies : Bool) → Cause → List ℕ
 next_word some applies cause = if applies then (if some then 43 ∷ word_of cause else word_of cause) else []
+
+-- that it traded through, or on some versions of its window: how many rows are left, the greatest difference, the shares, and the
+-- causes
+abbrev pub through_record : Execution → Finding → Sums → Record
+through_record execution finding sums = standing_word finding.standing ∷ execution.name.items ∷ decimal execution.version
+    ∷ decimal sums.count ∷ fine_text sums.worst ∷ decimal sums.shares
+    ∷ causes_text execution.claims finding.crossed sums.helped (all_flicker sums) ∷ []
+
+-- that record, and those of its rows
+abbrev pub through_records : Listing → Execution → Finding → Sums → List Record
+through_records roster execution finding sums =
+    through_record execution finding sums ∷ row_records roster execution finding 0 finding.passed.items

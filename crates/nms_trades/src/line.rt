@@ -1,8 +1,9 @@
 //! The lines of one execution as CSV: `specs/Lines`.
 ghost use Rattle.std.specs.Prelude.{◌≡◌, ◌++◌, ◌∷◌, ◌<◌, [], IfOk, OnOk, codes, get_or, true, if◌then◌else◌};
+ghost use Rattle.std.specs.Fmt.{decimal};
 ghost use Rattle.nms_lines.specs.Text.{later_fields, text_of};
 ghost use Rattle.nms_trades.specs.Sums.{all_flicker};
-ghost use Rattle.nms_trades.specs.Lines.{all_causes, causes_text, clean_record, is_own, marks_of, next_word, quotation_fields, records_of_row, refusal_record, row_record, row_records, side_word, standing_word};
+ghost use Rattle.nms_trades.specs.Lines.{all_causes, causes_text, clean_record, is_own, marks_of, next_word, quotation_fields, records_of_row, refusal_record, row_record, row_records, side_word, standing_word, through_record, through_records};
 
 use crate::cause::{CAUSES, Cause};
 use crate::execution::Execution;
@@ -45,18 +46,44 @@ pub(crate) fn append_through(
     execution: &Execution,
     finding: &Finding,
     sums: &Sums,
-) -> Result<(), AllocError> {
-    out.extend_from_slice(word_of_standing(finding.standing).as_bytes())?;
-    out.push(b',')?;
-    out.extend_from_slice(execution.name.as_slice())?;
-    push_number(out, execution.version)?;
+) -> Result<(), AllocError>
+    ensures { OnOk result (out.new.items ≡ out.old.items ++ text_of (through_records roster.now execution.now finding.now sums.now)) }
+{
+    append_found(out, execution, finding, sums)?;
+    append_rows(out, roster, execution, finding)
+}
+
+/// Appends that an execution traded through, without the rows.
+fn append_found(
+    out: &mut Vec<u8>,
+    execution: &Execution,
+    finding: &Finding,
+    sums: &Sums,
+) -> Result<(), AllocError>
+    ensures { OnOk result (out.new.items ≡ out.old.items ++ text_of (through_record execution.now finding.now sums.now ∷ [])) }
+{
+    append_head(out, execution, finding.standing)?;
     push_number(out, sums.count)?;
     push_millionths(out, sums.worst)?;
     push_number(out, u64::from(sums.shares))?;
     out.push(b',')?;
     append_causes(out, execution, finding.crossed, sums)?;
-    end_record(out)?;
-    append_rows(out, roster, execution, finding)
+    end_record(out)
+}
+
+/// Appends how an execution stands, its name and its version.
+fn append_head(
+    out: &mut Vec<u8>,
+    execution: &Execution,
+    standing: Standing,
+) -> Result<(), AllocError>
+    ensures { OnOk result (out.new.items ≡ out.old.items
+        ++ (standing_word standing ++ 44 ∷ (execution.now.name.items ++ 44 ∷ decimal execution.now.version))) }
+{
+    out.extend_from_slice(word_of_standing(standing).as_bytes())?;
+    out.push(b',')?;
+    out.extend_from_slice(execution.name.as_slice())?;
+    push_number(out, execution.version)
 }
 
 /// Appends the causes that apply, joined by `+`, or `NONE`.
