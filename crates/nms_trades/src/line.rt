@@ -3,6 +3,7 @@ ghost use Rattle.std.specs.Prelude.{◌≡◌, ◌++◌, ◌∷◌, ◌<◌, [],
 ghost use Rattle.std.specs.Fmt.{decimal};
 ghost use Rattle.nms_lines.specs.Text.{later_fields, text_of};
 ghost use Rattle.nms_trades.specs.Sums.{all_flicker};
+ghost use Rattle.nms_trades.specs.FinePrice.{fine_text};
 ghost use Rattle.nms_trades.specs.Lines.{all_causes, causes_text, clean_record, is_own, marks_of, next_word, quotation_fields, records_of_row, refusal_record, row_record, row_records, side_word, standing_word, through_record, through_records};
 
 use crate::cause::{CAUSES, Cause};
@@ -63,12 +64,20 @@ fn append_found(
     ensures { OnOk result (out.new.items ≡ out.old.items ++ text_of (through_record execution.now finding.now sums.now ∷ [])) }
 {
     append_head(out, execution, finding.standing)?;
-    push_number(out, sums.count)?;
-    push_millionths(out, sums.worst)?;
-    push_number(out, u64::from(sums.shares))?;
+    append_sums(out, sums)?;
     out.push(b',')?;
     append_causes(out, execution, finding.crossed, sums)?;
     end_record(out)
+}
+
+/// Appends how many rows are left, the greatest difference and the shares.
+fn append_sums(out: &mut Vec<u8>, sums: &Sums) -> Result<(), AllocError>
+    ensures { OnOk result (out.new.items ≡ out.old.items
+        ++ (44 ∷ decimal sums.now.count ++ (44 ∷ fine_text sums.now.worst ++ 44 ∷ decimal sums.now.shares))) }
+{
+    push_number(out, sums.count)?;
+    push_millionths(out, sums.worst)?;
+    push_number(out, u64::from(sums.shares))
 }
 
 /// Appends how an execution stands, its name and its version.

@@ -31,15 +31,16 @@ loop-place-preserved c =
     ∙ flat_map-append (plus_word claims crossed helped flickering) before (one ∷ [])
     ∙ ap (λ text. words ++ text) (append-nil (plus_word claims crossed helped flickering one) ∙ same) in
     let out = c.args.out.now.items in
-    let next = next_word c.loop-place.some does one in
-    (c.in_ok-some.ensures.text
-      ∙ ap (λ text. text ++ next) c.loop-place.invariant.0
-      ∙ append_assoc out (drop 1 words) next
-      ∙ ap (λ text. out ++ text) (ap (λ some. drop 1 words ++ next_word some does one) c.loop-place.invariant.1
-      ∙ sym (words-more words does one) ∙ ap (drop 1) (sym split)),
+    let next = next_word c.loop-place.some does one in (
+      c.in_ok-some.ensures.text
+          ∙ ap (λ text. text ++ next) c.loop-place.invariant.0
+          ∙ append_assoc out (drop 1 words) next
+          ∙ ap (λ text. out ++ text) (ap (λ some. drop 1 words ++ next_word some does one) c.loop-place.invariant.1
+          ∙ sym (words-more words does one) ∙ ap (drop 1) (sym split)),
       c.in_ok-some.ensures.some
-      ∙ ap (λ (some : Bool). if does then true else some) c.loop-place.invariant.1
-      ∙ sym (some-more words does one) ∙ ap is_some (sym split))
+          ∙ ap (λ (some : Bool). if does then true else some) c.loop-place.invariant.1
+          ∙ sym (some-more words does one) ∙ ap is_some (sym split),
+    )
 
 pub returns-else-not-some : goal.returns-else-not-some
 returns-else-not-some c =
