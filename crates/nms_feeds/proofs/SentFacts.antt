@@ -13,7 +13,8 @@ use Rattle.nms_lines.specs.declared.line_fault.LineFault.{LineFault}
 use Rattle.nms_feeds.specs.declared.feed_counts.FeedCounts.{FeedCounts}
 use Rattle.nms_feeds.specs.declared.feed_fault.FeedFault.{FeedFault}
 use Rattle.nms_feeds.specs.declared.feed_fault.FeedFault.TheVariants as fault
-use Rattle.nms_feeds.specs.Streams.{IsOwn, IsRefusal, IsRefusedAt, IsSentOf, change_read, change_said, changes_said, feed_reading}
+use Rattle.nms_lines.specs.ChangeReading.{IsOwn, feed_reading}
+use Rattle.nms_feeds.specs.Streams.{IsRefusal, IsRefusedAt, IsSentOf, change_read, change_said, changes_said}
 
 either_more : (said : Option Change) (changes later : List Change) → cons_option said (changes ++ later) ≡ cons_option said changes ++ later
 either_more None changes later = refl

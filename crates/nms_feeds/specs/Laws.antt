@@ -8,7 +8,7 @@ use Rattle.nms_quote.specs.declared.feed.Feed.{Feed}
 use Rattle.nms_lines.specs.Layout.{Record}
 use Rattle.nms_lines.specs.declared.line_fault.LineFault.TheVariants as fault
 use Rattle.nms_whole.specs.Lines.{has_byte, is_fit, passed, refused_line, whole_lines}
-use Rattle.nms_feeds.specs.Streams.{feed_reading}
+use Rattle.nms_lines.specs.ChangeReading.{feed_reading}
 
 -- no line feed stands in a line
 abbrev pub IsLine : List ℕ → Type 0

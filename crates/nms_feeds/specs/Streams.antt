@@ -1,24 +1,19 @@
 -- The stream of one feed: what its records say, and what was sent of it. This product's own rule.
 use Rattle.std.specs.Prelude.{ℕ, ◌≡◌, ◌+◌, ◌≤◌, ◌++◌, ◌∷◌, Bool, true, List, [], codes, length, Option, Some, None, Result, Ok, Err}
 use Rattle.std.specs.List.{AllByRecursion, filter_map}
-use Rattle.nms_quote.specs.Roster.{Listing, feed_of_change}
+use Rattle.nms_quote.specs.Roster.{Listing}
 use Rattle.nms_quote.specs.declared.change.Change.{Change}
 use Rattle.nms_quote.specs.declared.feed.Feed.{Feed}
+use Rattle.nms_lines.specs.ChangeReading.{IsOwn, feed_reading}
 use Rattle.nms_lines.specs.Layout.{Record}
-use Rattle.nms_lines.specs.Lines.{reading}
 use Rattle.nms_lines.specs.Records.{AreAllRecords, BeginRecords}
 use Rattle.nms_lines.specs.declared.line.Line.{Line}
 use Rattle.nms_lines.specs.declared.line.Line.TheVariants as line
-use Rattle.nms_lines.specs.declared.line.Reading.TheVariants as source
 use Rattle.nms_lines.specs.declared.line_fault.LineFault.{LineFault}
 use Rattle.nms_feed.specs.declared.TheConstants.{MOST_SENT}
 use Rattle.nms_feeds.specs.declared.feed_counts.FeedCounts.{FeedCounts}
 use Rattle.nms_feeds.specs.declared.feed_fault.FeedFault.{FeedFault}
 use Rattle.nms_feeds.specs.declared.feed_fault.FeedFault.TheVariants as fault
-
--- what a record of a feed says
-abbrev pub feed_reading : Listing → Feed → Record → Result Line LineFault
-feed_reading roster feed fields = reading roster (source.FromFeed feed) fields
 
 -- the change that was read, if any was
 abbrev pub change_read : Result Line LineFault → Option Change
@@ -33,10 +28,6 @@ change_said roster feed fields = change_read (feed_reading roster feed fields)
 -- the changes that the records say, in order, the refused ones left out
 abbrev pub changes_said : Listing → Feed → List Record → List Change
 changes_said roster feed records = filter_map (change_said roster feed) records
-
--- a change that belongs to the feed
-abbrev pub IsOwn : Listing → Feed → Change → Type 0
-IsOwn roster feed change = feed_of_change roster change ≡ Some feed
 
 -- nothing was read
 abbrev pub no_counts : FeedCounts

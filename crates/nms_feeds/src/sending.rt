@@ -2,20 +2,18 @@
 ghost use Rattle.std.specs.Prelude.{◌≡◌, ℕ, ◌+◌, ◌<◌, ◌∷◌, List, [], Option, option_map, Ok, Err, IfErr, IfOk, OnErr, OnOk, true};
 ghost use Rattle.csv.specs.Records.{fields_of};
 ghost use Rattle.nms_lines.specs.Records.{ReadsFrom};
-ghost use Rattle.nms_lines.specs.declared.line.Line.TheVariants as line;
 ghost use Rattle.nms_feed.specs.declared.TheConstants.{MOST_SENT};
 ghost use Rattle.nms_whole.specs.Lines.{whole_lines};
-ghost use Rattle.nms_feeds.specs.Streams.{HasBegun, HasRead, IsCounted, IsOwn, IsRefusal, IsRefusedAt, IsSentOf, feed_reading};
+ghost use Rattle.nms_lines.specs.ChangeReading.{feed_reading};
+ghost use Rattle.nms_feeds.specs.Streams.{HasBegun, HasRead, IsCounted, IsRefusal, IsRefusedAt, IsSentOf};
 
 use crate::feed_counts::FeedCounts;
 use crate::feed_fault::FeedFault;
 use crate::feed_watch::FeedWatch;
 use nms_feed::{MOST_SENT, Sender};
 use nms_fees::Setup;
-use nms_lines::{
-    ByteRecord, Line, LineFault, Reader, Reading, RecordFault, open_records, read_line, read_next,
-};
-use nms_quote::{Change, Feed, Roster, SideQuote};
+use nms_lines::{ByteRecord, Reader, RecordFault, open_records, read_feed_change, read_next};
+use nms_quote::SideQuote;
 use nms_units::Lot;
 use nms_whole::WholeLines;
 use std::alloc::Global;
@@ -123,7 +121,7 @@ fn send_record<W: Wait, O: FeedWatch>(
 {
     let feed = sender.feed();
     let number = counts.records + 1;
-    match read_change(row, setup.roster(), feed) {
+    match read_feed_change(row, setup.roster(), feed) {
         Ok(change) => {
             // Moving a change takes a mention of the types in it: the prover has to have seen them.
             let _seen: (Option<SideQuote>, Option<Lot>) = (None, None);
@@ -141,26 +139,5 @@ fn send_record<W: Wait, O: FeedWatch>(
             watch.refused(feed, number, fault);
             Ok(())
         }
-    }
-}
-
-/// What a record of a feed says: a change, if anything.
-fn read_change(row: &ByteRecord, roster: &Roster, feed: Feed) -> Result<Change, LineFault>
-    ensures said { IfOk result (λ change. feed_reading roster.now feed (fields_of row.now) ≡ Ok (line.Change change)) }
-    ensures own { IfOk result (IsOwn roster.now feed) }
-    ensures refused { IfErr result (λ fault. feed_reading roster.now feed (fields_of row.now) ≡ Err fault) }
-{
-    match read_line(row, roster, Reading::FromFeed(feed)) {
-        Ok(Line::Change(change)) => Ok(change),
-        Ok(
-            Line::TakeOne
-            | Line::TakeAll
-            | Line::Publish
-            | Line::Tell { .. }
-            | Line::Best { .. }
-            | Line::Through { .. }
-            | Line::Sweep { .. },
-        ) => unreachable!(),
-        Err(fault) => Err(fault),
     }
 }

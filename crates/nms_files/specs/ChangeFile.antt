@@ -6,33 +6,13 @@ use Rattle.nms_quote.specs.Tape.{Tape}
 use Rattle.nms_quote.specs.declared.change.Change.{Change}
 use Rattle.nms_quote.specs.declared.TheConstants.{MOST_CHANGES}
 use Rattle.nms_fees.specs.Settings.{Settings}
-use Rattle.nms_lines.specs.Faults.{◌>>=◌}
+use Rattle.nms_lines.specs.ChangeReading.{change_reading}
 use Rattle.nms_lines.specs.Layout.{Record}
-use Rattle.nms_lines.specs.Lines.{reading}
 use Rattle.nms_lines.specs.Records.{AreAllRecords}
-use Rattle.nms_lines.specs.declared.line.Line.{Line}
-use Rattle.nms_lines.specs.declared.line.Line.TheVariants as line
-use Rattle.nms_lines.specs.declared.line.Reading.TheVariants as source
 use Rattle.nms_lines.specs.declared.line_fault.LineFault.{LineFault}
-use Rattle.nms_lines.specs.declared.line_fault.LineFault.TheVariants as line_fault
 use Rattle.nms_files.specs.declared.changes_fault.ChangesFault.{ChangesFault}
 use Rattle.nms_files.specs.declared.changes_fault.ChangesFault.TheVariants as fault
 use Rattle.nms_files.specs.LineFile.{AreSaid, IsFirstRefused}
-
--- the change of a line that is one
-abbrev pub change_in : Line → Result Change LineFault
-change_in (line.Change change) = Ok change
-change_in line.TakeOne = Err line_fault.UnknownKind
-change_in line.TakeAll = Err line_fault.UnknownKind
-change_in line.Publish = Err line_fault.UnknownKind
-change_in (line.Tell desk) = Err line_fault.UnknownKind
-change_in (line.Best desk sym) = Err line_fault.UnknownKind
-change_in (line.Through desk sym price) = Err line_fault.UnknownKind
-change_in (line.Sweep desk order) = Err line_fault.UnknownKind
-
--- what a line says
-abbrev pub change_reading : Listing → Record → Result Change LineFault
-change_reading roster fields = reading roster source.Changes fields >>= change_in
 
 -- each line says the change of the tape at its place, and the tape is within its limit
 pub record IsTapeOf (settings : Settings) (records : List Record) (tape : Tape) : Type 0 where

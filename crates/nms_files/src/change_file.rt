@@ -1,15 +1,14 @@
 //! Files of changes: `Q`, `S`, `X` and `R` lines, all of them one tape (specs/ChangeFile).
 ghost use Rattle.std.specs.Prelude.{◌≡◌, ◌≤◌, All, length, true, IfErr, IfOk};
-ghost use Rattle.csv.specs.Records.{fields_of};
 ghost use Rattle.nms_quote.specs.Roster.{holds, sizes_of};
 ghost use Rattle.nms_quote.specs.declared.TheConstants.{MOST_CHANGES};
-ghost use Rattle.nms_files.specs.ChangeFile.{IsFileFault, IsFileTape, change_reading};
+ghost use Rattle.nms_files.specs.ChangeFile.{IsFileFault, IsFileTape};
 
 use crate::changes_fault::ChangesFault;
 use crate::line_file::{FileItem, outcome, read_items};
 use nms_fees::Setup;
-use nms_lines::{ByteRecord, Line, LineFault, Reading, RecordFault, read_line};
-use nms_quote::{Change, Roster, SideQuote};
+use nms_lines::{ByteRecord, RecordFault, read_change};
+use nms_quote::{Change, SideQuote};
 use std::alloc::Global;
 use std::io::Read;
 
@@ -60,25 +59,5 @@ impl FileItem for Change {
             Ok(()) => Ok(()),
             Err(_) => Err(ChangesFault::Record(RecordFault::NoMemory)),
         }
-    }
-}
-
-/// What a line of such a file says.
-fn read_change(row: &ByteRecord, roster: &Roster) -> Result<Change, LineFault>
-    ensures line { result ≡ change_reading roster.now (fields_of row.now) }
-    ensures there { IfOk result (λ change. holds (sizes_of roster.now) change ≡ true) }
-{
-    match read_line(row, roster, Reading::Changes) {
-        Ok(Line::Change(change)) => Ok(change),
-        Ok(
-            Line::TakeOne
-            | Line::TakeAll
-            | Line::Publish
-            | Line::Tell { .. }
-            | Line::Best { .. }
-            | Line::Through { .. }
-            | Line::Sweep { .. },
-        ) => Err(LineFault::UnknownKind),
-        Err(fault) => Err(fault),
     }
 }

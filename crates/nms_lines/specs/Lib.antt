@@ -1,6 +1,7 @@
 pub use Rattle.csv.specs.Records as Rows
 pub use Rattle.nms_quote.specs.Members as Members
 pub use Rattle.nms_quote.specs.Roster as Roster
+pub mod ChangeReading
 pub mod FaultTable
 pub mod Faults
 pub mod FieldFaults

@@ -2,6 +2,7 @@
 #![tactic(auto)]
 
 mod change_line;
+mod change_reading;
 mod desk_line;
 mod field;
 mod field_before;
@@ -25,6 +26,7 @@ mod record_reading;
 mod side;
 mod text_writing;
 
+pub use change_reading::{read_change, read_feed_change};
 pub use csv::{ByteRecord, Reader};
 pub use field::field as field_at;
 pub use field_before::{number_before, price_before, text_before, word_before};

@@ -9,7 +9,8 @@ use Rattle.nms_lines.specs.Layout.{Record}
 use Rattle.nms_lines.specs.Records.{BeginRecords}
 use Rattle.nms_lines.specs.declared.line_fault.LineFault.{LineFault}
 use Rattle.nms_live.specs.Faults.{IfLine, IsNoLine, IsNoLineIfAny, first_fault, rank_of}
-use Rattle.nms_live.specs.Reading.{IsFed, IsFeedFault, IsFirstRefused, IsLiveFault, IsRead, IsRefusal, Says, feed_reading, text_of}
+use Rattle.nms_lines.specs.ChangeReading.{feed_reading}
+use Rattle.nms_live.specs.Reading.{IsFed, IsFeedFault, IsFirstRefused, IsLiveFault, IsRead, IsRefusal, Says, text_of}
 use Rattle.nms_live.specs.declared.live_fault.LiveFault.{LiveFault}
 use Rattle.nms_live.specs.declared.live_fault.LiveFault.TheVariants as fault
 

@@ -8,7 +8,8 @@ use Rattle.nms_lines.specs.Layout.{Record}
 use Rattle.nms_lines.specs.declared.line.Line.{Line}
 use Rattle.nms_lines.specs.declared.line.Line.TheVariants as line
 use Rattle.nms_lines.specs.declared.line_fault.LineFault.{LineFault}
-use Rattle.nms_live.specs.Reading.{Says, feed_reading}
+use Rattle.nms_lines.specs.ChangeReading.{feed_reading}
+use Rattle.nms_live.specs.Reading.{Says}
 
 -- one record more, that says a change
 pub says_more : (roster : Listing) (feed : Feed) (records : List Record) (fields : Record) (changes new : List Change) (change : Change)

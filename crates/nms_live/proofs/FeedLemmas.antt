@@ -11,7 +11,8 @@ use Rattle.nms_quote.specs.declared.feed.Feed.TheVariants as feed
 use Rattle.nms_quote.specs.declared.marked.Marked.{Marked}
 use Rattle.nms_flow.specs.Laws.{IsOnOwnFeed}
 use Rattle.nms_flow.specs.Run.{changes_in}
-use Rattle.nms_live.specs.Reading.{IsOwn, IsTapeOf}
+use Rattle.nms_lines.specs.ChangeReading.{IsOwn}
+use Rattle.nms_live.specs.Reading.{IsTapeOf}
 use Rattle.nms_live.proofs.TapeFacts.{all_own}
 
 -- a change with the mark of the feed that it belongs to

@@ -20,7 +20,8 @@ use Rattle.nms_feed.specs.Lane.{AreSendersOf, Sending, Taking}
 use Rattle.nms_lines.proofs.Offered.{no_records}
 use Rattle.nms_flow.specs.Run.{changes_in}
 use Rattle.nms_live.specs.Crew.{IsFedBy}
-use Rattle.nms_live.specs.Reading.{IsOwn, IsRead, IsTapeOf, text_of}
+use Rattle.nms_lines.specs.ChangeReading.{IsOwn}
+use Rattle.nms_live.specs.Reading.{IsRead, IsTapeOf, text_of}
 use Rattle.nms_live.specs.declared.fed_feed.Fed.{Fed}
 use Rattle.nms_live.proofs.FaultFacts.{fed_whole}
 

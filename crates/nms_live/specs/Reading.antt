@@ -2,33 +2,24 @@
 use Rattle.std.specs.Prelude.{ℕ, ◌≡◌, ◌+◌, ◌++◌, ◌∷◌, List, [], length, map, Option, Some, None, Result, Ok, Err}
 use Rattle.nms_quote.specs.Merge.{changes_of, of_feed, own_of}
 use Rattle.std.specs.List.{AllByRecursion}
-use Rattle.nms_quote.specs.Roster.{Listing, feed_of_change}
+use Rattle.nms_quote.specs.Roster.{Listing}
 use Rattle.nms_quote.specs.Tape.{Tape}
 use Rattle.nms_quote.specs.declared.change.Change.{Change}
 use Rattle.nms_quote.specs.declared.feed.Feed.{Feed}
 use Rattle.nms_quote.specs.declared.marked.Marked.{Marked}
+use Rattle.nms_lines.specs.ChangeReading.{IsOwn, feed_reading}
 use Rattle.nms_lines.specs.Layout.{Record}
-use Rattle.nms_lines.specs.Lines.{reading}
 use Rattle.nms_lines.specs.Records.{AreAllRecords, BeginRecords}
 use Rattle.nms_lines.specs.declared.line.Line.{Line}
 use Rattle.nms_lines.specs.declared.line.Line.TheVariants as line
-use Rattle.nms_lines.specs.declared.line.Reading.TheVariants as source
 use Rattle.nms_lines.specs.declared.line_fault.LineFault.{LineFault}
 use Rattle.nms_live.specs.Faults.{IfLine}
 use Rattle.nms_live.specs.declared.live_fault.LiveFault.{LiveFault}
 use Rattle.nms_flow.specs.Run.{changes_in}
 
--- what a record of a feed says
-abbrev pub feed_reading : Listing → Feed → Record → Result Line LineFault
-feed_reading roster feed fields = reading roster (source.FromFeed feed) fields
-
 -- each record says the change at its place
 abbrev pub Says : Listing → Feed → List Record → List Change → Type 0
 Says roster feed records changes = map (feed_reading roster feed) records ≡ map (λ change. Ok (line.Change change)) changes
-
--- a change that belongs to the feed
-abbrev pub IsOwn : Listing → Feed → Change → Type 0
-IsOwn roster feed change = feed_of_change roster change ≡ Some feed
 
 -- every record of the feed's text says a change of the feed, and these are the changes
 pub record IsRead (roster : Listing) (feed : Feed) (text : List ℕ) (changes : List Change) : Type 0 where

@@ -6,7 +6,8 @@ ghost use Rattle.nms_quote.specs.declared.change.Change.{Change};
 ghost use Rattle.nms_lines.specs.declared.line.Line.TheVariants as line;
 ghost use Rattle.nms_feed.specs.declared.TheConstants.{MOST_SENT};
 ghost use Rattle.nms_live.specs.Crew.{IsFedBy};
-ghost use Rattle.nms_live.specs.Reading.{IsFeedFault, IsOwn, IsRead, IsRefusal, feed_reading};
+ghost use Rattle.nms_lines.specs.ChangeReading.{IsOwn, feed_reading};
+ghost use Rattle.nms_live.specs.Reading.{IsFeedFault, IsRead, IsRefusal};
 
 use crate::ended::Ended;
 use crate::gate::{Gate, GatePoint, passes};
@@ -14,7 +15,7 @@ use crate::given::{Means, text_of};
 use crate::live_fault::LiveFault;
 use nms_feed::{MOST_SENT, Sender};
 use nms_fees::Setup;
-use nms_lines::{ByteRecord, Line, LineFault, Reader, Reading, open_records, read_line, read_next};
+use nms_lines::{ByteRecord, Reader, open_records, read_feed_change, read_next};
 use nms_quote::{Change, Feed, Roster, SideQuote};
 use nms_units::Lot;
 use std::snapshot::Snapshot;
@@ -127,7 +128,7 @@ fn send_record<R: Wait, G: Gate>(
         × IsOwn setup.now.roster feed change × (sender.new.sent ≡ sender.old.sent ++ change ∷ [])) }
     ensures refused { IfErr result (IsRefusal feed (index + 1) (feed_reading setup.now.roster feed (fields_of row.now))) }
 {
-    let change = match read_change(row, setup.roster(), feed) {
+    let change = match read_feed_change(row, setup.roster(), feed) {
         Ok(change) => change,
         Err(fault) => {
             return Err(LiveFault::Line {
@@ -146,25 +147,4 @@ fn send_record<R: Wait, G: Gate>(
     sender.send(means.rt, change);
     means.gate.done(at);
     Ok(())
-}
-
-/// What a record of a feed says: a change, if anything.
-fn read_change(row: &ByteRecord, roster: &Roster, feed: Feed) -> Result<Change, LineFault>
-    ensures said { IfOk result (λ change. feed_reading roster.now feed (fields_of row.now) ≡ Ok (line.Change change)) }
-    ensures own { IfOk result (IsOwn roster.now feed) }
-    ensures refused { IfErr result (λ fault. feed_reading roster.now feed (fields_of row.now) ≡ Err fault) }
-{
-    match read_line(row, roster, Reading::FromFeed(feed)) {
-        Ok(Line::Change(change)) => Ok(change),
-        Ok(
-            Line::TakeOne
-            | Line::TakeAll
-            | Line::Publish
-            | Line::Tell { .. }
-            | Line::Best { .. }
-            | Line::Through { .. }
-            | Line::Sweep { .. },
-        ) => unreachable!(),
-        Err(fault) => Err(fault),
-    }
 }

@@ -2,7 +2,8 @@
 use Rattle.std.proofs.Common.{ap, subst, Bool, Ok, ◌+◌, ◌++◌, ◌∷◌, ◌∙◌, []}
 use Rattle.csv.specs.Records.{fields_of}
 use Rattle.nms_quote.specs.declared.feed.Feed.{Feed}
-use Rattle.nms_feeds.specs.Streams.{IsRefusal, IsSentOf, feed_reading}
+use Rattle.nms_lines.specs.ChangeReading.{feed_reading}
+use Rattle.nms_feeds.specs.Streams.{IsRefusal, IsSentOf}
 use Rattle.nms_feeds.proofs.SentFacts.{refused_at, sent_more}
 use Rattle.nms_feeds.proofs.sending.send_rows.Goals as goal
 

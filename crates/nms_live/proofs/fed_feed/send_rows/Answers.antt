@@ -2,7 +2,7 @@
 -- `says_more`.
 use Rattle.std.proofs.Common.{ap, Ok, Bool, ◌∙◌, ◌+◌, ◌++◌, ◌∷◌, [], Some, length, arith, length-append}
 use Rattle.nms_lines.specs.Rows.{fields_of}
-use Rattle.nms_live.specs.Reading.{IsOwn}
+use Rattle.nms_lines.specs.ChangeReading.{IsOwn}
 use Rattle.nms_live.proofs.NumberFacts.{all_push}
 use Rattle.nms_live.proofs.FaultFacts.{first_refused}
 use Rattle.nms_live.proofs.FeedFacts.{says_more}

@@ -2,7 +2,8 @@
 use Rattle.std.proofs.Common.{ℕ, ◌≡◌, List, [], length, Some}
 use Rattle.nms_lines.specs.Layout.{Record}
 use Rattle.nms_lines.specs.Records.{ReadsFrom}
-use Rattle.nms_live.specs.Reading.{IsOwn, Says}
+use Rattle.nms_lines.specs.ChangeReading.{IsOwn}
+use Rattle.nms_live.specs.Reading.{Says}
 use Rattle.std.specs.List.{AllByRecursion}
 use Rattle.nms_live.proofs.fed_feed.send_rows.Given as goal
 
