@@ -7,12 +7,12 @@ use crate::drawing_fault::DrawingFault;
 use nms_board::{Boards, Row, View};
 use nms_fees::Setup;
 use nms_files::read_changes;
-use nms_lines::{name_of_part, name_of_sym};
-use nms_nbbo::{Clause, Pair, PairPlace, best, market, market_between, next_pair};
+use nms_lines::{name_of_part, name_of_sym, word_of_side};
+use nms_nbbo::{Pair, PairPlace, best, market, market_between, next_pair};
 use nms_quote::{Change, Roster, Side, Sym};
 use nms_show::{Column, Ending, Form, Item, ShowFault, write_object, write_row};
-use nms_stream::{Quoted, quoted_on, word_of_market};
-use nms_text::report;
+use nms_stream::{Quoted, quoted_on};
+use nms_text::{report, word_of_clause, word_of_market, word_of_pair};
 use nms_times::Times;
 use std::alloc::Global;
 use std::io::{Read, Write};
@@ -148,16 +148,12 @@ fn show_one<W: Write>(
     is_best: bool,
     answers: &mut W,
 ) -> Result<(), ShowFault> {
-    let side = match side {
-        Side::Bid => "BID",
-        Side::Offer => "OFFER",
-    };
     write_object(
         alloc,
         answers,
         &[
             ("what", Item::Text("row")),
-            ("side", Item::Text(side)),
+            ("side", Item::Text(word_of_side(side))),
             ("participant", Item::Text(name_of_part(roster, row.part))),
             ("price", Item::of_price(row.price)),
             ("shares", Item::Number(u64::from(row.size))),
@@ -197,18 +193,12 @@ fn show_pair<W: Write>(
     pair: &Pair,
     answers: &mut W,
 ) -> Result<(), ShowFault> {
-    let kind = if pair.crossed { "CROSS" } else { "LOCK" };
-    let clause = match pair.clause {
-        Clause::Protected => "PROTECTED",
-        Clause::Manual => "MANUAL",
-        Clause::Neither => "NEITHER",
-    };
     write_object(
         alloc,
         answers,
         &[
             ("what", Item::Text("pair")),
-            ("kind", Item::Text(kind)),
+            ("kind", Item::Text(word_of_pair(pair.crossed))),
             (
                 "bid_participant",
                 Item::Text(name_of_part(roster, pair.bid.part)),
@@ -221,7 +211,7 @@ fn show_pair<W: Write>(
                 "later_participant",
                 Item::Text(name_of_part(roster, pair.later)),
             ),
-            ("clause", Item::Text(clause)),
+            ("clause", Item::Text(word_of_clause(pair.clause))),
         ],
     )
 }

@@ -1,7 +1,9 @@
 -- A side of a quotation: its price field and its shares field. This product's own rule.
-use Rattle.std.specs.Prelude.{ℕ, ◌==◌, ◌&&◌, ◌||◌, not, Bool, List, length, Option, Some, None, Result, Ok}
+use Rattle.std.specs.Prelude.{ℕ, ◌==◌, ◌&&◌, ◌||◌, not, Bool, List, codes, length, Option, Some, None, Result, Ok}
 use Rattle.nms_units.specs.Price.{price_number}
 use Rattle.nms_quote.specs.Content.{Content}
+use Rattle.nms_quote.specs.declared.side_quote.Side.{Side}
+use Rattle.nms_quote.specs.declared.side_quote.Side.TheVariants.{Bid, Offer}
 use Rattle.nms_lines.specs.Faults.{◌>>=◌, refuse_if}
 use Rattle.nms_lines.specs.Layout.{Record, field}
 use Rattle.nms_lines.specs.Numbers.{above_zero, is_there, is_zero, shares_number}
@@ -57,3 +59,8 @@ sides_in fields = do
   shares ← refuse_if (has_bad_shares fields) fault.BadShares
   whole ← refuse_if (has_half_side fields) fault.HalfSide
   Ok (side_content (field fields 4) (field fields 5), side_content (field fields 6) (field fields 7))
+
+-- the word for a side of the market
+abbrev pub side_word : Side → List ℕ
+side_word Bid = codes "BID"
+side_word Offer = codes "OFFER"

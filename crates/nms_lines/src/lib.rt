@@ -47,5 +47,5 @@ pub use plan_text_fault::PlanTextFault;
 pub use plan_writing::{append_plan, name_of_part, name_of_sym, write_plan};
 pub use record_fault::RecordFault;
 pub use record_reading::{open_records, read_next};
-pub use side::{is_bad_price, is_bad_shares};
+pub use side::{is_bad_price, is_bad_shares, word_of_side};
 pub use text_writing::write_text;

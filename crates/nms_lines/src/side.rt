@@ -4,12 +4,12 @@ ghost use Rattle.nms_units.specs.Price.{price_number, price_reading};
 ghost use Rattle.nms_units.specs.Shares.{shares_reading};
 ghost use Rattle.csv.specs.Records.{fields_of};
 ghost use Rattle.nms_lines.specs.Numbers.{shares_number};
-ghost use Rattle.nms_lines.specs.Sides.{sides_in, is_unfit, is_bad_price, is_bad_shares, is_half, side_content};
+ghost use Rattle.nms_lines.specs.Sides.{sides_in, is_unfit, is_bad_price, is_bad_shares, is_half, side_content, side_word};
 
 use crate::field::field;
 use crate::line_fault::LineFault;
 use csv::ByteRecord;
-use nms_quote::SideQuote;
+use nms_quote::{Side, SideQuote};
 use nms_units::{Price, Shares, UnitFault};
 
 /// The bid and the offer of a record, or the fault of the least number on either. Two quotes have none.
@@ -90,5 +90,15 @@ fn is_unfit(price: Result<Price, UnitFault>, shares: Result<Shares, UnitFault>) 
         (Ok(_), _) => false,
         (Err(UnitFault::ZeroPrice), Ok(shares)) => shares.get() != 0,
         _ => true,
+    }
+}
+
+/// The word for a side of the market: `BID` or `OFFER`.
+pub fn word_of_side(side: Side) -> &'static str
+    ensures { result.now ≡ side_word side }
+{
+    match side {
+        Side::Bid => "BID",
+        Side::Offer => "OFFER",
     }
 }

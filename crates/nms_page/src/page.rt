@@ -9,7 +9,7 @@ use nms_board::Row;
 use nms_drawing::{DrawingFault, Mark, Scene, scenes_of, write_scene};
 use nms_fees::Setup;
 use nms_files::read_changes;
-use nms_lines::{name_of_part, name_of_sym};
+use nms_lines::{name_of_part, name_of_sym, word_of_side};
 use nms_quote::{Change, Roster, Side, Sym};
 use nms_show::{Ending, Form, Item, ShowFault};
 use nms_trades::{
@@ -373,10 +373,7 @@ fn write_row<P: Write>(
     flickers: bool,
     page: &mut P,
 ) -> Result<(), ShowFault> {
-    let side = match side {
-        Side::Bid => "BID",
-        Side::Offer => "OFFER",
-    };
+    let side = word_of_side(side);
     let own = execution.part == Some(row.part);
     let note = match (is_helped(execution, row), own, flickers) {
         (true, _, _) => "left out: self-help",

@@ -9,7 +9,6 @@ mod stream_fault;
 mod streaming;
 
 pub use laws::{a_line_tells_each_market_that_changes, nothing_is_quoted_at_first};
-pub use line::word_of_market;
 pub use quoted::{Quoted, quoted_on};
 pub use stream_fault::StreamFault;
 pub use streaming::{stream, stream_file};

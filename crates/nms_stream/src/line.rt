@@ -2,33 +2,19 @@
 ghost use Rattle.std.specs.Prelude.{◌≡◌, ◌+◌, ◌<◌, ◌≤◌, ◌++◌, ◌∷◌, [], drop, length, IfSome, OnOk};
 ghost use Rattle.std.specs.Fmt.{decimal};
 ghost use Rattle.nms_lines.specs.Text.{later_fields, text_of};
-ghost use Rattle.nms_text.specs.Answers.{market_word};
 ghost use Rattle.nms_stream.specs.Stream.{header, line_record, side_fields};
 
 use crate::quoted::Quoted;
 use itoa::write_digits;
 use nms_board::Row;
 use nms_lines::{number_before, price_before, text_before, word_before};
-use nms_nbbo::{Market, market_between};
+use nms_nbbo::market_between;
 use nms_quote::{Roster, Sym};
+use nms_text::word_of_market;
 use std::alloc::AllocError;
 
 /// Room for a line, which takes at most 105 bytes for its rows and 38 before them.
 const LINE_ROOM: usize = 144;
-
-/// The word for a market, as in the answers of a script.
-pub fn word_of_market(market: Market) -> &'static str
-    ensures word { result.now ≡ market_word market }
-    ensures short { length result.now ≤ 8 }
-{
-    match market {
-        Market::Empty => "EMPTY",
-        Market::OneSided => "ONESIDED",
-        Market::Normal => "NORMAL",
-        Market::Locked => "LOCKED",
-        Market::Crossed => "CROSSED",
-    }
-}
 
 /// Appends the names of the columns.
 pub(crate) fn tell_header(out: &mut Vec<u8>) -> Result<(), AllocError>

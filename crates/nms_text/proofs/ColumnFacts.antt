@@ -16,7 +16,7 @@ use Rattle.nms_units.specs.Price.{price_text, digit_at}
 use Rattle.nms_quote.specs.Roster.{Listing, is_part_name, is_symbol_name, is_name_char, is_symbol_char, part_text, symbol_text}
 use Rattle.nms_quote.specs.declared.side_quote.Side.{Side}
 use Rattle.nms_quote.specs.declared.side_quote.Side.TheVariants.{Bid, Offer}
-use Rattle.nms_text.specs.Answers.{side_word}
+use Rattle.nms_lines.specs.Sides.{side_word}
 use Rattle.nms_text.specs.Report.{at_left, at_right, line_of, pair_word}
 
 -- the precision of a hole that names none: nothing is cut

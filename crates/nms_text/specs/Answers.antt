@@ -5,12 +5,12 @@ use Rattle.std.specs.Fmt.{decimal}
 use Rattle.nms_units.specs.Price.{price_text}
 use Rattle.nms_quote.specs.Roster.{Listing, part_text, symbol_text}
 use Rattle.nms_quote.specs.declared.side_quote.Side.{Side}
-use Rattle.nms_quote.specs.declared.side_quote.Side.TheVariants.{Bid, Offer}
 use Rattle.nms_board.specs.View.{Seen}
 use Rattle.nms_board.specs.declared.row.Row.{Row}
 use Rattle.nms_nbbo.specs.Market.{market_of}
 use Rattle.nms_nbbo.specs.declared.market_kind.Market.{Market}
 use Rattle.nms_nbbo.specs.declared.market_kind.Market.TheVariants as market
+use Rattle.nms_lines.specs.Sides.{side_word}
 use Rattle.nms_lines.specs.Layout.{Record}
 use Rattle.nms_lines.specs.Text.{later_fields}
 
@@ -55,10 +55,6 @@ look_text desk sym version market = join_with_byte 44 (codes "BEST" ∷ decimal 
 -- the fields of both rows behind those, and the end of the record
 abbrev pub rows_text : Listing → Option Row → Option Row → List ℕ
 rows_text roster bid offer = later_fields (best_fields roster bid) ++ later_fields (best_fields roster offer) ++ 10 ∷ []
-
-abbrev pub side_word : Side → List ℕ
-side_word Bid = codes "BID"
-side_word Offer = codes "OFFER"
 
 -- how many quotations a trade at a price trades through, of what a desk saw
 abbrev pub through_head : Listing → ℕ → Seen → ℕ → ℕ → Record

@@ -8,6 +8,7 @@ use Rattle.nms_units.specs.Price.{price_text}
 use Rattle.nms_quote.specs.Roster.{Listing, part_text, symbol_text}
 use Rattle.nms_quote.specs.declared.side_quote.Side.{Side}
 use Rattle.nms_quote.specs.declared.side_quote.Side.TheVariants.{Bid, Offer}
+use Rattle.nms_lines.specs.Sides.{side_word}
 use Rattle.nms_board.specs.View.{Seen, rows_on}
 use Rattle.nms_board.specs.declared.row.Row.{Row}
 use Rattle.nms_nbbo.specs.Market.{market_of}
@@ -17,7 +18,7 @@ use Rattle.nms_nbbo.specs.declared.market_kind.Market.{Market}
 use Rattle.nms_nbbo.specs.declared.pair.Pair.{Pair}
 use Rattle.nms_nbbo.specs.declared.pair.Clause.{Clause}
 use Rattle.nms_nbbo.specs.declared.pair.Clause.TheVariants as clause
-use Rattle.nms_text.specs.Answers.{market_word, side_word}
+use Rattle.nms_text.specs.Answers.{market_word}
 
 -- a text at the left of a column, then spaces; one longer than the column stands as it is
 abbrev pub at_left : ℕ → List ℕ → List ℕ

@@ -2,12 +2,12 @@
 ghost use Rattle.std.specs.Prelude.{◌≡◌, ◌+◌, ◌<◌, ◌≤◌, ◌++◌, ◌∷◌, [], All, drop, length, map, false, OnOk, IfSome, Ok, Err};
 ghost use Rattle.nms_lines.specs.Text.{later_fields, text_of};
 ghost use Rattle.nms_board.specs.View.{Seen};
-ghost use Rattle.nms_text.specs.Answers.{best_fields, best_record, look_text, market_word, published_record, refusal, rows_text, side_word, taken_record, through_head, through_row, told_record};
+ghost use Rattle.nms_text.specs.Answers.{best_fields, best_record, look_text, market_word, published_record, refusal, rows_text, taken_record, through_head, through_row, told_record};
 
 use nms_board::Row;
 use nms_lines::{
     end_record, number_before, price_before, push_number, push_price, push_text, text_before,
-    word_before,
+    word_before, word_of_side,
 };
 use nms_nbbo::{Market, market_between};
 use nms_quote::{Roster, Side, Sym};
@@ -55,9 +55,10 @@ pub fn tell_told(out: &mut Vec<u8>, desk: u8, version: u64) -> Result<(), AllocE
     end_record(out)
 }
 
-/// The word for a market.
-pub(crate) fn word_of_market(market: Market) -> &'static str
-    ensures { result.now ≡ market_word market }
+/// The word for the state of a market, as in the answers of a script.
+pub fn word_of_market(market: Market) -> &'static str
+    ensures word { result.now ≡ market_word market }
+    ensures short { length result.now ≤ 8 }
 {
     match market {
         Market::Empty => "EMPTY",
@@ -65,16 +66,6 @@ pub(crate) fn word_of_market(market: Market) -> &'static str
         Market::Normal => "NORMAL",
         Market::Locked => "LOCKED",
         Market::Crossed => "CROSSED",
-    }
-}
-
-/// The word for a side.
-pub(crate) fn word_of_side(side: Side) -> &'static str
-    ensures { result.now ≡ side_word side }
-{
-    match side {
-        Side::Bid => "BID",
-        Side::Offer => "OFFER",
     }
 }
 

@@ -11,10 +11,10 @@ mod writing;
 
 pub use answer::{
     tell_best, tell_published, tell_refusal, tell_taken, tell_through_head, tell_through_rows,
-    tell_told,
+    tell_told, word_of_market,
 };
 pub use live_text::write_live;
-pub use report_text::report;
+pub use report_text::{report, word_of_clause, word_of_pair};
 pub use script_fault::ScriptFault;
 pub use text_fault::TextFault;
 pub use writing::tell;

@@ -7,9 +7,10 @@ ghost use Rattle.nms_board.specs.View.{rows_on};
 ghost use Rattle.nms_nbbo.specs.Pairs.{pairs_from};
 ghost use Rattle.nms_text.specs.Report.{IsReport, at_right, clause_word, header_line, is_best, mark_word, pair_line, pair_word, pairs_text, row_line, side_text, state_word};
 
-use crate::answer::{word_of_market, word_of_side};
+use crate::answer::word_of_market;
 use crate::script_fault::ScriptFault;
 use nms_board::{Row, View};
+use nms_lines::word_of_side;
 use nms_nbbo::{Clause, Market, Pair, PairPlace, best, market_between, next_pair};
 use nms_quote::{Roster, Side};
 use nms_units::Price;
@@ -183,13 +184,15 @@ fn mark_of(best: bool) -> &'static str
     if best { "*" } else { "-" }
 }
 
-fn word_of_pair(crossed: bool) -> &'static str
+/// The word for a pair of quotations: whether they cross or lock.
+pub fn word_of_pair(crossed: bool) -> &'static str
     ensures { result.now ≡ pair_word crossed }
 {
     if crossed { "CROSS" } else { "LOCK" }
 }
 
-fn word_of_clause(clause: Clause) -> &'static str
+/// The word for the clause that a pair falls under: the earlier quotation is protected, or the later one manual, or neither.
+pub fn word_of_clause(clause: Clause) -> &'static str
     ensures { result.now ≡ clause_word clause }
 {
     match clause {

@@ -29,5 +29,5 @@ returns c seen is_sym is_version =
     (ap (λ (o : Option (List ℕ)). unwrap_or o [])
     (ap (λ (n : ℕ). option_map (λ (entry : List ℕ × ℕ). entry.0) (slice_get c.args.roster.now.syms n)) is_sym ∙ c.sym_name.ensures.name))
     (sym is_version)
-    (c.word_of_market-market.ensures ∙ ap market_word c.market_between.ensures)))
+    (c.word_of_market-market.ensures.word ∙ ap market_word c.market_between.ensures)))
     appended

@@ -12,4 +12,4 @@ returns g c =
     c.sym_name-sym.ensures.form
     ∙ ap (λ place. at_left 8 (symbol_text roster place)) c.sym.ensures in
     let version = number_column _ 8 _ _ c.laid_out-2.ensures c.version-version.ensures.version in
-    line_written c.writeln.result _ _ _ _ (λ i. symbol i ∷ version i ∷ c.word_of_market-market.ensures i ∷ []) c.writeln.ensures.bytes
+    line_written c.writeln.result _ _ _ _ (λ i. symbol i ∷ version i ∷ c.word_of_market-market.ensures.word i ∷ []) c.writeln.ensures.bytes
