@@ -6,7 +6,7 @@ ghost use Rattle.nms_lines.specs.RecordFaults.{refused_status};
 use std::fmt;
 use thiserror::Error;
 
-/// Why a record is refused. Of several faults the least number is reported.
+/// Why a record is refused. The fault that holds with the least number is reported.
 #[derive(Clone, Copy, Debug, PartialEq, Eq, Error)]
 pub enum LineFault {
     /// L1: the first field is not a kind that the record's source brings.
