@@ -1,4 +1,4 @@
--- Names that are there twice.
+-- Repeated names.
 use Rattle.std.proofs.Common.{◌≡◌, ℕ, ◌+◌, ◌<◌, Bool, true, false, not, ◌||◌, List, [], ◌∷◌, ◌++◌, length, take, drop, get_or, map, Some}
 use Rattle.std.proofs.Common.{None, Bor, refl, ap, ◌∙◌, sym, append-nil, if◌then◌else◌}
 use Rattle.std.proofs.lemmas.Bool.{false≢true}
@@ -20,7 +20,7 @@ texts keys = map (λ (key : Bor Name). key.now) keys
 abbrev pub names_of : List Value → List Name
 names_of rows = filter_map name_in (map view rows)
 
--- one more name is there twice if it was there before
+-- one more name is repeated if it was there before
 or_true : (a : Bool) → (a || true) ≡ true
 or_true true = refl
 or_true false = refl
@@ -43,7 +43,7 @@ or_kept true b c d more h = refl
 or_kept false true c d more h = refl
 or_kept false false c d more h = more h
 
--- a name that is twice in the front is twice in the whole
+-- a name repeated in the front is repeated in the whole
 pub has_repeat-front : (names more : List Name) → has_repeat names ≡ true → has_repeat (names ++ more) ≡ true
 has_repeat-front [] more h = absurd (false≢true h)
 has_repeat-front (first ∷ names) more h =

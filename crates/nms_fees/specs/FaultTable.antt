@@ -37,7 +37,7 @@ misses_key level.Symbol table = list_any (λ key. is_none (get_member key table)
 abbrev pub has_other_key : Level → Members → Bool
 has_other_key table_of table = list_any (λ key. not (is_known table_of key)) (keys_in table)
 
--- C4: a name is not of its form, or is twice in its array
+-- C4: a name is not of its form, or is repeated in its array
 abbrev pub is_misnamed : (Name → Bool) → Data → Bool
 is_misnamed is_name value = option_map_or (λ name. not (is_name name)) (as_str value) false
 

@@ -173,12 +173,12 @@ rows_in value = option_map listed (as_array value)
 abbrev pub name_in : Data → Option Name
 name_in row = option_and_then as_str (option_and_then (get_member (codes "name")) (as_table row))
 
--- whether a text is there twice
+-- whether a text is repeated
 abbrev pub has_repeat : List Name → Bool
 has_repeat [] = false
 has_repeat (name ∷ names) = list_any (λ other. bytes_eq other name) names || has_repeat names
 
--- a name is twice in an array
+-- a name is repeated in an array
 abbrev pub repeat_fault : List Data → Option SetupFault
 repeat_fault rows = if has_repeat (filter_map name_in rows) then Some fault.BadName else None
 

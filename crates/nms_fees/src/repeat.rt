@@ -1,4 +1,4 @@
-//! Names that are twice in one of the two arrays: `specs/Places`.
+//! Repeated names in one of the two arrays: `specs/Places`.
 ghost use Rattle.std.specs.Prelude.{◌≡◌, [], map, option_copied, IfOk, IfErr};
 ghost use Rattle.std.specs.List.{filter_map};
 ghost use Rattle.toml.specs.View.{view};
@@ -10,7 +10,7 @@ use indexmap::IndexSet;
 use std::alloc::Global;
 use toml::Value;
 
-/// Whether a name is twice among the elements of an array. Elements without a name are skipped.
+/// Whether a name is repeated among the elements of an array. Elements without a name are skipped.
 pub(crate) fn has_repeat(alloc: Global, rows: &[Value]) -> Result<bool, SetupFault>
     ensures found { IfOk result (λ found. found ≡ has_repeat (filter_map name_in (map view rows.now))) }
     ensures memory { IfErr result (λ fault. fault ≡ SetupFault.NoMemory) }

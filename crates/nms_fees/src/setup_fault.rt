@@ -14,7 +14,7 @@ pub enum SetupFault {
     Missing,
     /// C3: another key is there.
     UnknownKey,
-    /// C4: a name is a text that is not of its form, or is twice in its array.
+    /// C4: a name is a text that is not of its form, or is repeated in its array.
     BadName,
     /// C5: a value is not of its kind.
     WrongType,
