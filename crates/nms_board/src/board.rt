@@ -285,8 +285,8 @@ impl Boards {
         let _ = (self.applied, sym);
     }
 
-    /// A law: a board holds what some tape of changes says. So each receipt is a change's number, and participants'
-    /// quoted sides in a symbol have different receipts.
+    /// A law: a board holds what some tape says, so each receipt is a change's number, and participants' quoted sides
+    /// in a symbol have different ones.
     pub fn stands_for_a_tape(&self)
         ensures { IsBoard self.now }
     {

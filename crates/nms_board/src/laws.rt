@@ -41,7 +41,7 @@ pub fn repeated_side_keeps_its_receipt()
         → KeepsSide part sym side tape (Quote part sym state bid offer) }
 {}
 
-/// A halt hides the participant's quotations in the symbol and alters nothing. After it they show again with their
+/// A halt hides the participant's quotations in the symbol and alters nothing; after it they show again with their
 /// receipts, in the lot of that time.
 pub fn halting_hides_and_keeps()
     ensures { (sizes : Sizes) (part sym : ℕ) (tape : Tape) → HidesAndKeeps sizes part sym tape }
@@ -70,8 +70,8 @@ pub fn receipts_differ()
         (quotations sizes tape sym side) }
 {}
 
-/// The quotations on a side of a symbol are by participant place, at most one for each participant. Each displays some
-/// shares and has its own receipt.
+/// The quotations on a side of a symbol are by participant place, at most one for each, with some displayed shares and
+/// its own receipt.
 pub fn quotations_stand_by_participant()
     ensures { (sizes : Sizes) (tape : Tape) (sym : ℕ) (side : Side)
         → AreRows (quotations sizes tape sym side) }

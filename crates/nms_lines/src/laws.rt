@@ -9,8 +9,8 @@ ghost use Rattle.nms_lines.specs.TextLaws.{HasOneList, NeedsNoQuote};
 use nms_quote::{Part, Roster, Sym};
 use nms_units::{Money, Price, digits_read_as_printed};
 
-/// A record is read as a fault if and only if that fault is the least that holds, and as a line if and only if none
-/// holds. `specs/FaultTable` says when each fault holds.
+/// A record is read as a fault if and only if that fault is the least that holds, and as a line if none does.
+/// `specs/FaultTable` says when each fault holds.
 pub fn the_least_fault_is_read()
     ensures { ReadsLeastFault }
 {}

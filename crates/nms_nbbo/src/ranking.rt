@@ -9,8 +9,8 @@ use arrayvec::ArrayVec;
 use nms_board::{Boards, MOST_ROWS, Row, View};
 use nms_quote::{Side, Sym};
 
-/// The best bid or the best offer (17 CFR 242.600, "national best bid and national best offer"). `None` means that the
-/// side is empty. A manual quotation ranks as any other.
+/// The best bid or the best offer (17 CFR 242.600, "national best bid and national best offer"), and `None` exactly if
+/// the side is empty. A manual quotation ranks as any other.
 pub fn best(view: &View, side: Side) -> Option<Row>
     ensures { IsBestOf side (rows_on side view.now) result }
 {

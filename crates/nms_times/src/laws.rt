@@ -11,7 +11,7 @@ pub fn the_version_splits_the_times()
     ensures { (times : List ℕ) (t place : ℕ) → IsNonDecreasing times → place < length times → Splits times t place }
 {}
 
-/// A later time has no earlier version. The version before a time is not after the version at it.
+/// A later time has no earlier version, and the version before a time is not after the version at it.
 pub fn versions_rise_with_time()
     ensures at { (times : List ℕ) (t u : ℕ) → t ≤ u → version_at times t ≤ version_at times u }
     ensures before { (times : List ℕ) (t u : ℕ) → t ≤ u → version_before times t ≤ version_before times u }

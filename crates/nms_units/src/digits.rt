@@ -25,7 +25,7 @@ pub fn parse_digits(text: &[u8], most: usize) -> Option<u64>
     Some(number)
 }
 
-/// A law: `parse_digits` reads a printed number of at most `most` digits as that number.
+/// A law: a number of at most `most` digits, as it is printed, is read by `parse_digits` as that number.
 pub fn digits_read_as_printed()
     ensures { (most n : ℕ) → 0 < most → n < 10 ^ most → n < 10 ^ 64 → number_in most (decimal n) ≡ Some n }
 {}

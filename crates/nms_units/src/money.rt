@@ -68,7 +68,7 @@ impl Money {
         Ok(Money::new(nanodollars))
     }
 
-    /// A law: `parse` reads the text of money strictly between -10^20 and 10^20 dollars as that money.
+    /// A law: money strictly between -10^20 and 10^20 dollars, as `Display` prints it, is read by `parse` as that money.
     pub fn reads_what_it_prints()
         ensures { (money : ℤ) → neg_ℤ (pos (10 ^ 29)) <ℤ money → money <ℤ pos (10 ^ 29)
             → money_reading (money_text money) ≡ Ok money }

@@ -62,7 +62,7 @@ impl Price {
         Price::new(number).ok_or(UnitFault::ZeroPrice)
     }
 
-    /// A law: `parse` reads a price's text as that price.
+    /// A law: a price, as `Display` prints it, is read by `parse` as that price.
     pub fn reads_what_it_prints()
         ensures { (price : ℕ) → 1 ≤ price → price ≤ MOST_PRICE → price_reading (price_text price) ≡ Ok price }
     {}
