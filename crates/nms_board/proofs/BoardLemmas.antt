@@ -90,7 +90,7 @@ held_of_unsaid part symbol side tape change unsaid =
     (content_at-push part symbol side tape change ∙ ap (λ s. unwrap_or s (content_at part symbol side tape)) unsaid)
     ∙ rw (same_content-refl (content_at part symbol side tape)) refl
 
--- the cell that a quote speaks of
+-- the cell that a quote is about
 cell_quoted : (part sym : ℕ) (state : QState) (bid offer : Option Content) (tape : Tape)
     → cell_of part sym (tape ++ Quote part sym state bid offer ∷ []) ≡ quoted (length tape + 1) state bid offer (cell_of part sym tape)
 cell_quoted part symbol state bid offer tape =
@@ -102,7 +102,7 @@ cell_quoted part symbol state bid offer tape =
     let state_is : state_at part symbol (tape ++ change ∷ []) ≡ Some state = state_at-push part symbol tape change ∙ rw here refl in
     rw (held_of_said part symbol Bid tape change bid bid_said, held_of_said part symbol Offer tape change offer offer_said, state_is) refl
 
--- the cell whose state a change speaks of
+-- the cell whose state a change sets
 cell_restated : (part sym : ℕ) (state : QState) (tape : Tape)
     → cell_of part sym (tape ++ State part sym state ∷ []) ≡ restated state (cell_of part sym tape)
 cell_restated part symbol state tape =
@@ -112,7 +112,7 @@ cell_restated part symbol state tape =
     let state_is : state_at part symbol (tape ++ change ∷ []) ≡ Some state = state_at-push part symbol tape change ∙ rw here refl in
     rw (held_of_unsaid part symbol Bid tape change refl, held_of_unsaid part symbol Offer tape change refl, state_is) refl
 
--- a cell that a withdrawal speaks of
+-- a cell that a withdrawal clears
 cell_withdrawn : (part sym : ℕ) (tape : Tape) → cell_of part sym (tape ++ Withdraw part ∷ [])
     ≡ withdrawn (length tape + 1) (cell_of part sym tape)
 cell_withdrawn part symbol tape =
@@ -125,7 +125,7 @@ cell_withdrawn part symbol tape =
       state_at-push part symbol tape change,
     ) refl
 
--- a cell of which a change says nothing
+-- a cell that a change does not concern
 cell_untouched : (part sym : ℕ) (tape : Tape) (change : Change) → ((side : Side) → said_of part sym side change ≡ None)
     → state_said part sym change ≡ None → cell_of part sym (tape ++ change ∷ []) ≡ cell_of part sym tape
 cell_untouched part symbol tape change unsaid state_unsaid =
@@ -133,7 +133,7 @@ cell_untouched part symbol tape change unsaid state_unsaid =
     ∙ rw state_unsaid refl in
     rw (held_of_unsaid part symbol Bid tape change (unsaid Bid), held_of_unsaid part symbol Offer tape change (unsaid Offer), state_is) refl
 
--- a change of one participant in one symbol is another's only where both are the same
+-- a change of one participant in one symbol is another's only if both are the same
 elsewhere : (p s part sym : ℕ) → (p ≡ part → s ≡ sym → ⊥) → (p == part && s == sym) ≡ false
 elsewhere p s part symbol ne =
     elim (cases_eq p part) [
@@ -227,7 +227,7 @@ record IsCellOf (board : Board) (tape : Tape) (part sym : ℕ) : Type 0 where
   in_parts : part < board.sizes.parts
   in_syms : sym < length board.sizes.lots
 
--- two cells are one, or the change of the one says nothing of the other and stands at another place
+-- two cells are one, or they are at different places and a change of one says nothing of the other
 data Meets (p s part sym : ℕ) : Type 0 where
   same : p ≡ part → s ≡ sym → Meets p s part sym
   apart : (p == part && s == sym) ≡ false → place_of p s ≢ place_of part sym → Meets p s part sym
@@ -349,7 +349,7 @@ length-cells_after n syms cells (State part symbol state) = length-change_cell c
 length-cells_after n syms cells (Withdraw part) = length-withdraw_from n part syms cells
 length-cells_after n syms cells (Lot symbol lot) = refl
 
--- a board stays one
+-- a board stays a board
 pub board_after : (board : Board) (change : Change) → IsBoard board → takes board change ≡ true → IsBoard (after board change)
 board_after board change is taken =
     let room = ltb-true board.applied MOST_CHANGES (and_parts (holds board.sizes change) (nat_lt board.applied MOST_CHANGES) taken).1 in

@@ -29,7 +29,7 @@ same_content-true (Some x) (Some y) h =
     let shares : x.shares ≡ y.shares = eqb-true x.shares y.shares parts.1 in
     ap₂ (λ price shares. Some (record { price = price; shares = shares })) price shares
 
--- a list that ends twice in x passes as one that ends in it once
+-- a test passes a list that ends twice in x if and only if it passes the list that ends in x once
 all_repeated : (p : Option Content → Bool) (h : List (Option Content)) (x : Option Content)
     → list_all p ((h ++ x ∷ []) ++ x ∷ []) ≡ list_all p (h ++ x ∷ [])
 all_repeated p h x = rw (list_all-append p (h ++ x ∷ []) (x ∷ []), list_all-append p h (x ∷ [])) (absorbed (list_all p h) (p x))
@@ -39,7 +39,7 @@ all_repeated p h x = rw (list_all-append p (h ++ x ∷ []) (x ∷ []), list_all-
     absorbed true false = refl
     absorbed false b = refl
 
--- the last content once more: as many stand before the equal ones
+-- the last content once more: as many entries are before the equal ones
 before_equal_end_same : (h : List (Option Content)) (x : Option Content)
     → before_equal_end ((h ++ x ∷ []) ++ x ∷ []) ≡ before_equal_end (h ++ x ∷ [])
 unfolding before_equal_end
@@ -59,14 +59,14 @@ not_all_equal z h x y ne =
     let zy = same_content-true z y (and_parts (same_content z y) true both.1).0 in
     both_ways (same_content x y) ne (ap (same_content x) (sym zy ∙ zx) ∙ same_content-refl x))
 
--- another content: all that stood there stand before it
+-- another content: all earlier entries are before it
 before_equal_end_new : (h : List (Option Content)) (x y : Option Content) → same_content x y ≡ false
     → before_equal_end ((h ++ x ∷ []) ++ y ∷ []) ≡ length (h ++ x ∷ [])
 unfolding before_equal_end
 before_equal_end_new [] x y ne = rw ne refl
 before_equal_end_new (z ∷ h) x y ne = rw (not_all_equal z h x y ne, before_equal_end_new h x y ne) (omega arith)
 
--- one more entry behind a list's last
+-- one more entry after a list's last
 before_equal_end_push : (h : List (Option Content)) (x y : Option Content)
     → before_equal_end ((h ++ x ∷ []) ++ y ∷ []) ≡ (if same_content x y then before_equal_end (h ++ x ∷ []) else length (h ++ x ∷ []))
 before_equal_end_push h x y =
@@ -115,7 +115,7 @@ pub state_at-push : (part sym : ℕ) (tape : Tape) (change : Change)
     → state_at part sym (tape ++ change ∷ []) ≡ option_or (state_said part sym change) (state_at part sym tape)
 state_at-push part symbol tape change = last_answer_push (state_said part symbol) tape change
 
--- the receipt after one more change: it stays where the content does
+-- the receipt after one more change: it stays if the content does
 pub receipt_of-push : (part sym : ℕ) (side : Side) (tape : Tape) (change : Change)
     → receipt_of part sym side (tape ++ change ∷ [])
     ≡ (if same_content (content_at part sym side tape) (content_at part sym side (tape ++ change ∷ [])) then receipt_of part sym side tape

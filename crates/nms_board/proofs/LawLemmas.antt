@@ -1,4 +1,4 @@
--- The laws above the definitions.
+-- The laws of the definitions.
 use Rattle.std.proofs.Common.{◌≡◌, ◌≢◌, ℕ, zero, suc, ◌+◌, ◌<◌, ◌≤◌, ◌&&◌, ◌==◌, ◌⊎◌, Bool, true, false, All, AllPairs, [], ◌∷◌, ◌++◌}
 use Rattle.std.proofs.Common.{append_assoc, append-nil, length, Option, Some, None, unwrap_or, if◌then◌else◌, refl, sym, ap, subst, ◌∙◌}
 use Rattle.std.proofs.Common.{inl, inr, arith, eqb, eq-eqb, ne_eqb}
@@ -46,7 +46,7 @@ earlier_or_all k tape change =
       | inr le ↦ inl le
     ]
 
--- where the content stays, so does the receipt
+-- if the content stays, so does the receipt
 pub receipt_stays : (part sym : ℕ) (side : Side) (tape : Tape) (change : Change)
     → content_at part sym side (tape ++ change ∷ []) ≡ content_at part sym side tape → KeepsSide part sym side tape change
 receipt_stays part symbol side tape change content = record {
@@ -213,7 +213,7 @@ receipt_counts part symbol side tape something =
       | inr zero_is ↦ absurd (something (sym (receipt.stays 0 zero_is (omega arith))))
     ]
 
--- two sides, of which a change leaves the one
+-- two sides, one of which a change leaves as it is
 one_altered : (p q sym : ℕ) (one other : Side) (tape : Tape) (change : Change) → KeepsSide q sym other tape change
     → (content_at p sym one tape ≢ None → content_at q sym other tape ≢ None → receipt_of p sym one tape ≢ receipt_of q sym other tape)
     → content_at p sym one (tape ++ change ∷ []) ≢ None → content_at q sym other (tape ++ change ∷ []) ≢ None

@@ -21,7 +21,7 @@ use Rattle.nms_board.specs.declared.cell.Cell.{Cell}
 use Rattle.nms_board.specs.declared.row.Row.{Row}
 use Rattle.nms_board.proofs.RowLemmas.{length-filter_map-range}
 
--- a quotation is of the participant that it is asked of
+-- the quotation of a participant names that participant
 quotation_part : (lot part : ℕ) (state : Option QState) (receipt : ℕ) (content : Option Content) (row : Row)
     → quotation lot part state receipt content ≡ Some row → row.part ≡ part
 quotation_part lot part state receipt None row e = absurd (cc)
@@ -80,7 +80,7 @@ pub rows_seen : (board : Board) (sym : ℕ) (side : Side) → rows_on side (seen
 rows_seen board symbol Bid = refl
 rows_seen board symbol Offer = refl
 
--- the same of what is seen
+-- each row that is seen is of one of the board's participants
 pub seen_parts : (board : Board) (sym : ℕ) (seen : Seen) → seen ≡ seen_on board sym → (side : Side)
     → All (λ (row : Row). row.part < board.sizes.parts) (rows_on side seen)
 seen_parts board sym seen e side = subst (λ (s : Seen). All (λ (row : Row). row.part

@@ -77,7 +77,7 @@ IsFrom-range f each place zero = tt
 IsFrom-range f each place (suc n) = IsFrom-cons place (f place) (filter_map f (range_with_len (place
     + 1) n)) (each place) (IsFrom-range f each (place + 1) n)
 
--- the rows that a tape shows are in order, each of a size and of a receipt of its own
+-- the rows that a tape shows are in order, each with a size and a receipt of its own
 pub quotations_are_rows : (sizes : Sizes) (tape : Tape) (sym : ℕ) (side : Side) → AreRows (quotations sizes tape sym side)
 quotations_are_rows sizes tape symbol side =
     let from : IsFrom 0 (quotations sizes tape symbol side) =
@@ -91,7 +91,7 @@ quotations_are_rows sizes tape symbol side =
       receipts = rows_differ sizes tape symbol side;
     }
 
--- and so are those of a board that stands for one
+-- and so are the rows of a board that holds a tape
 pub rows_held_are_rows : (board : Board) (sym : ℕ) (side : Side) → IsBoard board → AreRows (rows_held board sym side)
 rows_held_are_rows board symbol side is =
     rw (rows_stand board is.tape symbol side is.stands) (quotations_are_rows board.sizes is.tape symbol side)
@@ -121,7 +121,7 @@ rows_more board symbol side part lot i cell shape listed in_parts at read =
     filter_map_more (row_held board symbol side) part
     ∙ ap (λ row. filter_map (row_held board symbol side) (range_with_len 0 part) ++ cons_option row []) row
 
--- a symbol's cells, that are walked over
+-- a symbol's cells, walked one by one
 pub record IsWalk (board : Board) (sym lot : ℕ) (cells : List Cell) : Type 0 where
   pub shape : IsInShape board
   pub listed : slice_get board.lots sym ≡ Some lot

@@ -23,7 +23,7 @@ pub record Board : Type 0 where
   pub cells : List Cell
   pub applied : ℕ
 
--- the sizes with the present lots in place of the opening ones
+-- the sizes with the present lots instead of the opening lots
 abbrev pub present : Board → Sizes
 present board = record { parts = board.sizes.parts; lots = board.lots }
 
@@ -61,7 +61,7 @@ pub record StandsFor (board : Board) (tape : Tape) : Type 0 where
   pub cells : (part sym : ℕ) → part < board.sizes.parts → sym < length board.sizes.lots
       → slice_get board.cells (place_of part sym) ≡ Some (cell_of part sym tape)
 
--- a board in shape that stands for some tape
+-- a board in shape that holds some tape
 pub record IsBoard (board : Board) : Type 0 where
   pub shape : IsInShape board
   pub tape : Tape
@@ -82,7 +82,7 @@ opening sizes = record {
   applied = 0;
 }
 
--- a side after change number n says its content: the receipt stays where nothing is altered
+-- a side after change number n sets its content: the receipt stays if nothing is altered
 abbrev pub held_after : ℕ → Option Content → Holding → Holding
 held_after n content held = if same_content held.quote content then held else record { quote = content; receipt = n }
 
@@ -103,7 +103,7 @@ withdrawn n cell = record {
   offer = held_after n None cell.offer;
 }
 
--- a cell that a change speaks of, after it
+-- a cell that a change concerns, after the change
 abbrev pub altered : ℕ → Change → Cell → Cell
 altered n (change.Quote part sym state bid offer) = quoted n state bid offer
 altered n (change.State part sym state) = restated state

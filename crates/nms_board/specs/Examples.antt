@@ -25,7 +25,7 @@ p = 1
 abbrev pub abc : ℕ
 abc = 0
 
--- so many shares at a price in 1/10,000 dollar
+-- that many shares at a price in 1/10,000 dollar
 abbrev pub at : ℕ → ℕ → Option Content
 at price shares = Some (record { price = price; shares = shares })
 
@@ -44,11 +44,11 @@ odd_lot = quote n None (at 100000 99) ∷ []
 abbrev pub round_lot : Tape
 round_lot = odd_lot ++ quote n None (at 100000 250) ∷ []
 
--- P gives more shares and loses its place in time to N
+-- P quotes more shares and loses its place in time to N
 abbrev pub larger_later : Tape
 larger_later = quote p None (at 100000 300) ∷ quote n None (at 100000 500) ∷ quote p None (at 100000 500) ∷ []
 
--- N repeats both sides, then lowers its bid alone
+-- N repeats both sides, then lowers only its bid
 abbrev pub repeated : Tape
 repeated =
     quote n (at 99900 100) (at 100000 300) ∷ quote p None (at 100000 300)

@@ -31,7 +31,7 @@ said_of part sym side (change.State p s state) = None
 said_of part sym side (change.Withdraw p) = if p == part then Some None else None
 said_of part sym side (change.Lot s lot) = None
 
--- the side's content: what the last change that concerns it says, and nothing where there is none
+-- the side's content: what the last change that concerns it says, and nothing if there is none
 abbrev pub content_at : ℕ → ℕ → Side → Tape → Option Content
 content_at part sym side tape = unwrap_or (last_or None (filter_map (said_of part sym side) tape)) None
 
@@ -72,7 +72,7 @@ same_content None (Some y) = false
 same_content (Some x) None = false
 same_content (Some x) (Some y) = x.price == y.price && x.shares == y.shares
 
--- how many entries stand before the equal ones at the end
+-- how many entries are before the equal ones at the end
 unfoldable pub before_equal_end : List (Option Content) → ℕ
 before_equal_end [] = 0
 before_equal_end (x ∷ xs) = if list_all (same_content x) xs then 0 else before_equal_end xs + 1

@@ -1,5 +1,5 @@
--- Laws above the definitions: what the rules say of them. This product's own rule, but for the
--- quotations that 17 CFR 242.600 defines.
+-- Laws of the definitions: what the rules say of them. This product's own rule, except the quotations that 17 CFR
+-- 242.600 defines.
 use Rattle.std.specs.Prelude.{ℕ, ◌≡◌, ◌≢◌, ◌≤◌, All, [], ◌∷◌, ◌++◌, length, Some, None}
 use Rattle.nms_quote.specs.Roster.{Sizes}
 use Rattle.nms_quote.specs.Tape.{Tape, participant_of, version}
@@ -32,8 +32,8 @@ abbrev pub lifted_after : ℕ → ℕ → Tape → Tape → Tape
 lifted_after part sym tape others =
     tape ++ change.State part sym Halted ∷ [] ++ others ++ change.State part sym Automated ∷ []
 
--- a halt hides the participant's quotations in the symbol and alters no side; lifted, they show with the receipts that they had,
--- in the lot of then
+-- a halt hides the participant's quotations in the symbol and alters no side; after it is lifted, they show with the
+-- receipts that they had, in the lot of that time
 pub record HidesAndKeeps (sizes : Sizes) (part sym : ℕ) (tape : Tape) : Type 0 where
   pub keeps : (p s : ℕ) (side : Side) → KeepsSide p s side tape (change.State part sym Halted)
   pub hides : (side : Side) → quotation_of sizes (tape ++ change.State part sym Halted ∷ []) sym side part ≡ None
@@ -42,8 +42,8 @@ pub record HidesAndKeeps (sizes : Sizes) (part sym : ℕ) (tape : Tape) : Type 0
       ≡ quotation (lot_at sizes (lifted_after part sym tape others) sym) part (Some Automated) (receipt_of part sym side tape)
       (content_at part sym side tape)
 
--- a symbol of the roster gets another round lot: no side is altered, and each row that comes to light or stays
--- has the receipt that it had. Other symbols show what they did
+-- a symbol of the roster gets another round lot: no side is altered, and each row that appears or stays has the receipt
+-- that it had. Other symbols show the same as before
 pub record KeepsReceipts (sizes : Sizes) (sym lot : ℕ) (tape : Tape) : Type 0 where
   pub keeps : (part s : ℕ) (side : Side) → KeepsSide part s side tape (change.Lot sym lot)
   pub ranks : (part : ℕ) (side : Side) → quotation_of sizes (tape ++ change.Lot sym lot ∷ []) sym side part

@@ -1,6 +1,5 @@
--- The quotations of a symbol (17 CFR 242.600, "bid or offer", "automated quotation", "manual
--- quotation", "protected bid or protected offer"; that a halted participant's are none is this
--- product's own rule).
+-- The quotations of a symbol (17 CFR 242.600, "bid or offer", "automated quotation", "manual quotation", "protected bid
+-- or protected offer"; a halted participant has none: this product's own rule).
 use Rattle.std.specs.Prelude.{ℕ, ◌==◌, Bool, true, false, List, Option, Some, None, if◌then◌else◌}
 use Rattle.std.specs.List.{filter_map, range_with_len}
 use Rattle.nms_units.specs.Lot.{displayed_size}
@@ -39,8 +38,8 @@ quotation lot part state receipt (Some content) =
       protected = is_automated state;
     }))
 
--- the participant's quotation on a side of the symbol: something is there, a whole round lot of it
--- shows, and the participant is not halted. The lot is the symbol's present one.
+-- the participant's quotation on a side of the symbol: it quotes, at least one whole round lot shows, and it is not
+-- halted. The lot is the symbol's present one.
 abbrev pub quotation_of : Sizes → Tape → ℕ → Side → ℕ → Option Row
 quotation_of sizes tape sym side part =
     quotation (lot_at sizes tape sym) part (state_at part sym tape) (receipt_of part sym side tape) (content_at part sym side tape)

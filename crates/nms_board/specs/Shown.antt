@@ -1,4 +1,4 @@
--- What a board shows, read off its cells: the tape is not looked at.
+-- What a board shows, read from its cells and not from the tape.
 use Rattle.std.specs.Prelude.{ℕ, List, slice_get, slice_index, Option}
 use Rattle.std.specs.List.{filter_map, range_with_len}
 use Rattle.std.specs.Option.{option_and_then}

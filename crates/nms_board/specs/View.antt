@@ -24,7 +24,7 @@ rows_on side seen = on_side side seen.bids seen.offers
 abbrev pub row_of : Side → ℕ → Seen → Option Row
 row_of side part seen = find (λ row. row.part == part) (rows_on side seen)
 
--- rows as a side shows them: by participant place, each of a size, each pair of two receipts
+-- rows as a side shows them: by participant place, each of a size, no two of one receipt
 pub record AreRows (rows : List Row) : Type 0 where
   pub rising : IsStrictlyIncreasing (map (λ row. row.part) rows)
   pub sizes : All (λ row. 0 < row.size) rows

@@ -102,7 +102,7 @@ impl Boards {
         self.holds(change) && self.applied < MOST_CHANGES
     }
 
-    /// Whether a change speaks of participants and symbols of the board's roster alone.
+    /// Whether a change names only participants and symbols of the board's roster.
     pub fn holds(&self, change: &Change) -> bool
         ensures { result ≡ holds self.now.sizes change.now }
     {
@@ -147,8 +147,8 @@ impl Boards {
         self.cells[place_of(part, sym)].row(side, part, lot)
     }
 
-    /// The row at a place of a side's rank order in a symbol, from 0 on: the one above which exactly so many
-    /// of the symbol's rows on the side rank. `None` stands for the places from their number on, and for no other.
+    /// The row at a place of a side's rank order in a symbol, from 0 on: the row above which exactly that many of the
+    /// symbol's rows on the side rank. `None` if and only if the place is their number or more.
     #[inline(always)]
     pub fn ranked(&self, side: Side, sym: Sym, at: u8) -> Option<Row>
         requires { sym < length self.now.sizes.lots }
@@ -189,8 +189,8 @@ impl Boards {
         self.orders_of(sym).total(side)
     }
 
-    /// What a participant of the roster holds in a symbol of it: its state and both sides, those that no look shows
-    /// included (less than a round lot, or halted).
+    /// What a participant of the roster holds in a symbol: its state and both sides, even if no look shows them (less
+    /// than a round lot, or halted).
     pub fn cell(&self, part: Part, sym: Sym) -> Cell
         requires part { part < self.now.sizes.parts }
         requires sym { sym < length self.now.sizes.lots }
@@ -277,8 +277,7 @@ impl Boards {
         self.applied
     }
 
-    /// A law: the rows of each side of a symbol, as a look at it shows them, stand by participant place, each of at least
-    /// one share, no two of one receipt.
+    /// A law: a look shows each side's rows by participant place, each of at least one share, no two of one receipt.
     pub fn shows_rows(&self, sym: Sym)
         ensures bids { AreRows (rows_held self.now sym Bid) }
         ensures offers { AreRows (rows_held self.now sym Offer) }
@@ -286,12 +285,12 @@ impl Boards {
         let _ = (self.applied, sym);
     }
 
-    /// A law: a board holds what some tape of changes says, so each receipt is the number of a change, and no two
-    /// participants' quoted sides in a symbol have one.
+    /// A law: a board holds what some tape says, so each receipt is a change's number, and participants' quoted sides
+    /// in a symbol have different ones.
     pub fn stands_for_a_tape(&self)
         ensures { IsBoard self.now }
     {
-        // A read of a field, so that the proof sees the invariant.
+        // A read of a field: it lets the proof see the invariant.
         let _applied = self.applied;
     }
 
@@ -364,7 +363,7 @@ fn lots_of(alloc: Global, roster: &Roster) -> Result<Vec<Lot>, AllocError>
     Ok(lots)
 }
 
-/// Where the cell of a participant in a symbol stands.
+/// The place of a participant's cell in a symbol.
 fn place_of(part: Part, sym: Sym) -> usize
     ensures place { result ≡ place_of part sym }
     ensures within { result < 32000 }

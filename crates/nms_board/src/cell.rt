@@ -11,15 +11,15 @@ use nms_units::{Lot, Price, Shares};
 use std::alloc::{AllocError, Global};
 use std::marker::Model;
 
-/// One side of a participant in a symbol, and the number of the change that last altered it. It takes 16 bytes, so that
-/// the cells of a symbol, which are passed by one after another, lie close together.
+/// One side of a participant in a symbol, and the number of the change that last altered it. It takes 16 bytes: the
+/// cells of a symbol are read one after another, so they are close together.
 #[derive(Clone, Copy, PartialEq, Eq)]
 pub struct Held {
-    /// In 1/10,000 dollar, and the least price where nothing is quoted.
+    /// In 1/10,000 dollar; the least price if nothing is quoted.
     price: Price,
-    /// 0 where nothing is quoted.
+    /// 0 if nothing is quoted.
     shares: Shares,
-    /// The number of that change, 1 to 10,000,000, and 0 where no change altered the side.
+    /// The number of that change, 1 to 10,000,000, and 0 if no change altered the side.
     receipt: u32,
 }
 
@@ -82,7 +82,7 @@ impl Held {
         SideQuote::new(self.price, self.shares)
     }
 
-    /// What is quoted where something is.
+    /// What is quoted, for a side that quotes.
     pub(crate) fn quoted(&self) -> SideQuote
         requires { is_some self.now.quote ≡ true }
         ensures { Some result ≡ self.now.quote }
@@ -107,8 +107,8 @@ impl Held {
         self.shares.get() > 0
     }
 
-    /// Takes what the change of that number says: the receipt stays where nothing is altered. The rest is written in
-    /// either case, since whether something is altered is by chance.
+    /// Takes what the change of that number says: the receipt stays if nothing is altered. The rest is always written,
+    /// since a branch here would be taken at random.
     pub(crate) fn take(&mut self, number: u32, quote: Option<SideQuote>)
         ensures { self.new ≡ held_after number quote self.old }
     {
@@ -123,11 +123,11 @@ impl Held {
 /// A participant in a symbol.
 #[derive(Clone, Copy, PartialEq, Eq)]
 pub struct Cell {
-    /// `None` where the participant never quoted there.
+    /// `None` if the participant never quoted there.
     pub state: Option<QState>,
     /// Its bid, hidden while the state is `Halted`.
     pub bid: Held,
-    /// Its offer, likewise.
+    /// Its offer, hidden while `Halted`.
     pub offer: Held,
 }
 
@@ -162,15 +162,14 @@ impl Cell {
         self.offer.take(number, offer);
     }
 
-    /// Takes a change of the state alone.
+    /// Takes a change of only the state.
     pub(crate) fn restate(&mut self, state: QState)
         ensures { self.new ≡ restated state self.old }
     {
         self.state = Some(state);
     }
 
-    /// Takes a change that speaks of the participant in the symbol, as the change of that number. A new
-    /// round lot leaves the cell.
+    /// Takes a change of the participant in the symbol, as the change of that number. A new round lot leaves the cell.
     pub(crate) fn alter(&mut self, number: u32, change: &Change)
         ensures { self.new ≡ altered number change.now self.old }
     {
@@ -195,7 +194,7 @@ impl Cell {
         self.offer.take(number, None);
     }
 
-    /// Whether either side has a quote. Where none has, a withdrawal alters nothing.
+    /// Whether either side has a quote. If none has, a withdrawal alters nothing.
     pub(crate) fn has_quote(&self) -> bool
         ensures { result ≡ false → (number : ℕ) → withdrawn number self.now ≡ self.now }
     {
@@ -212,7 +211,7 @@ impl Cell {
         }
     }
 
-    /// Whether a side shows what that of another cell of the participant does, as far as is told without its lot.
+    /// Whether a side shows the same as that of another cell of the participant, as far as can be known without the lot.
     pub(crate) fn shows_as(&self, was: &Cell, side: Side) -> bool
         ensures { result ≡ true → (lot part : ℕ) → row_of_cell lot part side was.now ≡ row_of_cell lot part side self.now }
     {
@@ -221,7 +220,7 @@ impl Cell {
         held.receipt == held_before.receipt && held == held_before && self.state == was.state
     }
 
-    /// The size of a side's quotation in lots of that size: 0 where it has none.
+    /// The size of a side's quotation in lots of that size: 0 if it has none.
     pub(crate) fn size(&self, side: Side, lot: Lot) -> u32
         ensures { (part : ℕ) → result ≡ size_of (row_of_cell lot part side self.now) }
     {
@@ -251,7 +250,7 @@ impl Cell {
     }
 }
 
-/// The cells of so many symbols, `MOST_ROWS` each, of participants that never quoted.
+/// The cells of that many symbols, `MOST_ROWS` each, of participants that never quoted.
 pub(crate) fn empty_cells(alloc: Global, syms: usize) -> Result<Vec<Cell>, AllocError>
     requires { syms ≤ MOST_SYMBOLS }
     ensures { IfOk result (λ cells. cells.items ≡ replicate (MOST_ROWS * syms) empty_cell) }

@@ -1,4 +1,4 @@
-//! Laws above the definitions of the board. Each function does nothing: its contract is the law.
+//! Laws of the definitions of the board. Each function does nothing: its contract is the law.
 ghost use Rattle.std.specs.Prelude.{◌≡◌, ◌≢◌, ℕ, ◌<◌, ◌≤◌, All, List, AllPairs, [], ◌∷◌, ◌++◌, length, true, false, Option, Some, None};
 ghost use Rattle.nms_quote.specs.Content.{Content};
 ghost use Rattle.nms_quote.specs.Roster.{Sizes, holds};
@@ -25,8 +25,7 @@ pub fn receipt_is_least()
         → IsReceipt part sym side tape (receipt_of part sym side tape) }
 {}
 
-/// A change that says nothing of a side, as every change of another participant, leaves its content
-/// and its receipt.
+/// A change that says nothing of a side leaves its content and receipt. Every change of another participant is one.
 pub fn others_keep_their_receipts()
     ensures unsaid { (part sym : ℕ) (side : Side) (tape : Tape) (change : Change)
         → said_of part sym side change ≡ None → KeepsSide part sym side tape change }
@@ -42,21 +41,21 @@ pub fn repeated_side_keeps_its_receipt()
         → KeepsSide part sym side tape (Quote part sym state bid offer) }
 {}
 
-/// A halt hides the participant's quotations in the symbol and alters nothing; when it is lifted
-/// they stand again with the receipts that they had, in the lot of then.
+/// A halt hides the participant's quotations in the symbol and alters nothing; after it they show again with their
+/// receipts, in the lot of that time.
 pub fn halting_hides_and_keeps()
     ensures { (sizes : Sizes) (part sym : ℕ) (tape : Tape) → HidesAndKeeps sizes part sym tape }
 {}
 
-/// A new round lot of a symbol alters no side: its quotations rank in the new lot, and each row that comes to
-/// light or stays has the receipt that it had. Other symbols show what they did.
+/// A new round lot of a symbol alters no side: its quotations rank in the new lot, and each row that appears or stays
+/// has the receipt that it had. Other symbols show the same as before.
 pub fn new_lot_keeps_receipts()
     ensures { (sizes : Sizes) (sym lot : ℕ) (tape : Tape) → sym < length sizes.lots
         → KeepsReceipts sizes sym lot tape }
 {}
 
-/// Two participants' quotations in a symbol never have one receipt, be they on one side or a bid and an
-/// offer, and each receipt is the number of a change. So of two quotations one is the later.
+/// Two participants' quotations in a symbol, on one side or on both, have different receipts, and each receipt is a
+/// change's number. So one of them is the later.
 pub fn receipts_differ()
     ensures participants { (sizes : Sizes) (tape : Tape) (sym : ℕ) (one other : Side)
         (p q : ℕ) (row second : Row) → p ≢ q
@@ -71,8 +70,8 @@ pub fn receipts_differ()
         (quotations sizes tape sym side) }
 {}
 
-/// The quotations on a side of a symbol stand by participant place, no more than one of each participant, and each
-/// displays some shares and has a receipt of its own.
+/// The quotations on a side of a symbol are by participant place, at most one for each, with some displayed shares and
+/// its own receipt.
 pub fn quotations_stand_by_participant()
     ensures { (sizes : Sizes) (tape : Tape) (sym : ℕ) (side : Side)
         → AreRows (quotations sizes tape sym side) }
@@ -88,8 +87,7 @@ pub fn rows_have_one_rank_order()
         → in_order ≡ ranked side rows }
 {}
 
-/// A change leaves the quotations of every symbol that it does not concern, as a new round lot of another symbol
-/// does.
+/// A change leaves the quotations of every symbol that it does not concern. A new round lot of another symbol is one.
 pub fn other_symbols_stay()
     ensures { (board : Board) (change : Change) (sym : ℕ) (side : Side)
         → board.sizes.parts ≤ MOST_ROWS → holds board.sizes change ≡ true

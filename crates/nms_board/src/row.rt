@@ -5,8 +5,8 @@ ghost use Rattle.nms_board.specs.Ranking.{better_price, ranks_above};
 use nms_quote::{Part, Side};
 use nms_units::Price;
 
-/// A quotation: a participant's bid or offer in a symbol that shows at least one round lot
-/// (17 CFR 242.600, "bid or offer"). The wide fields stand first, so that a row takes 24 bytes.
+/// A quotation: a participant's bid or offer in a symbol that shows at least one round lot (17 CFR 242.600, "bid or
+/// offer"). The wide fields come first, so that a row takes 24 bytes.
 #[derive(Clone, Copy, PartialEq, Eq)]
 pub struct Row {
     /// In 1/10,000 dollar.
@@ -17,11 +17,11 @@ pub struct Row {
     pub size: u32,
     /// The participant that quotes it.
     pub part: Part,
-    /// Whether it is a protected bid or offer, as every automated quotation is.
+    /// Whether it is a protected bid or offer: every automated quotation is.
     pub protected: bool,
 }
 
-/// The row that stands in a list's unused places.
+/// The row in a list's unused places.
 impl Default for Row {
     fn default() -> Self {
         Row {

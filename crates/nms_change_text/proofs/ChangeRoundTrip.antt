@@ -48,7 +48,7 @@ not_empty : (number_of : List ℕ → Option ℕ) → number_of [] ≡ None → 
 not_empty number_of none [] n is = let nothing : ⊥ = cc in absurd nothing
 not_empty number_of none (c ∷ text) n is = rw (eqb-suc-zero (length text)) refl
 
--- a number above zero is there
+-- a number above zero is a number that is there
 above_is : (found : Option ℕ) (n : ℕ) → above_zero found ≡ Some n → found ≡ Some n
 above_is None n is = let nothing : ⊥ = cc in absurd nothing
 above_is (Some m) n is = elim (cases_Bool (m == 0)) [
@@ -83,7 +83,7 @@ side_back roster reads (Some quote) range =
 
 -- ---- records
 
--- a symbol of the roster's sizes is one of the roster
+-- a symbol below the roster's sizes is on the roster
 listed : (roster : Listing) (sym : ℕ) → nat_lt sym (length (sizes_of roster).lots) ≡ true → sym < length roster.syms
 listed roster symbol is =
     let below = ltb-true symbol (length (sizes_of roster).lots) is in
@@ -97,7 +97,7 @@ sym_there : (roster : Listing) → Reads roster → (symbol : ℕ) → nat_lt sy
     → place_in roster.syms (symbol_text roster symbol) ≡ Some symbol
 sym_there roster reads symbol is = reads.syms symbol (listed roster symbol is)
 
--- the fields of a side stand where the record of a quote has them
+-- the fields of a side are at their places in the record of a quote
 record SidesBack (fields : Record) (bid offer : Option Content) : Type 0 where
   bids : SideBack (field fields 4) (field fields 5) bid
   offers : SideBack (field fields 6) (field fields 7) offer

@@ -7,7 +7,7 @@ use nms_lines::{name_of_part, name_of_sym, number_before, price_before, text_bef
 use nms_quote::{Change, QState, Roster, SideQuote};
 use std::alloc::AllocError;
 
-/// Appends the records of changes, in order. After an error a first part of them may stand there.
+/// Appends the records of changes, in order. After an error a first part of them may be there.
 pub fn append_changes(
     out: &mut Vec<u8>,
     roster: &Roster,
@@ -32,7 +32,7 @@ pub fn append_change(out: &mut Vec<u8>, roster: &Roster, change: &Change) -> Res
     out.extend_from_slice(&buf[start..])
 }
 
-/// Writes the fields of a change, which take at most 111 bytes, so that they end at a place, and returns where they start.
+/// Writes the fields of a change, which take at most 111 bytes, so that they end at a place. Returns where they start.
 fn change_before(buf: &mut [u8], end: usize, roster: &Roster, change: &Change) -> usize
     requires room { 111 ≤ end }
     requires within { end ≤ length buf.old }
@@ -72,7 +72,7 @@ fn change_before(buf: &mut [u8], end: usize, roster: &Roster, change: &Change) -
     }
 }
 
-/// Writes a side's price and shares, which take at most 47 bytes, so that they end at a place, and returns where they start.
+/// Writes a side's price and shares, which take at most 47 bytes, so that they end at a place. Returns where they start.
 fn side_before(buf: &mut [u8], end: usize, side: &Option<SideQuote>) -> usize
     requires room { 47 ≤ end }
     requires within { end ≤ length buf.old }

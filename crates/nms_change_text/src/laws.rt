@@ -1,5 +1,4 @@
-//! The law above the text of changes: `specs/ReadBack`. The functions do nothing that counts: their contracts are the
-//! laws.
+//! The law of the text of changes: `specs/ReadBack`. The functions have no effect: their contracts are the laws.
 ghost use Rattle.std.specs.Prelude.{◌≡◌};
 ghost use Rattle.nms_change_text.specs.ReadBack.{ChangesReadAsWritten, IsInRange, IsSideInRange};
 
@@ -7,8 +6,8 @@ use nms_lines::{part_names_are_formed, symbol_names_are_formed};
 use nms_quote::{Change, Roster, SideQuote};
 use nms_units::{Money, Price, digits_read_as_printed};
 
-/// What `append_changes` writes of changes of the roster is a text that has their records and no others, and each record
-/// is read as its change: from a script, from a file of changes, and from its own feed.
+/// `append_changes` writes changes of the roster as a text of their records and no others, each read as its change:
+/// from a script, a file of changes, and its own feed.
 pub fn changes_read_as_written(roster: &Roster)
     ensures { ChangesReadAsWritten roster.now }
 {
@@ -20,7 +19,7 @@ pub fn changes_read_as_written(roster: &Roster)
     roster.finds_each_name();
 }
 
-/// The numbers of each change are in the ranges that a record can say, as its types have them.
+/// The numbers of each change are in the ranges that a record can hold, by its types.
 pub fn a_change_is_in_range(change: &Change)
     ensures { IsInRange change.now }
 {
@@ -36,7 +35,7 @@ pub fn a_change_is_in_range(change: &Change)
     }
 }
 
-/// The numbers of a side are in the ranges that its fields can say.
+/// The numbers of a side are in the ranges that its fields can hold.
 fn a_side_is_in_range(side: &Option<SideQuote>)
     ensures { IsSideInRange side.now }
 {

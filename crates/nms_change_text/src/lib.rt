@@ -1,4 +1,4 @@
-//! A change as text: a record of a file of changes, which is read as that change.
+//! A change as text: a record of a file of changes that is read as that change.
 #![tactic(auto)]
 
 mod change_writing;

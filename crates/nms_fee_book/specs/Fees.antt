@@ -31,7 +31,7 @@ abbrev pub price_on : OrderSide → ℕ → ℤ
 price_on side.Buy price = pos (price * 100000)
 price_on side.Sell price = neg_ℤ (pos (price * 100000))
 
--- what a share costs with fees, in nanodollars: negative where more is received than paid
+-- what a share costs with fees, in nanodollars: negative if more is received than paid
 abbrev pub unit_cost_of : Charges → ℕ → OrderSide → ℕ → ℤ
 unit_cost_of fees part side price = price_on side price +ℤ fee_at (schedule_at fees part) price
 
@@ -45,7 +45,7 @@ abbrev pub rate_cap : Caps → ℕ
 rate_cap caps.Of2005 = RATE_CAP_OF_2005
 rate_cap caps.Of2024 = RATE_CAP_OF_2024
 
--- no fee over its cap. Rebates have ends of their own
+-- no fee over its cap. Rebates have their own limits
 pub record IsCapped (keeps : Caps) (schedule : FeeSchedule) : Type 0 where
   pub fee_low : neg_ℤ (pos MOST_FEE) ≤ℤ schedule.fee
   pub fee_cap : schedule.fee ≤ℤ pos (fee_cap keeps)

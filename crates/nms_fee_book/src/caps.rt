@@ -1,4 +1,4 @@
-//! Which caps hold for access fees: `specs/Fees`.
+//! The caps of access fees: `specs/Fees`.
 ghost use Rattle.std.specs.Prelude.{◌≡◌};
 ghost use Rattle.nms_fee_book.specs.Fees.{fee_cap, rate_cap};
 
@@ -6,7 +6,7 @@ use crate::{FEE_CAP_OF_2005, FEE_CAP_OF_2024, RATE_CAP_OF_2005, RATE_CAP_OF_2024
 
 /// The caps of access fees of 17 CFR 242.610(c): as adopted in 2005, or as amended in 2024.
 ///
-/// Which of them is in force, and from when, is not claimed: whoever makes a `FeeBook` says which it keeps.
+/// Which of them is in force, and from when, is not claimed: the caller who makes a `FeeBook` chooses.
 #[derive(Clone, Copy, PartialEq, Eq)]
 pub enum Caps {
     /// As adopted in 2005: $0.003 a share at a price of one dollar or more, else 0.3 percent of the price.

@@ -1,4 +1,4 @@
-//! What a share costs with the access fees of all participants: `specs/Fees`.
+//! The cost of a share with the access fees of all participants: `specs/Fees`.
 ghost use Rattle.std.specs.Prelude.{◌≡◌, pos, negsuc, ◌≤ℤ◌};
 ghost use Rattle.nms_fee_book.specs.Fees.{fee_at, schedule_at, price_on, unit_cost_of, IsCapped, AreCapped};
 
@@ -31,8 +31,8 @@ impl Model for FeeBook {
 }
 
 impl FeeBook {
-    /// What a share costs at a participant's quotation, with its fee, in nanodollars: more than the
-    /// price for a buyer who is charged, and less negative for a seller who is.
+    /// What a share costs at a participant's quotation, with its fee, in nanodollars: a charge makes a buyer's cost
+    /// more, and a seller's less negative.
     ///
     /// A place without a participant has no fee.
     pub fn unit_cost(&self, part: Part, side: OrderSide, price: Price) -> Money

@@ -1,7 +1,6 @@
 //! The access fees of one participant.
 
-/// The access fees of a participant (17 CFR 242.610(c)); a negative number is a rebate. The caps are those that its
-/// book keeps.
+/// The access fees of a participant (17 CFR 242.610(c)); a negative number is a rebate. Its book's caps apply.
 #[derive(Clone, Copy, PartialEq, Eq)]
 pub struct FeeSchedule {
     /// Nanodollars for a share, at a price of one dollar or more: -`MOST_FEE` to `Caps::fee`.

@@ -7,7 +7,7 @@ use Rattle.nms_fees.specs.Faults.{lesser, number_of}
 use Rattle.nms_fees.specs.declared.setup_fault.SetupFault.{SetupFault}
 use Rattle.nms_fees.specs.declared.setup_fault.SetupFault.TheVariants as fault
 
--- the fault holds where it is found, and doesn't where nothing or a greater one is
+-- the fault holds if it is found, and does not if nothing or a greater fault is found
 abbrev pub AgreesWith : SetupFault → Bool → Option SetupFault → Type 0
 AgreesWith f holds None = holds ≡ false
 AgreesWith f holds (Some g) = (number_of f < number_of g → holds ≡ false) × (number_of f ≡ number_of g → holds ≡ true)

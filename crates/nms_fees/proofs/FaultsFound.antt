@@ -43,7 +43,7 @@ or_swap true true z = refl
 or_swap true false z = refl
 or_swap false y z = refl
 
--- ---- a required key: the value that is found, where there is one
+-- ---- a required key: the value that is found, if there is one
 
 abbrev at : (Data → Bool) → Option Data → Bool
 at test found = option_map_or test found false

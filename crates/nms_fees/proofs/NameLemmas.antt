@@ -1,4 +1,4 @@
--- Names that stand twice.
+-- Repeated names.
 use Rattle.std.proofs.Common.{◌≡◌, ℕ, ◌+◌, ◌<◌, Bool, true, false, not, ◌||◌, List, [], ◌∷◌, ◌++◌, length, take, drop, get_or, map, Some}
 use Rattle.std.proofs.Common.{None, Bor, refl, ap, ◌∙◌, sym, append-nil, if◌then◌else◌}
 use Rattle.std.proofs.lemmas.Bool.{false≢true}
@@ -20,7 +20,7 @@ texts keys = map (λ (key : Bor Name). key.now) keys
 abbrev pub names_of : List Value → List Name
 names_of rows = filter_map name_in (map view rows)
 
--- one more name stands twice where it stood before
+-- one more name is repeated if it was there before
 or_true : (a : Bool) → (a || true) ≡ true
 or_true true = refl
 or_true false = refl
@@ -43,7 +43,7 @@ or_kept true b c d more h = refl
 or_kept false true c d more h = refl
 or_kept false false c d more h = more h
 
--- what stands twice in the front stands twice in all
+-- a name repeated in the front is repeated in the whole
 pub has_repeat-front : (names more : List Name) → has_repeat names ≡ true → has_repeat (names ++ more) ≡ true
 has_repeat-front [] more h = absurd (false≢true h)
 has_repeat-front (first ∷ names) more h =
@@ -56,7 +56,7 @@ any_text : (p : Name → Bool) (keys : List (Bor Name)) → list_any p (texts ke
 any_text p [] = refl
 any_text p (key ∷ keys) = ap (λ rest. p key.now || rest) (any_text p keys)
 
--- what an insert tells of the set before it
+-- what an insert returns about the set before it
 fresh_from : (stood is_new : Bool) → is_new ≡ not stood → is_new ≡ true → stood ≡ false
 fresh_from true is_new e h = absurd (false≢true (sym e ∙ h))
 fresh_from false is_new e h = refl
@@ -92,7 +92,7 @@ module _ (rows : List Value) (i : ℕ) (row : Value) (within : i < length rows) 
     repeats_here = ap has_repeat (names_of-named name.now some) ∙ has_repeat-push (names_of (take i rows)) name.now
         ∙ ap (λ b. has_repeat (names_of (take i rows)) || b) among_seen
 
-    -- the name stood before
+    -- the name was there before
     pub repeated : (is_new : Bool) → is_new ≡ not (list_any (λ (key : Bor Name). bytes_eq name.now key.now) keys) → is_new ≡ false
         → has_repeat (names_of rows) ≡ true
     repeated is_new told old =

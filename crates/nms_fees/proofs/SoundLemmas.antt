@@ -1,4 +1,4 @@
--- What follows where no place of a document has a fault.
+-- What follows if no place of a document has a fault.
 use Rattle.std.proofs.Common.{codes, ◌≡◌, ℕ, ℤ, pos, negsuc, neg_ℤ, unsigned_abs, ◌≤ℤ◌, ◌+◌, ◌<◌, ◌≤◌, Bool, true, false, ◌&&◌, ◌||◌}
 use Rattle.std.proofs.Common.{nat_lt, List, [], ◌∷◌, ◌++◌, length, take, drop}
 use Rattle.std.proofs.Common.{get_or, map, Option, Some, None, if◌then◌else◌, is_some, unwrap_or, option_and_then}
@@ -40,7 +40,7 @@ one_of : (b : Bool) (first second : SetupFault) {P : Type 0} → (if b then Some
 one_of true first second h = cc
 one_of false first second h = cc
 
--- nothing is the lesser of nothing alone
+-- the lesser of two findings is nothing only if both are
 pub lesser-none : (first second : Option SetupFault) → lesser first second ≡ None → (first ≡ None) × (second ≡ None)
 lesser-none None second h = (refl, h)
 lesser-none (Some first) None h = cc
@@ -54,11 +54,11 @@ least_none first (finding ∷ found) h =
     let parts = lesser-none first finding rest.0 in
     (parts.0, (parts.1, rest.1))
 
--- where no finding is a fault, each is none
+-- if no finding is a fault, each is none
 pub none_from_least : (found : List (Option SetupFault)) → least found ≡ None → AllByRecursion (λ finding. finding ≡ None) found
 none_from_least found h = (least_none None found h).1
 
--- a test that was not failed was passed
+-- a test that did not fail passed
 if_none : (b : Bool) (rest : Option SetupFault) (found : SetupFault) → (if b then rest else Some found) ≡ None → (b ≡ true) × (rest ≡ None)
 if_none true rest found h = (refl, h)
 if_none false rest found h = cc
@@ -96,7 +96,7 @@ name_found s None h = cc
 name_found s (Some (string name)) h = (refl, (if_none (is_name_in s name) None fault.BadName h).0)
 name_found s (Some value) h = cc
 
--- the name of a row, empty where it has none
+-- the name of a row, empty if it has none
 abbrev pub name_at : Data → Name
 name_at row = text_at (codes "name") (table_of row)
 
@@ -110,7 +110,7 @@ name_of_row chosen section.Symbol (table members) h =
 name_of_row chosen section.Participant row h = cc
 name_of_row chosen section.Symbol row h = cc
 
--- no name is left out where no row has a fault
+-- no name is left out if no row has a fault
 pub names_of_rows : (chosen : Choices) (s : Section) (rows : List Data) → AllByRecursion (λ row. row_fault chosen s row ≡ None) rows
     → filter_map name_in rows ≡ map name_at rows
 names_of_rows chosen s [] h = refl
@@ -125,7 +125,7 @@ charges_of_row chosen (table members) h =
     record { fee_low = fee.0; fee_cap = fee.1; rate_low = rate.0; rate_cap = rate.1 }
 charges_of_row chosen row h = cc
 
--- a row without a fault names one of the first so many feeds
+-- a row without a fault names one of the first feeds, as many as there are
 feed_found : (count : ℕ) (found : Option Data) → option_map_or (feed_fault count) found (Some fault.Missing) ≡ None
     → place_of (feed_of_text (unwrap_or (option_and_then as_str found) [])) < count
 feed_found count None h = cc
@@ -152,7 +152,7 @@ each_of_map : (chosen : Choices) (s : Section) (rows : List Data)
 each_of_map chosen s [] h = tt
 each_of_map chosen s (row ∷ rows) h = (h.0, each_of_map chosen s rows h.1)
 
--- no row has a fault where an array has none
+-- no row has a fault if its array has none
 each_sound : (chosen : Choices) (s : Section) (rows : List Data) → rows_fault chosen s rows ≡ None
     → AllByRecursion (λ row. row_fault chosen s row ≡ None) rows
 each_sound chosen s rows h = each_of_map chosen s rows
@@ -192,7 +192,7 @@ no_place test entries h =
     let past : nat_lt (length entries) (length entries) ≡ false = grind (arith, nat_tests) in
     rw (none_found test entries h, past)
 
--- a name that stands once in all is none of those before it
+-- a name that is there once in all is not among those before it
 once_before : (names more : List Name) (name : Name) → has_repeat (names ++ name ∷ more) ≡ false → list_any (bytes_eq name) names ≡ false
 once_before names more name h = (or_false (has_repeat names) (list_any (bytes_eq name) names)
     (sym (has_repeat-push names name) ∙ front_once (has_repeat (names ++ name ∷ [])) refl)).1
@@ -219,12 +219,12 @@ names_split rows i row within here =
     ∙ ap (map name_at) (map-append view (take i rows) (row ∷ drop (i + 1) rows))
     ∙ map-append name_at (map view (take i rows)) (view row ∷ map view (drop (i + 1) rows))
 
--- nothing that was told apart is left
+-- if no fault of a repeated name is found, no name is repeated
 not_repeated : (b : Bool) → (if b then Some fault.BadName else None) ≡ None → b ≡ false
 not_repeated true h = cc
 not_repeated false h = refl
 
--- a row of an array without a fault is refused by no roster that has the rows before it
+-- no roster that has the rows before it refuses a row of an array without a fault
 pub unrefused : {Z : Type 0} (chosen : Choices) (s : Section) (z : Data → Z) (rows : List Value) (i : ℕ) (row : Value)
     (entries : List (Name × Z)) → rows_fault chosen s (map view rows) ≡ None → i < length rows → row ≡ get_or rows i row
     → entries ≡ map (λ value. (name_at value, z value)) (map view (take i rows))
@@ -249,7 +249,7 @@ unrefused {Z} chosen s z rows i row entries sound within here before =
     rw count (room_for (most_of s) (length (map view rows)) i found.0 (omega arith)) in
     rw (formed, absent, enough)
 
--- and so have all rows of an array without a fault
+-- and so it is with all rows of an array without a fault
 each_capped : (chosen : Choices) (rows : List Data) → AllByRecursion (λ row. row_fault chosen section.Participant row ≡ None) rows
     → AreCapped chosen.caps (map schedule_of rows)
 each_capped chosen [] h = All-nil (IsCapped chosen.caps)
@@ -288,7 +288,7 @@ count_found low high found h =
     size_within low high (pos n) above below = (omega (arith, ints), omega (arith, ints))
     size_within low high (negsuc n) above below = absurd (omega (arith, ints))
 
--- a number of feeds that is chosen is one of those that there may be
+-- a chosen number of feeds is one of the allowed numbers
 feeds_found : (number : Option ℤ) → (1 ≤ unwrap_or (option_and_then feeds_of number) USUAL_FEEDS) ×
     (unwrap_or (option_and_then feeds_of number) USUAL_FEEDS ≤ MOST_FEEDS)
 feeds_found None = (omega arith, omega arith)

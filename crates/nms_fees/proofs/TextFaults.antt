@@ -1,4 +1,4 @@
--- A text is read as the fault of least number that holds of it, or as a setup where none does.
+-- A text is read as the fault of least number that holds of it, or as a setup if none does.
 use Rattle.std.proofs.Common.{codes, ◌≡◌, ℕ, ◌+◌, ◌<◌, Bool, true, false, ◌||◌, List, [], ◌∷◌, ◌++◌, Option, Some, None, Result, Ok, Err}
 use Rattle.std.proofs.Common.{refl, sym, ap, ◌∙◌, lit<}
 use Rattle.std.specs.Prelude.{is_none, IsOk}

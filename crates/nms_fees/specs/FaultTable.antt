@@ -20,7 +20,7 @@ use Rattle.nms_fees.specs.declared.level.Level.TheVariants as level
 use Rattle.nms_fees.specs.declared.setup_fault.SetupFault.{SetupFault}
 use Rattle.nms_fees.specs.declared.setup_fault.SetupFault.TheVariants as fault
 
--- the value at a key, where there is one, passes a test
+-- the value at a key, if there is one, passes a test
 abbrev pub has_at : (Data → Bool) → Members → Name → Bool
 has_at test table key = option_map_or test (get_member key table) false
 
@@ -33,11 +33,11 @@ misses_key level.Participant table = list_any (λ key. is_none (get_member key t
     (codes "name" ∷ codes "feed" ∷ codes "fee" ∷ codes "rate" ∷ [])
 misses_key level.Symbol table = list_any (λ key. is_none (get_member key table)) (codes "name" ∷ codes "lot" ∷ [])
 
--- C3: another key stands there
+-- C3: another key is there
 abbrev pub has_other_key : Level → Members → Bool
 has_other_key table_of table = list_any (λ key. not (is_known table_of key)) (keys_in table)
 
--- C4: a name is not of its form, or stands twice in its array
+-- C4: a name is not of its form, or is repeated in its array
 abbrev pub is_misnamed : (Name → Bool) → Data → Bool
 is_misnamed is_name value = option_map_or (λ name. not (is_name name)) (as_str value) false
 
@@ -107,7 +107,7 @@ has_charge_over_cap keeps level.Participant table =
     has_at (is_over (fee_cap keeps)) table (codes "fee") || has_at (is_over (rate_cap keeps)) table (codes "rate")
 has_charge_over_cap keeps _ table = false
 
--- C8: there are more participants or symbols than there may be
+-- C8: there are more participants or symbols than allowed
 abbrev pub has_more : ℕ → Data → Bool
 has_more most value = option_map_or (λ rows. nat_lt most (length rows)) (rows_in value) false
 
@@ -138,7 +138,7 @@ document_has other document =
     || list_any (table_has (choices_in document) other level.Participant) (tables_at (codes "participant") document)
     || list_any (table_has (choices_in document) other level.Symbol) (tables_at (codes "symbol") document)
 
--- whether a fault holds of a text: C1 where it is no document
+-- whether a fault holds of a text: C1 if it is not a document
 abbrev pub text_has : Name → SetupFault → Bool
 text_has text fault.NotToml = is_none (parse_document text)
 text_has text other = option_map_or (document_has other) (parse_document text) false

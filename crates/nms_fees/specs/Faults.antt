@@ -33,7 +33,7 @@ abbrev pub status_of : SetupFault → ℕ
 status_of fault.NoMemory = 5
 status_of _ = 3
 
--- of two findings the fault with the smaller number
+-- of two findings, the fault with the smaller number
 abbrev pub lesser : Option SetupFault → Option SetupFault → Option SetupFault
 lesser None found = found
 lesser (Some first) None = Some first

@@ -1,5 +1,4 @@
--- The law above the reading of a text: of the faults that hold, the one of least number is answered. This
--- product's own rule.
+-- The law of reading a text: of the faults that hold, the one of least number is answered. This product's own rule.
 use Rattle.std.specs.Prelude.{◌≡◌, ◌<◌, ◌↔◌, true, false, IsOk, Err, codes, ◌++◌}
 use Rattle.std.specs.Fmt.{decimal}
 use Rattle.nms_quote.specs.Roster.{Name}
@@ -17,8 +16,8 @@ pub record IsLeastFault (text : Name) (fault : SetupFault) : Type 0 where
 abbrev pub IsFaultless : Name → Type 0
 IsFaultless text = (fault : SetupFault) → text_has text fault ≡ false
 
--- a text is read as a fault exactly where that fault is the least that holds, as a setup exactly where none
--- does, and a fault's code is `C` and its number
+-- a text is read as a fault if and only if that fault is the least that holds. It is read as a setup if and only if
+-- none holds. A fault's code is `C` and its number
 pub record ReadsLeastFault : Type 0 where
   pub refused : (text : Name) (fault : SetupFault) → (reading text ≡ Err fault) ↔ IsLeastFault text fault
   pub accepted : (text : Name) → IsOk (reading text) ↔ IsFaultless text

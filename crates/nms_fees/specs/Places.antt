@@ -27,7 +27,7 @@ use Rattle.nms_fees.specs.declared.level.Level.TheVariants as level
 use Rattle.nms_fees.specs.declared.section.Section.{Section}
 use Rattle.nms_fees.specs.declared.section.Section.TheVariants as section
 
--- the fault of a required key: that it is absent, or that of its value
+-- the fault of a required key: it is absent, or its value has a fault
 abbrev pub key_fault : (Data → Option SetupFault) → Name → Members → Option SetupFault
 key_fault value_fault key table = option_map_or value_fault (get_member key table) (Some fault.Missing)
 
@@ -49,11 +49,11 @@ year_fault value =
 abbrev pub caps_fault : Members → Option SetupFault
 caps_fault document = option_map_or year_fault (get_member (codes "caps") document) None
 
--- the caps that a document asks for: those of 2005 where it names none
+-- the caps that a document asks for: those of 2005 if it names none
 abbrev pub caps_in : Members → Caps
 caps_in document = unwrap_or (option_and_then caps_of (option_and_then as_integer (get_member (codes "caps") document))) caps.Of2005
 
--- so many feeds, where there may be so many
+-- that many feeds, if that many are allowed
 abbrev pub feeds_of : ℤ → Option ℕ
 feeds_of number = if int_le (pos 1) number && int_le number (pos MOST_FEEDS) then Some (unsigned_abs number) else None
 
@@ -61,7 +61,7 @@ feeds_of number = if int_le (pos 1) number && int_le number (pos MOST_FEEDS) the
 abbrev pub feeds_fault : Members → Option SetupFault
 feeds_fault document = option_map_or (range_fault (pos 1) (pos MOST_FEEDS)) (get_member (codes "feeds") document) None
 
--- how many feeds a document has: two where it does not say
+-- the number of feeds of a document: two if it does not say
 abbrev pub feeds_in : Members → ℕ
 feeds_in document = unwrap_or (option_and_then feeds_of (option_and_then as_integer (get_member (codes "feeds") document))) USUAL_FEEDS
 
@@ -98,7 +98,7 @@ letter_of feed.H = codes "H"
 abbrev pub feed_named : Name → Option Feed
 feed_named text = find (λ feed. bytes_eq text (letter_of feed)) feeds
 
--- whether a text names one of the first so many feeds
+-- whether a text names one of that many first feeds
 abbrev pub is_feed : ℕ → Name → Bool
 is_feed count text = option_map_or (λ feed. nat_lt (place_of feed) count) (feed_named text) false
 
@@ -130,7 +130,7 @@ is_known level.Top key = is_top_key key
 is_known level.Participant key = is_participant_key key
 is_known level.Symbol key = is_symbol_key key
 
--- that a key stands in a table beside those that are known there
+-- a table has a key other than those known there
 abbrev pub other_key_fault : Level → Members → Option SetupFault
 other_key_fault table_of table = if list_any (λ key. not (is_known table_of key)) (keys_in table) then Some fault.UnknownKey else None
 
@@ -156,7 +156,7 @@ abbrev pub table_findings : Choices → Section → Members → List (Option Set
 table_findings chosen section.Participant table = participant_findings chosen table
 table_findings chosen section.Symbol table = symbol_findings table
 
--- an element of one of the two arrays, which has to be a table
+-- an element of one of the two arrays, which must be a table
 abbrev pub row_fault : Choices → Section → Data → Option SetupFault
 row_fault chosen rows_of row = option_map_or (λ table. least (table_findings chosen rows_of table)) (as_table row) (Some fault.WrongType)
 
@@ -169,16 +169,16 @@ listed (item value rest) = value ∷ listed rest
 abbrev pub rows_in : Data → Option (List Data)
 rows_in value = option_map listed (as_array value)
 
--- the name in an element of an array, where it is a text
+-- the name in an element of an array, if it is a text
 abbrev pub name_in : Data → Option Name
 name_in row = option_and_then as_str (option_and_then (get_member (codes "name")) (as_table row))
 
--- whether a text stands twice
+-- whether a text is repeated
 abbrev pub has_repeat : List Name → Bool
 has_repeat [] = false
 has_repeat (name ∷ names) = list_any (λ other. bytes_eq other name) names || has_repeat names
 
--- that a name stands twice in an array
+-- a name is repeated in an array
 abbrev pub repeat_fault : List Data → Option SetupFault
 repeat_fault rows = if has_repeat (filter_map name_in rows) then Some fault.BadName else None
 
@@ -186,7 +186,7 @@ abbrev pub most_of : Section → ℕ
 most_of section.Participant = MOST_PARTICIPANTS
 most_of section.Symbol = MOST_SYMBOLS
 
--- that an array is empty, or has too many elements
+-- an array is empty, or has too many elements
 abbrev pub count_fault : ℕ → ℕ → Option SetupFault
 count_fault most count = if count == 0 then Some fault.OutOfRange else (if nat_le count most then None else Some fault.TooMany)
 
@@ -198,7 +198,7 @@ rows_findings chosen rows_of rows =
 abbrev pub rows_fault : Choices → Section → List Data → Option SetupFault
 rows_fault chosen rows_of rows = least (rows_findings chosen rows_of rows)
 
--- no fault is found in an element, or in all of them: by some choices, where these are not asked for
+-- no fault is found in an element, or in all of them: for some choices, if they are not given
 abbrev pub IsSound : Section → Data → Type 0
 IsSound rows_of row = (chosen : Choices) × (row_fault chosen rows_of row ≡ None)
 

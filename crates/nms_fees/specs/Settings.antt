@@ -7,8 +7,8 @@ use Rattle.nms_quote.specs.declared.TheConstants.{MOST_CHANGES, MOST_FEEDS}
 use Rattle.nms_fee_book.specs.Fees.{AreCapped, Charges}
 use Rattle.nms_fees.specs.declared.TheConstants.{LEAST_QUEUE, MOST_DESKS, MOST_QUEUE}
 
--- who is on the roster, the fees of each participant by place with the caps that they keep, how many changes the tape
--- may have, how many places the queue has, how many desks there are, and how many feeds
+-- the roster, the fees of each participant by place with the caps that they keep, and the numbers: the most changes of
+-- the tape, the places of the queue, the desks and the feeds
 pub record Settings : Type 0 where
   pub roster : Listing
   pub fees : Charges

@@ -31,7 +31,7 @@ rows_at key document = unwrap_or (option_and_then rows_in (get_member key docume
 abbrev pub table_of : Data → Members
 table_of row = unwrap_or (as_table row) no_members
 
--- the feed that a text names, the first where it names none
+-- the feed that a text names, the first if it names none
 abbrev pub feed_of_text : Name → Feed
 feed_of_text text = unwrap_or (feed_named text) feed.A
 
@@ -65,6 +65,6 @@ settings_of document = record {
 abbrev pub document_reading : Members → Result Settings SetupFault
 document_reading document = option_map_or (λ found. Err found) (document_fault document) (Ok (settings_of document))
 
--- the setup that a text is, or why it is none
+-- the setup that a text is, or why it is refused
 abbrev pub reading : Name → Result Settings SetupFault
 reading text = option_map_or document_reading (parse_document text) (Err fault.NotToml)

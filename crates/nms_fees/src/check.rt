@@ -44,7 +44,7 @@ fn least(found: &[Option<SetupFault>]) -> Option<SetupFault>
     least
 }
 
-/// The fault of a table's keys: that another stands beside those that are known.
+/// The fault of a table's keys: there is one that is not known.
 fn other_key_fault(table: &Table, level: Level) -> Option<SetupFault>
     ensures { result ≡ other_key_fault level (table_view table.now) }
 {
@@ -106,7 +106,7 @@ pub fn cap_fault(value: &Value, most: u32, cap: u32) -> Option<SetupFault>
     }
 }
 
-/// The fault of a required feed, one of the first so many.
+/// The fault of a required feed, one of that many first ones.
 fn letter_fault(table: &Table, key: &str, count: u8) -> Option<SetupFault>
     ensures { result ≡ key_fault (feed_fault count) key.now (table_view table.now) }
 {

@@ -14,13 +14,13 @@ use toml::{Table, Value};
 /// What the keys that may be absent choose for the bounds of others.
 #[derive(Clone, Copy)]
 pub struct Choices {
-    /// The caps that fees keep: those of 2005 where the document names none.
+    /// The caps that fees keep: those of 2005 if the document names none.
     pub caps: Caps,
-    /// How many feeds there are, 1 to `MOST_FEEDS` (8): two where the document does not say.
+    /// The number of feeds, 1 to `MOST_FEEDS` (8): two if the document does not say.
     pub feeds: u8,
 }
 
-/// The fault of the key `caps`: none where it is absent.
+/// The fault of the key `caps`: none if it is absent.
 pub(crate) fn caps_fault(document: &Table) -> Option<SetupFault>
     ensures { result ≡ caps_fault (table_view document.now) }
 {
@@ -43,7 +43,7 @@ pub fn year_fault(value: &Value) -> Option<SetupFault>
     }
 }
 
-/// The fault of the key `feeds`: none where it is absent.
+/// The fault of the key `feeds`: none if it is absent.
 pub(crate) fn feeds_fault(document: &Table) -> Option<SetupFault>
     ensures { result ≡ feeds_fault (table_view document.now) }
 {
@@ -63,7 +63,7 @@ pub fn choices_in(document: &Table) -> Choices
     }
 }
 
-/// The caps that a document asks for: those of 2005 where it names none.
+/// The caps that a document asks for: those of 2005 if it names none.
 fn caps_in(document: &Table) -> Caps
     ensures { result ≡ caps_in (table_view document.now) }
 {
@@ -91,7 +91,7 @@ fn caps_of(year: i64) -> Option<Caps>
     }
 }
 
-/// How many feeds a document has: two where it does not say.
+/// The number of feeds of a document: two if it does not say.
 fn feeds_in(document: &Table) -> u8
     ensures { result ≡ feeds_in (table_view document.now) }
 {

@@ -1,4 +1,4 @@
-//! Names that stand twice in one of the two arrays: `specs/Places`.
+//! Repeated names in one of the two arrays: `specs/Places`.
 ghost use Rattle.std.specs.Prelude.{◌≡◌, [], map, option_copied, IfOk, IfErr};
 ghost use Rattle.std.specs.List.{filter_map};
 ghost use Rattle.toml.specs.View.{view};
@@ -10,7 +10,7 @@ use indexmap::IndexSet;
 use std::alloc::Global;
 use toml::Value;
 
-/// Whether a name stands twice among the elements of an array. Those without a name count for nothing.
+/// Whether a name is repeated among the elements of an array. Elements without a name are skipped.
 pub(crate) fn has_repeat(alloc: Global, rows: &[Value]) -> Result<bool, SetupFault>
     ensures found { IfOk result (λ found. found ≡ has_repeat (filter_map name_in (map view rows.now))) }
     ensures memory { IfErr result (λ fault. fault ≡ SetupFault.NoMemory) }
@@ -19,7 +19,7 @@ pub(crate) fn has_repeat(alloc: Global, rows: &[Value]) -> Result<bool, SetupFau
     repeats(&mut seen, rows)
 }
 
-/// The same, with an empty set for the names that were seen.
+/// As `has_repeat`, with an empty set for the names seen.
 fn repeats<'a>(seen: &mut IndexSet<&'a str>, rows: &'a [Value]) -> Result<bool, SetupFault>
     requires empty { seen.old.keys ≡ [] }
     ensures found { IfOk result (λ found. found ≡ has_repeat (filter_map name_in (map view rows.now))) }
@@ -38,7 +38,7 @@ fn repeats<'a>(seen: &mut IndexSet<&'a str>, rows: &'a [Value]) -> Result<bool, 
     Ok(false)
 }
 
-/// The name in an element of an array, where it is a text.
+/// The name in an element of an array, if it is a text.
 fn name_in(row: &Value) -> Option<&str>
     ensures { option_copied result ≡ name_in (view row.now) }
 {

@@ -48,7 +48,7 @@ impl Setup {
         &self.fees
     }
 
-    /// The caps that the fees keep (17 CFR 242.610(c)): those of 2005, where the document does not name others.
+    /// The caps that the fees keep (17 CFR 242.610(c)): those of 2005, if the document does not name others.
     pub fn caps(&self) -> Caps
         ensures { result ≡ self.now.fees.caps }
     {
@@ -82,8 +82,8 @@ impl Setup {
         self.desks
     }
 
-    /// How many feeds there are, 1 to `MOST_FEEDS` (8): the first ones, and each participant sends on one of them.
-    /// Two, where the document does not say.
+    /// How many feeds there are, 1 to `MOST_FEEDS` (8): the first ones, and each participant sends on one of them. Two,
+    /// if the document does not say.
     pub fn feeds(&self) -> u8
         ensures value { result ≡ self.now.feeds }
         ensures low { 1 ≤ result }

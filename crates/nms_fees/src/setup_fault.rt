@@ -1,20 +1,20 @@
-//! Why a text is no setup: `specs/Faults`, and `specs/Places` for when each fault is found.
+//! Why a text is not a setup: `specs/Faults`, and `specs/Places` for when each fault is found.
 ghost use Rattle.std.specs.Prelude.{◌≡◌};
 ghost use Rattle.nms_fees.specs.Faults.{code_of, number_of, status_of};
 
 use std::fmt;
 use thiserror::Error;
 
-/// Why a text is no setup: the fault of least number that holds anywhere in it.
+/// Why a text is not a setup: the fault of least number anywhere in it.
 #[derive(Clone, Copy, Debug, PartialEq, Eq, Error)]
 pub enum SetupFault {
     /// C1: the text is no TOML document.
     NotToml,
     /// C2: a required key is absent, at the top or in a table of the two arrays.
     Missing,
-    /// C3: another key stands there.
+    /// C3: another key is there.
     UnknownKey,
-    /// C4: a name is a text that is not of its form, or stands twice in its array.
+    /// C4: a name is a text that is not of its form, or is repeated in its array.
     BadName,
     /// C5: a value is not of its kind.
     WrongType,
@@ -29,7 +29,7 @@ pub enum SetupFault {
 }
 
 impl SetupFault {
-    /// The code that messages name it by, `C1` to `C9`.
+    /// The code in messages, `C1` to `C9`.
     pub fn code(self) -> &'static str
         ensures { result.now ≡ code_of self }
     {

@@ -21,8 +21,8 @@ use toml::{Table, Value};
 
 /// Reads a setup from a TOML document.
 ///
-/// The fault of least number that holds anywhere in the text is answered; `NoMemory` may come in
-/// place of any later answer, where memory was short.
+/// The error is the fault of least number anywhere in the text. If memory was short, `NoMemory` may come in place of
+/// any later answer.
 pub fn read_setup(alloc: Global, text: &str) -> Result<Setup, SetupFault>
     ensures read { IfOk result (λ setup. reading text.now ≡ Ok setup) }
     ensures refused { IfErr result (λ fault. fault ≢ SetupFault.NoMemory → reading text.now ≡ Err fault) }
@@ -53,7 +53,7 @@ fn settings_of(alloc: Global, document: &Table) -> Result<Setup, SetupFault>
     let participants = rows_at(document, "participant");
     let symbols = rows_at(document, "symbol");
     let chosen = choices_in(document);
-    // The roster is made last: no way out of here has to drop one.
+    // The roster is made last, so that no early return has to drop one.
     Ok(Setup {
         fees: fees_of(alloc, chosen, participants)?,
         roster: roster_of(alloc, participants, symbols)?,
@@ -183,7 +183,7 @@ fn schedule_of(row: &Value) -> FeeSchedule
     }
 }
 
-/// The text at a key of a row, or an empty one where there is none.
+/// The text at a key of a row, or an empty one if there is none.
 fn text_in<'a>(row: &'a Value, key: &str) -> &'a str
     ensures { result.now ≡ text_at key.now (table_of (view row.now)) }
 {
@@ -193,7 +193,7 @@ fn text_in<'a>(row: &'a Value, key: &str) -> &'a str
     }
 }
 
-/// The number at a key of a row, or 0 where there is none.
+/// The number at a key of a row, or 0 if there is none.
 fn number_in(row: &Value, key: &str) -> i64
     ensures { result ≡ number_at key.now (table_of (view row.now)) }
 {

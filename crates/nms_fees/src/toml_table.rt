@@ -16,7 +16,7 @@ pub fn value_at<'a>(table: &'a Table, key: &str) -> Option<&'a Value>
     table.get(key)
 }
 
-/// The text at a key, or an empty one where there is none.
+/// The text at a key, or an empty one if there is none.
 pub(crate) fn text_at<'a>(table: &'a Table, key: &str) -> &'a str
     ensures { result.now ≡ text_at key.now (table_view table.now) }
 {
@@ -29,7 +29,7 @@ pub(crate) fn text_at<'a>(table: &'a Table, key: &str) -> &'a str
     }
 }
 
-/// The number at a key, or 0 where there is none.
+/// The number at a key, or 0 if there is none.
 pub(crate) fn number_at(table: &Table, key: &str) -> i64
     ensures { result ≡ number_at key.now (table_view table.now) }
 {
@@ -42,7 +42,7 @@ pub(crate) fn number_at(table: &Table, key: &str) -> i64
     }
 }
 
-/// The size of the number at a key, or 0 where there is none.
+/// The size of the number at a key, or 0 if there is none.
 pub(crate) fn count_at(table: &Table, key: &str) -> u64
     ensures { result ≡ count_at key.now (table_view table.now) }
 {
@@ -59,7 +59,7 @@ pub fn rows_in(value: &Value) -> Option<&[Value]>
     }
 }
 
-/// The elements of the array at a key, or none where there is no array.
+/// The elements of the array at a key, or none if there is no array.
 pub fn rows_at<'a>(table: &'a Table, key: &str) -> &'a [Value]
     ensures { map view result.now ≡ rows_at key.now (table_view table.now) }
 {
@@ -72,7 +72,7 @@ pub fn rows_at<'a>(table: &'a Table, key: &str) -> &'a [Value]
     }
 }
 
-/// Whether a key stands in a table beside those that are known there.
+/// Whether a table has a key other than those known there.
 pub(crate) fn has_other_key(table: &Table, level: Level) -> bool
     ensures { result ≡ list_any (λ key. not (is_known level key)) (keys_in (table_view table.now)) }
 {
@@ -94,7 +94,7 @@ fn is_known(level: Level, key: &str) -> bool
     }
 }
 
-/// Whether a key may stand at the top of a document.
+/// Whether a key may be at the top of a document.
 pub fn is_top_key(key: &str) -> bool
     ensures { result ≡ is_top_key key.now }
 {
@@ -107,14 +107,14 @@ pub fn is_top_key(key: &str) -> bool
         || key == "symbol"
 }
 
-/// Whether a key may stand in an element of the participants.
+/// Whether a key may be in an element of the participants.
 pub fn is_participant_key(key: &str) -> bool
     ensures { result ≡ is_participant_key key.now }
 {
     key == "name" || key == "feed" || key == "fee" || key == "rate"
 }
 
-/// Whether a key may stand in an element of the symbols.
+/// Whether a key may be in an element of the symbols.
 pub fn is_symbol_key(key: &str) -> bool
     ensures { result ≡ is_symbol_key key.now }
 {

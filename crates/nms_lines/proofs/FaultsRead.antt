@@ -1,4 +1,4 @@
--- A record is read as the first of all faults that holds of it, or as a line where none does.
+-- A record is read as the first of all faults that hold of it, or as a line if none does.
 use Rattle.std.proofs.Common.{◌≡◌, ℕ, true, false, Bool, cond, not, ◌&&◌, ◌||◌, List, [], ◌∷◌, ◌++◌, length, Option, Some, None, Ok, Err}
 use Rattle.std.proofs.Common.{Result, refl, sym, ap, ◌∙◌, ◌+◌, ◌<◌, lit<, lit≤, if◌then◌else◌}
 use Rattle.std.specs.Prelude.{is_none, IsOk, codes}
@@ -35,7 +35,7 @@ abbrev told : {A : Type 0} → Result A LineFault → Option LineFault
 told (Ok x) = None
 told (Err f) = Some f
 
--- a step with one fault, and then what is told behind it
+-- a step with one fault, and then what the steps after it answer
 step : {A : Type 0} (r : Result A LineFault) (more : A → Result Line LineFault) (f : LineFault) (wrong : Bool) (rest : Option LineFault)
     → told r ≡ cond wrong (Some f) None → ((x : A) → r ≡ Ok x → told (more x) ≡ rest) → told (r >>= more) ≡ cond wrong (Some f) rest
 step (Ok x) more f true rest e behind = absurd (cc)
@@ -57,7 +57,7 @@ ok_or_found (Some y) f x e = cc
 
 -- ---- the steps of a kind
 
--- a participant of another feed is the last thing that a change is refused for
+-- the last fault of a change: a participant of another feed
 foreign_told : (roster : Listing) (from : Reading) (name : List ℕ) (part : ℕ) (line : Line) → part_in roster name ≡ Ok part
     → told (refuse_if (is_foreign from (feed_at roster part)) fault.WrongFeed >>= (λ feed. Ok line))
     ≡ cond (is_foreign_name roster from name) (Some fault.WrongFeed) None
@@ -69,7 +69,7 @@ foreign_told roster from name part line e =
     (refuse_if_told _ _) (λ x h. refl)
     ∙ ap (λ b. cond b (Some fault.WrongFeed) None) (sym known)
 
--- a desk is the last thing that a look is refused for
+-- the last fault of a look: its desk
 desk_told : (from : Reading) (text : List ℕ) (line : ℕ → Line)
     → told (desk_below (desks_of from) text >>= (λ desk. Ok (line desk))) ≡ cond (is_no_desk from text) (Some fault.BadDesk) None
 desk_told from text line = step (desk_below (desks_of from) text) _ fault.BadDesk (is_no_desk from text) None (ok_or_told _ _) (λ x h. refl)
@@ -79,7 +79,7 @@ either_told : (a b : Bool) (f : LineFault) (rest : Option LineFault) → cond a 
 either_told true b f rest = refl
 either_told false b f rest = refl
 
--- the steps of both sides, and then what is told behind them
+-- the steps of both sides, and then what the steps after them answer
 sides_told : {S : Type 0} (price shares half : Bool) (sides : S) (more : S → Result Line LineFault) (rest : Option LineFault)
     → told (more sides) ≡ rest
     → told ((refuse_if price fault.BadPrice >>= (λ x. refuse_if shares fault.BadShares
@@ -90,12 +90,12 @@ sides_told false true half sides more rest e = refl
 sides_told false false true sides more rest e = refl
 sides_told false false false sides more rest e = e
 
--- an average, where there are four fields and the word is there
+-- an average, if there are four fields and the word is there
 abbrev averaged : Bool → Bool → Result ℕ LineFault → Result (Option ℕ) LineFault
 averaged four word price =
     if four then (if word then price >>= (λ number. Ok (Some number)) else Err fault.BadState) else Ok None
 
--- its two steps, and then what is told behind them
+-- its two steps, and then what the steps after them answer
 average_told : (four word : Bool) (price : Result ℕ LineFault) (no_price : Bool) (more : Option ℕ → Result Line LineFault)
     (rest : Option LineFault)
     → told price ≡ cond no_price (Some fault.BadPrice) None → ((x : Option ℕ) → averaged four word price ≡ Ok x → told (more x) ≡ rest)
@@ -108,7 +108,7 @@ average_told true true (Err f) true more rest e behind = e
 average_told true true (Err f) false more rest e behind = absurd (cc)
 average_told false word price no_price more rest e behind = behind None refl
 
--- where an average was read, the third field is no lot to be looked at
+-- if an average was read, the third field is not checked as a lot
 lot_in_told : (fields : Record) (four word : Bool) (price : Result ℕ LineFault) (average : Option ℕ) → averaged four word price ≡ Ok average
     → told (lot_in fields average) ≡ cond (not four && is_none (lot_number (field fields 2))) (Some fault.BadLot) None
 lot_in_told fields true word price (Some number) e = refl

@@ -1,4 +1,4 @@
--- The first of all faults that holds is the one of least number that does.
+-- The first of all faults that hold is the one of least number that holds.
 use Rattle.std.proofs.Common.{◌≡◌, ℕ, suc, ◌<◌, ◌≤◌, ◌⊎◌, inl, inr, true, false, Bool, cond, List, [], ◌∷◌, Option, Some, None, refl, sym}
 use Rattle.std.proofs.Common.{ap, subst, ◌∙◌, arith, lit≤}
 use Rattle.nms_lines.specs.Faults.{number_of}
@@ -114,12 +114,12 @@ none_at has x xs g true here among more e = absurd (cc)
 none_at has x xs g false here (inl is_x) more e = subst (λ k. has k ≡ false) (sym is_x) here
 none_at has x xs g false here (inr later) more e = more e later
 
--- where there is no first, none holds
+-- if there is no first, none holds
 pub none_holds : (has : LineFault → Bool) (xs : List LineFault) (g : LineFault) → first_of has xs ≡ None → IsAmong g xs → has g ≡ false
 none_holds has [] g e among = absurd among
 none_holds has (x ∷ xs) g e among = none_at has x xs g (has x) refl among (none_holds has xs g) e
 
--- and where none holds there is no first
+-- and if none holds, there is no first
 pub no_first : (has : LineFault → Bool) (xs : List LineFault) → ((g : LineFault) → has g ≡ false) → first_of has xs ≡ None
 no_first has [] none = refl
 no_first has (x ∷ xs) none = ap (λ b. cond b (Some x) (first_of has xs)) (none x) ∙ no_first has xs none

@@ -1,4 +1,4 @@
--- The record of a plan reads as it does with its order read as one.
+-- The record of a plan reads the same with its order read in one step.
 use Rattle.std.proofs.Common.{◌≡◌, ℕ, ℤ, Bool, Option, Some, None, refl}
 use Rattle.nms_units.specs.Digits.{number_in}
 use Rattle.nms_units.specs.Price.{price_number}
@@ -12,7 +12,7 @@ use Rattle.nms_lines.specs.Named.{named_at}
 use Rattle.nms_lines.specs.Numbers.{above_zero, shares_number}
 use Rattle.nms_lines.specs.PlanReading.{◌>>=◌, Head, check, head_by_order, head_in, is_plan}
 
--- an order, where each of its parts is there
+-- an order, if each of its parts is there
 abbrev order_of : Option OrderSide → Option ℕ → Option ℕ → Option ℕ → Option Bool → Option ℕ → Option Terms
 order_of sides syms counts limits flags sets = do
   side ← sides
@@ -23,7 +23,7 @@ order_of sides syms counts limits flags sets = do
   self_help ← sets
   Some (record { side = side; sym = sym; shares = shares; limit = limit; manual = manual; self_help = self_help })
 
--- a head, where its order and each of its other parts are there
+-- a head, if its order and each of its other parts are there
 abbrev head_around : Option (Unit {0}) → Option ℕ → Option Terms → Option ℕ → Option ℤ → Option Head
 head_around words versions orders counts costs = do
   plan ← words
@@ -33,7 +33,7 @@ head_around words versions orders counts costs = do
   cost ← costs
   Some (record { version = version; order = order; filled = filled; cost = cost })
 
--- a head, where each of its parts is there
+-- a head, if each of its parts is there
 abbrev head_of : Option (Unit {0}) → Option ℕ → Option OrderSide → Option ℕ → Option ℕ → Option ℕ → Option Bool → Option ℕ → Option ℕ
     → Option ℤ → Option Head
 head_of words versions sides syms counts limits flags sets fills costs = do

@@ -1,4 +1,4 @@
--- The records that a reader has still to give, after it gave one.
+-- The records that a reader still has to give after it gave one.
 use Rattle.std.proofs.Common.{◌≡◌, ℕ, true, false, List, [], ◌∷◌, refl, sym, ap, ◌∙◌, inl, inr}
 use Rattle.std.specs.Prelude.{IsSome, Option, Some}
 use Rattle.csv.specs.Machine.{Read}
@@ -54,7 +54,7 @@ left_more remaining old new left fields was read ready =
       },
     )
 
--- where none is read none was left
+-- if none is read, none was left
 pub left_none : {R : Type 0} (remaining : R → Option (List ℕ)) (old new : Reader R) (left : List Record) (fields : Record)
     → AreLeft remaining old left → ReadRecord remaining old new false fields → left ≡ []
 unfolding Reached
@@ -73,7 +73,7 @@ pub left_first : {R : Type 0} (remaining : R → Option (List ℕ)) (reader : Re
 left_first remaining reader bytes records plain ready config known start all =
     record { plain = plain; ready = ready; config = config; bytes = strip_bom bytes; known = known; records = rw start all }
 
--- a header row that is set leaves all that is to come
+-- setting a header row leaves all records to read
 pub left_headed : {R : Type 0} (remaining : R → Option (List ℕ)) (old new : Reader R) (bytes : List ℕ) (records : List Record)
     → ChangesHeaders old new → IsSome (reader_headers new) → names_headers old ≡ true → reader_trim old ≡ trim.None
     → reader_config old ≡ default_config → source_of remaining old ≡ Some (strip_bom bytes) → reader_state old ≡ state.StartRecord

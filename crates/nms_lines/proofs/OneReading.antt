@@ -14,7 +14,7 @@ use Rattle.csv.specs.declared.parser.Terminator.TheVariants as term
 use Rattle.nms_lines.specs.Layout.{Record}
 use Rattle.nms_lines.specs.TextLaws.{HasOneList}
 
--- ---- behind the end of a record the end of the text ends no other
+-- ---- after the end of a record, the end of the text ends no other
 
 abbrev EndsNone : State × Action → Type 0
 EndsNone to = is_end to.1 ≡ true → ends_at_end to.0 ≡ false
@@ -75,7 +75,7 @@ step_none cfg state.AfterCr c = one_of (c == 10) (
 
 -- ---- each record makes what is left shorter
 
--- what is left: the bytes, and one more where the end of the text ends a record
+-- what is left: the bytes, and one more if the end of the text ends a record
 abbrev size : State → List ℕ → ℕ
 size s bytes = length bytes + cond (ends_at_end s) 1 0
 

@@ -1,4 +1,4 @@
--- No field of a plan's text needs a quote, so `csv` writes its records as they stand.
+-- No field of a plan's text needs a quote, so `csv` writes its records as they are.
 use Rattle.std.proofs.Common.{arith, ℕ, zero, suc, ℤ, pos, negsuc, ◌≡◌, ◌+◌, ◌/◌, ◌%◌, ◌<◌, ◌==◌, ◌&&◌, ◌||◌, Bool, true, false, cond, List}
 use Rattle.std.proofs.Common.{[], ◌∷◌, ◌++◌, refl, sym, ap, ◌∙◌, map, length}
 use Rattle.std.specs.Prelude.{option_map, slice_get, unwrap_or, codes, if◌then◌else◌}
@@ -120,7 +120,7 @@ plain_name : (passes : ℕ → Bool) (most : ℕ) → ((c : ℕ) → passes c �
     → is_name_of passes most name ≡ true → IsPlain name
 plain_name passes most plain name is = plain_chars passes plain name (both _ (list_all passes name) is).1
 
--- the name of an entry's place, which is nothing behind the last
+-- the name of an entry's place, which is empty past the last
 plain_entry : {Z : Type 0} (is_name : Name → Bool) (entries : List (Name × Z)) → ((name : Name) → is_name name ≡ true → IsPlain name)
     → ((place : ℕ) → place < length entries → is_name (unwrap_or (option_map (λ entry. entry.0) (slice_get entries place)) []) ≡ true)
     → (place : ℕ) → IsPlain (unwrap_or (option_map (λ entry. entry.0) (slice_get entries place)) [])
@@ -160,7 +160,7 @@ body_as_it_is field (next ∷ rest) plain all =
     ap (λ (text : List ℕ). text ++ 44 ∷ row_body default_writer (next ∷ rest)) (field_as_it_is field plain)
     ∙ ap (λ (text : List ℕ). field ++ 44 ∷ text) (body_as_it_is next rest all.0 all.1)
 
--- `csv` writes it as it stands
+-- `csv` writes it as it is
 pub record IsSame (fields : Record) : Type 0 where
   pub same : row_text default_writer fields ≡ record_text fields
 

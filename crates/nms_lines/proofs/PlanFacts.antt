@@ -20,7 +20,7 @@ pub no_head : (roster : Listing) (left : List Record) (fields : Record) (more : 
     → head_in roster fields ≡ None → plan_in roster left ≡ None
 no_head roster left fields more is none = rw (is, none) refl
 
--- what is read of a thing that is there, where nothing else is said
+-- what is read of a thing that is there, if nothing else is said
 pub if_ok_or : {A E : Type 0} (P : A → Type 0) (found : Option A) (fault : E) (result : Result A E) → result ≡ ok_or found fault
     → ((x : A) → found ≡ Some x → P x) → IfOk result P
 if_ok_or P None fault result is all = rw is tt
@@ -30,7 +30,7 @@ none_after : {A B : Type 0} (found : Option A) (more : A → Option B) → ((x :
 none_after None more none = refl
 none_after (Some x) more none = none x
 
--- none where the legs are not followed by cuts and an end, or are too many
+-- none if the legs are not followed by cuts and an end, or are too many
 pub no_legs : (roster : Listing) (left : List Record) (fields : Record) (more : List Record) (head : Head) → left ≡ fields ∷ more
     → head_in roster fields ≡ Some head
     → (behind_legs roster more ≡ []) ⊎ (is_few (legs_of roster more) ≡ false) → plan_in roster left ≡ None
@@ -41,7 +41,7 @@ no_legs roster left fields more head is one (inr many) =
 
 -- ---- legs
 
--- so many legs were read, and these records are left of all
+-- that many legs were read, and these records are left of all
 abbrev pub LegsRead : Listing → List Record → List Leg → List Record → Type 0
 LegsRead roster all legs left = (legs_of roster all ≡ legs ++ legs_of roster left) × (behind_legs roster all ≡ behind_legs roster left)
 
@@ -84,14 +84,14 @@ legs_over roster all left legs was full = too_many (legs_of roster all) (rw was.
 
 -- ---- cuts
 
--- so many cuts were read, and these records are left of all
+-- that many cuts were read, and these records are left of all
 abbrev pub CutsRead : List Record → List Cut → List Record → Type 0
 CutsRead all cuts left = cuts_in all ≡ option_map (λ more. cuts ++ more) (cuts_in left)
 
 pub cuts_start : (all : List Record) → CutsRead all [] all
 cuts_start all = sym (option_map_id (cuts_in all))
 
--- a record that is no end
+-- a record that is not an end
 no_end : (fields : Record) (behind : List Record) → is_record (codes "END") 1 fields ≡ false → is_end fields behind ≡ false
 no_end fields behind other = rw other refl
 
@@ -114,7 +114,7 @@ unfolding cuts_in
 cuts_end all left cuts fields was end is =
     let before = rw (is, end, append-nil cuts) at was in before
 
--- ---- where there is no certificate, or one of more cuts
+-- ---- if there is no certificate, or one of more cuts
 
 abbrev pub NoCuts : List Record → Type 0
 NoCuts all = IfSome (cuts_in all) (λ cuts. is_few cuts ≡ false)
@@ -122,7 +122,7 @@ NoCuts all = IfSome (cuts_in all) (λ cuts. is_few cuts ≡ false)
 none_is : (all : List Record) → cuts_in all ≡ None → NoCuts all
 none_is all none = rw none tt
 
--- an end is no cut
+-- an end is not a cut
 end_no_cut : (fields : Record) → is_record (codes "END") 1 fields ≡ true → cut_in fields ≡ None
 end_no_cut fields end =
     let one = eqb-true (length fields) 1 (and_parts (length fields == 1) (is_text (codes "END") (field fields 0)) end).0 in

@@ -148,7 +148,7 @@ kind_back roster reads price (kind.Marginal money) range fits =
 cut_back : (roster : Listing) → Reads roster → (cut : Cut) → IsCutInRange cut → cut_in (cut_record cut) ≡ Some cut
 cut_back roster reads cut range = kind_back roster reads cut.price cut.kind range.0 range.1
 
--- a cut is no end, and no leg
+-- a cut is neither an end nor a leg
 no_end : (price : ℕ) (said : CutKind) (behind : List Record) → is_end (cut_record (record { price = price; kind = said })) behind ≡ false
 no_end price kind.TooMuch behind = refl
 no_end price kind.TooLittle behind = refl

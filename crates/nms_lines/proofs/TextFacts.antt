@@ -11,7 +11,7 @@ use Rattle.nms_lines.specs.PlanText.{plan_fields, plan_record}
 use Rattle.nms_lines.specs.Layout.{Record}
 use Rattle.nms_lines.specs.Text.{later_fields, record_text, text_of}
 
--- more fields behind a record's, each after a comma
+-- more fields after a record's, each after a comma
 pub join-append : (x : List ℕ) (xs ys : List (List ℕ)) → join_with_byte 44 (x ∷ (xs ++ ys)) ≡ join_with_byte 44 (x ∷ xs) ++ later_fields ys
 join-append x [] [] = sym (append-nil x)
 join-append x [] (y ∷ ys) = ap (λ (t : List ℕ). x ++ 44 ∷ t) (join-append y [] ys)

@@ -1,4 +1,4 @@
--- What was written where a writing ends early.
+-- What was written if a writing ends early.
 use Rattle.std.proofs.Common.{ℕ, ◌≡◌, ◌++◌, ◌+◌, ◌-◌, ◌≤◌, List, [], Option, Some, None, length, take, drop, refl, sym, ap, subst, ◌∙◌}
 use Rattle.std.proofs.Common.{append_assoc, arith}
 use Rattle.std.proofs.lemmas.List.{append-nil, drop-take, length-drop, take-append-drop, take-take, take_all}
@@ -7,14 +7,14 @@ use Rattle.std.specs.Io.KnownBytes.{Appends, Keeps, append_known}
 use Rattle.csv.proofs.WriteFacts.{appends-more}
 use Rattle.nms_lines.specs.Written.{AppendsPart}
 
--- a first part, and what comes behind it
+-- a first part, and what comes after it
 take_add : (n m : ℕ) (text : List ℕ) → take (n + m) text ≡ take n text ++ take m (drop n text)
 take_add n m text =
     sym (take-append-drop n (take (n + m) text))
     ∙ ap (λ (t : List ℕ). t ++ drop n (take (n + m) text)) (take-take n (n + m) text (omega arith))
     ∙ ap (λ (t : List ℕ). take n text ++ t) (drop-take n m text)
 
--- what is left of the text behind a place in it
+-- what is left of the text after a place in it
 rest_of : (text : List ℕ) (done : ℕ) → take (length text - done) (drop done text) ≡ drop done text
 rest_of text done = take_all (length text - done) (drop done text) (omega (arith, length-drop done text))
 
@@ -44,14 +44,14 @@ pub part_written : (old new : Option (List ℕ)) (text : List ℕ) (done : ℕ) 
 part_written old new text done written =
     record { part = take done text; rest = drop done text; split = sym (take-append-drop done text); written = written }
 
--- and nothing more where the next write failed
+-- and nothing more if the next write failed
 pub failed_part : {E : Type 0} (result : Result ⊤ E) (old now new : Option (List ℕ)) (text : List ℕ) (done : ℕ)
     → Appends old now (take done text) → Keeps now new → OnErr result (AppendsPart old new text)
 failed_part (Ok done_all) old now new text done written keeps = tt
 failed_part (Err e) old now new text done written keeps =
     part_written old new text done (keeps_written old now new (take done text) written keeps)
 
--- a text behind known bytes
+-- a text after known bytes
 pub appended : (old : Option (List ℕ)) (text : List ℕ) → Appends old (append_known old text) text
 appended None text = tt
 appended (Some x) text = refl

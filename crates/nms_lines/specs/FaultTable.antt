@@ -1,7 +1,7 @@
 -- The table of faults: which of them hold of a record, for each kind. This product's own rule.
 --
--- Several may hold. Where L2 holds, missing fields read as empty, so that what the later faults say of
--- them does not matter: L2 is answered.
+-- Several may hold. If L2 holds, missing fields read as empty. Then the later faults of these fields do not matter: L2
+-- is answered.
 use Rattle.std.specs.Prelude.{◌||◌, not, Bool, true, false, length, Option, Some, None, is_none}
 use Rattle.nms_quote.specs.Roster.{Listing, place_in}
 use Rattle.nms_lines.specs.FieldFaults.{has_no_name, is_foreign_lot, is_foreign_name, is_no_average, is_no_average_price, is_no_desk}

@@ -1,4 +1,4 @@
--- Faults: their numbers and codes, and how the first that is found is answered. This product's own rule.
+-- Faults: their numbers and codes, and the answer with the first that is found. This product's own rule.
 use Rattle.std.specs.Prelude.{ℕ, Bool, true, false, List, codes, Result, Ok, Err}
 use Rattle.nms_lines.specs.declared.line_fault.LineFault.{LineFault}
 use Rattle.nms_lines.specs.declared.line_fault.LineFault.TheVariants as fault
@@ -38,7 +38,7 @@ abbrev pub ◌>>=◌ : {A B : Type 0} → Result A LineFault → (A → Result B
 (Ok x) >>= f = f x
 (Err e) >>= f = Err e
 
--- the fault, where something is wrong
+-- the fault, if something is wrong
 abbrev pub refuse_if : Bool → LineFault → Result (Unit {0}) LineFault
 refuse_if true fault = Err fault
 refuse_if false fault = Ok tt

@@ -45,7 +45,7 @@ side_named text =
 abbrev pub side_in : List ℕ → Result OrderSide LineFault
 side_in text = ok_or (side_named text) fault.BadState
 
--- the participants that an order names under self-help, by the names in its eighth field, where it has one
+-- the participants that an order names under self-help, by the names in its eighth field, if it has one
 abbrev pub self_help_in : Listing → Record → Result ℕ LineFault
 self_help_in roster fields = ok_or (named_at 7 roster fields) fault.UnknownParticipant
 
@@ -53,8 +53,8 @@ self_help_in roster fields = ok_or (named_at 7 roster fields) fault.UnknownParti
 abbrev pub flag_named : List ℕ → Option Bool
 flag_named text = if is_text (codes "M") text then Some true else (if is_text [] text then Some false else None)
 
--- whether an order allows manual quotations: as a record's last, its seventh field is `M`; before an eighth one it may be
--- empty; a record without one does not
+-- whether an order allows manual quotations: the seventh field is `M`, or empty before an eighth field. A record
+-- without a seventh field does not
 abbrev pub flag_of : Record → Option Bool
 flag_of fields =
     if length fields == 7
@@ -79,7 +79,7 @@ average_price_in fields = do
   price ← price_in (field fields 3)
   Ok (Some price)
 
--- the one that a round lot is given by, behind the word `AVG`, where it is given by one
+-- the average price of a round lot, after the word `AVG`, if the lot is given by one
 abbrev pub average_in : Record → Result (Option ℕ) LineFault
 average_in fields =
     if has_average fields

@@ -1,5 +1,5 @@
--- The law above the reading of a record: of the faults that hold, the one of least number is answered. This
--- product's own rule.
+-- The law of the reading of a record: of the faults that hold, the one of least number is answered. This product's own
+-- rule.
 use Rattle.std.specs.Prelude.{◌≡◌, ◌<◌, ◌↔◌, ◌++◌, true, false, IsOk, Err, codes}
 use Rattle.std.specs.Fmt.{decimal}
 use Rattle.nms_quote.specs.Roster.{Listing}
@@ -19,8 +19,8 @@ pub record IsLeastFault (roster : Listing) (from : Reading) (fields : Record) (f
 abbrev pub IsFaultless : Listing → Reading → Record → Type 0
 IsFaultless roster from fields = (fault : LineFault) → has_fault roster from fields fault ≡ false
 
--- a record is read as a fault exactly where that fault is the least that holds, as a line exactly where none
--- does, and a fault's code is `L` and its number
+-- a record is read as a fault if and only if that fault is the least that holds. It is read as a line if and only if
+-- none holds. A fault's code is `L` and its number
 pub record ReadsLeastFault : Type 0 where
   pub refused : (roster : Listing) (from : Reading) (fields : Record) (fault : LineFault)
       → (reading roster from fields ≡ Err fault) ↔ IsLeastFault roster from fields fault

@@ -31,8 +31,8 @@ kind_named text =
     else (if is_text (codes "E") text then Some kind.Through
     else (if is_text (codes "O") text then Some kind.Sweep else None))))))))))
 
--- how many fields a record of the kind has. An order may have one more, its flag, and then one more, the participants
--- that it names; a round lot may have one more, its average price
+-- the number of fields of a record of the kind. An order may have one more, its flag, and then one more, the
+-- participants that it names. A round lot may have one more, its average price
 abbrev pub is_count : Kind → ℕ → Bool
 is_count kind.Quote n = n == 8
 is_count kind.State n = n == 4

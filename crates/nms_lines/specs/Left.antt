@@ -1,4 +1,4 @@
--- The records that a reader has still to give.
+-- The records that a reader still has to give.
 use Rattle.std.specs.Prelude.{ℕ, ◌≡◌, List, Option, Some}
 use Rattle.csv.specs.Reading.{AreRecords, Ready, default_config, reader_config, reader_state, reader_trim, source_of}
 use Rattle.csv.specs.declared.reader.Reader.{Reader}

@@ -40,7 +40,7 @@ kind_of (line.Best desk sym) = kind.Best
 kind_of (line.Through desk sym price) = kind.Through
 kind_of (line.Sweep desk order) = kind.Sweep
 
--- from a feed a change is one that belongs to the feed
+-- a change from a feed belongs to the feed
 abbrev pub IsSent : Listing → Reading → Line → Type 0
 IsSent roster from (line.Change change) = IsSentBy roster from change
 IsSent roster from line.TakeOne = ⊤

@@ -45,7 +45,7 @@ withdraw_reading roster from fields = do
   feed ← refuse_if (is_foreign from (feed_at roster part)) fault.WrongFeed
   Ok (line.Change (change.Withdraw part))
 
--- R,sym,lot, or R,sym,AVG,price. The lot is looked at last
+-- R,sym,lot, or R,sym,AVG,price. The lot is checked last
 abbrev pub lot_reading : Listing → Reading → Record → Result Line LineFault
 lot_reading roster from fields = do
   sym ← symbol_in roster (field fields 1)
@@ -87,7 +87,7 @@ sweep_reading roster from fields = do
   desk ← desk_below (desks_of from) (field fields 1)
   Ok (line.Sweep desk (record { side = side; sym = sym; shares = shares; limit = limit; manual = manual; self_help = self_help }))
 
--- the fields of a record of the kind, of which it has as many as the kind
+-- the fields of a record of the kind, as many as the kind has
 abbrev pub kind_reading : Listing → Reading → Record → Kind → Result Line LineFault
 kind_reading roster from fields kind.Quote = quote_reading roster from fields
 kind_reading roster from fields kind.State = state_reading roster from fields

@@ -1,5 +1,5 @@
--- The law above the text of a plan: what is written of a plan that fits its fields is read as that plan. This
--- product's own rule.
+-- The law of a plan's text: what is written of a plan that fits its fields is read as that plan. This product's own
+-- rule.
 use Rattle.std.specs.Prelude.{ℕ, ℤ, ⊤, pos, neg_ℤ, ◌≡◌, ◌<◌, ◌≤◌, ◌^◌, ◌<ℤ◌, List, All, Some, length}
 use Rattle.nms_units.specs.declared.TheConstants.{MOST_PRICE, MOST_SHARES}
 use Rattle.nms_quote.specs.Roster.{Listing}

@@ -1,5 +1,5 @@
--- The plan and the certificate that records are, where they have exactly the layout: one record of the plan,
--- at most 32 legs, at most 32 cuts, an end, and nothing behind it. This product's own rule.
+-- The plan and the certificate that records are, if they have exactly the layout: one record of the plan, at most 32
+-- legs, at most 32 cuts, an end, and nothing after it. This product's own rule.
 use Rattle.std.specs.Prelude.{ℕ, ℤ, Bool, true, false, ◌==◌, ◌&&◌, ◌||◌, List, [], ◌∷◌, codes, length, nat_le, Option, Some, None}
 use Rattle.std.specs.Prelude.{option_map, if◌then◌else◌}
 use Rattle.nms_units.specs.Digits.{number_in}
@@ -23,12 +23,12 @@ abbrev pub ◌>>=◌ : {A B : Type 0} → Option A → (A → Option B) → Opti
 (Some x) >>= f = f x
 None >>= f = None
 
--- something where it passes
+-- something if it passes
 abbrev pub check : Bool → Option (Unit {0})
 check true = Some tt
 check false = None
 
--- a record of that word and of so many fields
+-- a record of that word and of that many fields
 abbrev pub is_record : List ℕ → ℕ → Record → Bool
 is_record word count fields = (length fields == count) && is_text word (field fields 0)
 
@@ -94,11 +94,11 @@ leg_in roster fields = do
   shares ← shares_number (field fields 3)
   Some (record { part = part; price = price; shares = shares })
 
--- what a cut says with an empty field behind it
+-- what a cut says with an empty field after it
 abbrev pub without_value : List ℕ → CutKind → Option CutKind
 without_value value said = if is_text [] value then Some said else None
 
--- what a cut says: a word with an empty field behind it, or one with money
+-- what a cut says: a word with an empty field after it, or one with money
 abbrev pub kind_in : List ℕ → List ℕ → Option CutKind
 kind_in word value =
     if is_text (codes "TOOMUCH") word then without_value value kind.TooMuch
@@ -113,11 +113,11 @@ cut_in fields = do
   said ← kind_in (field fields 2) (field fields 3)
   Some (record { price = price; kind = said })
 
--- END, and nothing behind it
+-- END, and nothing after it
 abbrev pub is_end : Record → List Record → Bool
 is_end fields behind = is_record (codes "END") 1 fields && (length behind == 0)
 
--- one more in front of those
+-- one more before those
 abbrev pub with_first : {A : Type 0} → A → Option (List A) → Option (List A)
 with_first one more = option_map (λ list. one ∷ list) more
 
@@ -128,12 +128,12 @@ cuts_in (fields ∷ records) = if is_end fields records then Some [] else (do
   cut ← cut_in fields
   with_first cut (cuts_in records))
 
--- a leg, where the record is one, and what follows it
+-- a leg, if the record is one, and what follows it
 abbrev pub leg_before : Option Leg → List Leg → List Leg
 leg_before None more = []
 leg_before (Some leg) more = leg ∷ more
 
--- what comes behind it, and all of it where it is no leg
+-- what comes after it, and all of it if it is not a leg
 abbrev pub behind_leg : Option Leg → List Record → List Record → List Record
 behind_leg None all more = all
 behind_leg (Some leg) all more = more
@@ -143,7 +143,7 @@ unfoldable pub legs_of : Listing → List Record → List Leg
 legs_of roster [] = []
 legs_of roster (fields ∷ records) = leg_before (leg_in roster fields) (legs_of roster records)
 
--- and what comes behind them
+-- and what comes after them
 unfoldable pub behind_legs : Listing → List Record → List Record
 behind_legs roster [] = []
 behind_legs roster (fields ∷ records) = behind_leg (leg_in roster fields) (fields ∷ records) (behind_legs roster records)

@@ -26,20 +26,20 @@ abbrev pub flag_text : Bool → List ℕ
 flag_text true = codes "M"
 flag_text false = []
 
--- side,sym,shares,limit,flag: what an order for the symbol of that name asks for
+-- side,sym,shares,limit,flag: the terms of an order for the symbol of that name
 abbrev pub terms_fields : List ℕ → Terms → Record
 terms_fields name order =
     side_letter order.side ∷ name ∷ decimal order.shares ∷ price_text order.limit ∷ flag_text order.manual ∷ []
 
--- the same, within the record of its plan
+-- the terms of an order, within the record of its plan
 abbrev pub order_fields : Listing → Terms → Record
 order_fields roster order = terms_fields (symbol_text roster order.sym) order
 
--- version,side,sym,shares,limit,flag,filled,cost: what a plan for the symbol of that name says of itself
+-- version,side,sym,shares,limit,flag,filled,cost: the fields of a plan for the symbol of that name
 abbrev pub plan_fields : List ℕ → Plan → Record
 plan_fields name plan = decimal plan.version ∷ (terms_fields name plan.order ++ (decimal plan.filled ∷ money_text plan.cost ∷ []))
 
--- PLAN,version,side,sym,shares,limit,flag,filled,cost, and the participants named where there are any
+-- PLAN,version,side,sym,shares,limit,flag,filled,cost, and the participants named, if there are any
 abbrev pub plan_record : Listing → Plan → Record
 plan_record roster plan =
     codes "PLAN" ∷ decimal plan.version ∷ (order_fields roster plan.order
@@ -49,7 +49,7 @@ plan_record roster plan =
 abbrev pub leg_record : Listing → Leg → Record
 leg_record roster leg = codes "LEG" ∷ part_text roster leg.part ∷ price_text leg.price ∷ decimal leg.shares ∷ []
 
--- what a cut says, and the money that one more share costs, where it says that
+-- what a cut says, and the money that one more share costs, if it says that
 abbrev pub kind_fields : CutKind → Record
 kind_fields kind.TooMuch = codes "TOOMUCH" ∷ [] ∷ []
 kind_fields kind.TooLittle = codes "TOOLITTLE" ∷ [] ∷ []

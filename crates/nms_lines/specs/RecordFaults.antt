@@ -1,5 +1,5 @@
--- What all files and streams share of their faults: the codes by which these are told, and the exit status of a program
--- that one of them ends: 1 for the source, 5 for memory, 6 for a record. This product's own rule.
+-- The faults that all files and streams share: their codes, and the exit status of a program that one ends. The status
+-- is 1 for the source, 5 for memory, 6 for a record. This product's own rule.
 use Rattle.std.specs.Prelude.{ℕ, List, codes}
 use Rattle.nms_lines.specs.declared.record_fault.RecordFault.{RecordFault}
 use Rattle.nms_lines.specs.declared.record_fault.RecordFault.TheVariants as fault
@@ -12,6 +12,6 @@ abbrev pub status_of : RecordFault → ℕ
 status_of fault.Failed = 1
 status_of fault.NoMemory = 5
 
--- where a record is refused
+-- the exit status when a record is refused
 abbrev pub refused_status : ℕ
 refused_status = 6

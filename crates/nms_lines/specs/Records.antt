@@ -9,27 +9,27 @@ use Rattle.csv.specs.declared.reader.Reader.{Reader}
 use Rattle.csv.specs.declared.reader.Trim.TheVariants as trim
 use Rattle.nms_lines.specs.Layout.{Record}
 
--- all the records of a text, where its bytes are known
+-- all the records of a text, if its bytes are known
 abbrev pub AreAllRecords : Option (List ℕ) → List Record → Type 0
 AreAllRecords None records = Unit {0}
 AreAllRecords (Some bytes) records = AreRecords default_config state.StartRecord (strip_bom bytes) records
 
--- the first records of it, and where the reading stands after them
+-- the first records of a text, and where the reading is after them
 abbrev pub Begins : List ℕ → List Record → State → List ℕ → Type 0
 Begins bytes records now rest = Reached default_config state.StartRecord (strip_bom bytes) records now rest
 
--- the same, where the bytes of the text are known
+-- the first records of a text, if its bytes are known
 abbrev pub BeginRecords : Option (List ℕ) → List Record → Type 0
 BeginRecords None records = Unit {0}
 BeginRecords (Some bytes) records = (now : State) × (rest : List ℕ) × Begins bytes records now rest
 
--- after these records the reader stands where the text goes on
+-- after these records the reader is where the text goes on
 abbrev pub StandsAfter : {R : Type 0} → (R → Option (List ℕ)) → Reader R → Option (List ℕ) → List Record → Type 0
 StandsAfter remaining reader None records = Unit {0}
 StandsAfter remaining reader (Some bytes) records =
     (rest : List ℕ) × (source_of remaining reader ≡ Some rest) × Begins bytes records (reader_state reader) rest
 
--- a reader that has read these records, with which the text begins, and reads on as the layouts want it
+-- a reader that has read these first records of the text, and reads on as the layouts need
 pub record ReadsFrom {R : Type 0} (remaining : R → Option (List ℕ)) (reader : Reader R) (bytes : Option (List ℕ)) (records : List Record) :
     Type 0 where
   pub plain : reader_trim reader ≡ trim.None

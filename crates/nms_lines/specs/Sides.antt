@@ -30,13 +30,13 @@ is_bad_shares shares = not (is_empty shares) && not (is_there (shares_number sha
 abbrev pub is_half : List ℕ → List ℕ → Bool
 is_half price shares = (is_empty price && not (is_empty shares)) || (not (is_empty price) && is_empty shares)
 
--- a quote where both are there
+-- a quote, if both are there
 abbrev pub content_from : Option ℕ → Option ℕ → Option Content
 content_from None shares = None
 content_from (Some price) None = None
 content_from (Some price) (Some shares) = Some (record { price = price; shares = shares })
 
--- what a side says that has no fault: nothing where both fields are empty or the shares are 0
+-- what a side without a fault says: nothing if both fields are empty or the shares are 0
 abbrev pub side_content : List ℕ → List ℕ → Option Content
 side_content price shares = content_from (above_zero (price_number price)) (above_zero (shares_number shares))
 
@@ -52,7 +52,7 @@ has_bad_shares fields = is_bad_shares (field fields 5) || is_bad_shares (field f
 abbrev pub has_half_side : Record → Bool
 has_half_side fields = is_half (field fields 4) (field fields 5) || is_half (field fields 6) (field fields 7)
 
--- both sides: a fault of a price comes before one of shares, and that before half a side
+-- both sides: a fault of a price comes before a fault of shares, which comes before half a side
 abbrev pub sides_in : Record → Result (Option Content × Option Content) LineFault
 sides_in fields = do
   prices ← refuse_if (has_bad_price fields) fault.BadPrice

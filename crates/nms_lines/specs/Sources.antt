@@ -45,30 +45,30 @@ brings (source.FromFeed feed) kind = is_change_kind kind
 brings source.Changes kind = is_change_kind kind
 brings (source.Orders desks) kind = is_order_kind kind
 
--- a kind, where the source brings it
+-- a kind, if the source brings it
 abbrev pub brought : Reading → Option Kind → Option Kind
 brought from None = None
 brought from (Some kind) = if brings from kind then Some kind else None
 
--- the kind that a record's first field names, where the source brings it
+-- the kind that a record's first field names, if the source brings it
 abbrev pub kind_in : Reading → Record → Option Kind
 kind_in from fields = brought from (kind_named (field fields 0))
 
--- how many desks there are: a feed and a file of changes have none
+-- the number of desks: a feed and a file of changes have none
 abbrev pub desks_of : Reading → ℕ
 desks_of (source.Script desks) = desks
 desks_of (source.FromFeed feed) = 0
 desks_of source.Changes = 0
 desks_of (source.Orders desks) = desks
 
--- a feed is read, and what belongs to this one belongs to another
+-- the source is a feed, and what belongs to this feed belongs to another
 abbrev pub is_foreign : Reading → Option Feed → Bool
 is_foreign (source.FromFeed feed) owner = not (is_of_feed owner feed)
 is_foreign (source.Script desks) owner = false
 is_foreign source.Changes owner = false
 is_foreign (source.Orders desks) owner = false
 
--- a feed brings the changes that belong to it alone
+-- a feed brings only the changes that belong to it
 abbrev pub IsSentBy : Listing → Reading → Change → Type 0
 IsSentBy roster (source.FromFeed feed) change = feed_of_change roster change ≡ Some feed
 IsSentBy roster (source.Script desks) change = ⊤

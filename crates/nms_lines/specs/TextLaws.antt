@@ -1,4 +1,4 @@
--- The laws above texts: a text has exactly one list of records, and no field of a plan needs a quote. This product's own rule.
+-- The laws of texts: a text has exactly one list of records, and no field of a plan needs a quote. This product's own rule.
 use Rattle.std.specs.Prelude.{ℕ, ◌≡◌, List, Some}
 use Rattle.std.specs.List.{flat_map}
 use Rattle.csv.specs.Writing.{default_writer, row_text}
@@ -15,7 +15,7 @@ HasOneList bytes =
     (records : List Record) × AreAllRecords (Some bytes) records
     × ((others : List Record) → AreAllRecords (Some bytes) others → others ≡ records)
 
--- records as `csv` writes them: commas, a line feed behind each, quotes where a field needs them
+-- records as `csv` writes them: commas, a line feed after each, quotes if a field needs them
 abbrev pub csv_text : List Record → List ℕ
 csv_text records = flat_map (row_text default_writer) records
 

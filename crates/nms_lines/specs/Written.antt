@@ -9,7 +9,7 @@ pub record AppendsPart (old new : Option (List ℕ)) (text : List ℕ) : Type 0 
   pub split : text ≡ part ++ rest
   pub written : Appends old new part
 
--- a first part was appended of what a whole writing leaves
+-- a first part of the whole writing was appended
 pub record WritesPart (Leaves : Option (List ℕ) → Type 0) (old new : Option (List ℕ)) : Type 0 where
   pub text : List ℕ
   pub whole : Option (List ℕ)

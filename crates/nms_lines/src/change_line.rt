@@ -74,7 +74,7 @@ pub(crate) fn withdraw_line(
     Ok(Line::Change(Change::Withdraw { part }))
 }
 
-/// `R,sym,lot`, or `R,sym,AVG,price`: a round lot is of the first feed. The lot is looked at last.
+/// `R,sym,lot`, or `R,sym,AVG,price`: a round lot is of the first feed. The lot is checked last.
 pub(crate) fn lot_line(row: &ByteRecord, roster: &Roster, from: Reading) -> Result<Line, LineFault>
     ensures line { result ≡ lot_reading roster.now from (fields_of row.now) }
     ensures of { brings from Kind.Lot ≡ true → IfOk result (IsLineOf roster.now from) }
@@ -88,7 +88,7 @@ pub(crate) fn lot_line(row: &ByteRecord, roster: &Roster, from: Reading) -> Resu
     Ok(Line::Change(Change::Lot { sym, lot }))
 }
 
-/// Whether a feed is read, and what belongs to this one belongs to another.
+/// Whether the source is a feed, and what belongs to this feed belongs to another.
 fn is_foreign(from: Reading, owner: Feed) -> bool
     ensures { result ≡ is_foreign from (Some owner) }
 {

@@ -70,7 +70,7 @@ pub(crate) fn sweep_line(
     Ok(Line::Sweep { desk, order })
 }
 
-/// How many desks there are: a feed and a file of changes have none.
+/// The number of desks: a feed and a file of changes have none.
 fn desks_of(from: Reading) -> u8
     ensures { result ≡ desks_of from }
 {

@@ -1,5 +1,5 @@
-//! Fields of a record written from the last to the first, each before what stands in a buffer already (`later_fields`
-//! of `specs/Text`): a number gives its last digit first, and the whole record is then appended at once.
+//! Fields of a record written from the last to the first, each before the bytes already in a buffer (`later_fields` of
+//! `specs/Text`). A number gives its last digit first; the whole record is then appended at once.
 ghost use Rattle.std.specs.Prelude.{◌≡◌, ◌+◌, ◌<◌, ◌≤◌, ◌++◌, ◌∷◌, drop, length, IfSome};
 ghost use Rattle.std.specs.Fmt.{decimal};
 ghost use Rattle.nms_units.specs.Money.{amount_text, money_text, three_digits};
@@ -8,7 +8,7 @@ ghost use Rattle.nms_units.specs.Price.{digit_at, price_text};
 use itoa::write_digits;
 use nms_units::{Money, Price};
 
-/// Writes a text so that it ends at a place, and tells where it starts.
+/// Writes a text so that it ends at a place. Returns where it starts.
 pub fn word_before(buf: &mut [u8], end: usize, word: &str) -> usize
     requires room { length word.now ≤ end }
     requires within { end ≤ length buf.old }
@@ -20,7 +20,7 @@ pub fn word_before(buf: &mut [u8], end: usize, word: &str) -> usize
     start
 }
 
-/// Writes a comma and a text so that they end at a place, and tells where they start.
+/// Writes a comma and a text so that they end at a place. Returns where they start.
 pub fn text_before(buf: &mut [u8], end: usize, text: &str) -> usize
     requires room { length text.now < end }
     requires within { end ≤ length buf.old }
@@ -31,7 +31,7 @@ pub fn text_before(buf: &mut [u8], end: usize, text: &str) -> usize
     comma_before(buf, start)
 }
 
-/// Writes a comma and a number, which take 2 to 21 bytes, so that they end at a place, and tells where they start.
+/// Writes a comma and a number, which take 2 to 21 bytes, so that they end at a place. Returns where they start.
 #[inline(always)]
 pub fn number_before(buf: &mut [u8], end: usize, number: u64) -> usize
     requires room { 21 ≤ end }
@@ -44,7 +44,7 @@ pub fn number_before(buf: &mut [u8], end: usize, number: u64) -> usize
     comma_before(buf, start)
 }
 
-/// Writes a comma and a price, which take 7 to 13 bytes, so that they end at a place, and tells where they start.
+/// Writes a comma and a price, which take 7 to 13 bytes, so that they end at a place. Returns where they start.
 #[inline(always)]
 pub fn price_before(buf: &mut [u8], end: usize, price: Price) -> usize
     requires room { 26 ≤ end }
@@ -58,7 +58,7 @@ pub fn price_before(buf: &mut [u8], end: usize, price: Price) -> usize
     number_before(buf, point, number / 10_000)
 }
 
-/// Writes a point and a number's last four digits so that they end at a place, and tells where they start.
+/// Writes a point and a number's last four digits so that they end at a place. Returns where they start.
 fn decimals_before(buf: &mut [u8], end: usize, number: u64) -> usize
     requires room { 5 ≤ end }
     requires within { end ≤ length buf.old }
@@ -75,8 +75,8 @@ fn decimals_before(buf: &mut [u8], end: usize, number: u64) -> usize
     end - 5
 }
 
-/// Writes a comma and an amount of money, which take 12 to 23 bytes, so that they end at a place, and tells where they
-/// start. `None` stands for more than 18 billion dollars, which 64 bits do not hold.
+/// Writes a comma and an amount of money, which take 12 to 23 bytes, so that they end at a place. Returns where they
+/// start. `None` is more than 18 billion dollars, which 64 bits do not hold.
 pub fn money_before(buf: &mut [u8], end: usize, money: Money) -> Option<usize>
     requires room { 32 ≤ end }
     requires within { end ≤ length buf.old }
@@ -97,7 +97,7 @@ pub fn money_before(buf: &mut [u8], end: usize, money: Money) -> Option<usize>
     }
 }
 
-/// Writes nanodollars as dollars with nine decimals so that they end at a place, and tells where they start.
+/// Writes nanodollars as dollars with nine decimals so that they end at a place. Returns where they start.
 fn amount_before(buf: &mut [u8], end: usize, amount: u64) -> usize
     requires room { 30 ≤ end }
     requires within { end ≤ length buf.old }
@@ -112,7 +112,7 @@ fn amount_before(buf: &mut [u8], end: usize, amount: u64) -> usize
     write_digits(amount / 1_000_000_000, buf, start)
 }
 
-/// Writes a number's last three digits so that they end at a place, and tells where they start.
+/// Writes a number's last three digits so that they end at a place. Returns where they start.
 fn three_before(buf: &mut [u8], end: usize, number: u64) -> usize
     requires room { 3 ≤ end }
     requires within { end ≤ length buf.old }
@@ -126,7 +126,7 @@ fn three_before(buf: &mut [u8], end: usize, number: u64) -> usize
     end - 3
 }
 
-/// Writes a minus before a place, and tells where it stands.
+/// Writes a minus before a place. Returns its place.
 fn minus_before(buf: &mut [u8], end: usize) -> usize
     requires room { 1 ≤ end }
     requires within { end ≤ length buf.old }
@@ -137,7 +137,7 @@ fn minus_before(buf: &mut [u8], end: usize) -> usize
     end - 1
 }
 
-/// Writes a point before a place, and tells where it stands.
+/// Writes a point before a place. Returns its place.
 fn point_before(buf: &mut [u8], end: usize) -> usize
     requires room { 1 ≤ end }
     requires within { end ≤ length buf.old }
@@ -148,7 +148,7 @@ fn point_before(buf: &mut [u8], end: usize) -> usize
     end - 1
 }
 
-/// Writes a comma before a place, and tells where it stands.
+/// Writes a comma before a place. Returns its place.
 fn comma_before(buf: &mut [u8], end: usize) -> usize
     requires room { 1 ≤ end }
     requires within { end ≤ length buf.old }

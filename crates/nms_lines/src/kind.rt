@@ -1,4 +1,4 @@
-//! The kind of a record, and which kinds its source brings: `specs/Layout` and `specs/Sources`.
+//! The kind of a record, and the kinds that its source brings: `specs/Layout` and `specs/Sources`.
 ghost use Rattle.std.specs.Prelude.{◌≡◌, IfSome, true};
 ghost use Rattle.csv.specs.Records.{fields_of};
 ghost use Rattle.nms_lines.specs.Layout.{is_count, kind_named};
@@ -8,7 +8,7 @@ use crate::field::field;
 use crate::line::{Kind, Reading};
 use csv::ByteRecord;
 
-/// The kind that a record's first field names, where its source brings it.
+/// The kind that a record's first field names, if its source brings it.
 pub(crate) fn kind_in(row: &ByteRecord, from: Reading) -> Option<Kind>
     ensures kind { result ≡ kind_in from (fields_of row.now) }
     ensures brought { IfSome result (λ kind. brings from kind ≡ true) }
@@ -65,7 +65,7 @@ fn is_change_kind(kind: Kind) -> bool
     }
 }
 
-/// Whether a record of the kind has so many fields.
+/// Whether a record of the kind has that many fields.
 pub(crate) fn is_count(kind: Kind, fields: usize) -> bool
     ensures { result ≡ is_count kind fields }
 {

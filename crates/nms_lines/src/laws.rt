@@ -1,5 +1,5 @@
-//! The laws above the reading of a record and the text of a plan: `specs/Laws`, `specs/PlanLaws` and `specs/TextLaws`.
-//! The functions do nothing that counts: their contracts are the laws.
+//! The laws of reading a record and of a plan's text: `specs/Laws`, `specs/PlanLaws` and `specs/TextLaws`. The
+//! functions have no effect: their contracts are the laws.
 ghost use Rattle.std.specs.Prelude.{◌≡◌, ◌<◌, ℕ, List, length, true};
 ghost use Rattle.nms_quote.specs.Roster.{is_part_name, is_symbol_name, part_text, symbol_text};
 ghost use Rattle.nms_lines.specs.Laws.{ReadsLeastFault};
@@ -9,14 +9,14 @@ ghost use Rattle.nms_lines.specs.TextLaws.{HasOneList, NeedsNoQuote};
 use nms_quote::{Part, Roster, Sym};
 use nms_units::{Money, Price, digits_read_as_printed};
 
-/// A record is read as a fault exactly where that fault holds of it and none of a smaller number does, and
-/// as a line exactly where no fault holds. `specs/FaultTable` says when each fault holds.
+/// A record is read as a fault if and only if that fault is the least that holds, and as a line if none does.
+/// `specs/FaultTable` says when each fault holds.
 pub fn the_least_fault_is_read()
     ensures { ReadsLeastFault }
 {}
 
-/// What `write_plan` writes of a plan and its certificate, `read_plan` reads as that plan and certificate, where the
-/// version has at most 8 digits, at most 999,999,999 shares are filled, and each amount of money is strictly between
+/// `read_plan` reads what `write_plan` writes of a plan and its certificate as that plan and certificate, if its
+/// numbers are in range: a version of at most 8 digits, at most 999,999,999 shares filled, each amount strictly between
 /// -10^20 and 10^20 dollars.
 pub fn a_plan_reads_as_written(roster: &Roster)
     ensures { ReadsAsWritten roster.now }
@@ -29,12 +29,12 @@ pub fn a_plan_reads_as_written(roster: &Roster)
     roster.finds_each_name();
 }
 
-/// A text has exactly one list of records. So what `read_plan` answers of a text's records it answers of each text.
+/// A text has exactly one list of records. So `read_plan` answers for a text as it answers for the text's records.
 pub fn a_text_has_one_list_of_records()
     ensures { (bytes : List ℕ) → HasOneList bytes }
 {}
 
-/// The text of a plan, its records as they stand, is what `csv` writes of them, since no field of theirs needs a quote.
+/// The text of a plan is what `csv` writes of its records, since none of their fields needs a quote.
 pub fn no_field_of_a_plan_needs_a_quote(roster: &Roster)
     ensures { NeedsNoQuote roster.now }
 {

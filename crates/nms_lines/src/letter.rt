@@ -44,8 +44,8 @@ pub fn side_of(text: &[u8]) -> Option<OrderSide>
     }
 }
 
-/// Whether an order's record has the flag that allows manual quotations; `BadState` where its seventh field is
-/// something else. As the last field the flag is not empty.
+/// Whether an order's record has the flag that allows manual quotations; `BadState` if its seventh field is something
+/// else. As the last field the flag is not empty.
 pub(crate) fn flag_in(row: &ByteRecord) -> Result<bool, LineFault>
     ensures { result ≡ flag_in (fields_of row.now) }
 {
@@ -65,7 +65,7 @@ fn flag_of(row: &ByteRecord) -> Option<bool>
     }
 }
 
-/// Whether manual quotations may be traded with, where the flag is `M` or empty.
+/// Whether manual quotations may be traded with, if the flag is `M` or empty.
 pub(crate) fn flag_named(text: &[u8]) -> Option<bool>
     ensures { result ≡ flag_named text.now }
 {

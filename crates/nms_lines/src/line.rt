@@ -1,9 +1,9 @@
-//! What records say, and where they come from: the words of `specs/Layout`, `specs/Sources` and
-//! `specs/LineOf` are over these types.
+//! What records say, and their sources. The words of `specs/Layout`, `specs/Sources` and `specs/LineOf` are over these
+//! types.
 use nms_quote::{Change, Feed, Order, Sym};
 use nms_units::Price;
 
-/// Where a record comes from, which decides the kinds that it may have. This product's own rule.
+/// The source of a record, which decides the kinds that it may have. This product's own rule.
 #[derive(Clone, Copy, Debug, PartialEq, Eq)]
 pub enum Reading {
     /// A script: every kind.
@@ -11,11 +11,11 @@ pub enum Reading {
         /// The setup's number of desks, 1 to 16.
         desks: u8,
     },
-    /// A feed: `Q`, `S` and `X` of its own participants alone, and `R` on the first feed.
+    /// A feed: `Q`, `S` and `X` of its own participants only, and `R` on the first feed.
     FromFeed(Feed),
     /// A file of changes: `Q`, `S` and `X` of any participant, and `R`.
     Changes,
-    /// A file of orders: `O` alone.
+    /// A file of orders: `O` only.
     Orders {
         /// The setup's number of desks, 1 to 16.
         desks: u8,
@@ -33,7 +33,7 @@ pub enum Line {
     TakeAll,
     /// `P`: publish.
     Publish,
-    /// `L`: tell the desk of the published version.
+    /// `L`: report the published version to the desk.
     Tell {
         /// The desk, below the number of desks.
         desk: u8,

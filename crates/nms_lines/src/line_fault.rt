@@ -6,10 +6,10 @@ ghost use Rattle.nms_lines.specs.RecordFaults.{refused_status};
 use std::fmt;
 use thiserror::Error;
 
-/// Why a record is refused. Of several faults the one of least number is told.
+/// Why a record is refused. The fault that holds with the least number is reported.
 #[derive(Clone, Copy, Debug, PartialEq, Eq, Error)]
 pub enum LineFault {
-    /// L1: the first field is none of the kinds that the record's source brings.
+    /// L1: the first field is not a kind that the record's source brings.
     UnknownKind,
     /// L2: the number of fields is not the kind's.
     FieldCount,
@@ -19,13 +19,13 @@ pub enum LineFault {
     UnknownSymbol,
     /// L5: the state, the order's side or its flag is none of its letters, or the word before an average is not `AVG`.
     BadState,
-    /// L6: a price is not of the form, or is zero where a quotation, an order or a round lot needs one.
+    /// L6: a price is not of the form, or is zero when a quotation, an order or a round lot needs one.
     BadPrice,
-    /// L7: a share count is not 1 to 9 digits, or is zero where an order needs one.
+    /// L7: a share count is not 1 to 9 digits, or is zero when an order needs one.
     BadShares,
     /// L8: a side has a price without shares, or shares without a price.
     HalfSide,
-    /// L9: the participant is of another feed than the one that is read, or a round lot is read from another than the first.
+    /// L9: the participant is of another feed than the one that is read, or a round lot is not on the first feed.
     WrongFeed,
     /// L10: the desk is not 1 or 2 digits, or not below the number of desks.
     BadDesk,
@@ -34,7 +34,7 @@ pub enum LineFault {
 }
 
 impl LineFault {
-    /// The code that answers and messages name it by, `L1` to `L10` or `L14`.
+    /// The code in answers and messages, `L1` to `L10` or `L14`.
     pub fn code(self) -> &'static str
         ensures { result.now ≡ code_of self }
     {
@@ -53,7 +53,7 @@ impl LineFault {
         }
     }
 
-    /// The exit status of a program that ends at a record that it refuses, 6.
+    /// The exit status of a program that ends at a refused record, 6.
     pub fn status(self) -> u8
         ensures { result ≡ refused_status }
     {

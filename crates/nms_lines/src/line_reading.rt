@@ -13,11 +13,10 @@ use crate::line_fault::LineFault;
 use csv::ByteRecord;
 use nms_quote::Roster;
 
-/// What a record says, or the fault of the least number that holds of it (the law
-/// `the_least_fault_is_read`). A record of a kind that its source does not bring is `UnknownKind`, whatever
-/// the rest of it is.
+/// What a record says, or its fault of the least number (the law `the_least_fault_is_read`). A record of a kind that
+/// its source does not bring is `UnknownKind`, whatever the rest is.
 ///
-/// It takes no memory. Where both sides of a quotation quote, and in cents, each of its fields is read once.
+/// It takes no memory. If both sides quote, in cents, each field is read once.
 pub fn read_line(row: &ByteRecord, roster: &Roster, from: Reading) -> Result<Line, LineFault>
     ensures line { result ≡ reading roster.now from (fields_of row.now) }
     ensures of { IfOk result (IsLineOf roster.now from) }
@@ -31,7 +30,7 @@ pub fn read_line(row: &ByteRecord, roster: &Roster, from: Reading) -> Result<Lin
     line_of_kind(row, roster, from, kind)
 }
 
-/// What the fields of a record of a kind say that its source brings.
+/// What the fields of a record say, of a kind that its source brings.
 fn line_of_kind(
     row: &ByteRecord,
     roster: &Roster,

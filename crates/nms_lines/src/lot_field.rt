@@ -11,8 +11,8 @@ use crate::number::price_in;
 use csv::ByteRecord;
 use nms_units::{Lot, Price, parse_digits};
 
-/// The average closing price that a round lot is given by, where there are four fields: `BadState` where
-/// the third is not `AVG`, `BadPrice` where the fourth is no price.
+/// The average closing price of a round lot, if there are four fields. `BadState` if the third is not `AVG`, `BadPrice`
+/// if the fourth is not a price.
 pub(crate) fn average_in(row: &ByteRecord) -> Result<Option<Price>, LineFault>
     ensures { result ≡ average_in (fields_of row.now) }
 {

@@ -9,10 +9,10 @@ use crate::line_fault::LineFault;
 use csv::ByteRecord;
 use nms_quote::{PartSet, Roster};
 
-/// The participants that a text names: names of the roster joined by `+`, in any order, one that is repeated counted
-/// once. None where one of them is not on the roster, or nothing stands in its place.
+/// The participants that a text names: names of the roster joined by `+`, in any order; a repeated one counts once.
+/// `None` if one of them is empty or not on the roster.
 ///
-/// It takes no memory. So an order names who has no protected quotation for it (17 CFR 242.611(b)(1)).
+/// It takes no memory. An order names in it the participants that have no protected quotation for it (17 CFR 242.611(b)(1)).
 pub fn read_names(text: &[u8], roster: &Roster) -> Option<PartSet>
     ensures set { result ≡ named_in roster.now text.now }
     ensures there { IfSome result (AreBelow (length roster.now.parts)) }
@@ -25,7 +25,7 @@ pub fn read_names(text: &[u8], roster: &Roster) -> Option<PartSet>
     Some(set)
 }
 
-/// The participants that a record's last field names, where it stands at that place. A shorter record names nobody.
+/// The participants that a record's last field names, if it is at that place. A shorter record names nobody.
 pub(crate) fn named_at(row: &ByteRecord, place: usize, roster: &Roster) -> Option<PartSet>
     requires { place < 16 }
     ensures set { result ≡ named_at place roster.now (fields_of row.now) }
@@ -37,7 +37,7 @@ pub(crate) fn named_at(row: &ByteRecord, place: usize, roster: &Roster) -> Optio
     read_names(field(row, place), roster)
 }
 
-/// The participants that an order's record names in its eighth field, where it has one, or `UnknownParticipant`.
+/// The participants that an order's record names in its eighth field, if it has one, or `UnknownParticipant`.
 pub(crate) fn self_help_in(row: &ByteRecord, roster: &Roster) -> Result<PartSet, LineFault>
     ensures set { result ≡ self_help_in roster.now (fields_of row.now) }
     ensures there { IfOk result (AreBelow (length roster.now.parts)) }

@@ -7,14 +7,14 @@ ghost use Rattle.nms_units.specs.Price.{price_number};
 use crate::line_fault::LineFault;
 use nms_units::{Price, Shares, parse_digits};
 
-/// The price that a text is, in 1/10,000 dollar; none is zero.
+/// The price that a text is, in 1/10,000 dollar; never zero.
 pub fn price_of(text: &[u8]) -> Option<Price>
     ensures { result ≡ above_zero (price_number text.now) }
 {
     Price::parse(text).ok()
 }
 
-/// The shares that a text is, where they are at least one.
+/// The shares that a text is, if they are at least one.
 pub fn some_shares_of(text: &[u8]) -> Option<Shares>
     ensures shares { result ≡ above_zero (shares_number text.now) }
     ensures some { IfSome result (λ shares. 1 ≤ shares) }
@@ -40,7 +40,7 @@ pub(crate) fn shares_in(text: &[u8]) -> Result<Shares, LineFault>
     some_shares_of(text).ok_or(LineFault::BadShares)
 }
 
-/// The desk that 1 or 2 digits name, where there is one of that number, or `BadDesk`.
+/// The desk that 1 or 2 digits name, if there is one of that number, or `BadDesk`.
 pub(crate) fn desk_below(desks: u8, text: &[u8]) -> Result<u8, LineFault>
     ensures desk { result ≡ desk_below desks text.now }
     ensures there { IfOk result (λ desk. desk < desks) }

@@ -17,14 +17,13 @@ use nms_quote::{Certificate, Leg, Plan, Roster};
 use std::alloc::Global;
 use std::io::Read;
 
-/// Reads a plan and its certificate from text, which has to have exactly the layout: the record of the plan, at
-/// most 32 legs, at most 32 cuts, an end, and nothing behind it. Names are of the roster; prices, share counts and
-/// money are as their types read them, a version is 1 to 8 digits, and the order is of at least one share. The participants
-/// that the order names stand in a tenth field of the plan's record, as in an order's eighth.
+/// Reads a plan and its certificate from text of exactly this layout: the record of the plan, at most 32 legs, at most
+/// 32 cuts, an end, and nothing after it. Names are of the roster. Prices, share counts and money are as their types
+/// read them. A version is 1 to 8 digits, and the order is of at least one share. A tenth field of the plan's record
+/// holds the participants that the order names, as an order's eighth field does.
 ///
-/// What is read can be written by `write_plan` on the same roster. It need not be lawful: `nms_rules` and
-/// `nms_cert` judge that. Any other text is `BadPlanText`;
-/// `NoMemory` where memory ran out, in place of either.
+/// What is read can be written by `write_plan` on the same roster. It need not be lawful: `nms_rules` and `nms_cert`
+/// judge that. Any other text is `BadPlanText`. If memory ran out, the error is `NoMemory`.
 pub fn read_plan(
     alloc: Global,
     text: &[u8],
@@ -39,15 +38,14 @@ pub fn read_plan(
         → result ≡ Err PlanTextFault.BadPlanText → plan_in roster.now records ≡ None }
     ensures faults { result ≢ Err PlanTextFault.WriteFault }
 {
-    // A reader has its buffer in it, and each place that holds one takes that of the stack. So this one is moved nowhere:
-    // a program with little memory has no stack beyond its first 128 kB.
+    // A reader contains its buffer, and each place that holds a reader takes that much of the stack. So this reader is
+    // never moved: a program with little memory has no stack beyond its first 128 kB.
     let mut reader = open_records(alloc, text);
     let mut row = ByteRecord::new(alloc);
     read_records(&mut reader, &mut row, roster)
 }
 
-/// The same by a row that is there: it takes no memory if the row has room for as many bytes as the text has, and for a
-/// field more.
+/// As `read_plan`, with a given row. It takes no memory if the row has room for the text's bytes and one field more.
 pub fn read_plan_by(
     alloc: Global,
     row: &mut ByteRecord,
@@ -115,7 +113,7 @@ fn read_head<R: Read>(
     head_in(row, roster).ok_or(PlanTextFault::BadPlanText)
 }
 
-/// Reads the legs, and the record behind them into the row.
+/// Reads the legs, and the record after them into the row.
 fn read_legs<R: Read>(
     reader: &mut Reader<R>,
     row: &mut ByteRecord,
@@ -129,7 +127,7 @@ fn read_legs<R: Read>(
     ensures faults { result ≢ Err PlanTextFault.WriteFault }
 {
     let mut legs = ArrayVec::new_in(());
-    // one turn for each leg, and one for what comes behind them
+    // one turn for each leg, and one for what comes after them
     for _ in 0_usize..33 {
         need_row(reader, row)?;
         let Some(leg) = leg_in(row, roster) else {
@@ -142,7 +140,7 @@ fn read_legs<R: Read>(
     Err(PlanTextFault::BadPlanText)
 }
 
-/// Reads the cuts, the first of which is the row where there is one, and the end.
+/// Reads the cuts and the end. The row is the first cut, if there is one.
 fn read_cuts<R: Read>(
     reader: &mut Reader<R>,
     row: &mut ByteRecord,
@@ -171,7 +169,7 @@ fn read_cuts<R: Read>(
     Err(PlanTextFault::BadPlanText)
 }
 
-/// Reads the next record, which there has to be.
+/// Reads the next record, which must be there.
 fn need_row<R: Read>(reader: &mut Reader<R>, row: &mut ByteRecord) -> Result<(), PlanTextFault>
     ensures read { (left : List Record) → AreLeft R.remaining reader.old left
         → result ≡ Ok tt → (more : List Record) × (left ≡ fields_of row.new ∷ more) × AreLeft R.remaining reader.new more }
@@ -181,12 +179,12 @@ fn need_row<R: Read>(reader: &mut Reader<R>, row: &mut ByteRecord) -> Result<(),
     match read_next(reader, row) {
         Ok(true) => Ok(()),
         Ok(false) => Err(PlanTextFault::BadPlanText),
-        // a text in memory is always read: nothing but memory can fail
+        // a text in memory is always read: only memory can fail
         Err(RecordFault::Failed | RecordFault::NoMemory) => Err(PlanTextFault::NoMemory),
     }
 }
 
-/// Reads on, where there has to be nothing.
+/// Reads on; no record may be left.
 fn need_end<R: Read>(reader: &mut Reader<R>, row: &mut ByteRecord) -> Result<(), PlanTextFault>
     ensures read { (left : List Record) → AreLeft R.remaining reader.old left → result ≡ Ok tt → left ≡ [] }
     ensures refused { (left : List Record) → AreLeft R.remaining reader.old left
@@ -196,7 +194,7 @@ fn need_end<R: Read>(reader: &mut Reader<R>, row: &mut ByteRecord) -> Result<(),
     match read_next(reader, row) {
         Ok(true) => Err(PlanTextFault::BadPlanText),
         Ok(false) => Ok(()),
-        // a text in memory is always read: nothing but memory can fail
+        // a text in memory is always read: only memory can fail
         Err(RecordFault::Failed | RecordFault::NoMemory) => Err(PlanTextFault::NoMemory),
     }
 }

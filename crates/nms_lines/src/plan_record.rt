@@ -32,7 +32,7 @@ impl Model for PlanHead {
     ghost view = { λ h. record { version = h.version; order = h.order; filled = h.filled; cost = h.cost } };
 }
 
-/// What the record of a plan says, where the row is one.
+/// What the record of a plan says, if the row is one.
 pub(crate) fn head_in(row: &ByteRecord, roster: &Roster) -> Option<PlanHead>
     ensures head { result ≡ head_by_order roster.now (fields_of row.now) }
     ensures there { IfSome result (λ head. head.order.sym < length roster.now.syms) }
@@ -57,7 +57,7 @@ pub(crate) fn head_in(row: &ByteRecord, roster: &Roster) -> Option<PlanHead>
     }
 }
 
-/// What the order of a plan asks for, where its fields say that.
+/// What the order of a plan asks for, if its fields say that.
 fn order_in(row: &ByteRecord, roster: &Roster) -> Option<Order>
     ensures order { result ≡ order_in roster.now (fields_of row.now) }
     ensures there { IfSome result (λ order. order.sym < length roster.now.syms) }
@@ -78,7 +78,7 @@ fn order_in(row: &ByteRecord, roster: &Roster) -> Option<Order>
     }
 }
 
-/// The leg that the row is, where it is one.
+/// The leg that the row is, if it is one.
 pub(crate) fn leg_in(row: &ByteRecord, roster: &Roster) -> Option<Leg>
     ensures leg { result ≡ leg_in roster.now (fields_of row.now) }
     ensures there { IfSome result (λ leg. leg.part < length roster.now.parts) }
@@ -100,7 +100,7 @@ pub(crate) fn leg_in(row: &ByteRecord, roster: &Roster) -> Option<Leg>
     }
 }
 
-/// The cut that the row is, where it is one.
+/// The cut that the row is, if it is one.
 pub(crate) fn cut_in(row: &ByteRecord) -> Option<Cut>
     ensures { result ≡ cut_in (fields_of row.now) }
 {
@@ -130,7 +130,7 @@ pub(crate) fn is_end(row: &ByteRecord) -> bool
     is_record(row, b"END", 1)
 }
 
-/// Whether the row is a record of that word and of so many fields.
+/// Whether the row is a record of that word and of that many fields.
 fn is_record(row: &ByteRecord, word: &[u8], count: usize) -> bool
     ensures { result ≡ is_record word.now count (fields_of row.now) }
 {
@@ -153,7 +153,7 @@ fn kind_in(word: &[u8], value: &[u8]) -> Option<CutKind>
     Some(CutKind::Marginal(money_in(value)?))
 }
 
-/// What a cut says with an empty field behind it.
+/// What a cut says with an empty field after it.
 fn without_value(value: &[u8], kind: CutKind) -> Option<CutKind>
     ensures { result ≡ without_value value.now kind }
 {
@@ -163,7 +163,7 @@ fn without_value(value: &[u8], kind: CutKind) -> Option<CutKind>
     }
 }
 
-/// Shares, 0 among them.
+/// Shares, 0 or more.
 fn shares_in(text: &[u8]) -> Option<Shares>
     ensures { result ≡ shares_number text.now }
 {

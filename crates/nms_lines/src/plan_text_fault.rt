@@ -4,13 +4,13 @@ use thiserror::Error;
 /// Why a plan was not read from text, or not written as text.
 #[derive(Clone, Copy, Debug, PartialEq, Eq, Error)]
 pub enum PlanTextFault {
-    /// L11: the text is not exactly that of a plan and its certificate.
+    /// L11: the text is not exactly that of a plan with certificate.
     #[error("L11: not the text of a plan")]
     BadPlanText,
-    /// L12: memory ran out.
+    /// L12: out of memory.
     #[error("L12: out of memory")]
     NoMemory,
-    /// L13: the text could not be written; how much of it went out is not said.
+    /// L13: the text could not be written. Some of it may have been written.
     #[error("L13: a write failed")]
     WriteFault,
 }
@@ -19,7 +19,7 @@ impl PlanTextFault {
     ghost use Rattle.std.specs.Prelude.{◌≡◌};
     ghost use Rattle.nms_lines.specs.PlanFaults.{code_of, status_of};
 
-    /// The code that messages name it by, `L11` to `L13`.
+    /// The code in messages, `L11` to `L13`.
     pub fn code(self) -> &'static str
         ensures { result.now ≡ code_of self }
     {
@@ -30,7 +30,7 @@ impl PlanTextFault {
         }
     }
 
-    /// The exit status of a program that it ends: 6 for the text of a plan, 5 for memory, 1 for the writer.
+    /// The exit status of a program that it ends: 6 for a plan's text, 5 for memory, 1 for the writer.
     pub fn status(self) -> u8
         ensures { result ≡ status_of self }
     {

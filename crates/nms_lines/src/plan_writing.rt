@@ -23,8 +23,8 @@ use std::io::Write;
 /// Writes a plan and its certificate as text: a record of the plan, one for each leg, one for each cut, and an
 /// end; prices with four decimals, money with nine.
 ///
-/// `NoMemory` where memory ran out, and then nothing was written; `WriteFault` where the writer failed, and then
-/// a first part of the text was written, and nothing else. The writer is not flushed.
+/// `NoMemory` if memory ran out: nothing was written. `WriteFault` if the writer failed: a first part of the text was
+/// written, and nothing else. The writer is not flushed.
 pub fn write_plan<W: Write>(
     alloc: Global,
     plan: &Plan,
@@ -100,8 +100,8 @@ fn push_plan(out: &mut Vec<u8>, roster: &Roster, plan: &Plan) -> Result<(), Allo
     }
 }
 
-/// Writes the fields of a plan for the symbol of that name, which take at most 138 bytes, so that they end at a place, and
-/// tells where they start. `None` stands for a cost that 64 bits do not hold.
+/// Writes the fields of a plan for the symbol of that name, at most 138 bytes, so that they end at a place. Returns
+/// where they start. `None` is a cost that 64 bits do not hold.
 fn plan_before(buf: &mut [u8], end: usize, name: &str, plan: &Plan) -> Option<usize>
     requires room { 138 ≤ end }
     requires within { end ≤ length buf.old }
@@ -113,7 +113,7 @@ fn plan_before(buf: &mut [u8], end: usize, name: &str, plan: &Plan) -> Option<us
     Some(terms_before(buf, end, name, plan))
 }
 
-/// Writes the fields of a plan up to its cost, which take at most 106 bytes, so that they end at a place, and tells where
+/// Writes the fields of a plan up to its cost, which take at most 106 bytes, so that they end at a place. Returns where
 /// they start.
 fn terms_before(buf: &mut [u8], end: usize, name: &str, plan: &Plan) -> usize
     requires room { 106 ≤ end }
@@ -130,8 +130,8 @@ fn terms_before(buf: &mut [u8], end: usize, name: &str, plan: &Plan) -> usize
     word_before(buf, end, "PLAN")
 }
 
-/// Writes the fields of an order in the symbol of that name, which take at most 60 bytes, so that they end at a place, and
-/// tells where they start.
+/// Writes the fields of an order in the symbol of that name, which take at most 60 bytes, so that they end at a place.
+/// Returns where they start.
 fn order_before(buf: &mut [u8], end: usize, name: &str, order: &Order) -> usize
     requires room { 60 ≤ end }
     requires within { end ≤ length buf.old }
@@ -158,7 +158,7 @@ fn push_wide_plan(out: &mut Vec<u8>, roster: &Roster, plan: &Plan) -> Result<(),
     push_money(out, plan.cost)
 }
 
-/// Appends the participants that an order names, in a field of their own where there are any.
+/// Appends the participants that an order names, in a field of their own, if there are any.
 fn push_named(out: &mut Vec<u8>, roster: &Roster, order: &Order) -> Result<(), AllocError>
     ensures { OnOk result (out.new.items ≡ out.old.items ++ later_fields (named_fields roster.now order.now.self_help)) }
 {
@@ -205,8 +205,8 @@ fn append_leg(out: &mut Vec<u8>, roster: &Roster, leg: &Leg) -> Result<(), Alloc
     out.extend_from_slice(&buf[start..])
 }
 
-/// Writes the fields of a leg to a participant of that name, which take at most 55 bytes, so that they end at a place, and
-/// tells where they start.
+/// Writes the fields of a leg to a participant of that name, which take at most 55 bytes, so that they end at a place.
+/// Returns where they start.
 fn leg_before(buf: &mut [u8], end: usize, name: &str, leg: &Leg) -> usize
     requires room { 55 ≤ end }
     requires within { end ≤ length buf.old }
@@ -242,8 +242,8 @@ fn append_cut(out: &mut Vec<u8>, cut: &Cut) -> Result<(), AllocError>
     }
 }
 
-/// Writes the fields of a cut, which take at most 70 bytes, so that they end at a place, and tells where they start. `None`
-/// stands for a marginal that 64 bits do not hold.
+/// Writes the fields of a cut, which take at most 70 bytes, so that they end at a place. Returns where they start.
+/// `None` is a marginal that 64 bits do not hold.
 fn cut_before(buf: &mut [u8], end: usize, cut: &Cut) -> Option<usize>
     requires room { 70 ≤ end }
     requires within { end ≤ length buf.old }
@@ -255,8 +255,8 @@ fn cut_before(buf: &mut [u8], end: usize, cut: &Cut) -> Option<usize>
     Some(word_before(buf, end, "CUT"))
 }
 
-/// Writes what a cut says, which takes at most 41 bytes, so that it ends at a place, and tells where it starts. `None`
-/// stands for a marginal that 64 bits do not hold.
+/// Writes what a cut says, which takes at most 41 bytes, so that it ends at a place. Returns where it starts. `None` is
+/// a marginal that 64 bits do not hold.
 fn kind_before(buf: &mut [u8], end: usize, kind: CutKind) -> Option<usize>
     requires room { 41 ≤ end }
     requires within { end ≤ length buf.old }

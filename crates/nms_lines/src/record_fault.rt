@@ -4,7 +4,7 @@ ghost use Rattle.nms_lines.specs.RecordFaults.{code_of, status_of};
 
 use thiserror::Error;
 
-/// Why a file or a stream was not read. Its reader gives nothing from then on.
+/// Why a file or a stream was not read. Its reader gives nothing after that.
 #[derive(Clone, Copy, Debug, PartialEq, Eq, Error)]
 pub enum RecordFault {
     /// E1: the source could not be read.

@@ -26,8 +26,8 @@ pub fn open_records<R: Read>(alloc: Global, source: R) -> Reader<R>
         .from_reader(alloc, source)
 }
 
-/// The same reader with a header row of no fields set before the first read: it looks for none, and so keeps no copy of the
-/// first record. Then no read takes memory for a row that has room for what it reads.
+/// As `open_records`, with an empty header row set before the first read. So the reader looks for no header and keeps
+/// no copy of the first record. Then no read takes memory if the row has room for what it reads.
 pub(crate) fn open_bare_records<R: Read + Drop>(
     alloc: Global,
     source: R,
@@ -45,10 +45,10 @@ pub(crate) fn open_bare_records<R: Read + Drop>(
     }
 }
 
-/// Reads the next record into `row`, and tells whether there was one.
+/// Reads the next record into `row`. Returns whether there was one.
 ///
-/// `Failed` is an error of the source, `NoMemory` is want of memory for the row or the source's error. After
-/// either the reader has stopped: it gives no record any more, and says that there is none.
+/// `Failed` is an error of the source. `NoMemory` means no memory for the row or the source's error. After either the
+/// reader has stopped: each later read returns that there is none.
 pub fn read_next<R: Read>(reader: &mut Reader<R>, row: &mut ByteRecord) -> Result<bool, RecordFault>
     ensures found { (bytes : Option (List ℕ)) (seen : List Record)
         → ReadsFrom R.remaining reader.old bytes seen → result ≡ Ok true
@@ -56,12 +56,12 @@ pub fn read_next<R: Read>(reader: &mut Reader<R>, row: &mut ByteRecord) -> Resul
     ensures end { (bytes : Option (List ℕ)) (seen : List Record)
         → ReadsFrom R.remaining reader.old bytes seen → result ≡ Ok false → AreAllRecords bytes seen }
 
-    // The record is the first of those that were left, and where there is none none was left.
+    // The record is the first of those that were left. If there is none, none was left.
     ensures more { (left : List Record) → AreLeft R.remaining reader.old left → result ≡ Ok true
         → (more : List Record) × (left ≡ fields_of row.new ∷ more) × AreLeft R.remaining reader.new more }
     ensures none { (left : List Record) → AreLeft R.remaining reader.old left → result ≡ Ok false → left ≡ [] }
 
-    // After a fault there is no record any more, and what was read before is the beginning of the text.
+    // After a fault there are no more records, and what was read before is the beginning of the text.
     ensures stopped { (bytes : Option (List ℕ)) (seen : List Record)
         → ReadsFrom R.remaining reader.old bytes seen → OnErr result (HasStopped reader.new) }
     ensures over { HasStopped reader.old → result ≡ Ok false }
@@ -72,7 +72,7 @@ pub fn read_next<R: Read>(reader: &mut Reader<R>, row: &mut ByteRecord) -> Resul
     }
 }
 
-/// Whether it was the source that failed. A reader of these layouts has no error but that and want of memory.
+/// Whether the source failed. A reader of these layouts has no other error except out of memory.
 fn fault_of(error: &Error) -> RecordFault
     ensures failed { is_io (error_kind error.now) ≡ true → result ≡ RecordFault.Failed }
     ensures memory { is_io (error_kind error.now) ≡ false → result ≡ RecordFault.NoMemory }

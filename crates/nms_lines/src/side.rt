@@ -12,7 +12,7 @@ use csv::ByteRecord;
 use nms_quote::{Side, SideQuote};
 use nms_units::{Price, Shares, UnitFault};
 
-/// The bid and the offer of a record, or the fault of the least number on either. Two quotes have none.
+/// The bid and the offer of a record, or the fault of least number on either. Two quotes have no fault.
 pub(crate) fn sides_in(
     row: &ByteRecord,
 ) -> Result<(Option<SideQuote>, Option<SideQuote>), LineFault>
@@ -27,7 +27,7 @@ pub(crate) fn sides_in(
     }
 }
 
-/// The same where a side may have no quote.
+/// The bid and the offer of a record, if a side may have no quote.
 #[cold]
 #[inline(never)]
 fn other_sides_in(row: &ByteRecord) -> Result<(Option<SideQuote>, Option<SideQuote>), LineFault>

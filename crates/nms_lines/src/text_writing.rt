@@ -6,9 +6,9 @@ ghost use Rattle.nms_lines.specs.Written.{AppendsPart};
 
 use std::io::{Error, ErrorKind, Result, Write};
 
-/// Gives a writer a text, in as many writes as it asks for; one that a signal interrupts is made again.
+/// Gives a writer a text, in as many writes as it needs. An interrupted write is repeated.
 ///
-/// At its failure a first part of the text was written, and nothing else. The writer is not flushed.
+/// If the writer fails, a first part of the text was written, and nothing else. The writer is not flushed.
 pub fn write_text<W: Write>(writer: &mut W, text: &[u8]) -> Result<()>
     ensures written { OnOk result (Appends (W.contents writer.old) (W.contents writer.new) text.now) }
     ensures part { OnErr result (AppendsPart (W.contents writer.old) (W.contents writer.new) text.now) }
@@ -23,7 +23,7 @@ pub fn write_text<W: Write>(writer: &mut W, text: &[u8]) -> Result<()>
     Err(Error::from(ErrorKind::WriteZero))
 }
 
-/// One write of a text that is not empty: how many bytes the writer took, none where a signal interrupted it.
+/// One write of a text that is not empty: the number of bytes that the writer took, 0 if a signal interrupted it.
 fn write_some<W: Write>(writer: &mut W, text: &[u8]) -> Result<usize>
     ensures bound { WritesAtMost result text.now }
     ensures taken { WriteAppends (W.contents writer.old) (W.contents writer.new) result text.now }

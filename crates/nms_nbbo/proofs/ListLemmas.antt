@@ -7,7 +7,7 @@ use Rattle.std.proofs.lemmas.List.Elements.{All-nil, All-cons}
 use Rattle.std.proofs.lemmas.List.Sums.{sum_by-cons}
 use Rattle.nms_board.proofs.Offered.{in_rest}
 
--- what is found stands in the list and passes
+-- what is found is in the list and passes
 pub found : {X : Type 0} (passes : X → Bool) (xs : List X) (x : X) → find passes xs ≡ Some x → Contains xs x × (passes x ≡ true)
 found passes [] x h = absurd cc
 found passes (y ∷ ys) x h =
@@ -22,7 +22,7 @@ found passes (y ∷ ys) x h =
           (in_rest y ys x stands, passed)
     ]
 
--- where none is counted, none passes
+-- if none is counted, none passes
 pub none_counted : {X : Type 0} (passes : X → Bool) (xs : List X) → count_by passes xs ≡ 0 → All (λ x. passes x ≡ false) xs
 none_counted passes [] none = All-nil (λ x. passes x ≡ false)
 none_counted passes (x ∷ xs) none =

@@ -1,4 +1,4 @@
--- What stands at each place of a view, and that a walk's first pair leads the pairs from a place on.
+-- The pair at each place of a view. A walk's first pair leads the pairs from a place on.
 use Rattle.std.proofs.Common.{◌≡◌, ℕ, suc, ◌+◌, ◌-◌, ◌<◌, ◌≤◌, ◌/◌, ◌%◌, ◌||◌, Bool, true, false, cond, List, [], ◌∷◌, Contains, get_or}
 use Rattle.std.proofs.Common.{arith, Option, Some, None, IfSome, refl, sym, ◌∙◌, ap, inl, inr, eqb, ltb, zero-add}
 use Rattle.std.specs.List.{find, range_with_len}
@@ -23,7 +23,7 @@ pair_between-none None offer none = refl
 pair_between-none (Some b) None none = refl
 pair_between-none (Some b) (Some o) none = none b o refl refl
 
--- at a place whose rows are no pair there is none
+-- at a place whose rows are not a pair there is no pair
 pair_at-none : (seen : Seen) (place low high : ℕ) → NoPair seen.bids seen.offers low high → low ≤ place → place < high
     → pair_at seen place ≡ None
 pair_at-none seen place low high none from to =
@@ -37,7 +37,7 @@ pair_at-none seen place low high none from to =
     ) in
     none bid offer in_bids in_offers (omega arith) (omega arith))
 
--- the pairs from two places on are the same where none stands between them
+-- the pairs from two places on are the same if there is none between them
 pairs_from-past : (seen : Seen) (low high : ℕ) → low ≤ high → high ≤ 1024 → NoPair seen.bids seen.offers low high
     → pairs_from low seen ≡ pairs_from high seen
 pairs_from-past seen low high le within none =
@@ -47,7 +47,7 @@ pairs_from-past seen low high le within none =
     (λ k from to. pair_at-none seen k low high none from (omega arith)) in
     rw between at (rw rest at past)
 
--- where there is no pair any more, none is listed
+-- if there are no more pairs, none is listed
 pub pairs_from-none : (seen : Seen) (low : ℕ) → NoPair seen.bids seen.offers low 1024 → pairs_from low seen ≡ []
 pairs_from-none seen low none =
     elim (cases_lt 1024 low) [
@@ -73,7 +73,7 @@ row_found rows row rising stands =
     found_alone (λ other. eqb other.part row.part) rows row stands (eq-eqb row.part row.part refl) (λ other there same.
     same_part rows row other rising stands there (eqb-true other.part row.part same))
 
--- at the place of two rows stands what they make
+-- at the place of two rows is the pair that they make, if any
 pair_at-rows : (seen : Seen) (bid offer : Row) → AreByPart seen.bids → AreByPart seen.offers → Contains seen.bids bid
     → Contains seen.offers offer → offer.part < 32 → pair_at seen (place_of bid offer) ≡ pair_between (Some bid) (Some offer)
 pair_at-rows seen bid offer bids offers in_bids in_offers narrow =
@@ -91,7 +91,7 @@ pairs_from-here seen place pair below here =
     let count : 1024 - place ≡ suc (1024 - (place + 1)) = omega arith in
     rw (count, here) refl
 
--- the first pair leads the list, and those behind its place follow
+-- the first pair leads the list, and those after its place follow
 pub pairs_from-first : (seen : Seen) (low : ℕ) (pair : Pair) → AreByPart seen.bids → AreByPart seen.offers
     → IsFirstPair seen.bids seen.offers low pair → pairs_from low seen ≡ pair ∷ pairs_from (place_of pair.bid pair.offer + 1) seen
 pairs_from-first seen low pair bids offers first =
@@ -99,7 +99,7 @@ pairs_from-first seen low pair bids offers first =
     pairs_from-past seen low (place_of pair.bid pair.offer) first.from (omega arith) first.first
     ∙ pairs_from-here seen (place_of pair.bid pair.offer) pair first.before_end here
 
--- what stands at a place is a pair of the view's rows
+-- the pair at a place is a pair of the view's rows
 pair_between-in : (seen : Seen) (bid offer : Option Row) → ((b : Row) → bid ≡ Some b → Contains seen.bids b)
     → ((o : Row) → offer ≡ Some o → Contains seen.offers o) → IfSome (pair_between bid offer) (IsPairIn seen)
 pair_between-in seen None offer in_bids in_offers = tt

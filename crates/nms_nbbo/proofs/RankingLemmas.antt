@@ -1,4 +1,4 @@
--- That rows are ranked in a strict order, and what follows for the best of them.
+-- Rows are ranked in a strict order; what follows for the best of them.
 use Rattle.std.specs.Prelude.{All, IfSome, MatchOption}
 use Rattle.std.proofs.Common.{◌≡◌, ◌≢◌, ◌<◌, ◌≤◌, ℕ, false, cond, AllPairs, List, [], ◌∷◌, length, get_or, refl, arith, Option, Some, None}
 use Rattle.std.proofs.Common.{sym, ap, ◌∙◌, subst, inl, inr, ltb, eqb}
@@ -22,7 +22,7 @@ use Rattle.nms_board.proofs.Offered.{above_one_way}
 use Rattle.nms_nbbo.specs.Best.{IsBest, IsBestOf}
 use Rattle.nms_nbbo.proofs.ListLemmas.{found, none_counted}
 
--- what does not rank above a row that does not rank above a third does not rank above the third
+-- if a row does not rank above a second, nor the second above a third, the row does not rank above the third
 above_chain : (side : Side) (a b c : Row) → ranks_above side a b ≡ false → ranks_above side b c ≡ false → ranks_above side a c ≡ false
 above_chain Bid a b c h k = grind (arith, nat_tests)
 above_chain Offer a b c h k = grind (arith, nat_tests)
@@ -76,7 +76,7 @@ best_alike side rows row other best best' =
 pub none_best : (side : Side) (row : Row) → IsBest side [] row → ⊥
 none_best side row best = omega (arith, best.among.1)
 
--- two best rows of a side, or none twice, have one price
+-- two best rows of a side have one price, and two absent ones have none
 IsBestOf-price : (side : Side) (rows : List Row) (best best' : Option Row) → IsBestOf side rows best → IsBestOf side rows best'
     → option_map (λ row. row.price) best ≡ option_map (λ row. row.price) best'
 IsBestOf-price side rows None None empty empty' = refl
@@ -84,7 +84,7 @@ IsBestOf-price side rows None (Some row) empty is = absurd (none_best side row (
 IsBestOf-price side rows (Some row) None is empty = absurd (none_best side row (subst (λ r. IsBest side r row) empty is))
 IsBestOf-price side rows (Some row) (Some other) is is' = ap Some (best_alike side rows row other is is').price
 
--- the market's state looks at prices alone
+-- the market's state depends only on prices
 market_at : Option ℕ → Option ℕ → Market
 market_at None None = market.Empty
 market_at None (Some offer) = market.OneSided
@@ -99,7 +99,7 @@ market_of-market_at None (Some offer) = refl
 market_of-market_at (Some bid) None = refl
 market_of-market_at (Some bid) (Some offer) = refl
 
--- so it is the same whichever best rows are looked at
+-- so it is the same for any best rows
 pub market_of-best : (bids offers : List Row) (bid bid' offer offer' : Option Row) → IsBestOf Bid bids bid → IsBestOf Bid bids bid'
     → IsBestOf Offer offers offer → IsBestOf Offer offers offer' → market_of bid offer ≡ market_of bid' offer'
 market_of-best bids offers bid bid' offer offer' b b' o o' =
@@ -110,14 +110,14 @@ market_of-best bids offers bid bid' offer offer' b b' o o' =
       IsBestOf-price Offer offers offer offer' o o',
     ) refl
 
--- a side with rows has a best one
+-- a side with rows has a best row
 pub some_best : (side : Side) (rows : List Row) → rows ≢ [] → (row : Row) × IsBest side rows row
 some_best side [] some = absurd (some refl)
 some_best side (row ∷ rows) some =
     let (place, first, is) = IsFirstBest-from_best_of (above_is_order side) row rows in
     (_, best_from_first_best side (row ∷ rows) place _ first (get_or_default (row ∷ rows) place _ row first.0 ∙ is))
 
--- where no two rows have one receipt, one row is best
+-- if no two rows have one receipt, one row is best
 pub one_best : (side : Side) (rows : List Row) (row other : Row) → AllPairs (λ row other. row.receipt ≢ other.receipt) rows
     → IsBest side rows row → IsBest side rows other → row ≡ other
 one_best side rows row other differ best best' =
@@ -133,7 +133,7 @@ one_best side rows row other differ best best' =
       | inr (inr after) ↦ absurd (differ j i row after in_rows (other_receipt ∙ sym receipts ∙ sym row_receipt))
     ]
 
--- the best row is of one of the participants that the rows are of
+-- the best row is of a participant of the rows
 pub best_part : (side : Side) (rows : List Row) (best : Option Row) (parts : ℕ) → IsBestOf side rows best
     → All (λ (row : Row). row.part < parts) rows → IfSome best (λ row. row.part < parts)
 best_part side rows None parts is all = tt

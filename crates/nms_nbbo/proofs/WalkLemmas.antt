@@ -1,4 +1,4 @@
--- That a walk over rows by participant meets each place in order.
+-- A walk over rows by participant meets each place in order.
 use Rattle.std.proofs.Common.{◌≡◌, ℕ, ◌+◌, ◌-◌, ◌<◌, ◌≤◌, List, [], ◌∷◌, ◌++◌, length, get_or, take, map, arith, sym, ◌∙◌, ap, subst, inl}
 use Rattle.std.proofs.Common.{inr, ◌⊎◌}
 use Rattle.std.specs.List.{Contains}
@@ -19,7 +19,7 @@ part_rises rows i j d rising lt below =
     let h = AllPairs-from_increasing (map (λ row. row.part) rows) rising i j 0 lt mapped in
     omega (arith, get_or-map (λ row. row.part) rows i d 0, get_or-map (λ row. row.part) rows j d 0)
 
--- a row of no later participant is that row or stands before it
+-- a row of no later participant is that row or is before it
 pub before_or_same : (rows : List Row) (i : ℕ) (row other : Row) → AreByPart rows → i < length rows → row ≡ get_or rows i row
     → Contains rows other → other.part ≤ row.part → Contains (take i rows) other ⊎ (other ≡ row)
 before_or_same rows i row other rising below is (k, in_rows, at) le =
@@ -35,7 +35,7 @@ before_or_same rows i row other rising below is (k, in_rows, at) le =
 contains_only : {X : Type 0} (x y : X) → Contains (x ∷ []) y → y ≡ x
 contains_only x y h = grind arith
 
--- one more offer was looked at
+-- one more offer was examined
 pub NoPair-more_offer : (bids offers : List Row) (i low high : ℕ) (offer : Row) → i < length offers → offer ≡ get_or offers i offer
     → NoPair bids (take i offers) low high → NoPair bids (offer ∷ []) low high → NoPair bids (take (i + 1) offers) low high
 NoPair-more_offer bids offers i low high offer below is before here bid other in_bids in_offers from to =
@@ -46,7 +46,7 @@ NoPair-more_offer bids offers i low high offer below is before here bid other in
       | inr same ↦ here bid other in_bids (0, omega arith, same) from to
     ]
 
--- one more bid was looked at
+-- one more bid was examined
 pub NoPair-more_bid : (bids offers : List Row) (i low high : ℕ) (bid : Row) → i < length bids → bid ≡ get_or bids i bid
     → NoPair (take i bids) offers low high → NoPair (bid ∷ []) offers low high → NoPair (take (i + 1) bids) offers low high
 NoPair-more_bid bids offers i low high bid below is before here other offer in_bids in_offers from to =
@@ -67,7 +67,7 @@ NoPair-before_offer bid offer offers i low high rising below is within none own 
       | inr same ↦ let same_part : other.part ≡ offer.part = ap (λ (r : Row). r.part) same in absurd (omega arith)
     ]
 
--- the bids before one of them, and its own offers, are all that stand at a lesser place
+-- only the bids before one of them, and its own offers, are at a lesser place
 pub NoPair-before_bid : (bid offer : Row) (bids offers : List Row) (i low high : ℕ) → AreByPart bids → i < length bids
     → bid ≡ get_or bids i bid → offer.part < 32 → place_of bid offer ≤ high → NoPair (take i bids) offers low high
     → NoPair (bid ∷ []) offers low (place_of bid offer) → NoPair bids offers low (place_of bid offer)
@@ -117,12 +117,12 @@ IsFirstPair-among_bids bid bids offers i low pair rising below is none found =
       first = rw of_bid (NoPair-before_bid bid pair.offer bids offers i low 1024 rising below is found.narrow within none own);
     }
 
--- all offers were looked at
+-- all offers were examined
 pub NoPair-all_offers : (bids offers : List Row) (i low high : ℕ) → length offers ≤ i → NoPair bids (take i offers) low high
     → NoPair bids offers low high
 NoPair-all_offers bids offers i low high end none = subst (λ rows. NoPair bids rows low high) (take_all i offers end) none
 
--- all bids were looked at
+-- all bids were examined
 pub NoPair-all_bids : (bids offers : List Row) (i low high : ℕ) → length bids ≤ i → NoPair (take i bids) offers low high
     → NoPair bids offers low high
 NoPair-all_bids bids offers i low high end none = subst (λ rows. NoPair rows offers low high) (take_all i bids end) none
@@ -141,7 +141,7 @@ part_up_to_last rows last row rising some is (k, in_rows, at) =
           omega arith
     ]
 
--- no pair of a bid stands behind that with the last offer
+-- no pair of a bid is after that with the last offer
 pub NoPair-past_last : (bid last : Row) (offers : List Row) (low high : ℕ) → AreByPart offers → 0 < length offers
     → last ≡ get_or offers (length offers - 1) last → place_of bid last < low → NoPair (bid ∷ []) offers low high
 NoPair-past_last bid last offers low high rising some is passed own other in_bids in_offers from to =

@@ -1,4 +1,4 @@
--- Laws above the definitions: what the ranking, the market and the pairs are like.
+-- Laws of the definitions: properties of the ranking, the market and the pairs.
 use Rattle.std.specs.Prelude.{◌≡◌, ◌<◌, ◌≤◌, ◌≢◌, ◌⊎◌, true, false, All, Contains, List, []}
 use Rattle.nms_quote.specs.declared.side_quote.Side.{Side}
 use Rattle.nms_board.specs.View.{Seen}
@@ -10,13 +10,13 @@ use Rattle.nms_nbbo.specs.Pairs.{pair_of, pairs_from}
 use Rattle.nms_board.specs.Ranking.{ranks_above}
 use Rattle.nms_nbbo.specs.Walk.{AreByPart}
 
--- equal in all that rows are ranked by
+-- equal in everything that ranks rows
 pub record RankAlike (row other : Row) : Type 0 where
   pub price : row.price ≡ other.price
   pub size : row.size ≡ other.size
   pub receipt : row.receipt ≡ other.receipt
 
--- a strict order of rows, and total where rows differ in price, size or receipt
+-- a strict order of rows, total if rows differ in price, size or receipt
 pub record IsStrictTotalOrder (side : Side) : Type 0 where
   pub irreflexive : (row : Row) → ranks_above side row row ≡ false
   pub transitive : (a b c : Row) → ranks_above side a b ≡ true → ranks_above side b c ≡ true → ranks_above side a c ≡ true
@@ -26,7 +26,7 @@ pub record IsStrictTotalOrder (side : Side) : Type 0 where
 abbrev pub OfEach : (Row → Row → Type 0) → List Row → List Row → Type 0
 OfEach R bids offers = (bid offer : Row) → Contains bids bid → Contains offers offer → R bid offer
 
--- it holds of some bid and some offer
+-- the relation holds of some bid and some offer
 abbrev pub OfSome : (Row → Row → Type 0) → List Row → List Row → Type 0
 OfSome R bids offers = (bid : Row) × (offer : Row) × Contains bids bid × Contains offers offer × R bid offer
 

@@ -1,6 +1,6 @@
--- Quotations of two participants that lock or cross each other (17 CFR 242.610(d) as adopted in 2005:
--- a protected quotation, or any by a manual one). Which of a pair locks or crosses, and the clause that
--- is named, is this product's own rule.
+-- Quotations of two participants that lock or cross each other (17 CFR 242.610(d) as adopted in 2005: a protected
+-- quotation, or any quotation by a manual one). Which of a pair locks or crosses, and the clause that is named, is this
+-- product's own rule.
 use Rattle.std.specs.Prelude.{ℕ, ◌+◌, ◌*◌, ◌-◌, ◌/◌, ◌%◌, ◌==◌, ◌||◌, Bool, List, nat_lt, Option, Some, None, not, if◌then◌else◌}
 use Rattle.std.specs.List.{filter_map, range_with_len}
 use Rattle.nms_quote.specs.declared.side_quote.Side.TheVariants.{Bid, Offer}

@@ -1,4 +1,4 @@
--- How a walk from place to place meets the pairs: row by row, and not place by place.
+-- A walk from place to place meets the pairs row by row, not place by place.
 use Rattle.std.specs.Prelude.{ℕ, ◌≡◌, ◌<◌, ◌≤◌, List, Option, Some, None, Contains, MatchOption, map}
 use Rattle.std.specs.List.Sorted.{IsStrictlyIncreasing}
 use Rattle.nms_board.specs.declared.row.Row.{Row}
@@ -25,6 +25,6 @@ pub record IsFirstPair (bids offers : List Row) (low : ℕ) (pair : Pair) : Type
   pub is : pair_between (Some pair.bid) (Some pair.offer) ≡ Some pair
   pub first : NoPair bids offers low (place_of pair.bid pair.offer)
 
--- the first pair, and none exactly where there is none from `low` on
+-- the first pair, or none if and only if there is none from `low` on
 abbrev pub IsFirstPairOf : List Row → List Row → ℕ → Option Pair → Type 0
 IsFirstPairOf bids offers low found = MatchOption found (NoPair bids offers low 1024) (IsFirstPair bids offers low)

@@ -1,5 +1,4 @@
-//! Laws above the definitions of the ranking, the market and the pairs. Each function does nothing: its
-//! contract is the law.
+//! Laws of the ranking, the market and the pairs. Each function does nothing: its contract is the law.
 ghost use Rattle.std.specs.Prelude.{◌≡◌, ◌≢◌, ℕ, ◌<◌, true, List, [], Option};
 ghost use Rattle.nms_quote.specs.Roster.{Sizes};
 ghost use Rattle.nms_quote.specs.Tape.{Tape};
@@ -32,7 +31,7 @@ pub fn better_price_ranks_first()
     ensures offer { (row other : Row) → row.price < other.price → ranks_above Offer row other ≡ true }
 {}
 
-/// At equal prices the larger displayed size ranks first, whatever came earlier.
+/// At equal prices the larger displayed size ranks first, whichever came earlier.
 pub fn larger_size_ranks_first_at_equal_price()
     ensures { (side : Side) (row other : Row) → row.price ≡ other.price → other.size < row.size → ranks_above side row other ≡ true }
 {}
@@ -47,7 +46,7 @@ pub fn ranking_is_a_strict_total_order()
     ensures { (side : Side) → IsStrictTotalOrder side }
 {}
 
-/// The state of a market, which looks at the two best rows, holds of all bids and offers.
+/// The state of a market, found from the two best rows, holds of all bids and offers.
 pub fn market_speaks_of_all_rows()
     ensures { (bids offers : List Row) (bid offer : Option Row) → IsBestOf Bid bids bid → IsBestOf Offer offers offer → SaysOf (market_of bid offer) bids offers }
 {}

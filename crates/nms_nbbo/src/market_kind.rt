@@ -1,11 +1,11 @@
 //! The states of a market: `specs/Market`.
 
-/// How a symbol's best bid and best offer stand to each other (17 CFR 242.610(d) as adopted in 2005).
+/// The relation of a symbol's best bid and best offer (17 CFR 242.610(d) as adopted in 2005).
 #[derive(Clone, Copy, Debug, PartialEq, Eq)]
 pub enum Market {
     /// No bid and no offer.
     Empty,
-    /// Bids alone, or offers alone.
+    /// Only bids, or only offers.
     OneSided,
     /// The best bid is below the best offer.
     Normal,

@@ -1,4 +1,4 @@
-//! Which state a market is in: `specs/Market`.
+//! The state of a market: `specs/Market`.
 ghost use Rattle.std.specs.Prelude.{◌≡◌, Option};
 ghost use Rattle.nms_quote.specs.declared.side_quote.Side.TheVariants.{Bid, Offer};
 ghost use Rattle.nms_board.specs.View.{rows_on};
@@ -11,7 +11,7 @@ use crate::ranking::best;
 use nms_board::{Row, View};
 use nms_quote::Side;
 
-/// How the best bid and the best offer of a view stand to each other, also where they are of one participant.
+/// The relation of the best bid and best offer of a view, even if both are of one participant.
 pub fn market(view: &View) -> Market
     ensures { (bid offer : Option Row) → IsBestOf Bid (rows_on Bid view.now) bid → IsBestOf Offer (rows_on Offer view.now) offer → result ≡ market_of bid offer }
 {

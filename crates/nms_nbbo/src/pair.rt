@@ -19,11 +19,11 @@ pub enum Clause {
 /// A bid and an offer of two participants that lock or cross each other.
 #[derive(Clone, Copy, PartialEq, Eq)]
 pub struct Pair {
-    /// The one participant's bid, at the offer's price or above.
+    /// One participant's bid, at the offer's price or above.
     pub bid: Row,
     /// The other participant's offer.
     pub offer: Row,
-    /// Whether the bid is above the offer; else they lock.
+    /// Whether the bid is above the offer. If not, they lock.
     pub crossed: bool,
     /// The participant whose quotation was received later, and so locks or crosses.
     pub later: Part,

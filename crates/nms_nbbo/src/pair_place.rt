@@ -1,12 +1,12 @@
-//! Where a walk over the pairs stands: `specs/Walk`.
+//! The place of a walk over the pairs: `specs/Walk`.
 ghost use Rattle.std.specs.Prelude.{◌≡◌, ℕ, ◌+◌, ◌*◌, ◌<◌, ◌≤◌};
 ghost use Rattle.std.specs.Option.{SomeIff};
 
 use nms_quote::Part;
 use std::marker::Model;
 
-/// Where a walk over a symbol's pairs stands, 0 to 1,024: the pair of two participants is at 32 times
-/// the bid's place on the roster plus the offer's, and 1,024 is behind the last (this product's own rule).
+/// The place of a walk over a symbol's pairs, 0 to 1,024 (this product's own rule). A pair is at 32 times the bid's
+/// place on the roster plus the offer's; 1,024 is after the last.
 #[derive(Clone, Copy, PartialEq, Eq, PartialOrd, Ord)]
 pub struct PairPlace {
     place: u16,

@@ -8,8 +8,8 @@ use crate::pair_place::PairPlace;
 use nms_board::{Row, View};
 use nms_quote::Side;
 
-/// The first pair at a place or behind it, and the place to go on from. From place 0 on, each pair of two
-/// participants whose quotations lock or cross comes once.
+/// The first pair at or after a place, and the place to go on from. From place 0 on, each pair of two participants
+/// whose quotations lock or cross comes once.
 pub fn next_pair(view: &View, from: PairPlace) -> Option<(Pair, PairPlace)>
     ensures pairs { MatchOption result (pairs_from from view.now ≡ []) (λ found. pairs_from from view.now ≡ found.0 ∷ pairs_from found.1 view.now) }
     ensures place { IfSome result (λ found. found.1 ≡ place_of found.0.bid found.0.offer + 1) }
@@ -43,7 +43,7 @@ fn first_pair(bids: &[Row], offers: &[Row], from: PairPlace) -> Option<Pair>
     None
 }
 
-/// The pair of a bid at the least place from `from` on. A bid whose pairs all stand before it is passed by.
+/// The pair of a bid at the least place from `from` on. A bid whose pairs are all before it is skipped.
 fn first_pair_of(bid: &Row, offers: &[Row], from: PairPlace) -> Option<Pair>
     requires { AreByPart offers.now }
     ensures { IsFirstPairOf (bid.now ∷ []) offers.now from result }
@@ -60,7 +60,7 @@ fn first_pair_of(bid: &Row, offers: &[Row], from: PairPlace) -> Option<Pair>
     None
 }
 
-/// The pair of a bid and an offer, if it stands at `from` or behind it.
+/// The pair of a bid and an offer, if it is at or after `from`.
 fn pair_from(bid: &Row, offer: &Row, from: PairPlace) -> Option<Pair>
     ensures { IsFirstPairOf (bid.now ∷ []) (offer.now ∷ []) from result }
 {

@@ -9,15 +9,15 @@ use arrayvec::ArrayVec;
 use nms_board::{Boards, MOST_ROWS, Row, View};
 use nms_quote::{Side, Sym};
 
-/// The best bid or the best offer (17 CFR 242.600, "national best bid and national best offer"), and
-/// `None` exactly where the side is empty. A manual quotation ranks as any other.
+/// The best bid or the best offer (17 CFR 242.600, "national best bid and national best offer"), and `None` exactly if
+/// the side is empty. A manual quotation ranks as any other.
 pub fn best(view: &View, side: Side) -> Option<Row>
     ensures { IsBestOf side (rows_on side view.now) result }
 {
     view.ranked(side, 0)
 }
 
-/// The best bid or the best offer of a symbol of a board: that of its view, which is not made.
+/// The best bid or the best offer of a symbol of a board: that of its view, without making the view.
 #[inline(always)]
 pub fn best_on(board: &Boards, side: Side, sym: Sym) -> Option<Row>
     requires { sym < length board.now.sizes.lots }

@@ -1,4 +1,4 @@
--- What a board's history says of the sides that stand in a symbol.
+-- A board's history and the sides that stand in a symbol.
 use Rattle.std.proofs.Common.{◌≡◌, ◌≢◌, ℕ, ◌<◌, ◌≤◌, ◌==◌, ◌&&◌, Bool, true, false, [], ◌∷◌, length, Option, Some, None, slice_get}
 use Rattle.std.proofs.Common.{unwrap_or, if◌then◌else◌, refl, sym, ap, ◌∙◌, arith}
 use Rattle.std.specs.List.{filter_map, cons_option, last_or}
@@ -43,7 +43,7 @@ said_with_state part symbol side (Withdraw p) puts = absurd (by_test (p == part)
     by_test false puts = false≢true puts
 said_with_state part symbol side (Lot s lot) puts = absurd (false≢true puts)
 
--- whatever was said before, of a side that stands at the end the state was said
+-- a side that stands at the end has a state, whatever came before
 stated_since : (part sym : ℕ) (side : Side) (tape : Tape) (said : Option (Option Content)) (state : Option QState)
     → (is_some (unwrap_or said None) ≡ true → is_some state ≡ true)
     → is_some (unwrap_or (last_or said (filter_map (said_of part sym side) tape)) None) ≡ true

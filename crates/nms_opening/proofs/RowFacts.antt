@@ -1,4 +1,4 @@
--- Boards that show alike show the same rows in the same rank order: their rows differ in the receipts' numbers alone.
+-- Boards that show alike show the same rows in the same rank order: their rows differ only in the receipts' numbers.
 use Rattle.std.specs.Prelude.{Contains}
 use Rattle.std.proofs.Common.{◌≡◌, ℕ, zero, suc, ◌+◌, ◌<◌, ◌≤◌, ◌==◌, ◌&&◌, ◌||◌, Bool, true, false, List, [], ◌∷◌, length, map, find}
 use Rattle.std.proofs.Common.{Option, Some, None, option_map, option_and_then, slice_get, slice_set, slice_index, unwrap_or, nat_lt, cond}
@@ -60,7 +60,7 @@ find-map f p q (x ∷ xs) same =
       | inr not_so ↦ rw (first, not_so) (find-map f p q xs (λ y among. same y (in_rest x xs y among)))
     ]
 
--- what a range answers, one of its places answers
+-- each answer of a range is that of one of its places
 among_answers : {X : Type 0} (g : ℕ → Option X) (low n : ℕ) (x : X) → Contains (filter_map g (range_with_len low n)) x
     → (k : ℕ) × ((low ≤ k) × (k < low + n) × (g k ≡ Some x))
 among_answers g low zero x (k, below, at) = absurd (omega arith)

@@ -1,4 +1,4 @@
--- Boards that show alike show alike after the same change: contents and states follow from what the change says, and what it
+-- Boards that show alike show alike after the same change: contents and states follow from the change, and what it
 -- alters is the latest on both.
 use Rattle.std.proofs.Common.{◌≡◌, ℕ, ◌+◌, ◌<◌, ◌≤◌, Bool, true, [], ◌∷◌, ◌++◌, length, Option, Some, None, option_map, slice_get}
 use Rattle.std.proofs.Common.{unwrap_or, if◌then◌else◌, refl, sym, ap, ap₂, subst, ◌∙◌, inl, inr, arith}
@@ -59,7 +59,7 @@ lot_after board symbol change is taken =
     (stands_after board is.tape change is.stands taken).lots symbol ∙ lot_listed-push board.sizes symbol is.tape change
     ∙ ap (option_map (unwrap_or (lot_said symbol change))) (sym (is.stands.lots symbol))
 
--- the order of receipts of two sides, of which both boards have the same content before and after
+-- the order of receipts of two sides with the same content on both boards, before and after
 record Both (one other : Board) (sym : ℕ) (change : Change) (side : Side) (part : ℕ) : Type 0 where
   one_changed : IsChanged one sym change part
   other_changed : IsChanged other sym change part

@@ -29,7 +29,7 @@ abc = 0
 abbrev pub board_of : Tape → Board
 board_of tape = fold after (opening three) tape
 
--- so many shares at a price in 1/10,000 dollar
+-- that many shares at a price in 1/10,000 dollar
 abbrev pub at : ℕ → ℕ → Option Content
 at price shares = Some (record { price = price; shares = shares })
 
@@ -43,7 +43,7 @@ day =
     quote n (at 99900 300) None ∷ quote p None (at 100100 200) ∷ quote 2 (at 99900 300) None ∷ quote n (at 99900 300) (at 100000 60)
     ∷ quote p None (at 100100 200) ∷ change.Withdraw 2 ∷ []
 
--- the same in three changes: N's bid, P's offer, N's bid again with its offer
+-- its opening in three changes: N's bid, P's offer, N's bid again with its offer
 abbrev pub opened : Tape
 opened = quote n (at 99900 300) None ∷ quote p None (at 100100 200) ∷ quote n (at 99900 300) (at 100000 60) ∷ []
 

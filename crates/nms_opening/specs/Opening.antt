@@ -7,21 +7,21 @@ use Rattle.nms_board.specs.History.{concerns}
 use Rattle.nms_opening.specs.Alike.{ShowAlike}
 use Rattle.nms_opening.specs.declared.TheConstants.{MOST_OPENING}
 
--- a board of those sizes that has nothing of a symbol: the round lot is the opening one, and no participant quoted
+-- a board of those sizes with a symbol as at the opening: its round lot is the opening one, and no participant quoted
 pub record HasNothing (start : Board) (sizes : Sizes) (sym : ℕ) : Type 0 where
   pub roster : start.sizes ≡ sizes
   pub lot : slice_get start.lots sym ≡ slice_get sizes.lots sym
   pub cells : (part : ℕ) → part < sizes.parts → slice_get start.cells (place_of part sym) ≡ Some empty_cell
 
--- opening changes of one symbol: of that symbol alone, held by the roster, no more than MOST_OPENING; a board that has
--- nothing of the symbol shows alike after them
+-- opening changes of one symbol: only of that symbol, held by the roster, at most MOST_OPENING. A board with the symbol
+-- as at the opening shows alike after them
 pub record OpensSymbol (board : Board) (sym : ℕ) (changes : List Change) : Type 0 where
   pub own : (other : ℕ) → other ≢ sym → All (λ change. concerns other change ≡ false) changes
   pub held : All (λ change. holds board.sizes change ≡ true) changes
   pub few : length changes ≤ MOST_OPENING
   pub alike : (start : Board) → HasNothing start board.sizes sym → ShowAlike board (fold after start changes) sym
 
--- opening changes of a board: held by its roster, no more than MOST_OPENING a symbol; a new board of the roster shows alike
+-- opening changes of a board: held by its roster, at most MOST_OPENING a symbol. A new board of the roster shows alike
 -- after them, for every symbol
 pub record Opens (board : Board) (changes : List Change) : Type 0 where
   pub held : All (λ change. holds board.sizes change ≡ true) changes

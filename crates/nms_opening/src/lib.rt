@@ -1,4 +1,4 @@
-//! The opening changes of a board: a short list that, applied to a new board of its roster, shows the same.
+//! The opening changes of a board: a short list that makes a new board of its roster show the same.
 #![tactic(auto)]
 
 mod laws;

@@ -5,7 +5,7 @@ use crate::MOST_OPENING;
 use nms_quote::{Change, Part};
 use std::marker::Model;
 
-/// The opening changes of one symbol, in the order in which they apply: at most `MOST_OPENING`. They lie in the value
+/// The opening changes of one symbol, in the order in which they apply: at most `MOST_OPENING`. They are in the value
 /// itself.
 #[derive(Drop)]
 pub struct OpeningChanges {
@@ -26,7 +26,7 @@ impl Model for OpeningChanges {
 }
 
 impl OpeningChanges {
-    /// No changes. A change has no default, so a withdrawal stands in the unused places.
+    /// No changes. A change has no default, so the unused places hold a withdrawal.
     pub(crate) fn none() -> Self
         ensures { result ≡ [] }
     {

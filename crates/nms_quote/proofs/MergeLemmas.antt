@@ -1,4 +1,4 @@
--- What follows of marks and of merges.
+-- What follows from marks and from merges.
 use Rattle.std.proofs.Common.{ℕ, ◌≡◌, suc, ◌+◌, true, false, List, [], ◌∷◌, ◌++◌, length, refl, sym, ap, ◌∙◌, arith, if◌then◌else◌}
 use Rattle.std.specs.Prelude.{slice_get, Some}
 use Rattle.std.proofs.lemmas.Bool.{eq-eqb, eqb-true}
@@ -10,7 +10,7 @@ use Rattle.nms_quote.specs.declared.feed.Feed.{Feed}
 use Rattle.nms_quote.specs.declared.feed.Feed.TheVariants as feed
 use Rattle.nms_quote.specs.declared.marked.Marked.{Marked}
 
--- at a feed's place among the feeds stands the feed
+-- the feed at a feed's place is that feed
 pub feeds-at_place : (f : Feed) → slice_get feeds (place_of f) ≡ Some f
 feeds-at_place feed.A = refl
 feeds-at_place feed.B = refl
@@ -24,7 +24,7 @@ feeds-at_place feed.H = refl
 pub same_feed-self : (f : Feed) → is_same_feed f f ≡ true
 same_feed-self f = eq-eqb (place_of f) (place_of f) refl
 
--- where the test says so, two feeds are one
+-- if the test says so, two feeds are one
 pub same_feed-one : (f g : Feed) → is_same_feed f g ≡ true → f ≡ g
 same_feed-one f g same =
     let places : place_of f ≡ place_of g = eqb-true (place_of f) (place_of g) same in
@@ -47,13 +47,13 @@ pub of_feed-mine : (f : Feed) (xs : List Marked) (m : Marked) → is_same_feed f
 unfolding of_feed
 of_feed-mine f xs m same = of_feed-append f xs (m ∷ []) ∙ ap (λ b. of_feed f xs ++ (if b then m.change ∷ [] else [])) same
 
--- another feed's change leaves what there is
+-- another feed's change leaves the list as it is
 pub of_feed-other : (f : Feed) (xs : List Marked) (m : Marked) → is_same_feed f m.feed ≡ false → of_feed f (xs ++ m ∷ []) ≡ of_feed f xs
 unfolding of_feed
 of_feed-other f xs m other = of_feed-append f xs (m ∷ []) ∙ ap (λ b. of_feed f xs ++ (if b then m.change ∷ [] else [])) other
     ∙ append-nil (of_feed f xs)
 
--- how long lists are together, one of each feed
+-- the lengths of the lists together, one list for each feed
 abbrev pub total : (Feed → List Change) → List Feed → ℕ
 total lists [] = 0
 total lists (f ∷ fs) = length (lists f) + total lists fs

@@ -58,7 +58,7 @@ module _ {Y Z : Type 0} where
       ap (λ b. cond b (Some entry.1) (lookup (λ key. bytes_eq name (string_bytes key)) entries)) other
       ∙ lookup-not_utf8 name invalid entries
 
-  -- bytes that are no text name nothing
+  -- bytes that are not text are no entry's name
   pub place_in-not_utf8 : (name : Name) (entries : List (String Y × Z)) → (IsUtf8 name → ⊥) → place_in (named entries) name ≡ None
   place_in-not_utf8 name entries invalid =
       place_in-named name entries
@@ -101,7 +101,7 @@ named-insert_entry m table is key value name same absent entries inserted =
     ∙ ap (λ t. t ++ (string_bytes key, value) ∷ []) is
     ∙ ap (λ n. table ++ (n, value) ∷ []) same
 
--- what every name passes, the name at a place does
+-- a test that every name passes, the name at a place passes
 pub passes_at : {Z : Type 0} (passes : Name → Bool) (entries : List (Name × Z)) (place : ℕ) (name : Name)
     → list_all (λ entry. passes entry.0) entries ≡ true → option_map (λ entry. entry.0) (slice_get entries place) ≡ Some name
     → passes name ≡ true
@@ -138,7 +138,7 @@ IsUtf8-part_name name h = IsUtf8-from_name is_name_char is_name_char-small 4 nam
 pub IsUtf8-symbol_name : (name : Name) → is_symbol_name name ≡ true → IsUtf8 name
 IsUtf8-symbol_name name h = IsUtf8-from_name is_symbol_char is_symbol_char-small 8 name h
 
--- an entry that is there has the name that stands at its place
+-- an entry's name is the name at its place
 pub named_at : {Z : Type 0} (entries : List (Name × Z)) (place : ℕ) → place < length entries
     → option_map (λ entry. entry.0) (slice_get entries place)
     ≡ Some (unwrap_or (option_map (λ entry. entry.0) (slice_get entries place)) [])

@@ -71,7 +71,7 @@ word_of-injective xs ys word mine other some =
     (sym (number_after-reversed xs []) ∙ x.1 ∙ sym y.1 ∙ number_after-reversed ys []) in
     sym (reversed-reversed xs []) ∙ ap (λ last. reversed last []) same ∙ reversed-reversed ys []
 
--- where a name's word stands, the name does
+-- the name is at the place of its word
 pub name_at-word : {Z : Type 0} (table : List (Name × Z)) (words : List ℕ) → words ≡ words_of table → (place d : ℕ) (name : Name) (word : ℕ)
     → place < length words → get_or words place d ≡ word → word_of name ≡ word → 0 < word
     → option_map (λ entry. entry.0) (slice_get table place) ≡ Some name

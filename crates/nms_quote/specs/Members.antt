@@ -1,5 +1,5 @@
--- Sets of participants' places. A set is the number whose binary digits say who is in it: digit `place` is 1 where
--- that participant is. This product's own rule.
+-- Sets of participants' places. A set is the number whose binary digits say who is in it: digit `place` is 1 if that
+-- participant is. This product's own rule.
 use Rattle.std.specs.Prelude.{ℕ, ◌≡◌, ◌==◌, ◌<◌, ◌^◌, Bool}
 use Rattle.std.specs.Int.{bit_at}
 use Rattle.std.specs.Int.RustNames.{bit_or}

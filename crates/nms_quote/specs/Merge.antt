@@ -1,5 +1,4 @@
--- Changes with the feeds that brought them, and what it is to merge the lists of the feeds. This product's
--- own rule.
+-- Changes with the feeds that brought them, and the merge of the feeds' lists. This product's own rule.
 use Rattle.std.specs.Prelude.{ℕ, ◌≡◌, Bool, false, List, [], ◌∷◌, nat_eq, filter, slice_index_or, Option, Some, None, if◌then◌else◌}
 use Rattle.nms_quote.specs.Roster.{Listing, feed_of_change}
 use Rattle.nms_quote.specs.Tape.{Tape}
@@ -27,7 +26,7 @@ feeds = feed.A ∷ feed.B ∷ feed.C ∷ feed.D ∷ feed.E ∷ feed.F ∷ feed.G
 abbrev pub is_same_feed : Feed → Feed → Bool
 is_same_feed one other = nat_eq (place_of one) (place_of other)
 
--- whether a feed is there, and is the one wanted
+-- whether there is a feed, and it is the one asked for
 abbrev pub is_of_feed : Option Feed → Feed → Bool
 is_of_feed None wanted = false
 is_of_feed (Some feed) wanted = is_same_feed feed wanted
@@ -41,7 +40,7 @@ unfoldable pub of_feed : Feed → List Marked → List Change
 of_feed feed [] = []
 of_feed feed (marked ∷ more) = if is_same_feed feed marked.feed then marked.change ∷ of_feed feed more else of_feed feed more
 
--- of lists that stand in order of place, a feed's own: an empty one beyond the last
+-- a feed's own list, of lists in order of place: an empty one past the last
 abbrev pub own_of : {X : Type 0} → Feed → List (List X) → List X
 own_of feed lists = slice_index_or lists (place_of feed) []
 

@@ -9,7 +9,7 @@ use Rattle.nms_quote.specs.Roster.{Name}
 abbrev pub named : {Y Z : Type 0} → List (String Y × Z) → List (Name × Z)
 named entries = map (λ entry. (string_bytes entry.0, entry.1)) entries
 
--- bytes as the digits of a number behind another, to the base 256
+-- bytes as the digits that follow a number, to the base 256
 abbrev pub number_after : ℕ → List ℕ → ℕ
 number_after n [] = n
 number_after n (c ∷ cs) = number_after (n * 256 + c) cs
@@ -18,7 +18,7 @@ number_after n (c ∷ cs) = number_after (n * 256 + c) cs
 abbrev pub is_digit : ℕ → Bool
 is_digit c = nat_lt 0 c && nat_lt c 256
 
--- a text of at most eight bytes, none of them 0, as one number; 0 where it is another text
+-- a text of at most eight bytes, none of them 0, as one number; 0 for any other text
 abbrev pub word_of : Name → ℕ
 word_of text = if nat_le (length text) 8 && list_all is_digit text then number_after 0 text else 0
 

@@ -41,7 +41,7 @@ is_part_name name = is_name_of is_name_char 4 name
 abbrev pub is_symbol_name : Name → Bool
 is_symbol_name name = is_name_of is_symbol_char 8 name
 
--- why an entry is refused, the first reason that holds: its name's form, a name that stands already, no room
+-- why an entry is refused, the first reason that holds: its name's form, a name that is there already, no room
 abbrev pub refusal_in : {Z : Type 0} → (Name → Bool) → ℕ → List (Name × Z) → Name → Option RosterFault
 refusal_in is_name most entries name =
     if is_name name
@@ -49,7 +49,7 @@ refusal_in is_name most entries name =
     else (if nat_lt (length entries) most then None else Some fault.TooMany))
     else Some fault.BadName
 
--- every name passes, and there are at most so many
+-- every name passes, and there are at most `most` of them
 pub record AreNames {Z : Type 0} (is_name : Name → Bool) (most : ℕ) (entries : List (Name × Z)) : Type 0 where
   pub formed : list_all (λ entry. is_name entry.0) entries ≡ true
   pub within : length entries ≤ most
@@ -87,7 +87,7 @@ pub record Sizes : Type 0 where
 abbrev pub sizes_of : Listing → Sizes
 sizes_of roster = record { parts = length roster.parts; lots = map (λ entry. entry.1) roster.syms }
 
--- whether a change speaks of participants and symbols of the roster
+-- whether a change names participants and symbols of the roster
 abbrev pub holds : Sizes → Change → Bool
 holds sizes (change.Quote part sym state bid offer) = nat_lt part sizes.parts && nat_lt sym (length sizes.lots)
 holds sizes (change.State part sym state) = nat_lt part sizes.parts && nat_lt sym (length sizes.lots)

@@ -9,12 +9,12 @@ pub enum CutKind {
     TooMuch,
     /// All that may be traded with at the price or better is less than can be filled.
     TooLittle,
-    /// What a plan costs at least, shown by what one more share costs, in nanodollars: a lawful certificate has
-    /// -10^18 to 10^18 here.
+    /// A plan's least cost, shown by the cost of one more share, in nanodollars: -10^18 to 10^18 in a lawful
+    /// certificate.
     Marginal(Money),
 }
 
-/// What a certificate says of one price.
+/// A certificate's statement about one price.
 #[derive(Clone, Copy, Debug, PartialEq, Eq)]
 pub struct Cut {
     /// In 1/10,000 dollar.
@@ -23,7 +23,7 @@ pub struct Cut {
     pub kind: CutKind,
 }
 
-/// The cut that stands in a list's unused places.
+/// The cut in a list's unused places.
 impl Default for Cut {
     fn default() -> Self {
         Cut {

@@ -10,7 +10,7 @@ use nms_units::Lot;
 /// only its best bid and its best offer in a symbol (this product's own rule).
 #[derive(Clone, Copy, Debug, PartialEq, Eq)]
 pub enum Change {
-    /// Both sides of a symbol, `None` where there is no quotation, and their state.
+    /// Both sides of a symbol, `None` if there is no quotation, and their state.
     Quote {
         /// Who sends it.
         part: Part,
@@ -20,14 +20,14 @@ pub enum Change {
         state: QState,
         /// The best bid: a price in 1/10,000 dollar and 1 or more shares.
         bid: Option<SideQuote>,
-        /// The best offer, likewise.
+        /// The best offer, in the same form.
         offer: Option<SideQuote>,
     },
     /// The state of the symbol's quotations alone.
     State {
         /// Who sends it.
         part: Part,
-        /// Where its state changes.
+        /// The symbol whose state changes.
         sym: Sym,
         /// The state of both sides from now on.
         state: QState,

@@ -4,8 +4,8 @@ use std::alloc::{AllocError, Global};
 /// How many hints there are.
 const HINTS: usize = 4096;
 
-/// A place for each name that is tried before any other. Nothing is promised of it: two names may share a
-/// hint, and a name that is nowhere has one, so whoever asks compares the name that stands at the place.
+/// A place for each name that is tried before any other. A hint may be wrong: two names may share one, and an unknown
+/// name has one. So the caller compares the name at the place.
 #[derive(Drop)]
 pub(crate) struct Hints {
     places: Vec<u16>,
@@ -38,7 +38,7 @@ impl Hints {
     }
 }
 
-/// Which hint is a name's: the number that it is, spread over the hints by the golden ratio.
+/// The place of a name's hint: the name as a number, spread over the hints by the golden ratio.
 fn slot_of(word: u64) -> usize {
     (word.wrapping_mul(0x9e37_79b9_7f4a_7c15) >> 52) as usize
 }

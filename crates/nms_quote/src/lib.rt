@@ -1,4 +1,4 @@
-//! What a quotation change, an order, a plan and its certificate are, and who is on the roster.
+//! Quotation changes, orders, plans, certificates and the roster.
 #![tactic(auto)]
 
 mod answer;

@@ -12,7 +12,7 @@ use indexmap::IndexMap;
 use std::alloc::Global;
 use std::marker::Model;
 
-/// Entries under names, each name once. An entry's place is how many stood before it.
+/// Entries under names, each name once. An entry's place is the number of entries before it.
 #[derive(Drop)]
 pub(crate) struct NameTable<V: Copy> {
     entries: IndexMap<String, V>,
@@ -70,7 +70,7 @@ impl<V: Copy> NameTable<V> {
         }
     }
 
-    /// The same without a hint.
+    /// As `find`, without a hint.
     #[cold]
     #[inline(never)]
     fn find_by_hash(&self, name: &[u8]) -> Option<usize>
@@ -104,8 +104,8 @@ impl<V: Copy> NameTable<V> {
         *value
     }
 
-    /// Why an entry may not be added, the first reason that holds: the form of its name, that the
-    /// name stands already, or that `most` entries are there.
+    /// Why an entry may not be added, the first reason that holds: its name's form, its name is there already, or
+    /// `most` entries are there.
     pub(crate) fn refusal(&self, name: &[u8], is_name: bool, most: usize) -> Option<RosterFault>
         ensures reason { result ≡ refusal_in (λ _. is_name) most self.now name.now }
         ensures formed { IfNone result (is_name ≡ true) }
@@ -128,8 +128,7 @@ impl<V: Copy> NameTable<V> {
         let _ = self.entries.len();
     }
 
-    /// Adds an entry as the last one, under a name that is not there. Where memory is short, nothing
-    /// changes.
+    /// Adds an entry as the last one, under a new name. If memory is short, nothing changes.
     pub(crate) fn push(&mut self, name: &[u8], value: V) -> Result<(), RosterFault>
         requires text { IsUtf8 name.now }
         requires absent { place_in self.old name.now ≡ None }
@@ -151,7 +150,7 @@ impl<V: Copy> NameTable<V> {
     }
 }
 
-/// Adds an entry under a name that is not there, and tells whether there was memory for it.
+/// Adds an entry under a new name. Returns whether there was memory for it.
 fn put_last<V: Copy>(entries: &mut IndexMap<String, V>, name: &[u8], value: V) -> bool
     requires unique { IsUnique string_eq entries.old }
     requires text { IsUtf8 name.now }
@@ -169,7 +168,7 @@ fn put_last<V: Copy>(entries: &mut IndexMap<String, V>, name: &[u8], value: V) -
     true
 }
 
-/// A text of at most eight bytes, none of them 0, as one number; 0 where it is another text.
+/// A text of at most eight bytes, none of them 0, as one number; 0 for any other text.
 fn word_of(text: &[u8]) -> u64
     ensures { result ≡ word_of text.now }
 {

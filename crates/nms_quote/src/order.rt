@@ -50,7 +50,7 @@ impl Model for Order {
 impl Order {
     ghost use Rattle.nms_quote.specs.Terms.{Terms};
 
-    /// An order of those terms, or `None` where it is of 0 shares.
+    /// An order of those terms, or `None` if it is of 0 shares.
     pub fn new(
         side: OrderSide,
         sym: Sym,

@@ -32,21 +32,21 @@ impl PartSet {
         PartSet { mask: 0 }
     }
 
-    /// The set that a number's binary digits say: the participant at a place is in it if that digit is 1.
+    /// The set by a number's binary digits: the participant at a place is in it if that digit is 1.
     pub fn of(digits: u32) -> Self
         ensures { result ≡ digits }
     {
         PartSet { mask: digits }
     }
 
-    /// The number whose binary digits say the set.
+    /// The set as a number, a binary digit for each place.
     pub fn digits(self) -> u32
         ensures { result ≡ self }
     {
         self.mask
     }
 
-    /// The set and this participant too. One who is in it already counts once.
+    /// The set and this participant too. A participant in it already counts once.
     pub fn with(self, part: Part) -> Self
         ensures set { result ≡ with_part self part }
         ensures members { (place : ℕ) → has_part result place ≡ (place == part || has_part self place) }
@@ -70,7 +70,7 @@ impl PartSet {
         self.mask == 0
     }
 
-    /// Two sets with the same members are one.
+    /// Two sets with the same members are equal.
     pub fn sets_are_their_members()
         ensures { AreSetsByMembers }
     {}

@@ -1,4 +1,4 @@
-//! What is sent where to fill an order: a plan and its legs.
+//! A plan and its legs: what is sent to each participant to fill an order.
 use crate::order::Order;
 use crate::participant::Part;
 use arrayvec::ArrayVec;
@@ -8,7 +8,7 @@ use nms_units::{Money, Price, Shares};
 /// sweep order").
 #[derive(Clone, Copy, Debug, PartialEq, Eq)]
 pub struct Leg {
-    /// Where it goes.
+    /// The participant that it goes to.
     pub part: Part,
     /// Its limit price, in 1/10,000 dollar.
     pub price: Price,
@@ -16,7 +16,7 @@ pub struct Leg {
     pub shares: Shares,
 }
 
-/// The leg that stands in a list's unused places.
+/// The leg in a list's unused places.
 impl Default for Leg {
     fn default() -> Self {
         Leg {
@@ -27,15 +27,15 @@ impl Default for Leg {
     }
 }
 
-/// A plan to fill an order with quotations of one published version. It need not be lawful: `nms_rules` says
-/// what breaks it.
+/// A plan to fill an order with quotations of one published version. It need not be lawful: `nms_rules` says why one is
+/// not.
 #[derive(Drop)]
 pub struct Plan {
     /// The number of the version that it was made on.
     pub version: u64,
-    /// What was asked for.
+    /// The order.
     pub order: Order,
-    /// What is sent where, at most one leg for each participant.
+    /// The legs, at most one for each participant.
     pub legs: ArrayVec<Leg, 32>,
     /// The shares of all legs.
     pub filled: u32,

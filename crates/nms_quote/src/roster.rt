@@ -14,8 +14,8 @@ use nms_units::Lot;
 use std::alloc::Global;
 use std::marker::Model;
 
-/// Participants with their feeds and symbols with their round lots, each name once. An entry's
-/// place is how many stood before it. The lots are those of the opening.
+/// Participants with their feeds and symbols with their round lots, each name once. An entry's place is the number of
+/// entries before it. The lots are those of the opening.
 #[derive(Drop)]
 pub struct Roster {
     parts: NameTable<Feed>,
@@ -45,10 +45,10 @@ impl Roster {
         })
     }
 
-    /// Adds a participant of 1 to 4 of A to Z and 0 to 9 as the last one, and gives its place.
+    /// Adds a participant of 1 to 4 of A to Z and 0 to 9 as the last one. Returns its place.
     ///
-    /// Refused by the first of these that holds: `BadName` (the form), `Duplicate`, `TooMany` (32 are
-    /// there); `NoMemory` may come in place of success alone. A refusal changes nothing.
+    /// Errors, the first that holds: `BadName` (the form), `Duplicate`, `TooMany` (32 are there). `NoMemory` may come
+    /// only in place of success. An error changes nothing.
     pub fn add_participant(&mut self, name: &[u8], feed: Feed) -> Result<Part, RosterFault>
         ensures added { IfOk result (λ part. (self.new.parts ≡ self.old.parts ++ (name.now, feed) ∷ []) × (self.new.syms ≡ self.old.syms) × (part ≡ length self.old.parts)) }
         ensures unchanged { OnErr result (self.new ≡ self.old) }
@@ -66,10 +66,10 @@ impl Roster {
         Ok(Part::at(place))
     }
 
-    /// Adds a symbol of 1 to 8 of A to Z, 0 to 9 and the point as the last one, and gives its place.
+    /// Adds a symbol of 1 to 8 of A to Z, 0 to 9 and the point as the last one. Returns its place.
     ///
-    /// Refused by the first of these that holds: `BadName` (the form), `Duplicate`, `TooMany` (1,000
-    /// are there); `NoMemory` may come in place of success alone. A refusal changes nothing.
+    /// Errors, the first that holds: `BadName` (the form), `Duplicate`, `TooMany` (1,000 are there). `NoMemory` may
+    /// come only in place of success. An error changes nothing.
     pub fn add_symbol(&mut self, name: &[u8], lot: Lot) -> Result<Sym, RosterFault>
         ensures added { IfOk result (λ sym. (self.new.syms ≡ self.old.syms ++ (name.now, lot) ∷ []) × (self.new.parts ≡ self.old.parts) × (sym ≡ length self.old.syms)) }
         ensures unchanged { OnErr result (self.new ≡ self.old) }
@@ -87,7 +87,7 @@ impl Roster {
         Ok(Sym::at(place))
     }
 
-    /// The participant of that name, or `None` where nobody has it.
+    /// The participant of that name, or `None` if nobody has it.
     pub fn find_part(&self, name: &[u8]) -> Option<Part>
         ensures place { result ≡ place_in self.now.parts name.now }
         ensures within { IfSome result (λ part. part < length self.now.parts) }
@@ -96,7 +96,7 @@ impl Roster {
         Some(Part::at(place))
     }
 
-    /// The symbol of that name, or `None` where none has it.
+    /// The symbol of that name, or `None` if none has it.
     pub fn find_sym(&self, name: &[u8]) -> Option<Sym>
         ensures place { result ≡ place_in self.now.syms name.now }
         ensures within { IfSome result (λ sym. sym < length self.now.syms) }
@@ -180,7 +180,7 @@ impl Roster {
         self.syms.finds_each_name();
     }
 
-    /// Whether a change speaks of participants and symbols of the roster alone.
+    /// Whether a change names only participants and symbols of the roster.
     pub fn holds(&self, change: &Change) -> bool
         ensures { result ≡ holds (sizes_of self.now) change.now }
     {

@@ -1,4 +1,4 @@
-//! Why an entry is refused: `refusal_in` of `specs/Roster`, and want of memory.
+//! Why an entry is refused: `refusal_in` of `specs/Roster`, and out of memory.
 use thiserror::Error;
 
 /// Why an entry was not added to a roster, least number first. The roster is unchanged.
@@ -7,7 +7,7 @@ pub enum RosterFault {
     /// Q1: the name is not of the form.
     #[error("Q1: not a name")]
     BadName,
-    /// Q2: the name stands on the roster already.
+    /// Q2: the name is on the roster already.
     #[error("Q2: the name stands already")]
     Duplicate,
     /// Q3: there are 32 participants, or 1,000 symbols, already.

@@ -15,8 +15,8 @@ pub enum Side {
     Offer,
 }
 
-/// How a participant's quotations in a symbol stand (17 CFR 242.600, "automated quotation" and
-/// "manual quotation"; `Halted` is this product's own rule).
+/// The state of a participant's quotations in a symbol (17 CFR 242.600, "automated quotation" and "manual quotation";
+/// `Halted` is this product's own rule).
 #[derive(Clone, Copy, Debug, PartialEq, Eq)]
 pub enum QState {
     /// Ranked and protected.
@@ -32,7 +32,7 @@ pub enum QState {
 pub struct SideQuote {
     /// In 1/10,000 dollar.
     pub price: Price,
-    /// What its message gives, 1 to 999,999,999; not yet rounded down to whole lots.
+    /// The message's shares, 1 to 999,999,999, not yet rounded down to whole lots.
     pub shares: Shares,
 }
 
@@ -52,7 +52,7 @@ impl Model for SideQuote {
 impl SideQuote {
     ghost use Rattle.nms_quote.specs.Content.{Content};
 
-    /// A quote of one side, or `None` where the shares are 0.
+    /// A quote of one side, or `None` if the shares are 0.
     pub fn new(price: Price, shares: Shares) -> Option<Self>
         ensures { SomeIff result (1 ≤ shares) (record { price = price; shares = shares }) }
     {

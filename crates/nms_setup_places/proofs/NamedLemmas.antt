@@ -1,5 +1,5 @@
--- The names of some elements, with one element more after them: when a map knows the names of the elements, and then that
--- of the one more.
+-- The names of some elements, with one element more after them: if a map knows the names of the elements, it then knows
+-- that of the one more.
 use Rattle.std.proofs.Common.{◌≡◌, ℕ, suc, ◌+◌, Bool, true, false, cond, List, [], ◌∷◌}
 use Rattle.std.proofs.Common.{◌++◌, length, Option, Some, None, Bor, refl, sym, ap, ◌∙◌, if◌then◌else◌, arith}
 use Rattle.std.specs.Option.{option_map_or}
@@ -41,7 +41,7 @@ first_named-push name before (first ∷ rows) row = by (is_named name first) (fi
         ∙ ap (λ place. or_else (first_named name (suc before) rows) (place_if (is_named name row) place)) (omega arith)
 
 module _ {S : Type 0} (known : IndexMap (Bor Name) ℕ S) (rows : List Data) (row : Data) (knows : KnowsNames known rows) where
-  -- an element that has not the name leaves it as it was
+  -- an element without the name leaves it as it was
   passed : (name : Bor Name) → is_named name.now row ≡ false
       → get_by (λ key. bytes_eq name.now key.now) known ≡ first_named name.now 0 (rows ++ row ∷ [])
   passed name other = knows name

@@ -1,5 +1,5 @@
--- The faults of a document, each with its place: the table, and what of it. The fault of each place is that of its own.
--- This product's own rule.
+-- The faults of a document, each with its place: the table, and the part of it. Each place has its own fault. This
+-- product's own rule.
 use Rattle.std.specs.Prelude.{codes, ℕ, suc, Bool, false, not, List, [], ◌∷◌, ◌++◌, length, Option, Some, None}
 use Rattle.std.specs.Prelude.{option_and_then, if◌then◌else◌}
 use Rattle.std.specs.Option.{option_map_or}
@@ -23,16 +23,16 @@ use Rattle.nms_setup_places.specs.declared.setup_table.SetupArray.TheVariants as
 use Rattle.nms_setup_places.specs.declared.setup_table.SetupTable.{SetupTable}
 use Rattle.nms_setup_places.specs.declared.setup_table.SetupTable.TheVariants as of
 
--- a fault at a place, where there is one
+-- a fault at a place, if there is one
 abbrev pub finding_at : SetupTable → Spot → Option SetupFault → List Finding
 finding_at table spot None = []
 finding_at table spot (Some fault) = record { table = table; spot = spot; fault = fault } ∷ []
 
--- that a key is absent, where it is required
+-- a key is absent and required
 abbrev pub absent_fault : KnownKey → Option SetupFault
 absent_fault key = if is_optional key then None else Some fault.Missing
 
--- the fault of a key that may stand in a table: that it is absent, or that of its value
+-- the fault of a key that may be in a table: it is absent, or its value has a fault
 abbrev pub own_fault : Choices → SetupTable → Members → KnownKey → Option SetupFault
 own_fault choices table members key =
     option_map_or (form_fault (form_of choices table key)) (get_member (text_of key) members) (absent_fault key)
@@ -43,16 +43,16 @@ key_findings choices table _ [] = []
 key_findings choices table members (key ∷ keys) =
     finding_at table (spot.Key key) (own_fault choices table members key) ++ key_findings choices table members keys
 
--- the fault of the keys that may not stand in a table
+-- the fault of the keys that may not be in a table
 abbrev pub others_fault : SetupTable → Members → Option SetupFault
 others_fault table members = if list_any (λ key. not (is_key_of table key)) (keys_in members) then Some fault.UnknownKey else None
 
--- the faults of all keys of a table, with those that may not stand there
+-- the faults of all keys of a table, with those that may not be there
 abbrev pub findings_in : Choices → SetupTable → Members → List Finding
 findings_in choices table members =
     key_findings choices table members (keys_of table) ++ finding_at table spot.OtherKeys (others_fault table members)
 
--- the faults of an element by itself, which has to be a table
+-- the faults of an element by itself, which must be a table
 abbrev pub element_findings : Choices → SetupTable → Data → List Finding
 element_findings choices table row =
     option_map_or (findings_in choices table) (as_table row) (finding_at table spot.Element (Some fault.WrongType))
@@ -61,7 +61,7 @@ element_findings choices table row =
 abbrev pub is_named : Name → Data → Bool
 is_named name row = option_map_or (λ other. bytes_eq other name) (name_in row) false
 
--- the first of some elements that has the name, by how many stand before it
+-- the first of some elements that has the name, by the number of elements before it
 abbrev pub first_named : Name → ℕ → List Data → Option ℕ
 first_named name before [] = None
 first_named name before (row ∷ rows) = if is_named name row then Some before else first_named name (suc before) rows
@@ -70,12 +70,12 @@ first_named name before (row ∷ rows) = if is_named name row then Some before e
 abbrev pub named_before : List Data → Data → Option ℕ
 named_before before row = option_and_then (λ name. first_named name 0 before) (name_in row)
 
--- that an earlier element has the name
+-- an earlier element has the name
 abbrev pub again_findings : SetupTable → List Data → Data → List Finding
 again_findings table before row =
     option_map_or (λ first. finding_at table (spot.NameOf first) (Some fault.BadName)) (named_before before row) []
 
--- the faults of one element, of which these stand before it
+-- the faults of one element, with these elements before it
 abbrev pub row_findings : Choices → SetupArray → List Data → Data → List Finding
 row_findings choices array before row =
     element_findings choices (row_table array (length before)) row ++ again_findings (row_table array (length before)) before row

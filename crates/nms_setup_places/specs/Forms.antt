@@ -1,4 +1,4 @@
--- What the value at each key has to be, with its bounds. This product's own rule; the caps of fees are those of 17 CFR
+-- What the value at each key must be, with its bounds. This product's own rule; the caps of fees are those of 17 CFR
 -- 242.610(c), as adopted in 2005 or as amended in 2024.
 use Rattle.std.specs.Prelude.{pos, length, Option, Some}
 use Rattle.std.specs.Option.{option_map_or}
@@ -37,12 +37,12 @@ form_of choices table key.Fee = form.Charge MOST_FEE (fee_cap choices.caps)
 form_of choices table key.Rate = form.Charge MOST_RATE (rate_cap choices.caps)
 form_of choices table key.Lot = form.Number (pos 1) (pos MOST_LOT)
 
--- the fault of an array by itself: that it is none, is empty, or has too many elements
+-- the fault of an array by itself: it is not an array, is empty, or has too many elements
 abbrev pub rows_form_fault : SetupArray → Data → Option SetupFault
 rows_form_fault array value =
     option_map_or (λ rows. count_fault (most_in array) (length rows)) (rows_in value) (Some fault.WrongType)
 
--- the fault of a value that has to have a form
+-- the fault of a value that must have a form
 abbrev pub form_fault : Form → Data → Option SetupFault
 form_fault (form.Number low high) value = range_fault low high value
 form_fault form.Year value = year_fault value

@@ -1,4 +1,4 @@
--- The tables of a setup's document, and the keys that may stand in each. This product's own rule.
+-- The tables of a setup's document, and the keys that may be in each. This product's own rule.
 use Rattle.std.specs.Prelude.{codes, ℕ, Bool, true, false, List, [], ◌∷◌}
 use Rattle.nms_quote.specs.Roster.{Name, is_part_name, is_symbol_name}
 use Rattle.nms_quote.specs.declared.TheConstants.{MOST_PARTICIPANTS, MOST_SYMBOLS}
@@ -31,7 +31,7 @@ is_optional key.Caps = true
 is_optional key.Feeds = true
 is_optional _ = false
 
--- the keys that may stand in a table
+-- the keys that may be in a table
 abbrev pub keys_of : SetupTable → List KnownKey
 keys_of of.Top = key.TapeLimit ∷ key.Queue ∷ key.Desks ∷ key.Caps ∷ key.Feeds ∷ key.Participant ∷ key.Symbol ∷ []
 keys_of (of.Participant place) = key.Name ∷ key.Feed ∷ key.Fee ∷ key.Rate ∷ []
@@ -53,12 +53,12 @@ abbrev pub most_in : SetupArray → ℕ
 most_in array.Participant = MOST_PARTICIPANTS
 most_in array.Symbol = MOST_SYMBOLS
 
--- the key that an array stands at
+-- the key of an array
 abbrev pub array_key : SetupArray → KnownKey
 array_key array.Participant = key.Participant
 array_key array.Symbol = key.Symbol
 
--- the element of an array that stands behind so many
+-- the element of an array after that many others
 abbrev pub row_table : SetupArray → ℕ → SetupTable
 row_table array.Participant place = of.Participant place
 row_table array.Symbol place = of.Symbol place

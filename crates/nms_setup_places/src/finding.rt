@@ -4,25 +4,25 @@ use crate::known_key::KnownKey;
 use crate::setup_table::SetupTable;
 use nms_fees::SetupFault;
 
-/// What of a table a fault is found at.
+/// The part of a table that has a fault.
 #[derive(Clone, Copy)]
 pub enum Spot {
-    /// The element itself, which is no table.
+    /// The element itself, not a table.
     Element,
-    /// A key that may stand in the table: it is absent, or the fault is its value's.
+    /// A key that may be in the table: it is absent, or its value has the fault.
     Key(KnownKey),
-    /// The keys that may not stand in the table, of which there is at least one.
+    /// The keys that may not be in the table, at least one.
     OtherKeys,
-    /// The name, which an earlier element of the array has: how many stand before the first such one.
+    /// The name, which an earlier element of the array has: the number of elements before that one.
     NameOf(usize),
 }
 
-/// A fault of a setup, and where it is.
+/// A fault of a setup, and its place.
 #[derive(Clone, Copy)]
 pub struct Finding {
     /// The table.
     pub table: SetupTable,
-    /// What of it.
+    /// Its part.
     pub spot: Spot,
     /// The fault of that place.
     pub fault: SetupFault,

@@ -1,4 +1,4 @@
-//! What a value has to be at each key, with its bounds: `specs/Forms`.
+//! What a value must be at each key, with its bounds: `specs/Forms`.
 ghost use Rattle.std.specs.Prelude.{◌≡◌};
 ghost use Rattle.toml.specs.View.{view};
 ghost use Rattle.nms_fees.specs.Places.{name_fault};
@@ -17,16 +17,16 @@ use nms_quote::{
 use nms_units::MOST_LOT;
 use toml::Value;
 
-/// What a value has to be, with the bounds that it has to keep.
+/// What a value must be, with the bounds that it must keep.
 #[derive(Clone, Copy)]
 pub enum Form {
     /// A whole number from the first to the second.
     Number(i64, i64),
     /// The year of caps: 2005 or 2024.
     Year,
-    /// A whole number up to the first either way, and not over the second, which is its cap.
+    /// A whole number up to the first either way, and not over the second, its cap.
     Charge(u32, u32),
-    /// The letter of one of the first so many feeds.
+    /// The letter of one of that many first feeds.
     Letter(u8),
     /// The name of an element of the array.
     Name(SetupArray),
@@ -34,7 +34,7 @@ pub enum Form {
     Rows(SetupArray),
 }
 
-/// The form that the value at a key of a table has to have, by what the document chooses.
+/// The form that the value at a key of a table must have, by the document's choices.
 pub fn form_of(choices: Choices, table: SetupTable, key: KnownKey) -> Form
     ensures { result ≡ form_of choices table key }
 {
@@ -65,7 +65,7 @@ fn array_of(table: SetupTable) -> SetupArray
 }
 
 impl Form {
-    /// The fault of a value that has to have this form.
+    /// The fault of a value that must have this form.
     pub fn fault_of(self, value: &Value) -> Option<SetupFault>
         ensures { result ≡ form_fault self (view value.now) }
     {

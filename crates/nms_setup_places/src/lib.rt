@@ -1,4 +1,4 @@
-//! The faults of a setup, each with its place: the table, its place in its array, the key, and what stands there.
+//! The faults of a setup, each with its place: the table, its place in its array, the key, and the value there.
 #![tactic(auto)]
 
 mod finding;

@@ -1,4 +1,4 @@
-//! Names that stand twice: `specs/Findings`.
+//! Repeated names: `specs/Findings`.
 ghost use Rattle.std.specs.Prelude.{◌≡◌, ◌++◌, ◌∷◌, [], map, option_copied, IfOk, OnOk};
 ghost use Rattle.toml.specs.View.{view};
 ghost use Rattle.nms_fees.specs.Places.{name_in};
@@ -10,16 +10,15 @@ use nms_fees::value_at;
 use std::alloc::AllocError;
 use toml::Value;
 
-/// The name in an element of an array, where it is a text.
+/// The name in an element of an array, if it is a text.
 pub fn name_in(row: &Value) -> Option<&str>
     ensures { option_copied result ≡ name_in (view row.now) }
 {
     value_at(row.as_table()?, "name")?.as_str()
 }
 
-/// The first of these elements that has the name of the next one, by how many stand before it. Elements without a name
-/// count for nothing. The names of these are known, and then the next one's too: a name is looked up once, however many
-/// elements there are.
+/// The first of these elements that has the name of the next one, by the number of elements before it. Elements without
+/// a name are skipped. The names of these are known, and then the next one's too, so each name is looked up once.
 pub(crate) fn earlier_named<'a>(
     known: &mut IndexMap<&'a str, usize>,
     before: &[Value],

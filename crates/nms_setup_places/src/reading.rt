@@ -8,27 +8,27 @@ use crate::noting::find_faults;
 use std::alloc::{AllocError, Global};
 use toml::Table;
 
-/// Where a text is no TOML document, and why.
+/// Where a text is not TOML, and why.
 #[derive(Clone, Copy)]
 pub struct NoToml {
-    /// How many bytes stand before the place at which the parser stopped.
+    /// The number of bytes before the place at which the parser stopped.
     pub start: usize,
-    /// How many stand before the end of what it did not expect.
+    /// The number before the end of what it did not expect.
     pub end: usize,
-    /// What the parser says, its error as it is.
+    /// The parser's own error.
     pub error: toml::de::Error,
 }
 
-/// What a text is found to be.
+/// The result of examining a text.
 #[derive(Drop)]
 pub enum Examined {
-    /// C1: no TOML document.
+    /// C1: not TOML.
     NoToml(NoToml),
-    /// A document with its faults, none where it is a setup.
+    /// A document with its faults, none if it is a setup.
     Document(Table, Vec<Finding>),
 }
 
-/// Looks for all faults of a text that is to be a setup.
+/// Finds all faults of a setup's text.
 pub fn examine(alloc: Global, text: &str) -> Result<Examined, AllocError>
     ensures { IfOk result (IsExamined text.now) }
 {

@@ -19,14 +19,14 @@ pub enum SetupArray {
 pub enum SetupTable {
     /// The document itself.
     Top,
-    /// An element of the array `participant`, by how many stand before it.
+    /// An element of the array `participant`, by the number before it.
     Participant(usize),
-    /// An element of the array `symbol`, by how many stand before it.
+    /// An element of the array `symbol`, by the number before it.
     Symbol(usize),
 }
 
 impl SetupArray {
-    /// The key that the array stands at.
+    /// The key of the array.
     pub fn key(self) -> KnownKey
         ensures { result ≡ array_key self }
     {
@@ -36,7 +36,7 @@ impl SetupArray {
         }
     }
 
-    /// The element of the array that stands behind so many.
+    /// The element of the array after that many others.
     pub fn element(self, place: usize) -> SetupTable
         ensures { result ≡ row_table self place }
     {
@@ -48,7 +48,7 @@ impl SetupArray {
 }
 
 impl SetupTable {
-    /// The keys that may stand in the table.
+    /// The keys that may be in the table.
     pub fn keys(self) -> &'static [KnownKey]
         ensures { result.now ≡ keys_of self }
     {

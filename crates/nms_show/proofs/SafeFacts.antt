@@ -51,7 +51,7 @@ printable_cons c rest here more =
     subst (λ (t : List ℕ). IsPrintable (t ++ rest)) (encode_ascii c (small c here))
     (character c rest (either_true (is_in_range 32 126 c) (is_letter c) here) more)
 
--- text of printable ASCII alone, by a test that computes
+-- text of only printable ASCII, by a test that computes
 pub printable_ascii : (text : List ℕ) → list_all (is_in_range 32 126) text ≡ true → IsPrintable text
 printable_ascii [] is = no_text
 printable_ascii (c ∷ text) is =
@@ -125,7 +125,7 @@ safe_append b (plain more) second = plain (safe_append b more second)
 pub safe_printable : (a : List ℕ) → IsPrintable a → IsSafe a
 safe_printable a text = subst IsSafe (append-nil a) (printed a [] text nothing)
 
--- the same as functions of both texts, for what is written in turn
+-- two texts of a kind joined, as functions of both, for what is written in turn
 pub join_printable : (a b : List ℕ) → IsPrintable a → IsPrintable b → IsPrintable (a ++ b)
 join_printable a b first second = printable_append b first second
 
@@ -157,7 +157,7 @@ quoted_ascii c here =
     by_test false true p q r = q
     by_test false false p q r = r
 
--- a byte beyond ASCII stands as it is
+-- a byte beyond ASCII is written as it is
 quoted_high : (b : ℕ) → 128 ≤ b → json_byte b ≡ b ∷ []
 quoted_high b high = grind (arith, nat_tests)
 

@@ -1,4 +1,4 @@
--- What was written in turn.
+-- Texts written in turn.
 use Rattle.std.proofs.Common.{ℕ, ◌≡◌, ◌++◌, List, [], Option, Some, None, ap, refl, sym, subst, ◌∙◌, append_assoc}
 use Rattle.std.proofs.Common.{◌+◌, ◌≤◌, ◌-◌, length, take, drop, length-drop, length-take, arith}
 use Rattle.std.specs.Prelude.{Err, Ok, OnOk, Result}
@@ -46,7 +46,7 @@ module _ (IsKind : List ℕ → Type 0) (join : (a b : List ℕ) → IsKind a �
   writes_then (Ok t) x y z first next = adds_then x y z first next
   writes_then (Err e) x y z first next = part_then x y z first next
 
--- a call ends with the failure of one that it made
+-- a call ends with the failure of a call that it made
 pub writes_err : {T E : Type 0} (IsKind : List ℕ → Type 0) (x y : Option (List ℕ)) (r : Result T E) → IsErr r → AddsPart IsKind x y
     → Writes IsKind x y r
 writes_err IsKind x y (Ok t) is part = absurd (cc)
@@ -95,7 +95,7 @@ pub printable_ok : {T E : Type 0} (r : Result T E) (x y z : Option (List ℕ)) �
 printable_ok (Ok t) x y z first next = printable_then x y z first next
 printable_ok (Err e) x y z first next = tt
 
--- text behind none
+-- text after no text
 pub whole_text : (e x : List ℕ) → e ≡ [] → Adds IsSafe (Some e) (Some x) → IsSafe x
 whole_text e x empty all = subst IsSafe (sym (all.written ∙ ap (λ (t : List ℕ). t ++ all.text) empty)) all.kind
 

@@ -1,9 +1,9 @@
--- How a text stands in JSON (RFC 8259, section 7).
+-- The form of a text in JSON (RFC 8259, section 7).
 use Rattle.std.specs.Prelude.{ℕ, ◌∷◌, ◌++◌, ◌/◌, ◌%◌, ◌==◌, ◌||◌, List, [], flat_map, nat_lt, if◌then◌else◌}
 use Rattle.std.specs.Char.{digit_char}
 
--- a byte as it stands between quotation marks: behind a backslash if it is a quotation mark or a backslash itself, as `\u001b` if it
--- is a control of ASCII, else as it is
+-- a byte between quotation marks. A quotation mark or a backslash comes after a backslash, a control of ASCII as
+-- `\u001b`, any other byte as it is
 abbrev pub json_byte : ℕ → List ℕ
 json_byte b =
     if b == 34 || b == 92 then 92 ∷ b ∷ []

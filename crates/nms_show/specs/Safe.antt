@@ -18,7 +18,7 @@ pub data IsPrintable : List ℕ → Type 0 where
   no_text : IsPrintable []
   character : (c : ℕ) (rest : List ℕ) → is_shown c ≡ true → IsPrintable rest → IsPrintable (encode_utf8 c ++ rest)
 
--- printable text, ends of lines, and the escapes by which bold and red begin and a colour ends; no other byte
+-- printable text, ends of lines, and the escapes that begin bold and red and end a colour; no other byte
 pub data IsSafe : List ℕ → Type 0 where
   nothing : IsSafe []
   printed : (first rest : List ℕ) → IsPrintable first → IsSafe rest → IsSafe (first ++ rest)
@@ -27,7 +27,7 @@ pub data IsSafe : List ℕ → Type 0 where
   red : {rest : List ℕ} → IsSafe rest → IsSafe (27 ∷ 91 ∷ 51 ∷ 49 ∷ 109 ∷ rest)
   plain : {rest : List ℕ} → IsSafe rest → IsSafe (27 ∷ 91 ∷ 48 ∷ 109 ∷ rest)
 
--- the text of an item that is the program's own; nothing where it is of a file, or a number
+-- the text of an item that is the program's own; nothing if it is of a file, or a number
 abbrev pub own_text : Item → List ℕ
 own_text (item.Text text) = text.now
 own_text (item.Strong text) = text.now

@@ -1,5 +1,5 @@
--- What a call adds to what its writer holds: a text of one kind, or at a failure a first part of such a text. This product's own
--- rule.
+-- The text that a call adds to its writer's: a text of one kind, or at a failure a first part of such a text. This
+-- product's own rule.
 use Rattle.std.specs.Prelude.{ℕ, List, Option, Result, MatchResult}
 use Rattle.std.specs.Io.KnownBytes.{Appends}
 use Rattle.nms_lines.specs.Written.{AppendsPart}
@@ -16,6 +16,6 @@ pub record AddsPart (IsKind : List ℕ → Type 0) (old new : Option (List ℕ))
   pub kind : IsKind text
   pub cut : AppendsPart old new text
 
--- the first where the call succeeded, the second where it failed
+-- the first if the call succeeded, the second if it failed
 abbrev pub Writes : {T E : Type 0} → (List ℕ → Type 0) → Option (List ℕ) → Option (List ℕ) → Result T E → Type 0
 Writes IsKind old new result = MatchResult result (λ _. Adds IsKind old new) (λ _. AddsPart IsKind old new)

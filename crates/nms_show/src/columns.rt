@@ -1,4 +1,4 @@
-//! How many columns something takes.
+//! The columns that texts take.
 use crate::item::{Item, write_plain};
 use crate::shown::write_shown;
 use std::io;
@@ -9,7 +9,7 @@ use std::io::Write;
 struct Columns(usize);
 
 impl Write for Columns {
-    /// A byte that goes on with a character is not counted.
+    /// A byte that continues a character is not counted.
     fn write(&mut self, text: &[u8]) -> io::Result<usize> {
         match self.0.checked_add(characters_in(text)) {
             Some(count) => {
@@ -25,22 +25,22 @@ impl Write for Columns {
     }
 }
 
-/// How many characters an item takes.
+/// The number of characters of an item.
 pub(crate) fn columns_of_item(item: &Item<'_>) -> usize {
     let mut count = Columns(0);
-    // Only a text that no memory could hold has more characters than a count.
+    // Only a text too long for any memory has more characters than a count.
     let _ = write_plain(&mut count, item);
     count.0
 }
 
-/// How many characters bytes take as they are shown.
+/// The number of characters of bytes as they are shown.
 pub(crate) fn columns_of_bytes(bytes: &[u8]) -> usize {
     let mut count = Columns(0);
     let _ = write_shown(&mut count, bytes);
     count.0
 }
 
-/// How many characters begin in a text.
+/// The number of characters that begin in a text.
 fn characters_in(text: &[u8]) -> usize {
     let mut count = 0;
     for byte in text {

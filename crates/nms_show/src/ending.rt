@@ -1,6 +1,6 @@
-//! How a request ends that was served.
+//! The end of a served request.
 
-/// How a request ends that was served: all that was asked for was told.
+/// The end of a served request: all that was asked for was printed.
 #[derive(Clone, Copy)]
 pub enum Ending {
     /// Nothing was refused or doubted.

@@ -14,17 +14,17 @@ use std::io::Write;
 pub enum Item<'a> {
     /// Words of the program's own, as they are.
     Text(&'a str),
-    /// The same, bold where there are colours.
+    /// As `Text`, bold if there are colours.
     Strong(&'a str),
-    /// The same, red where there are colours.
+    /// As `Text`, red if there are colours.
     Alarm(&'a str),
-    /// Bytes of a file, or a word of the call: escapes stand for what can't be shown.
+    /// Bytes of a file, or a word of the call. Escapes replace what can't be shown.
     Bytes(&'a [u8]),
     /// A number: of shares, of a version, of a line.
     Number(u64),
-    /// A price of so many 1/10,000 dollar, with four decimals; in JSON it is a text. `of_price` makes it.
+    /// A price in 1/10,000 dollar, with four decimals; in JSON it is a text. `of_price` makes it.
     Price(u64),
-    /// An amount of so many nanodollars, with nine decimals; in JSON it is a text. `of_money` makes it.
+    /// An amount in nanodollars, with nine decimals; in JSON it is a text. `of_money` makes it.
     Money(i128),
     /// `yes` or `no`; in JSON `true` or `false`.
     Flag(bool),
@@ -35,11 +35,11 @@ pub enum Item<'a> {
 /// One column of a table's row.
 #[derive(Clone, Copy)]
 pub struct Column<'a> {
-    /// What stands in it.
+    /// The item in it.
     pub item: Item<'a>,
-    /// How many characters it takes at least.
+    /// The least number of characters.
     pub width: usize,
-    /// Whether it stands at the column's right end.
+    /// Whether it is at the column's right end.
     pub right: bool,
 }
 
@@ -49,7 +49,7 @@ impl Item<'_> {
         Item::Price(price.get())
     }
 
-    /// An amount of money, kept likewise.
+    /// Money, also as a number.
     pub fn of_money(money: Money) -> Self {
         Item::Money(money.get())
     }
@@ -81,7 +81,7 @@ pub(crate) fn write_own<W: Write>(answers: &mut W, text: &str) -> Result<(), Sho
     }
 }
 
-/// Writes a price of so many 1/10,000 dollar; nothing where that is none.
+/// Writes a price in 1/10,000 dollar; nothing if the number is not a price.
 fn write_price<W: Write>(answers: &mut W, number: u64) -> Result<(), ShowFault>
     ensures { Writes IsPrintable (W.contents answers.old) (W.contents answers.new) result }
 {

@@ -1,5 +1,5 @@
-//! What is printed for people, and for their programs: lines, tables and JSON, in which no byte of a file reaches a
-//! terminal that could harm it.
+//! What is printed for people, and for their programs: lines, tables and JSON, in which no harmful byte of a file
+//! reaches a terminal.
 #![tactic(auto)]
 
 mod columns;

@@ -25,7 +25,7 @@ pub fn write_line<W: Write>(
     end_line(answers)
 }
 
-/// Writes items, one behind the other.
+/// Writes items, one after the other.
 pub(crate) fn write_items<W: Write>(
     answers: &mut W,
     form: Form,
@@ -39,7 +39,7 @@ pub(crate) fn write_items<W: Write>(
     Ok(())
 }
 
-/// Writes a table's row. Between two columns stands a space, and after the last the end of a line. It is not flushed.
+/// Writes a table's row. A space is between two columns, and the end of a line after the last. It is not flushed.
 ///
 /// What is added is safe to show, as of `write_line`.
 pub fn write_row<W: Write>(
@@ -69,7 +69,7 @@ fn write_columns<W: Write>(
     Ok(())
 }
 
-/// Writes the spaces that are owed and a column, and gives the spaces that are owed after it.
+/// Writes the spaces that are owed and a column, and returns the spaces that are owed after it.
 fn write_column<W: Write>(
     answers: &mut W,
     form: Form,
@@ -95,7 +95,7 @@ fn spare_of(column: &Column<'_>) -> (usize, usize) {
     if column.right { (spare, 0) } else { (0, spare) }
 }
 
-/// Writes a printable text so many times.
+/// Writes a printable text that many times.
 pub(crate) fn write_many<W: Write>(
     answers: &mut W,
     text: &[u8],
@@ -110,7 +110,7 @@ pub(crate) fn write_many<W: Write>(
     Ok(())
 }
 
-/// Writes one item, coloured where it is to be.
+/// Writes one item, in its colour if it has one.
 pub(crate) fn write_item<W: Write>(
     answers: &mut W,
     form: Form,

@@ -12,7 +12,7 @@ use nms_lines::write_text;
 use std::alloc::{AllocError, Global};
 use std::io::Write;
 
-/// Writes a JSON object. Its keys stand in this order, and after it the end of a line. It is not flushed.
+/// Writes a JSON object. Its keys are in this order, and the end of a line follows. It is not flushed.
 ///
 /// If the keys and the items' own texts are printable, what is added is safe to show. `NoMemory`: nothing was written.
 pub fn write_object<W: Write>(
@@ -98,7 +98,7 @@ fn write_value(alloc: Global, text: &mut Vec<u8>, item: &Item<'_>) -> Result<(),
     }
 }
 
-/// Writes an item between quotation marks, as it stands in a line.
+/// Writes an item between quotation marks, as it is in a line.
 fn write_as_string(alloc: Global, text: &mut Vec<u8>, item: &Item<'_>) -> Result<(), ShowFault>
     ensures { IsPrintable (own_text item.now) → OnOk result (Adds IsPrintable (Some text.old.items) (Some text.new.items)) }
 {
@@ -129,7 +129,7 @@ fn push_string(text: &mut Vec<u8>, own: &[u8]) -> Result<(), AllocError>
     text.extend_from_slice(b"\"")
 }
 
-/// Appends a byte as it stands between quotation marks.
+/// Appends a byte in its form between quotation marks.
 fn push_byte(text: &mut Vec<u8>, byte: u8) -> Result<(), AllocError>
     ensures { OnOk result (text.new.items ≡ text.old.items ++ json.json_byte byte) }
 {

@@ -1,7 +1,7 @@
 //! Why an answer was not printed.
 use thiserror::Error;
 
-/// Why an answer was not printed. What was printed before stands.
+/// Why an answer was not printed. Earlier output remains.
 #[derive(Clone, Copy, Debug, PartialEq, Eq, Error)]
 pub enum ShowFault {
     /// E2: the writer failed. A first part of the answer was written.

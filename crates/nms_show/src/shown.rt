@@ -1,5 +1,5 @@
-//! Bytes of a file as they are shown: an escape stands for each that could move a cursor, turn the direction of text,
-//! or is no UTF-8 (`specs/Safe`).
+//! Bytes of a file as they are shown: an escape replaces each that could move a cursor, turn the direction of text, or
+//! is not UTF-8 (`specs/Safe`).
 ghost use Rattle.std.specs.Prelude.{◌≡◌, ◌<◌, ◌≤◌, length, take, IfOk, IfSome, IsTrue, true};
 ghost use Rattle.std.specs.Char.{digit_char};
 ghost use Rattle.nms_show.specs.Safe as safe;
@@ -14,9 +14,9 @@ use std::str;
 /// The most bytes of a text that are shown.
 const MOST_SHOWN: usize = 400;
 
-/// Writes bytes as they are shown: printable ASCII and the letters of European alphabets as they are, any other character
-/// as `\n`, `\r`, `\t`, `\x1b` or `\u{202e}`, a byte that is no UTF-8 as `\xff`, a backslash as two. After 400 bytes stands
-/// how many more there are.
+/// Writes bytes as they are shown: printable ASCII and the letters of European alphabets as they are. Any other
+/// character is shown as `\n`, `\r`, `\t`, `\x1b` or `\u{202e}`, a byte that is not UTF-8 as `\xff`, a backslash as
+/// two. After 400 bytes the number of further bytes follows.
 pub(crate) fn write_shown<W: Write>(answers: &mut W, bytes: &[u8]) -> Result<(), ShowFault>
     ensures { Writes IsPrintable (W.contents answers.old) (W.contents answers.new) result }
 {
@@ -27,7 +27,7 @@ pub(crate) fn write_shown<W: Write>(answers: &mut W, bytes: &[u8]) -> Result<(),
     write_left_out(answers, bytes.len() - MOST_SHOWN)
 }
 
-/// Writes how many more bytes there are.
+/// Writes the number of further bytes.
 fn write_left_out<W: Write>(answers: &mut W, more: usize) -> Result<(), ShowFault>
     ensures { Writes IsPrintable (W.contents answers.old) (W.contents answers.new) result }
 {
@@ -47,8 +47,8 @@ fn write_pieces<W: Write>(answers: &mut W, bytes: &[u8]) -> Result<(), ShowFault
     Ok(())
 }
 
-/// Writes the printable ASCII at the start of bytes, or what stands for the one character or byte there. Gives how many
-/// bytes that is.
+/// Writes the printable ASCII at the start of bytes, or the escape of the one character or byte there. Returns how many
+/// of the bytes that is.
 fn write_piece<W: Write>(answers: &mut W, bytes: &[u8]) -> Result<usize, ShowFault>
     requires { 0 < length bytes.now }
     ensures shown { Writes IsPrintable (W.contents answers.old) (W.contents answers.new) result }
@@ -63,7 +63,7 @@ fn write_piece<W: Write>(answers: &mut W, bytes: &[u8]) -> Result<usize, ShowFau
     Ok(plain)
 }
 
-/// How many bytes at the start are printable ASCII and no backslash.
+/// The number of bytes at the start that are printable ASCII and no backslash.
 fn plain_start(bytes: &[u8]) -> usize
     ensures within { result ≤ length bytes.now }
     ensures printable { IsPrintable (take result bytes.now) }
@@ -82,7 +82,7 @@ fn is_plain(byte: u8) -> bool
     byte >= b' ' && byte <= b'~' && byte != b'\\'
 }
 
-/// Writes what stands for the character or the byte at the start of bytes. Gives how many bytes that is.
+/// Writes the form of the character or the byte at the start of bytes. Returns how many of the bytes that is.
 fn write_escape<W: Write>(answers: &mut W, bytes: &[u8]) -> Result<usize, ShowFault>
     requires { 0 < length bytes.now }
     ensures shown { Writes IsPrintable (W.contents answers.old) (W.contents answers.new) result }
@@ -101,7 +101,7 @@ fn write_escape<W: Write>(answers: &mut W, bytes: &[u8]) -> Result<usize, ShowFa
     }
 }
 
-/// The character that bytes begin with, if they are UTF-8, and how many bytes it takes.
+/// The character that bytes begin with, if they are UTF-8, and its number of bytes.
 fn char_at(bytes: &[u8]) -> Option<(char, usize)>
     ensures some { IfSome result (λ found. 0 < found.1) }
     ensures within { IfSome result (λ found. found.1 ≤ length bytes.now) }
@@ -148,7 +148,7 @@ fn is_letter(letter: char) -> bool
     matches!(letter, '\u{a1}'..='\u{ac}' | '\u{ae}'..='\u{2ff}' | '\u{391}'..='\u{3ce}' | '\u{400}'..='\u{481}')
 }
 
-/// Writes the code of a character: as that of a byte where it is ASCII.
+/// Writes the code of a character: as that of a byte if it is ASCII.
 fn write_code<W: Write>(answers: &mut W, code: u32) -> Result<(), ShowFault>
     ensures { Writes IsPrintable (W.contents answers.old) (W.contents answers.new) result }
 {

@@ -11,17 +11,17 @@ use crate::shown::write_shown;
 use crate::written::{end_line, write_printable};
 use std::io::Write;
 
-/// How many bytes before a field are shown, and how many from its start on.
+/// The number of bytes shown before a field, and from its start on.
 const BEFORE: usize = 48;
 
 const FROM: usize = 72;
-/// What stands before the record.
+/// The text before the record.
 const INDENT: &[u8] = b"    ";
-/// What stands for bytes that are left out.
+/// The mark of bytes that are left out.
 const LEFT_OUT: &str = "..";
 
-/// Writes a record with carets under it. They stand under its bytes from `start` to `end`, and one caret if there are
-/// none. Of a long record only what stands round the field is shown. It is not flushed.
+/// Writes a record with carets under it. They are under its bytes from `start` to `end`, and one caret if there are
+/// none. Of a long record only the part round the field is shown. It is not flushed.
 pub fn write_under<W: Write>(
     answers: &mut W,
     form: Form,
@@ -57,7 +57,7 @@ fn last_of(before: &[u8]) -> &[u8] {
     &before[before.len() - BEFORE..]
 }
 
-/// So many bytes at the start, or all if there are fewer.
+/// That many bytes at the start, or all if there are fewer.
 fn first_of(bytes: &[u8], most: usize) -> &[u8] {
     if bytes.len() <= most {
         return bytes;
@@ -96,7 +96,7 @@ fn write_body<W: Write>(
     write_parts(answers, ahead, near, shown, behind)
 }
 
-/// Writes what stands before the field, and from it on.
+/// Writes the part before the field, and the part from it on.
 fn write_parts<W: Write>(
     answers: &mut W,
     ahead: &str,
@@ -112,7 +112,7 @@ fn write_parts<W: Write>(
     write_rest(answers, shown, behind)
 }
 
-/// Writes what stands before the field.
+/// Writes the part before the field.
 fn write_lead<W: Write>(answers: &mut W, ahead: &str, near: &[u8]) -> Result<(), ShowFault>
     requires ahead { IsPrintable ahead.now }
     ensures { Writes IsPrintable (W.contents answers.old) (W.contents answers.new) result }
@@ -122,7 +122,7 @@ fn write_lead<W: Write>(answers: &mut W, ahead: &str, near: &[u8]) -> Result<(),
     write_shown(answers, near)
 }
 
-/// Writes the field and what stands after it.
+/// Writes the field and the part after it.
 fn write_rest<W: Write>(answers: &mut W, shown: &[u8], behind: &str) -> Result<(), ShowFault>
     requires behind { IsPrintable behind.now }
     ensures { Writes IsPrintable (W.contents answers.old) (W.contents answers.new) result }
@@ -146,7 +146,7 @@ fn write_carets<W: Write>(
     end_line(answers)
 }
 
-/// Writes as many spaces as stand before the field.
+/// Writes a space for each column before the field.
 fn write_spaces<W: Write>(answers: &mut W, ahead: &str, near: &[u8]) -> Result<(), ShowFault>
     ensures { Writes IsSafe (W.contents answers.old) (W.contents answers.new) result }
 {
@@ -155,7 +155,7 @@ fn write_spaces<W: Write>(answers: &mut W, ahead: &str, near: &[u8]) -> Result<(
     write_many(answers, b" ", columns_of_bytes(near))
 }
 
-/// Writes so many carets.
+/// Writes that many carets.
 fn write_marks<W: Write>(answers: &mut W, form: Form, count: usize) -> Result<(), ShowFault>
     ensures { Writes IsSafe (W.contents answers.old) (W.contents answers.new) result }
 {

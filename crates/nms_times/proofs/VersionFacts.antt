@@ -1,4 +1,4 @@
--- How many elements pass a test from the front on, by two tests or over elements that do not fall.
+-- The number of elements that pass a test from the front on, for two tests or for elements that do not fall.
 use Rattle.std.proofs.Common.{ℕ, ◌≡◌, ◌<◌, ◌≤◌, Bool, true, false, List, [], ◌∷◌, length}
 use Rattle.std.proofs.Common.{get_or, arith, refl, nat_le, nat_lt, slice_index}
 use Rattle.std.specs.List.{prefix_len}
@@ -39,7 +39,7 @@ at_splits times t place rise inside = (within, beyond)
         let more : get_or times end 0 ≤ get_or times place 0 = rise end place 0 h inside in
         omega arith
 
--- the same of what is earlier
+-- what passes from the front on is what is earlier, and the rest is not earlier
 pub before_splits : (times : List ℕ) (t place : ℕ) → IsNonDecreasing times → place < length times
     → (place < version_before times t → slice_index times place < t) × (version_before times t ≤ place → t ≤ slice_index times place)
 before_splits times t place rise inside = (within, beyond)

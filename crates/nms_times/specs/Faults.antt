@@ -1,4 +1,4 @@
--- When times are refused. This product's own rule.
+-- The times that are refused. This product's own rule.
 use Rattle.std.specs.Prelude.{ℕ, ◌≡◌, ◌+◌, List}
 use Rattle.nms_times.specs.Times.{FallsAt}
 use Rattle.nms_times.specs.TimesText.{IsFirstWrong}

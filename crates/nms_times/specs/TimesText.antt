@@ -14,7 +14,7 @@ width_of text = if nat_lt 15 (length text) && slice_index text 15 == 44 then 32 
 abbrev pub line_at : (width : ℕ) → List ℕ → (place : ℕ) → List ℕ
 line_at width text place = take width (drop (place * width) text)
 
--- what stands after the time: a line feed; or a comma, 15 digits and a line feed
+-- the bytes after the time: a line feed; or a comma, 15 digits and a line feed
 abbrev pub is_end : List ℕ → Bool
 is_end rest =
     (length rest == 1 && slice_index rest 0 == 10)
@@ -28,7 +28,7 @@ time_in width line = if length line == width && is_end (drop 15 line) then time_
 abbrev pub time_at : List ℕ → (place : ℕ) → Option ℕ
 time_at text place = time_in (width_of text) (line_at (width_of text) text place)
 
--- a text has these times, a line each
+-- a text has these times, one on each line
 pub record HasTimes (text times : List ℕ) : Type 0 where
   pub whole : length text ≡ length times * width_of text
   pub each : (place : ℕ) → place < length times → time_at text place ≡ Some (slice_index times place)

@@ -1,4 +1,4 @@
-//! Laws above the definitions. Each function does nothing: its contract is the law.
+//! Laws of the definitions. Each function does nothing: its contract is the law.
 ghost use Rattle.std.specs.Prelude.{◌≡◌, ℕ, ◌<◌, ◌≤◌, List, length};
 ghost use Rattle.std.specs.List.Sorted.{IsNonDecreasing};
 ghost use Rattle.nms_times.specs.Examples.{ExamplesHold};
@@ -11,7 +11,7 @@ pub fn the_version_splits_the_times()
     ensures { (times : List ℕ) (t place : ℕ) → IsNonDecreasing times → place < length times → Splits times t place }
 {}
 
-/// A later time has no earlier version, and the version before a time is no later than the version at it.
+/// A later time has no earlier version, and the version before a time is not after the version at it.
 pub fn versions_rise_with_time()
     ensures at { (times : List ℕ) (t u : ℕ) → t ≤ u → version_at times t ≤ version_at times u }
     ensures before { (times : List ℕ) (t u : ℕ) → t ≤ u → version_before times t ≤ version_before times u }

@@ -21,7 +21,7 @@ const TIME: usize = 15;
 /// Reads the text of times, a line for each change: 15 digits HHMMSSnnnnnnnnn and a line feed; or, in every line, a comma
 /// and the 15 digits of a row between. Takes 8 bytes of memory a line.
 ///
-/// `NotTime` has the first line that is none, `NoMemory` comes in place of any answer.
+/// `NotTime` has the first line that is not a time. `NoMemory` may replace any answer.
 pub fn read_times(alloc: Global, text: &[u8]) -> Result<Times, TimesFault>
     ensures read { IfOk result (λ times. HasTimes text.now times) }
     ensures refused { IfErr result (IsReadFault text.now) }
@@ -31,7 +31,7 @@ pub fn read_times(alloc: Global, text: &[u8]) -> Result<Times, TimesFault>
     Ok(Times::of(all))
 }
 
-/// The row of the source that a version's line has. `None` if the lines have none, for version 0, and beyond the lines.
+/// The row of the source that a version's line has. `None` if the lines have none, for version 0, and past the lines.
 pub fn source_row(text: &[u8], version: u64) -> Option<u64>
     ensures { result ≡ row_of text.now version }
 {
@@ -114,7 +114,7 @@ fn time_in(width: usize, line: &[u8]) -> Option<TimeOfDay>
     }
 }
 
-/// Whether a line may end so after its time.
+/// Whether a line may end in these bytes after its time.
 fn is_end(rest: &[u8]) -> bool
     ensures { result ≡ is_end rest.now }
 {

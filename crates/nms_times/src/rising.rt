@@ -17,7 +17,7 @@ pub struct Rising<'a> {
 }
 
 impl Rising<'_> {
-    /// The version at a time: the last of which no change has a later time.
+    /// The version at a time: the last with no change later than it.
     pub fn version_at(&self, time: TimeOfDay) -> u64
         ensures version { result ≡ self.now.before + version_at self.now.times.now time }
         ensures high { result ≤ self.now.before + length self.now.times.now }
@@ -30,7 +30,7 @@ impl Rising<'_> {
         self.before + found as u64
     }
 
-    /// The version before a time: the last of which every change has an earlier time.
+    /// The version before a time: the last with only changes earlier than it.
     pub fn version_before(&self, time: TimeOfDay) -> u64
         ensures version { result ≡ self.now.before + version_before self.now.times.now time }
         ensures high { result ≤ self.now.before + length self.now.times.now }

@@ -1,10 +1,10 @@
-//! Which versions the changes of a symbol made: a line of the file of symbols.
+//! The versions that the changes of a symbol made: a line of the file of symbols.
 ghost use Rattle.std.specs.Prelude.{◌≡◌, ◌<◌, ◌≤◌, IfOk, IfSome, length};
 
 use crate::times_fault::TimesFault;
 use nms_units::parse_digits;
 
-/// The changes of a symbol: those after a version, up to another. Between them there may be others.
+/// The changes of a symbol: those after a version, up to another. Other changes may be between them.
 #[derive(Clone, Copy, Debug, PartialEq, Eq)]
 pub struct Span {
     /// The version before the first of them.
@@ -13,10 +13,10 @@ pub struct Span {
     pub last: usize,
 }
 
-/// The span of a symbol in the text of symbols, a line each: a name, a comma, the version after its first change, a comma, the
-/// version after its last. `None` if no line has the name; of several the first counts.
+/// The span of a symbol in the text of symbols, a line each: a name, a comma, the version after its first change, a
+/// comma, the version after its last. `None` if no line has the name; the first of several counts.
 ///
-/// `NotSymbol` has the first line that is none, or whose versions are not from 1 to the number given.
+/// `NotSymbol` has the first line that is malformed, or whose versions are not from 1 to the number given.
 pub fn find_span(text: &[u8], symbol: &[u8], versions: usize) -> Result<Option<Span>, TimesFault>
     ensures { IfOk result (λ found. IfSome found (λ span. (span.before < span.last) × (span.last ≤ versions))) }
 {
@@ -55,7 +55,7 @@ fn first_span(text: &[u8], versions: usize) -> Option<(&[u8], Span, &[u8])>
     Some((name, span, rest))
 }
 
-/// What stands before the first byte of a kind, and what stands after it.
+/// The bytes before the first byte of a kind, and the bytes after it.
 fn before_byte(text: &[u8], byte: u8) -> Option<(&[u8], &[u8])>
     ensures { IfSome result (λ it. length it.1.now < length text.now) }
 {

@@ -10,7 +10,7 @@ use crate::time_of_day::TimeOfDay;
 use crate::times_fault::TimesFault;
 use std::marker::Model;
 
-/// The times of the changes of a tape, in order: one for each change. They may fall, as between the symbols of a file that is
+/// The times of the changes of a tape, in order: one for each change. They may fall, as between the symbols of a file
 /// sorted by symbol.
 #[derive(Drop)]
 pub struct Times {
@@ -33,14 +33,14 @@ impl Times {
         Times { all }
     }
 
-    /// How many there are: the version after the last change.
+    /// The number of times: the version after the last change.
     pub fn len(&self) -> usize
         ensures { result ≡ length self.now }
     {
         self.all.len()
     }
 
-    /// Whether there are as many as changes; else `OtherLength`.
+    /// `OtherLength` if there are not as many as changes.
     pub fn check_len(&self, changes: usize) -> Result<(), TimesFault>
         ensures same { IfOk result (λ _. length self.now ≡ changes) }
         ensures other { IfErr result (λ fault. (fault ≡ OtherLength) × (length self.now ≢ changes)) }
@@ -52,7 +52,7 @@ impl Times {
         }
     }
 
-    /// The time of a version, that of its last change. Version 0 has none, nor has one beyond the times.
+    /// The time of a version, that of its last change. Version 0 and versions past the times have none.
     pub fn time_of(&self, version: u64) -> Option<TimeOfDay>
         ensures { result ≡ time_of self.now version }
     {
@@ -62,7 +62,7 @@ impl Times {
         Some(self.all[version as usize - 1])
     }
 
-    /// All of them, to find versions by. `TimesFall` if one is before the one above it.
+    /// All of them, to find versions. `TimesFall` if one is before the one above it.
     pub fn rising(&self) -> Result<Rising<'_>, TimesFault>
         ensures same { IfOk result (λ rising. (rising.before ≡ 0) × (rising.times.now ≡ self.now)) }
         ensures falls { IfErr result (IsFall self.now 0) }
@@ -70,7 +70,7 @@ impl Times {
         rising_after(0, &self.all)
     }
 
-    /// Those of the changes after a version, up to another, as those of one symbol. `TimesFall` if one is before the one
+    /// The times of the changes after one version up to another, as of one symbol. `TimesFall` if one is before the one
     /// above it.
     pub fn rising_between(&self, before: usize, last: usize) -> Result<Rising<'_>, TimesFault>
         requires order { before ≤ last }
@@ -99,7 +99,7 @@ fn rising_after(before: usize, times: &[TimeOfDay]) -> Result<Rising<'_>, TimesF
     }
 }
 
-/// The first place where a time is before the one at its left.
+/// The first place where a time is before the time to its left.
 fn first_fall(times: &[TimeOfDay]) -> Option<usize>
     ensures { MatchOption result (IsNonDecreasing times.now) (FallsAt times.now) }
 {

@@ -1,22 +1,22 @@
-//! Why times were not read, or no version was found by them.
+//! Why times were not read, or no version was found.
 use std::alloc::AllocError;
 use thiserror::Error;
 
-/// Why times were not read, or no version was found by them.
+/// Why times were not read, or no version was found.
 #[derive(Clone, Copy, Debug, PartialEq, Eq, Error)]
 pub enum TimesFault {
-    /// H1: this line, from 1, is the first that is not 15 digits of a time of day and a line feed, or these with a comma and
-    /// 15 digits between; or it has another length than the first line.
+    /// H1: this line, from 1, is the first that is not 15 digits of a time of day and a line feed, or these with a
+    /// comma and 15 digits between; or its length is not the first line's.
     #[error("H1: a line is not the time of a change")]
     NotTime { line: u64 },
-    /// H2: the time of this line, from 1, is the first that is before that of the line above it.
+    /// H2: the time of this line, from 1, is the first before that of the line above it.
     #[error("H2: a time is before the one above it")]
     TimesFall { line: u64 },
     /// H3: there are not as many lines as changes.
     #[error("H3: there are not as many times as changes")]
     OtherLength,
-    /// H4: this line, from 1, is the first of the symbols that is not a name and two versions of the times, the first not
-    /// above the last.
+    /// H4: this line, from 1, is the first of the symbols that is not a name and two versions, the first not above the
+    /// last.
     #[error("H4: a line is not a symbol with its first and last version")]
     NotSymbol { line: u64 },
     /// E4: out of memory.
@@ -25,7 +25,7 @@ pub enum TimesFault {
 }
 
 impl TimesFault {
-    /// Its code: `H1` to `H4`, or `E4`.
+    /// The code: `H1` to `H4`, or `E4`.
     pub fn code(self) -> &'static str {
         match self {
             TimesFault::NotTime { .. } => "H1",
@@ -47,7 +47,7 @@ impl TimesFault {
         }
     }
 
-    /// The line that it is about, from 1, if it is about one.
+    /// The line of the fault, from 1, if it has one.
     pub fn line(self) -> Option<u64> {
         match self {
             TimesFault::NotTime { line }

@@ -51,7 +51,7 @@ number_in-decimal most n some small wide =
 no_point : (c : ℕ) → is_ascii_digit c ≡ true → (c == 46) ≡ false
 no_point c h = grind (arith, nat_tests)
 
--- the first point stands behind the digits before it
+-- the first point stands after the digits before it
 point_behind : (whole behind : List ℕ) → list_all is_ascii_digit whole ≡ true
     → position_or_len (λ c. c == 46) (whole ++ 46 ∷ behind) ≡ length whole
 point_behind [] behind h = refl
@@ -92,7 +92,7 @@ pub last_digits_pass : (count n : ℕ) → list_all is_ascii_digit (last_digits 
 last_digits_pass zero n = refl
 last_digits_pass (suc count) n = and_from _ _ (digit_value-digit (n / 10 ^ count % 10) (below_10 _)).0 (last_digits_pass count n)
 
--- behind the number `front`, the last digits of n write what is left of n
+-- after the number `front`, the last digits of n write what is left of n
 value_after : (count front n : ℕ) → digits_value_after 10 front (last_digits count n) ≡ front * 10 ^ count + n % 10 ^ count
 value_after zero front n = omega arith
 value_after (suc count) front n =

@@ -9,7 +9,7 @@ product : (whole lot part rest n q s : ℕ) → whole ≡ part * lot + (rest + 1
     → part * (n + 1) + q * (rest + 1) ≡ q * whole + part * (s + 1)
 product whole lot part rest n q s is_whole is_n = rw (is_whole, is_n) (omega arith)
 
--- the product stands above `q` times `whole` by less than `whole`
+-- the product is above `q` times `whole` by less than `whole`
 quotient : (whole lot part rest n q s : ℕ) → whole ≡ part * lot + (rest + 1) → n ≡ q * lot + s → s + 1 ≤ lot
     → rest + 1 ≤ lot → n ≤ part → part * (n + 1) / whole ≡ q
 quotient whole lot part rest n q s is_whole is_n s_less rest_less wide =

@@ -11,7 +11,7 @@ below_more_digits n i j h le = omega (arith, pow-le-pow_right {n = 10} (lit< tt)
 pub one_more_digit : (n i d : ℕ) → n < 10 ^ i → d < 10 → n * 10 + d < 10 ^ (i + 1)
 one_more_digit n i d h small = let e : 10 ^ (i + 1) ≡ 10 ^ i * 10 ^ 1 = pow-add 10 i 1 in omega (arith, e)
 
--- decimals behind a point, in units of the last of `most` of them
+-- decimals after a point, in units of the last of `most` of them
 pub scaled_below : (n i most : ℕ) → n < 10 ^ i → i ≤ most → n * 10 ^ (most - i) < 10 ^ most
 scaled_below n i most h le =
     let scale : n * 10 ^ (most - i) < 10 ^ i * 10 ^ (most - i) =

@@ -15,10 +15,10 @@ is_digits most text = nat_lt 0 (length text) && nat_le (length text) most && lis
 abbrev pub number_in : ℕ → List ℕ → Option ℕ
 number_in most text = if is_digits most text then Some (digits_value 10 text) else None
 
--- where the first point stands
+-- the place of the first point
 abbrev pub point_in : List ℕ → Option ℕ
 point_in text = position (λ c. c == 46) text
 
--- what is read of the texts on both sides of the first point; where there is none, `whole`
+-- what is read of the texts on both sides of the first point; if there is no point, `whole`
 abbrev pub by_point : (List ℕ → List ℕ → Option ℕ) → List ℕ → Option ℕ → Option ℕ
 by_point read text whole = option_map_or (λ point. read (take point text) (drop (point + 1) text)) (point_in text) whole

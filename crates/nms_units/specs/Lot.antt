@@ -5,7 +5,7 @@ use Rattle.std.specs.Prelude.{ℕ, ◌*◌, ◌/◌, nat_le, if◌then◌else◌
 abbrev pub displayed_size : ℕ → ℕ → ℕ
 displayed_size lot shares = shares / lot * lot
 
--- what a size is multiplied by in the place of a division by a lot
+-- the factor that replaces a division by a lot
 abbrev pub reciprocal_of : ℕ → ℕ
 reciprocal_of lot = 18446744073709551615 / lot
 

@@ -11,7 +11,7 @@ use Rattle.nms_units.specs.declared.unit_fault.UnitFault.TheVariants as fault
 abbrev pub whole_dollars : List ℕ → Option ℕ
 whole_dollars text = option_map (λ n. n * 1000000000) (number_in 20 text)
 
--- exactly nine digits behind the point
+-- exactly nine digits after the point
 abbrev pub nine_decimals : List ℕ → Option ℕ
 nine_decimals text = if length text == 9 then number_in 9 text else None
 
@@ -34,7 +34,7 @@ abbrev pub or_bad_money : Option ℤ → Result ℤ UnitFault
 or_bad_money None = Err fault.BadMoney
 or_bad_money (Some z) = Ok z
 
--- the money that a text is, or why it is none
+-- the money that a text writes, or why it is refused
 abbrev pub money_reading : List ℕ → Result ℤ UnitFault
 money_reading text = or_bad_money (money_number text)
 
@@ -42,11 +42,11 @@ money_reading text = or_bad_money (money_number text)
 abbrev pub three_digits : ℕ → List ℕ
 three_digits n = digit_at 100 n ∷ digit_at 10 n ∷ digit_at 1 n ∷ []
 
--- an amount as text: no leading zeros but one before the point, and nine decimals
+-- an amount as text: no leading zeros except one before the point, and nine decimals
 abbrev pub amount_text : ℕ → List ℕ
 amount_text n = decimal (n / 1000000000) ++ 46 ∷ three_digits (n / 1000000) ++ three_digits (n / 1000) ++ three_digits n
 
--- money as text: a minus where it is negative, and the amount
+-- money as text: a minus if it is negative, and the amount
 abbrev pub money_text : ℤ → List ℕ
 money_text (pos n) = amount_text n
 money_text (negsuc n) = 45 ∷ amount_text (suc n)

@@ -10,11 +10,11 @@ use Rattle.nms_units.specs.declared.unit_fault.UnitFault.TheVariants as fault
 abbrev pub dollars : List ℕ → Option ℕ
 dollars text = option_map (λ n. n * 10000) (number_in 7 text)
 
--- 1 to 4 digits behind the point
+-- 1 to 4 digits after the point
 abbrev pub decimals : List ℕ → Option ℕ
 decimals text = option_map (λ n. n * 10 ^ (4 - length text)) (number_in 4 text)
 
--- the sum of two numbers, where both are there
+-- the sum of two numbers, if both are there
 abbrev pub both : Option ℕ → Option ℕ → Option ℕ
 both None n = None
 both (Some m) None = None
@@ -33,7 +33,7 @@ abbrev pub above_zero : Option ℕ → Result ℕ UnitFault
 above_zero None = Err fault.BadPrice
 above_zero (Some n) = if n == 0 then Err fault.ZeroPrice else Ok n
 
--- the price that a text is, or why it is none
+-- the price that a text writes, or why it is refused
 abbrev pub price_reading : List ℕ → Result ℕ UnitFault
 price_reading text = above_zero (price_number text)
 
@@ -41,6 +41,6 @@ price_reading text = above_zero (price_number text)
 abbrev pub digit_at : ℕ → ℕ → ℕ
 digit_at unit n = 48 + n / unit % 10
 
--- a price as text: no leading zeros but one before the point, and four decimals
+-- a price as text: no leading zeros except one before the point, and four decimals
 abbrev pub price_text : ℕ → List ℕ
 price_text n = decimal (n / 10000) ++ 46 ∷ digit_at 1000 n ∷ digit_at 100 n ∷ digit_at 10 n ∷ digit_at 1 n ∷ []

@@ -9,6 +9,6 @@ abbrev pub or_bad_shares : Option ℕ → Result ℕ UnitFault
 or_bad_shares None = Err fault.BadShares
 or_bad_shares (Some n) = Ok n
 
--- the share count that a text of 1 to 9 digits is
+-- the share count that a text of 1 to 9 digits writes
 abbrev pub shares_reading : List ℕ → Result ℕ UnitFault
 shares_reading text = or_bad_shares (number_in 9 text)

@@ -3,8 +3,8 @@ ghost use Rattle.std.specs.Prelude.{◌≡◌, ℕ, ◌^◌, ◌<◌, ◌≤◌,
 ghost use Rattle.std.specs.Fmt.{decimal};
 ghost use Rattle.nms_units.specs.Digits.{number_in, point_in};
 
-/// The number that a text of 1 to `most` decimal digits writes, leading zeros among them, or `None`
-/// where the text is not that.
+/// The number that a text of 1 to `most` decimal digits writes, with leading zeros allowed, or `None` if it is another
+/// text.
 pub fn parse_digits(text: &[u8], most: usize) -> Option<u64>
     requires { most ≤ 19 }
     ensures number { result ≡ number_in most text.now }
@@ -25,12 +25,12 @@ pub fn parse_digits(text: &[u8], most: usize) -> Option<u64>
     Some(number)
 }
 
-/// A law: what is printed of a number of at most `most` digits, `parse_digits` reads as that number.
+/// A law: a number of at most `most` digits, as it is printed, is read by `parse_digits` as that number.
 pub fn digits_read_as_printed()
     ensures { (most n : ℕ) → 0 < most → n < 10 ^ most → n < 10 ^ 64 → number_in most (decimal n) ≡ Some n }
 {}
 
-/// Where the first point stands.
+/// The place of the first point.
 pub(crate) fn point_in(text: &[u8]) -> Option<usize>
     ensures place { result ≡ point_in text.now }
     ensures within { IfSome result (λ point. point < length text.now) }

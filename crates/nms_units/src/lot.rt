@@ -13,7 +13,7 @@ use std::marker::Model;
 #[derive(Clone, Copy, PartialEq, Eq, PartialOrd, Ord, Hash)]
 pub struct Lot {
     shares: u16,
-    /// 2^64 - 1 divided by the shares, by which a size is rounded down to whole lots with no division.
+    /// 2^64 - 1 divided by the shares: a size is rounded down to whole lots by it, with no division.
     reciprocal: u64,
 }
 
@@ -32,7 +32,7 @@ impl Model for Lot {
 }
 
 impl Lot {
-    /// A lot of that many shares, or `None` where that is not 1 to `MOST_LOT`.
+    /// A lot of that many shares, or `None` if that is not 1 to `MOST_LOT`.
     pub fn new(shares: u16) -> Option<Self>
         ensures { SomeIff result ((1 ≤ shares) × (shares ≤ MOST_LOT)) shares }
     {
@@ -58,7 +58,7 @@ impl Lot {
         Lot::of(shares)
     }
 
-    /// The lot of a number of shares that is one.
+    /// The lot of a number of shares from 1 to `MOST_LOT`.
     fn of(shares: u16) -> Self
         requires low { 1 ≤ shares }
         requires high { shares ≤ MOST_LOT }
@@ -77,8 +77,8 @@ impl Lot {
         self.shares
     }
 
-    /// The displayed size of a side in shares: what its message gives, rounded down to whole lots. It is asked for at each
-    /// change and for each row of a look.
+    /// The displayed size of a side in shares: its message's shares, rounded down to whole lots. Each change and each
+    /// row of a look computes it.
     pub fn displayed(self, shares: Shares) -> u32
         ensures size { result ≡ displayed_size self shares }
         ensures within { result ≤ shares }

@@ -28,7 +28,7 @@ impl Model for Shares {
 }
 
 impl Shares {
-    /// That many shares, or `None` where that is more than `MOST_SHARES`.
+    /// That many shares, or `None` if that is more than `MOST_SHARES`.
     pub fn new(count: u32) -> Option<Self>
         ensures { SomeIff result (count ≤ MOST_SHARES) count }
     {
@@ -47,7 +47,7 @@ impl Shares {
         self.count
     }
 
-    /// Reads 1 to 9 digits, leading zeros among them. Any other text is `BadShares`.
+    /// Reads 1 to 9 digits, with leading zeros allowed. Any other text is `BadShares`.
     pub fn parse(text: &[u8]) -> Result<Self, UnitFault>
         ensures { result ≡ shares_reading text.now }
     {

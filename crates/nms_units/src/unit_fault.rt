@@ -1,7 +1,7 @@
 //! Why a text is refused: the faults of `specs/Price`, `specs/Shares` and `specs/Money`.
 use thiserror::Error;
 
-/// Why a text is no price, no share count or no money.
+/// Why a text is not a price, a share count or money.
 #[derive(Clone, Copy, Debug, PartialEq, Eq, Error)]
 pub enum UnitFault {
     /// U1: the text is not 1 to 7 digits with at most a point and 1 to 4 digits after it.

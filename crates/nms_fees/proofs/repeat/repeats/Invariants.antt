@@ -4,7 +4,7 @@ use Rattle.nms_fees.specs.Places.{has_repeat}
 use Rattle.nms_fees.proofs.NameLemmas.{names_of, texts}
 use Rattle.nms_fees.proofs.repeat.repeats.Given as goal
 
--- the set has the names so far, and none stood twice
+-- the set has the names so far, and none is repeated
 abbrev pub invariant-loop-row : goal.invariant-loop-row
 invariant-loop-row l = record {
   seen : texts l.seen.keys ≡ names_of (take l.row-index l.rows);

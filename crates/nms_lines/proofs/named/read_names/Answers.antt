@@ -1,4 +1,4 @@
--- `read_names`: the set, by what the names so far say; where a name is not on the roster, all of them say nothing.
+-- `read_names`: the set, by what the names so far say; if a name is not on the roster, all of them say nothing.
 use Rattle.std.proofs.Common.{rules, tests, of_calls, ◌≡◌, ◌==◌, ◌∙◌, length, sym, ap}
 use Rattle.std.specs.Prelude.{None, Some}
 use Rattle.std.proofs.lemmas.Iterator.Consumers.{YieldsList-end, YieldsList-so_far, YieldsList-turn}

@@ -1,4 +1,4 @@
--- `push_names`: one name more by `written_more` where the set has the place, none by `members_out` where it has not.
+-- `push_names`: one name more by `written_more` if the set has the place, none by `members_out` if it has not.
 use Rattle.std.proofs.Common.{rules, ◌≡◌, ◌++◌, ◌+◌, true, false, sym}
 use Rattle.std.proofs.lemmas.List.{append-nil}
 use Rattle.nms_quote.specs.Members.{has_part}

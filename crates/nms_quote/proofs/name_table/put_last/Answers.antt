@@ -7,7 +7,7 @@ use Rattle.nms_quote.specs.Names.{named}
 use Rattle.nms_quote.proofs.TableLemmas.{named-insert_entry}
 use Rattle.nms_quote.proofs.name_table.put_last.Goals as goal
 
--- what is text is read
+-- text is read
 ok_from_text : {T E : Type 0} (read : Result T E) (P : T → Type 0) (IsText : Type 0) (Q : E → Type 0)
     → MatchResult read P (λ e. (IsText → ⊥) × Q e) → IsText → IsOk read
 ok_from_text (Ok text) P IsText Q h is_text = refl

@@ -1,4 +1,4 @@
--- `write_price`: a price's text is printable, and where there is none nothing is written.
+-- `write_price`: a price's text is printable, and if there is none, nothing is written.
 use Rattle.std.proofs.Common.{refl}
 use Rattle.nms_units.specs.Price.{price_text}
 use Rattle.nms_show.specs.Safe.{IsPrintable, no_text}

@@ -1,4 +1,4 @@
--- `write_items`: where the own texts are printable, what was written so far is safe.
+-- `write_items`: if the own texts are printable, what was written so far is safe.
 use Rattle.std.proofs.Common.{All}
 use Rattle.nms_show.specs.Safe.{IsPrintable, IsSafe, own_text}
 use Rattle.nms_show.specs.Written.{Adds}

@@ -1,4 +1,4 @@
--- `push_string`: a quotation mark and the bytes so far stand behind what was there.
+-- `push_string`: a quotation mark and the bytes so far are after what was there.
 use Rattle.std.proofs.Common.{◌≡◌, ◌++◌, ◌∷◌, take}
 use Rattle.std.specs.Prelude.{flat_map}
 use Rattle.nms_show.specs.Json.{json_byte}

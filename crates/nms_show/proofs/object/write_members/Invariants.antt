@@ -1,4 +1,4 @@
--- `write_members`: where the keys and the own texts are printable, what was written so far is.
+-- `write_members`: if the keys and the own texts are printable, what was written so far is.
 use Rattle.std.proofs.Common.{All, Some}
 use Rattle.nms_show.specs.Safe.{IsPrintable, own_text}
 use Rattle.nms_show.specs.Written.{Adds}

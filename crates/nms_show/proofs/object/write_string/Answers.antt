@@ -1,4 +1,4 @@
--- `write_string`: a string of JSON is printable where its text is.
+-- `write_string`: a string of JSON is printable if its text is.
 use Rattle.nms_show.proofs.SafeFacts.{printable_string}
 use Rattle.nms_show.proofs.object.write_string.Goals as goal
 

@@ -1,4 +1,4 @@
--- `write_under`: the record, and the line of carets; what stands for bytes that are left out is printable.
+-- `write_under`: the record, and the line of carets; the mark of bytes that are left out is printable.
 use Rattle.std.proofs.Common.{refl, subst, sym}
 use Rattle.nms_show.specs.Safe.{IsPrintable, no_text}
 use Rattle.nms_show.proofs.SafeFacts.{printable_ascii}

@@ -14,7 +14,7 @@ use Rattle.nms_fee_book.specs.declared.caps.Caps.TheVariants as caps
 use Rattle.nms_fee_book.specs.declared.fee_schedule.FeeSchedule.{FeeSchedule}
 use Rattle.nms_fee_book.proofs.fee_book.FeeBook.fee.Goals as goal
 
--- no cap of rates is over the most that a rate may be
+-- no cap of rates is over the greatest rate
 rate_high : (keeps : Caps) → rate_cap keeps ≤ MOST_RATE
 rate_high caps.Of2005 = omega arith
 rate_high caps.Of2024 = omega arith
@@ -40,7 +40,7 @@ bounds keeps schedule price capped cheap =
     let most = mul-le (unsigned_abs schedule.rate) price MOST_RATE ONE_DOLLAR rate (omega arith) in
     of_size (schedule.rate *ℤ pos price) (rw (unsigned_abs-mul schedule.rate (pos price)) most)
 
--- the product that is computed is of the rate and the price as they were read
+-- the computed product is that of the rate and the price that were read
 product : (rate wide new result : ℤ) (price read : ℕ) → wide ≡ to_z w64 (of_z w64 rate) → new ≡ to_z w128 (of_z w128 wide)
     → neg_ℤ (pos MOST_RATE) ≤ℤ rate → rate ≤ℤ pos MOST_RATE → read ≡ price → result ≡ new *ℤ pos read → result ≡ rate *ℤ pos price
 product rate wide new result price read w n low high same is =

@@ -1,4 +1,4 @@
--- `NameTable::find`: clause `place` where a hint is right, by `name_at-word` and `place_in-own`.
+-- `NameTable::find`: clause `place` if a hint is right, by `name_at-word` and `place_in-own`.
 use Rattle.std.proofs.Common.{sym, ap, ◌∙◌, arith}
 use Rattle.nms_quote.specs.Names.{words_of}
 use Rattle.nms_quote.proofs.TableLemmas.{place_in-own}
