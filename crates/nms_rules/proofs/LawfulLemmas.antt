@@ -188,7 +188,7 @@ on_usable seen asked fees legs is part some =
 
 -- ---- trading through
 
--- a protected quotation with a leg beyond it gets its full size, where the legs do not trade through it
+-- a protected quotation with a leg beyond it gets its full size, if the legs do not trade through it
 swept-step : (asked : Terms) (legs : List Leg) (quoted : Row) (leg : Leg) → is_traded_through asked legs quoted ≡ false
     → is_binding asked quoted ≡ true
     → In leg legs → is_better asked.side quoted.price leg.price ≡ true
