@@ -1,5 +1,4 @@
-//! The law above accepted plans: `specs/Bounds`. No answer is made of what these functions do: their contracts are
-//! what they are for.
+//! The law above accepted plans: `specs/Bounds`. These functions compute nothing: they are here for their contracts.
 ghost use Rattle.std.specs.Prelude.{◌*◌, ◌≤ℤ◌, neg_ℤ, pos, List};
 ghost use Rattle.nms_quote.specs.declared.certificate.Cut.{Cut};
 ghost use Rattle.nms_board.specs.View.{Seen};
