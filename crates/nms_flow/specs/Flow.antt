@@ -23,7 +23,7 @@ room_of state = record { sizes = state.board.sizes; queue = state.most_queued; t
 abbrev pub room_under : Settings → Room
 room_under settings = record { sizes = sizes_of settings.roster; queue = settings.queue; tape = settings.tape_limit }
 
--- the machine stands where these were sent, so many of them taken, and so many published
+-- the machine stands where these were sent, that many of them taken, and that many published
 pub record StandsAt (state : State) (at : Standing) : Type 0 where
   pub board : StandsFor state.board (version_at at)
   pub changes : state.changes ≡ drop at.published at.sent
@@ -39,8 +39,8 @@ pub record IsAfter (state : State) (events : List Event) : Type 0 where
   pub run : IsRun (room_of state) events
   pub stands : StandsAt state (standing_after events)
 
--- the machine went on by an event: wherever it stood, the answer is the one due there, and it stands
--- where the event leads
+-- the machine went on by an event: wherever it stood, the answer is the one due there, and it stands where the event
+-- leads
 pub record WentOn (old new : State) (event : Event) : Type 0 where
   pub answered : (at : Standing) → StandsAt old at → IsAnswered (room_of old) at event
   pub stands : (at : Standing) → StandsAt old at → StandsAt new (after at event)
