@@ -35,7 +35,8 @@ rank_of Sell price = neg_ℤ (pos price)
 abbrev pub is_named : Terms → Row → Bool
 is_named order row = has_part order.self_help row.part
 
--- a quotation that the order may trade with at any price: its participant is not named, and it is protected, or manual
+-- a quotation that the order may trade with, apart from its price: its participant is not named, and it is protected,
+-- or manual if allowed
 -- if allowed
 abbrev pub is_allowed : Terms → Row → Bool
 is_allowed order row = not (is_named order row) && (row.protected || order.manual)

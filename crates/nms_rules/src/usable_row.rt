@@ -107,8 +107,8 @@ pub fn usable_rows(view: &View, order: &Order, fees: &FeeBook) -> ArrayVec<Usabl
     usable
 }
 
-/// Whether an order may trade with a row: of nobody named, protected, or manual if the order allows
-/// it, and within the limit.
+/// Whether an order may trade with a row: of nobody named, protected, or manual if the order allows it, and within the
+/// limit.
 pub fn is_usable(order: &Order, row: &Row) -> bool
     ensures { result ≡ is_usable order.now row.now }
 {

@@ -99,7 +99,7 @@ impl Planner {
         &self.plan
     }
 
-    /// The certificate of the last plan.
+    /// The certificate.
     pub fn certificate(&self) -> &Certificate
         ensures { result.now.items ≡ self.now.cuts }
     {

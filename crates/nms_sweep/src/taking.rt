@@ -12,7 +12,7 @@ use nms_units::{MOST_SHARES, Money};
 /// What that many shares of a pool cost, the cheapest first.
 #[derive(Clone, Copy)]
 pub(crate) struct Taken {
-    /// What the last of them costs with its fee, in nanodollars; for no shares, the cost of the cheapest.
+    /// What the last of them costs with its fee, in nanodollars; if none, the cost of the cheapest.
     pub(crate) marginal: Money,
     /// What all of them cost with fees, in nanodollars.
     pub(crate) cost: Money,
