@@ -1,4 +1,4 @@
--- The runs of the sequential machine that a live run was as good as. This product's own rule.
+-- The runs of the sequential machine that come to the same as a live run. This product's own rule.
 use Rattle.std.specs.Prelude.{ℕ, ◌≡◌, ◌==◌, ◌++◌, true, All, List, map, Option, Some, None, Ok, if◌then◌else◌}
 use Rattle.std.specs.List.{filter_map}
 use Rattle.nms_quote.specs.Tape.{version}

@@ -62,7 +62,7 @@ impl LiveFault {
         }
     }
 
-    /// Of several faults of a run the one of least rank is answered.
+    /// The fault that is answered is the one of least rank.
     pub(crate) fn rank(self) -> u8
         ensures { result ≡ rank_of self }
     {

@@ -56,7 +56,7 @@ pub(crate) fn run_in_threads<R: Threads + Wait + Sync, G: Gate>(
     desks
 }
 
-/// Starts all workers and waits for them. Gives back the desks, unless anybody stopped early.
+/// Starts all workers and waits for them. Returns the desks, unless a worker stopped early.
 fn run_workers<'s, E, R: Threads + Wait + Sync, G: Gate>(
     scope: &'s Scope<'s, E>,
     means: &'s Means<'s, R, G>,
