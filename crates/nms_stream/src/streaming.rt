@@ -25,7 +25,7 @@ use std::io::{Read, Write};
 /// How many bytes wait before they are written.
 const PIECE: usize = 65_536;
 
-/// Streams the changes of a file: a header, then a line exactly where the best bid, the best offer or the market of a
+/// Streams the changes of a file: a header, then a line exactly when the best bid, the best offer or the market of a
 /// symbol that is asked for changes, in order of versions, then of symbols. Without a symbol all of the roster are
 /// asked for.
 ///
@@ -50,7 +50,7 @@ pub fn stream_file<R: Read + Drop, W: Write>(
     }
 }
 
-/// Streams changes of a roster, as `stream_file` does those of a file.
+/// Streams changes of a roster, as `stream_file` streams those of a file.
 pub fn stream<W: Write>(
     alloc: Global,
     roster: &Roster,
