@@ -24,7 +24,7 @@ pub struct Patience {
 }
 
 impl Patience {
-    /// The patience of a thread that has not waited yet.
+    /// For a thread that has not waited yet.
     pub fn new() -> Self {
         Patience {
             turns: 0,
