@@ -13,8 +13,8 @@ use nms_quote::{Change, Roster, SideQuote};
 use std::alloc::Global;
 use std::io::Read;
 
-/// Reads the changes of a file, or returns the fault of its first line that is refused. `TapeFull` is the fault of the
-/// first accepted line beyond the tape's limit.
+/// Reads the changes of a file, or returns the fault of its first refused line. `TapeFull` is the fault of the first
+/// accepted line beyond the tape's limit.
 ///
 /// The file is always read to its end: if it can't be read, that is the fault, whatever its lines are.
 pub fn read_changes<R: Read + Drop>(

@@ -19,7 +19,7 @@ pub trait FileItem: Sized + Drop {
     // That lines say these items, each at its place, and what else holds of them.
     ghost are_taken: { Settings → List Record → List Self → Type 0 };
 
-    // Why one more line is refused behind these items.
+    // Why one more line is refused after these items.
     ghost is_refused: { Settings → List Self → Record → Self.Fault → Type 0 };
 
     /// Takes what one more line says, or refuses it.
@@ -78,7 +78,7 @@ fn take_lines<R: Read, T: FileItem>(
             Err(fault) => return Err(fault),
         }
     }
-    // No source has so many records.
+    // No source has that many records.
     Err(RecordFault::Failed)
 }
 
