@@ -30,7 +30,7 @@ use std::marker::Model;
 
 /// The machine that consolidates, in one thread. This product's own rule.
 ///
-/// The board's rows and the whole queue are made with it; from then on only a taking can run out of memory.
+/// The board's rows and the whole queue are made with it; later only a taking can run out of memory.
 #[derive(Drop)]
 pub struct Flow {
     /// The published version.
@@ -112,7 +112,7 @@ impl Flow {
     }
 
     /// Takes the change at the queue's front to the tape, and returns the tape's length. A fault leaves the machine as
-    /// it was: `QueueEmpty`, `TapeFull`, or `NoMemory` if the taking would otherwise have succeeded.
+    /// it was: `QueueEmpty`, `TapeFull`, or `NoMemory` if the taking would have succeeded.
     pub fn take(&mut self) -> Result<u64, StepFault>
         ensures went { WentOn self.old self.new (step.Take, replied (λ version. reply.Taken version) result) }
         ensures sends_nothing { result ≢ Err StepFault.QueueFull }
@@ -233,7 +233,7 @@ impl Flow {
     }
 
     /// Makes one step, which is one event. A fault leaves the machine as it was. `NoMemory` comes at a taking alone, and only
-    /// if it would otherwise have succeeded.
+    /// if it would have succeeded.
     pub fn step(&mut self, step: Step) -> Result<Reply, StepFault>
         requires { holds_step self.old.board.sizes step ≡ true }
         ensures went { WentOn self.old self.new (step, result) }
