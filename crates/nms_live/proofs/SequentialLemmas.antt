@@ -42,7 +42,7 @@ standing_at roster tape lengths = record {
 same_standing : (one other : Standing) → one.sent ≡ other.sent → one.taken ≡ other.taken → one.published ≡ other.published → one ≡ other
 same_standing one other same_sent same_taken same_published = rw (same_sent, same_taken, same_published) refl
 
--- a run that was refused nothing, with what it came to
+-- a run that was refused nothing, with its result
 pub record IsLed (room : Room) (basis : Answer → Seen) (at : Standing) (lengths : List ℕ) (looked : List Answer) (events : List Event) :
     Type 0 where
   pub run : IsRun room events

@@ -107,7 +107,7 @@ fn send_rows<R: Wait, G: Gate>(
             Err(_) => return Err(LiveFault::NoMemory),
         }
     }
-    // No text has so many records.
+    // No text has that many records.
     Err(LiveFault::NoMemory)
 }
 

@@ -12,7 +12,7 @@ pub enum GatePoint {
     Send {
         /// The feed.
         feed: Feed,
-        /// How many changes it sent before.
+        /// How many it sent before.
         k: u64,
     },
     /// A desk's worker looks.

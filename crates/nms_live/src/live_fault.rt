@@ -62,7 +62,7 @@ impl LiveFault {
         }
     }
 
-    /// The fault that is answered is the one of least rank.
+    /// The fault's rank: a run answers the fault of least rank.
     pub(crate) fn rank(self) -> u8
         ensures { result ≡ rank_of self }
     {

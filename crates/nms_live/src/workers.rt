@@ -1,4 +1,4 @@
-//! The threads of a live run, and what all of them came to (specs/Crew).
+//! The threads of a live run, and what they all did (specs/Crew).
 ghost use Rattle.std.specs.Prelude.{◌≡◌, [], length, IfErr, IfOk};
 ghost use Rattle.nms_versions.specs.Taped.{tape_of};
 ghost use Rattle.nms_live.specs.Crew.{AreFreshEnds, AreReady, IsDone, texts_of};
