@@ -40,7 +40,7 @@ pub enum DoubtPlace {
     OutOfOrder {
         /// The first cut with such a later one.
         cut: CutPlace,
-        /// The first such later cut.
+        /// The later cut.
         later: CutPlace,
     },
     /// K5: the first cut that contradicts the sums at its price.
