@@ -296,7 +296,7 @@ faultless_of_none seen asked fees plan bids offers none =
 
 -- ---- a lawful plan is without a breach
 
--- the usable row of a leg, as a quotation, is the one that its price is of
+-- the usable row of a leg, as a quotation, is the one at the leg's price
 serves-step : (seen : Seen) (asked : Terms) (fees : Charges) (legs : List Leg) → Apart place (contra_rows asked.side seen)
     → Apart leg_part legs → (leg : Leg) → In leg legs
     → (quoted : Row) → In quoted (contra_rows asked.side seen) → quoted.part ≡ leg.part → quoted.price ≡ leg.price

@@ -1,4 +1,4 @@
--- What a lawful plan's legs give the usable rows is what it fills, and costs what it costs.
+-- A lawful plan's legs give the usable rows what the plan fills, at what the plan costs.
 use Rattle.std.proofs.Common.{ℕ, zero, suc, ◌≡◌, ◌<◌, ◌≤◌, ◌+◌, ◌==◌, true, false, List, [], ◌∷◌, length, map, get_or, Any, ◌⊎◌, inl, inr}
 use Rattle.std.proofs.Common.{refl, ap, sym, ◌∙◌, subst, arith, add-one}
 use Rattle.std.specs.Prelude.{pos, ◌+ℤ◌, ◌*ℤ◌, if◌then◌else◌}

@@ -55,8 +55,8 @@ pub record IsBounded (rows : List Usable) (most : ℕ) (cost cutoff marginal : �
   pub high : marginal ≤ℤ pos (10 ^ 18)
   pub bound : cost ≤ℤ least_cost rows most cutoff marginal
 
--- what a cut of each kind says at a cutoff: more must be swept than can be filled; less is there than can be
--- filled; or the cost is bounded
+-- what a cut of each kind says at a cutoff: more must be swept than can be filled; there is less than can be filled; or
+-- the cost is bounded
 abbrev pub KindHolds : List Usable → ℕ → ℤ → ℤ → CutKind → Type 0
 KindHolds rows most cost cutoff TooMuch = most < swept cutoff rows
 KindHolds rows most cost cutoff TooLittle = swept cutoff rows + pool cutoff rows < most

@@ -79,8 +79,8 @@ pub record NamesOneMore (order : Terms) (part : ℕ) (row : Row) : Type 0 where
 abbrev pub NamingOneLeavesTheOthers : Type 0
 NamingOneLeavesTheOthers = (order : Terms) (part : ℕ) (row : Row) → NamesOneMore order part row
 
--- a plan that is accepted with its cuts is an optimal way to spread shares over the usable rows, whoever made it (this
--- product's own rule)
+-- a plan that is accepted with its cuts is an optimal way to spread shares over the usable rows, whatever its source
+-- (this product's own rule)
 abbrev pub AcceptedPlansAreOptimal : Type 0
 AcceptedPlansAreOptimal =
     (seen : Seen) (order : Terms) (fees : Charges) (plan : Plan) (cuts : List Cut)
