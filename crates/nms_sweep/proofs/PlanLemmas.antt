@@ -111,7 +111,7 @@ table seen asked fees by_price by_cost rising same ordered again cheapest = reco
 
 -- ---- what a cut says
 
--- more must be swept, or less is there, or it has a marginal
+-- more must be swept, or there is less, or it has a marginal
 pub record IsFit (rows by_cost : List Usable) (most : ℕ) (cutoff : ℤ) : Type 0 where
   pub sweeps : swept cutoff rows ≤ most
   pub reaches : most ≤ swept cutoff rows + pool cutoff rows

@@ -185,7 +185,7 @@ swept-next side before row (next ∷ later) ranks ordered last =
 
 -- ---- one row of the walk
 
--- a row at whose price the next one is too
+-- a row with the next one at the same price
 again-rank : (rows : List Usable) (side : OrderSide) (row next : Usable) → row.rank ≡ rank_of side row.price
     → next.rank ≡ rank_of side next.price → (next.price ≡ row.price) → row.rank ≡ next.rank
 again-rank rows side row next is also same = is ∙ ap (rank_of side) (sym same) ∙ sym also

@@ -48,7 +48,7 @@ abbrev pub starts_at : ℕ → List Usable → Bool
 starts_at price [] = false
 starts_at price (row ∷ rows) = row.price == price
 
--- of each price of rows in the order of their prices, what its last row makes
+-- what the last row of each price makes, of rows in the order of their prices
 unfoldable pub per_price : {X : Type 0} → (Usable → X) → List Usable → List X
 per_price made [] = []
 per_price made (row ∷ rows) = if starts_at row.price rows then per_price made rows else made row ∷ per_price made rows

@@ -54,7 +54,7 @@ pub record IsMarginalAt (rows : List Usable) (most : ℕ) (cutoff marginal : ℤ
   pub reaches : most ≤ swept cutoff rows + pool cutoff rows
   pub last : IsShareCost rows cutoff (most - swept cutoff rows) marginal
 
--- the kind that a price has: more must be swept than can be filled, or less is there, or it has a marginal
+-- the kind that a price has: more must be swept than can be filled, or there is less, or it has a marginal
 abbrev pub KindIs : List Usable → ℕ → ℤ → CutKind → Type 0
 KindIs rows most cutoff TooMuch = most < swept cutoff rows
 KindIs rows most cutoff TooLittle = swept cutoff rows + pool cutoff rows < most
