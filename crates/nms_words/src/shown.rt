@@ -3,8 +3,8 @@
 use std::fmt;
 use std::fmt::Write;
 
-/// A text with printable ASCII, line feeds and the letters of European alphabets as they are. Any other character is
-/// shown as `\x1b` or `\u{202e}`, and a backslash as two.
+/// A text with printable ASCII, line feeds and the letters of European alphabets as they are. Any other character
+/// becomes `\x1b` or `\u{202e}`, and a backslash two.
 #[derive(Clone, Copy)]
 pub(crate) struct Shown<'a>(pub(crate) &'a str);
 

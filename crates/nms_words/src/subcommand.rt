@@ -181,7 +181,7 @@ impl Sub {
         }
     }
 
-    /// The words that may stand after those, in order: if one is given, all before it are.
+    /// The words that may stand after those, in order: each needs all before it.
     pub(crate) fn more_words(self) -> &'static [MoreWord]
         ensures { map (λ word. word.name.now) result.now ≡ more_names self }
     {
