@@ -13,8 +13,8 @@ pub enum Doubt {
     /// K4: a cut is at no price of a usable quotation, or the cuts do not stand best price first, each price
     /// once.
     CutExtra,
-    /// K5: a cut is of the wrong kind: `TooMuch` if the better protected quotations are no more than can be filled,
-    /// `TooLittle` if what may be traded with is no less, or `Marginal` if the better protected quotations are more.
+    /// K5: a cut is of the wrong kind: `TooMuch` if the better protected quotations are no more than can be filled;
+    /// `TooLittle` if what may be traded with is no less; `Marginal` if the better protected quotations are more.
     WrongKind,
     /// K6: a marginal is below -10^18 or above 10^18 nanodollars.
     MarginalRange,
