@@ -1,4 +1,4 @@
-//! A watch of a feed: it is called when the feed sends or is refused.
+//! A watch of a feed: it is called for each change sent and each record refused.
 use nms_lines::LineFault;
 use nms_quote::Feed;
 

@@ -28,8 +28,8 @@ use std::sync::Wait;
 /// watch; if `strict` is set it ends the reading. A feed may be read from several streams, one after another: the
 /// counts go on from one to the next. `Ok` is the end of the stream.
 ///
-/// It ends early on a failing stream, out of memory or after 2^40 records; the changes of the first records stay sent.
-/// It waits if the lane is full.
+/// It ends early on a failing stream, out of memory or at more than 2^40 records; the changes of the first records stay
+/// sent. It waits if the lane is full.
 pub fn send_stream<W: Wait, R: Read + Drop, O: FeedWatch>(
     rt: &W,
     alloc: Global,
