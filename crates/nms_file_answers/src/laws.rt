@@ -17,7 +17,7 @@ use nms_quote::{Certificate, Cut, Leg, Order, Plan, Roster};
 use nms_sweep::{an_accepted_plan_is_within_bounds, plan};
 
 /// `read_plan` reads back what `write_plan` writes of an accepted plan with its certificate: for an order of the
-/// roster, on a view of a version of at most 10,000,000 changes, whatever its source.
+/// roster, on a view of a version of at most 10,000,000 changes, whatever the plan's source.
 pub fn an_accepted_plan_reads_as_written(
     roster: &Roster,
     order: &Order,
