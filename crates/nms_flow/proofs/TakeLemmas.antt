@@ -1,4 +1,4 @@
--- Taking all at once comes to the same as takings one after another.
+-- Taking all at once has the same result as takings one after another.
 use Rattle.std.proofs.Common.{ℕ, zero, suc, ◌≡◌, ◌≢◌, ◌+◌, ◌≤◌, true, List, [], ◌∷◌, ◌++◌, length, Ok, Err, refl, ap, subst, sym, arith}
 use Rattle.std.proofs.Common.{append_assoc}
 use Rattle.std.specs.Prelude.{All}

@@ -59,7 +59,7 @@ impl Flow {
     ghost use Rattle.nms_flow.specs.Run.{Standing, after};
     ghost use Rattle.nms_flow.specs.Takes.{TakesUntil};
 
-    /// Makes a machine with nothing sent, of the setup's sizes. `NoMemory` leaves nothing.
+    /// A machine with nothing sent, with the room that the setup gives. `NoMemory` leaves nothing.
     pub fn new(alloc: Global, setup: &Setup) -> Result<Self, FlowFault>
         ensures starts { IfOk result (λ flow. StandsAt flow start) }
         ensures run { IfOk result (λ flow. IsAfter flow []) }
