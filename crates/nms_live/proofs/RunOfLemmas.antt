@@ -1,4 +1,4 @@
--- The run of the sequential machine that comes to the same as a live run.
+-- The run of the sequential machine that has the result of a live run.
 use Rattle.std.proofs.Common.{ℕ, ◌≡◌, ◌+◌, ◌<◌, ◌≤◌, ◌⊎◌, inl, inr, List, [], ◌∷◌, ◌++◌, length, map, take, None, refl, sym, ap, subst, ◌∙◌}
 use Rattle.std.proofs.Common.{arith, append_assoc, length-append}
 use Rattle.std.specs.Prelude.{All, nat_eq, unwrap_or}

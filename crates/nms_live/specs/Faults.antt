@@ -1,5 +1,5 @@
--- The codes of a live run's faults, the exit status of a program that one of them ends, and which fault is answered if
--- there are several. This product's own rule.
+-- The codes of a live run's faults, the exit status of a program that one ends, and which of several is answered. This
+-- product's own rule.
 use Rattle.std.specs.Prelude.{ℕ, ⊤, ◌+◌, List, [], ◌∷◌, codes, nat_lt, Option, Some, None, if◌then◌else◌}
 use Rattle.nms_quote.specs.declared.feed.Feed.{Feed}
 use Rattle.nms_quote.specs.Merge.{place_of}

@@ -39,15 +39,15 @@ pub record IsPublishedVersion (live : Live) (number : ℕ) : Type 0 where
 -- what the answer's plan is on the quotations of its symbol in its version
 pub record IsBestPlanOn (settings : Settings) (seen : Seen) (answer : Answer) : Type 0 where
   pub of_version : seen.version ≡ answer.plan.version
-  -- at each price that it trades at it keeps the limit. Every protected quotation on the side that the order trades
-  -- with, of participants that the order does not name, that this price would trade through gets its full displayed size
+  -- at each price that it trades at it keeps the limit. Every protected quotation on the side that the order trades with
+  -- gets its full displayed size, if this price would trade through it and the order does not name its participant
   pub never_through : NeverTradesThrough seen answer.plan.order answer.plan.legs.items
   -- it is lawful, and no lawful plan fills more, or as much for less with fees
   pub optimal : IsOptimal (usable seen answer.plan.order settings.fees) answer.plan.order.shares (given_by answer.plan.legs.items)
   -- as its certificate shows to the caller who checks it
   pub accepted : IsAccepted seen answer.plan.order settings.fees answer.plan answer.certificate.items
 
--- the answer names one published version, the best quotes there are the rule's ranking of the changes published, and
+-- the answer names one published version; the best quotes there are the rule's ranking of the changes published, and
 -- its plan is the best lawful one there
 pub record IsBestOfItsVersion (settings : Settings) (live : Live) (answer : Answer) : Type 0 where
   pub version_is : IsPublishedVersion live answer.plan.version

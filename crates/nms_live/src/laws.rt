@@ -31,9 +31,9 @@ pub fn each_answer_is_the_best_of_its_version(
     a_lawful_plan_never_trades_through();
 }
 
-/// A live run comes to what the sequential machine comes to in one thread, by some run. That run sends what the feeds
-/// say, takes the same tape and publishes the same lengths in order. It shows each desk in order what its answers were
-/// made on, the closing ones last. This product's own rule.
+/// A live run has the result of some run of the sequential machine, in one thread. That run sends what the feeds say,
+/// takes the same tape and publishes the same lengths in order. It shows each desk in order what its answers were made
+/// on, the closing ones last. This product's own rule.
 pub fn a_live_run_is_a_run_of_the_machine(
     setup: &Setup,
     feeds: &[Vec<u8>],
