@@ -1,8 +1,8 @@
 -- The laws above plans. Those of lawful plans are in the words of 17 CFR 242.600, "trade-through" and "intermarket sweep
--- order", and 242.611(a), (b)(5) and (6). If a plan trades at a price that would trade through a protected quotation on
--- its order's side, it also sweeps that quotation. In a crossed market the other side is not looked at: the exception for
--- crossed markets, 242.611(b)(4), is not part of this product. Quotations of participants that the order names are not
--- looked at either: self-help, 242.611(b)(1).
+-- order", and 242.611(a), (b)(5) and (6). A plan's price may trade through a protected quotation on the side that the
+-- order trades with: then the plan also sweeps that quotation. In a crossed market the other side is not looked at: the
+-- exception for crossed markets, 242.611(b)(4), is not part of this product. Quotations of participants that the order
+-- names are not looked at either: self-help, 242.611(b)(1).
 use Rattle.std.specs.Prelude.{ℕ, ◌≡◌, ◌≢◌, ◌≤◌, ◌≤ℤ◌, ◌&&◌, ◌||◌, Bool, false, not, None, List, All, filter, map}
 use Rattle.nms_quote.specs.Members.{has_part, nobody, with_part}
 use Rattle.nms_quote.specs.Terms.{Terms}
@@ -30,8 +30,8 @@ SweepsThroughOnItsSide seen order legs price =
     All (λ found. found.0 ≡ contra order.side → is_named order found.1 ≡ false → found.1.size ≤ given_by legs found.1.part)
     (traded_through_at seen price)
 
--- at none of its prices does a plan trade through a protected quotation of its side and leave it, except those of
--- participants that its order names; and each price keeps the limit
+-- each price keeps the limit, and the plan sweeps each protected quotation of its side that a price would trade
+-- through, except those of participants that its order names
 abbrev pub NeverTradesThrough : Seen → Terms → List Leg → Type 0
 NeverTradesThrough seen order legs = All (λ leg. KeepsLimit order leg.price × SweepsThroughOnItsSide seen order legs leg.price) legs
 
@@ -79,8 +79,8 @@ pub record NamesOneMore (order : Terms) (part : ℕ) (row : Row) : Type 0 where
 abbrev pub NamingOneLeavesTheOthers : Type 0
 NamingOneLeavesTheOthers = (order : Terms) (part : ℕ) (row : Row) → NamesOneMore order part row
 
--- a plan that is accepted with its cuts is an optimal way to spread shares over the usable rows, whatever its source
--- (this product's own rule)
+-- a plan that is accepted with its cuts is an optimal way to spread shares over the usable rows, whatever the plan's
+-- source (this product's own rule)
 abbrev pub AcceptedPlansAreOptimal : Type 0
 AcceptedPlansAreOptimal =
     (seen : Seen) (order : Terms) (fees : Charges) (plan : Plan) (cuts : List Cut)

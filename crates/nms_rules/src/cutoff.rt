@@ -116,7 +116,7 @@ fn swept_cost_part(row: &UsableRow, cutoff: Rank) -> Money
     }
 }
 
-/// How much less than the marginal a row's share costs, if so.
+/// How much less than the marginal a row's share costs, if less.
 fn saved_by(row: &UsableRow, marginal: Money) -> Money
     requires low { neg_ℤ (pos (10 ^ 18)) ≤ℤ marginal }
     requires high { marginal ≤ℤ pos (10 ^ 18) }

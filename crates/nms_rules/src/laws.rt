@@ -1,10 +1,10 @@
 //! The laws above plans: `specs/Laws`. The functions do nothing: their contracts are the laws.
 ghost use Rattle.nms_rules.specs.Laws.{AcceptedPlansAreBest, AcceptedPlansAreOptimal, LawfulPlansNeverTradeThrough, LawfulPlansPassOverTheNamed, NamingNobodyChangesNothing, NamingOneLeavesTheOthers};
 
-/// A plan without a breach never trades through a protected quotation on its order's side, and keeps its limit (17 CFR
-/// 242.611(a), (b)(5) and (6)). Quotations of participants that the order names are left out (242.611(b)(1)). In a
-/// crossed market the other side is not looked at: the exception for crossed markets, 242.611(b)(4), is not part of
-/// this product.
+/// A plan without a breach keeps its limit. At none of its prices does it trade through a protected quotation on the
+/// side that its order trades with (17 CFR 242.611(a), (b)(5) and (6)). Quotations of participants that the order names
+/// are left out (242.611(b)(1)). In a crossed market the other side is not looked at: the exception for crossed
+/// markets, 242.611(b)(4), is not part of this product.
 pub fn a_lawful_plan_never_trades_through()
     ensures { LawfulPlansNeverTradeThrough }
 {}
