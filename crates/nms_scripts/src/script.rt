@@ -42,10 +42,10 @@ struct Script {
 /// Answers the records of a script, one after another. Each answer is one write, flushed before the
 /// next record is read.
 ///
-/// A refused record is answered by `ERR`, its number and the code, and changes nothing, except that `F`
-/// keeps what it took before a full tape. `ReadFault`, `TooLong` (more than 10,000,000 records) and
-/// `NoMemory` leave the answers to the records before; `WriteFault` leaves a first part of the answers to
-/// the records that were read. No fault leaves anything else.
+/// A refused record is answered by `ERR`, its number and the code. It changes nothing, except that `F` keeps what it
+/// took before a full tape. `ReadFault`, `TooLong` (more than 10,000,000 records) and `NoMemory` leave the answers to
+/// the records before; `WriteFault` leaves a first part of the answers to the records that were read. No fault leaves
+/// anything else.
 pub fn run_script<R: Read + Drop, W: Write>(
     alloc: Global,
     setup: &Setup,
