@@ -13,8 +13,8 @@ pub record IsCutoffOf (side : OrderSide) (rows : List Usable) (cutoff : Cutoff) 
   pub swept_cost : cutoff.swept_cost ≡ swept_cost (rank_of side cutoff.price) rows
   pub pool : cutoff.pool ≡ pool (rank_of side cutoff.price) rows
 
--- each usable price has a cutoff, each cutoff is at a usable price, each is at a better one than all after it, and each
--- has the sums at its price
+-- each usable price has a cutoff, and each cutoff is at a usable price; each is at a better price than all after it,
+-- and has the sums at its price
 pub record AreCutoffs (side : OrderSide) (rows : List Usable) (cutoffs : List Cutoff) : Type 0 where
   pub each_price : All (λ row. Any (λ cutoff. cutoff.price ≡ row.price) cutoffs) rows
   pub no_other : All (λ cutoff. Any (λ row. row.price ≡ cutoff.price) rows) cutoffs

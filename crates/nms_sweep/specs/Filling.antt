@@ -20,8 +20,8 @@ abbrev pub TakesEarlier : ℤ → List Usable → Assignment → Usable → Type
 TakesEarlier cutoff rows given row = All (λ other. is_pooled cutoff other ≡ true → is_taken_before other row ≡ true → given other.part
     ≡ other.size) rows
 
--- at a cutoff, which is a usable price if anything is filled: what must be swept is swept, a row of the pool gets
--- shares only if every earlier one is full, and no row at a worse price gets any
+-- at a cutoff, which is a usable price if anything is filled: what must be swept is swept; a row of the pool gets
+-- shares only if every earlier one is full; no row at a worse price gets any
 pub record FillsAt (rows : List Usable) (given : Assignment) (cutoff : ℤ) : Type 0 where
   pub at : 0 < filled given rows → Any (λ row. row.rank ≡ cutoff) rows
   pub sweeps : All (λ row. is_swept cutoff row ≡ true → given row.part ≡ row.size) rows

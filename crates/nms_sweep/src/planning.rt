@@ -29,8 +29,7 @@ use nms_units::{MOST_SHARES, Money, Shares};
 /// It always answers, and takes no memory. Legs stand by price, best first, then by participant place. Among equally
 /// good plans the choice is fixed: the cutoff at the best price; there the protected quotations that are better in
 /// full, then the others by unit cost, then better price, then place. The cuts are made in one walk over the prices;
-/// for each that can be filled at, one pass over the usable quotations, of which there are at most 32, gives the
-/// marginal and the cost.
+/// for each that can be filled at, one pass over the usable quotations, at most 32, gives the marginal and the cost.
 pub fn plan(view: &View, order: &Order, fees: &FeeBook) -> (Plan, Certificate)
     requires { order.now.sym ≡ view.now.sym }
     ensures lawful { breach_of view.now order.now fees.now result.0 ≡ None }
