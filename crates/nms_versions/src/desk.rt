@@ -44,7 +44,7 @@ impl Model for Desk {
 }
 
 impl Desk {
-    /// Learns of a receipt's version, of its own opening. No look shows an older one from then on.
+    /// Learns the version of a receipt of its own opening. No look shows an older one from then on.
     pub fn learn(&mut self, receipt: Receipt)
         requires opening { receipt.opening ≡ self.old.opening }
         ensures { self.new ≡ record self.old { known = changes receipt.published ∷ self.old.known } }
