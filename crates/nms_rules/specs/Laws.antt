@@ -30,8 +30,8 @@ SweepsThroughOnItsSide seen order legs price =
     All (λ found. found.0 ≡ contra order.side → is_named order found.1 ≡ false → found.1.size ≤ given_by legs found.1.part)
     (traded_through_at seen price)
 
--- each price keeps the limit, and the plan sweeps each protected quotation of its side that a price would trade
--- through, except those of participants that its order names
+-- each price keeps the limit, and the plan sweeps each protected quotation on the side that it trades with that a price
+-- would trade through, except those of participants that its order names
 abbrev pub NeverTradesThrough : Seen → Terms → List Leg → Type 0
 NeverTradesThrough seen order legs = All (λ leg. KeepsLimit order leg.price × SweepsThroughOnItsSide seen order legs leg.price) legs
 
