@@ -3,7 +3,7 @@ use Rattle.std.specs.Prelude.{ℕ, List, codes}
 use Rattle.nms_cert.specs.declared.doubt.Doubt.{Doubt}
 use Rattle.nms_cert.specs.declared.doubt.Doubt.TheVariants as doubt
 
--- the code by which a doubt is told
+-- the code by which a doubt is reported
 abbrev pub code_of : Doubt → List ℕ
 code_of (doubt.Breach breach) = codes "K1"
 code_of doubt.NotMost = codes "K2"

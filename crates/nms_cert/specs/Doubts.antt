@@ -1,5 +1,5 @@
--- What makes a plan and its certificate doubtful. Each doubt says by itself when it holds; of those that hold the
--- first is told. This product's own rule.
+-- What makes a plan and its certificate doubtful. Each doubt says by itself when it holds; the first that holds is
+-- reported. This product's own rule.
 use Rattle.std.specs.Prelude.{ℕ, ℤ, pos, neg_ℤ, ◌+◌, ◌^◌, ◌==◌, ◌||◌, Bool, false, not, nat_le, nat_lt, List, [], ◌∷◌, Option, option_map}
 use Rattle.std.specs.Prelude.{position}
 use Rattle.std.specs.Int.RustNames.{int_lt}
@@ -78,7 +78,7 @@ first_failing side rows most cost cuts = position (λ cut. fails_bound rows most
 
 -- ---- the first that holds
 
--- what is doubtful of the cuts, where so many can be filled and the plan costs so much
+-- what is doubtful of the cuts, if that many shares can be filled and the plan costs that much
 abbrev pub cuts_doubt : OrderSide → List Usable → ℕ → ℤ → List Cut → Option Doubt
 cuts_doubt side rows most cost cuts =
     when (some_lacks_cut rows cuts) doubt.CutMissing
@@ -91,7 +91,7 @@ cuts_doubt side rows most cost cuts =
 abbrev pub breach_doubt : Option Breach → Option Doubt
 breach_doubt found = option_map (λ breach. doubt.Breach breach) found
 
--- the first doubt of a plan and its cuts, and none where nothing is doubtful
+-- the first doubt of a plan and its cuts; none if nothing is doubtful
 abbrev pub doubt_of : Seen → Terms → Charges → Plan → List Cut → Option Doubt
 doubt_of seen order fees plan cuts =
     breach_doubt (breach_of seen order fees plan)

@@ -22,12 +22,12 @@ use nms_quote::{Certificate, Cut, Order, OrderSide, Plan};
 use nms_rules::{Breach, UsableRow, breach, fillable, usable_rows};
 use nms_units::{MOST_SHARES, Money};
 
-/// Confirms that a plan for an order on a view is optimal: it is lawful, no lawful plan fills more, and none that
-/// fills as much costs less with fees. Shares may be spread in any way that is lawful.
+/// Confirms that a plan for an order on a view is optimal: it is lawful, no lawful plan fills more, and none that fills
+/// as much costs less with fees. Shares may be spread in any way that is lawful.
 ///
-/// `Ok` comes exactly where the certificate is accepted, else the doubt of least number that holds. Takes no memory,
-/// and looks at each pair of a cut and a row a few times, with at most `MOST_ROWS` (32) of each. Costs are in
-/// nanodollars, with the fees of the book.
+/// Returns `Ok` exactly if the certificate is accepted, else the doubt of least number that holds. Takes no memory;
+/// looks at each pair of a cut and a row a few times, with at most `MOST_ROWS` (32) of each. Costs are in nanodollars,
+/// with the fees of the book.
 pub fn confirm(
     view: &View,
     order: &Order,
@@ -72,7 +72,7 @@ fn refuse_breach(found: Option<Breach>) -> Result<(), Doubt>
     Err(Doubt::Breach(breach))
 }
 
-/// Tests the cuts against the rows, where so many shares can be filled and the plan costs so much.
+/// Tests the cuts against the rows, if that many shares can be filled and the plan costs that much.
 fn check_cuts(
     side: OrderSide,
     rows: &[UsableRow],
@@ -98,7 +98,7 @@ fn check_cuts(
     }
 }
 
-/// The doubt, where it holds.
+/// The doubt, if it holds.
 fn refuse_if(holds: bool, doubt: Doubt) -> Result<(), Doubt>
     ensures { result_err result ≡ when holds doubt }
 {

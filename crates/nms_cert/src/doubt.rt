@@ -1,7 +1,7 @@
 //! Why a plan and its certificate are not confirmed.
 use nms_rules::Breach;
 
-/// Why a plan and its certificate are not confirmed, least number first. Only the first that holds is told.
+/// Why a plan and its certificate are not confirmed, least number first. Only the first that holds is reported.
 #[derive(Clone, Copy, Debug, PartialEq, Eq)]
 pub enum Doubt {
     /// K1: the plan is not lawful, or not summed rightly.
@@ -13,9 +13,8 @@ pub enum Doubt {
     /// K4: a cut is at no price of a usable quotation, or the cuts do not stand best price first, each price
     /// once.
     CutExtra,
-    /// K5: a cut is of the wrong kind: `TooMuch` where the better protected quotations are no more than can be
-    /// filled, `TooLittle` where what may be traded with is no less, or `Marginal` where the better protected
-    /// quotations are more.
+    /// K5: a cut is of the wrong kind: `TooMuch` if the better protected quotations are no more than can be filled;
+    /// `TooLittle` if what may be traded with is no less; `Marginal` if the better protected quotations are more.
     WrongKind,
     /// K6: a marginal is below -10^18 or above 10^18 nanodollars.
     MarginalRange,

@@ -1,5 +1,4 @@
-//! The checker of plans: it confirms by a certificate that a plan is optimal, and knows nothing of how the plan
-//! was found.
+//! The checker of plans: it confirms by a certificate that a plan is optimal. It does not know how the plan was found.
 #![tactic(auto)]
 
 mod confirming;

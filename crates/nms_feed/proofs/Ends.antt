@@ -1,4 +1,4 @@
--- Cutting a sender's pass off the first one, and what all passes tell when they are put together again.
+-- Cutting a sender's pass off the first one, and what all passes know when they are put together again.
 use Rattle.std.proofs.Common.{ℕ, ◌≡◌, ◌≤◌, zero, suc, false, List, [], ◌∷◌, ◌++◌, length, map, take, drop, get_or, None, Some, refl, sym}
 use Rattle.std.proofs.Common.{ap, ◌∙◌, subst, arith, length-append}
 use Rattle.std.specs.Prelude.{slice_get, slice_index_or, sum_by}
@@ -24,7 +24,7 @@ use Rattle.nms_feed.proofs.Moves.{forks}
 feeds-distinct : IsDistinct is_same_feed feeds
 feeds-distinct = IsDistinct-from_count (on_equiv place_of nat_eq_equiv) feeds refl
 
--- what stands at a place, and what behind it
+-- what stands at a place, and what stands after it
 pub drop_next : {X : Type 0} (xs : List X) (place : ℕ) (x : X) → slice_get xs place ≡ Some x → drop place xs ≡ x ∷ drop (suc place) xs
 drop_next [] place x is = absurd (none-some x is)
 drop_next (y ∷ xs) zero x is = ap (λ z. z ∷ xs) (same_Some y x is)
@@ -48,7 +48,7 @@ apart (g ∷ fs) distinct zero f is = subst (λ (h : Feed). AllByRecursion (λ s
     (same_Some g f is) (apart_each g fs distinct.0)
 apart (g ∷ fs) distinct (suc place) f is = apart fs distinct.1 place f is
 
--- a pass for the feed at a place may be cut off the first one, where those for the feeds before it were
+-- a pass for the feed at a place may be cut off the first one, if those for the feeds before it were
 pub cuts : (pass place : ℕ) (f : Feed) → slice_get feeds place ≡ Some f
     → Forks Kept pass (taker_view place []) (without_first (taker_view place [])) (first_alone (taker_view place []))
 cuts pass place f is =
@@ -64,7 +64,7 @@ cut_left place f is = ap (λ (fs : List Feed). without_first (record { sent = ma
 pub cut_right : (place : ℕ) (f : Feed) → slice_get feeds place ≡ Some f → first_alone (taker_view place []) ≡ sender_view f []
 cut_right place f is = ap (λ (fs : List Feed). first_alone (record { sent = map unsent fs; taken = Some [] })) (drop_next feeds place f is)
 
--- what a sender tells
+-- what a sender says
 abbrev pub told_by : Sending → Sent
 told_by sender = sent_for sender.feed sender.sent
 
@@ -125,7 +125,7 @@ none_left : (items : List Marked) → length items ≡ 0 → items ≡ []
 none_left [] e = refl
 none_left (m ∷ items) e = absurd (omega arith)
 
--- where no fewer were taken than sent, nothing is left, and what was taken is a merge of what was sent
+-- if no fewer were taken than sent, nothing is left, and what was taken is a merge of what was sent
 pub merged : (count : ℕ) (senders : List Sending) (taken items : List Marked) → map (λ s. s.feed) senders ≡ take count feeds
     → AllByRecursion (IsWhole (taken ++ items)) (joined count taken senders).sent → sum_by (λ s. length s.sent) senders ≤ length taken
     → IsMerge (lists_of senders) taken

@@ -181,7 +181,7 @@ takes pass sent taken m items views kept at =
       ),
     )
 
--- the right to send for the first feed may be cut off, where the others are other feeds
+-- the right to send for the first feed may be cut off, if the others are other feeds
 pub forks : (pass : ℕ) (s : Sent) (more : List Sent) (taken : Option (List Marked))
     → AllByRecursion (λ t. is_same_feed s.feed t.feed ≡ false) more
     → Forks Kept pass (record { sent = s ∷ more; taken = taken }) (record { sent = more; taken = taken })
@@ -271,7 +271,7 @@ merges pass known other theirs items views kept at apart at' =
           (λ j u j_apart there. now j u there j_apart);
     }
 
--- who may take learns what was sent for the feeds that it may send for
+-- a pass that may take learns what was sent for the feeds that it may send for
 pub learns : (pass : ℕ) (sent : List Sent) (taken : List Marked)
     → Learns Kept pass (record { sent = sent; taken = Some taken })
     (λ items. AllByRecursion (λ s. s.changes ≡ of_feed s.feed (taken ++ items)) sent)

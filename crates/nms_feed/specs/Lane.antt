@@ -1,4 +1,4 @@
--- What the ends of a lane tell of it. This product's own rule.
+-- What the ends of a lane say of it. This product's own rule.
 use Rattle.std.specs.Prelude.{ℕ, ◌≡◌, List, [], map, take}
 use Rattle.std.specs.List.{AllByRecursion}
 use Rattle.atomic_table.specs.Seated.{TableId}

@@ -1,4 +1,4 @@
-//! What a pass to the lane's queue knows (specs/Known). It is of the proofs alone: no value of it is made.
+//! What a pass to the lane's queue knows (specs/Known). It exists in proofs alone: no value of it is made.
 use nms_quote::{Change, Feed, Marked};
 use std::collections::LinkedList;
 

@@ -18,7 +18,7 @@ use nms_quote::Feed;
 use std::alloc::Global;
 use std::sync::Arc;
 
-/// Opens a lane that holds up to so many changes at once, 2 to 1,024, for so many senders, 1 to 8: a sender for
+/// Opens a lane that holds up to that many changes at once, 2 to 1,024, for that many senders, 1 to 8: a sender for
 /// each of the first feeds, in order, and the taker. Nothing after it takes memory. `NoMemory` leaves nothing.
 pub fn open_lane(
     alloc: Global,
@@ -94,9 +94,8 @@ fn cut_sender(line: &Arc<Line>, pass: &mut LinePass, place: u8) -> Result<Sender
     })
 }
 
-/// Closes a lane of which all that was sent was taken, and tells how much that was. `NotEmpty` where a
-/// change is still to be taken: all ends come back as they were. The senders are all that the lane has, in
-/// order of feed.
+/// Closes a lane if all that was sent was taken, and returns how much that was. `NotEmpty` if a change is still to be
+/// taken: all ends come back as they were. The senders must be all that the lane has, in order of feed.
 pub fn close(senders: Vec<Sender>, taker: Taker) -> Result<Delivered, NotEmpty>
     requires all { AreSendersOf taker senders.items }
     ensures merged { IfOk result (λ delivered. IsMerge (lists_of senders.items) taker.taken) }
@@ -137,7 +136,7 @@ fn counts_of(senders: &[Sender]) -> ArrayVec<u64, 8>
     counts
 }
 
-/// Puts together what the ends of a lane know of which all was taken.
+/// Puts together what the ends of a lane know once all was taken.
 fn join(senders: Vec<Sender>, taker: Taker)
     requires all { AreSendersOf taker senders.items }
     requires taken { sum_by (λ sender. length sender.sent) senders.items ≤ length taker.taken }

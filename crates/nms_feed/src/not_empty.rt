@@ -1,4 +1,4 @@
-//! What closing a lane answers where not all was taken.
+//! The answer to closing a lane if not all was taken.
 use crate::sender::Sender;
 use crate::taker::Taker;
 

@@ -13,9 +13,8 @@ const SHORTEST_REST: u32 = 16;
 /// How long it rests at most in a turn, in microseconds. This product's own rule.
 const LONGEST_REST: u32 = 1024;
 
-/// How long a thread has waited in vain for another one, and so how it waits next: it spins, then it lets others
-/// run, then it rests, each time twice as long. What it waits for is looked at between two turns, and nobody wakes
-/// it. No proof rests on it.
+/// How long a thread has waited for another one so far, and so how it waits next: it spins, then it lets others run,
+/// then it rests, each time twice as long. It checks between two turns, and nobody wakes it. No proof rests on it.
 #[derive(Clone, Copy, PartialEq, Eq)]
 pub struct Patience {
     /// How many turns it waited without a rest.
@@ -25,7 +24,7 @@ pub struct Patience {
 }
 
 impl Patience {
-    /// Of a thread that has not waited yet.
+    /// For a thread that has not waited yet.
     pub fn new() -> Self {
         Patience {
             turns: 0,
@@ -33,7 +32,7 @@ impl Patience {
         }
     }
 
-    /// Forgets how long it rested, and not that it waited: its next rest is a short one.
+    /// Forgets how long it rested, but not that it waited: its next rest is a short one.
     pub fn calm(&mut self) {
         self.rest = SHORTEST_REST;
     }

@@ -1,4 +1,4 @@
-//! The rule of the lane's queue (specs/Rule), and what each step over the queue tells.
+//! The rule of the lane's queue (specs/Rule), and what each step over the queue shows.
 ghost use Rattle.std.specs.Prelude.{◌≡◌, ◌<◌, ◌*◌, ◌∷◌, ◌++◌, [], length, Some};
 ghost use Rattle.std.specs.List.{AllByRecursion};
 ghost use Rattle.nms_quote.specs.Merge.{of_feed};

@@ -48,7 +48,7 @@ impl Sender {
         self.sent
     }
 
-    /// Sends a change. Waits where the lane is full, until a change is taken.
+    /// Sends a change. Waits if the lane is full, until a change is taken.
     pub fn send<R: Wait>(&mut self, rt: &R, change: Change)
         requires room { length self.old.sent < MOST_SENT }
         ensures sent { self.new ≡ record self.old { sent = self.old.sent ++ change ∷ [] } }

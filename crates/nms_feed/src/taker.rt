@@ -1,4 +1,4 @@
-//! The end of a lane where the changes of all feeds are taken (specs/Lane).
+//! The end of a lane at which the changes of all feeds are taken (specs/Lane).
 ghost use Rattle.std.specs.Prelude.{◌≡◌, ◌∷◌, ◌++◌, [], IfSome, IfNone};
 ghost use Rattle.nms_quote.specs.declared.feed.Feed.{Feed};
 
@@ -32,7 +32,7 @@ impl Model for Taker {
 }
 
 impl Taker {
-    /// Takes the change at the lane's front. `None` where the lane is empty.
+    /// Takes the change at the lane's front. `None` if the lane is empty.
     pub fn take<R: Wait>(&mut self, rt: &R) -> Option<Change>
         ensures taken { IfSome result (λ change. (feed : Feed) × (self.new ≡ record self.old { taken = self.old.taken ++ record { feed = feed; change = change } ∷ [] })) }
         ensures unchanged { IfNone result (self.new ≡ self.old) }

@@ -86,7 +86,7 @@ abbrev left_after : Bool → List ℕ
 left_after true = 10 ∷ []
 left_after false = []
 
--- where one byte leads
+-- the state that one byte leads to
 abbrev after_step : State × Action → Record → List ℕ → ℕ → List ℕ → Option Read
 after_step to fields field byte rest =
     cond (is_end to.1) (Some (fields_after to.1 fields field, to.0, rest))
@@ -123,7 +123,7 @@ at_other : (start : Bool) (byte : ℕ) → (byte == 34) ≡ false → (byte == 4
 at_other start byte quote comma return feed = within_field start byte quote ∙ ap (no_quote byte) comma
     ∙ ap (λ (r : Bool). no_comma r (byte == 10)) return ∙ ap (λ (f : Bool). no_comma false f) feed
 
--- what a byte does where a record may begin
+-- what a byte does at a place at which a record may begin
 abbrev at_start : ℕ → Bool → Bool → State × Action
 at_start byte return feed = cond (return || feed) (state.StartRecord, action.Skip) (step default_config state.StartField byte)
 
@@ -179,7 +179,7 @@ line_ends start fields field (byte ∷ next ∷ rest) plain =
 
 -- ---- the records of a text
 
--- where the next record is the same, all are
+-- if the next record is the same, all are
 same_records : (s other : State) (bytes text : List ℕ) (records : List Record)
     → next_record default_config s [] [] bytes ≡ next_record default_config other [] [] text
     → AreRecords default_config other text records → AreRecords default_config s bytes records
@@ -286,7 +286,7 @@ read_alone line rest more none are =
       subst (λ (t : List ℕ). AreRecordsOf t (added.0 ++ more)) (sym all) added.2,
     )
 
--- what stands for a refused line
+-- the replacement of a refused line
 pub refused_alone : AreRecordsOf refused_line (((63 ∷ []) ∷ []) ∷ [])
 unfolding Reached next_record
 refused_alone = first_then state.StartRecord state.StartRecord refused_line [] ((63 ∷ []) ∷ []) [] refl none_left

@@ -5,7 +5,7 @@ ghost use Rattle.nms_feeds.specs.Streams.{code_of};
 use nms_lines::LineFault;
 use thiserror::Error;
 
-/// Why a feed's stream was not read to its end. What was sent before stands, and the stream gives nothing any more.
+/// Why a feed's stream was not read to its end. What was sent before stays sent, and the stream gives nothing more.
 #[derive(Clone, Copy, Debug, PartialEq, Eq, Error)]
 pub enum FeedFault {
     /// E1: the stream could not be read.

@@ -1,8 +1,8 @@
-//! Who is told of what a feed does.
+//! A watch of a feed: it is called for each change sent and each record refused.
 use nms_lines::LineFault;
 use nms_quote::Feed;
 
-/// Who is told of what a feed does, while it is read. The threads of all feeds use it at once.
+/// A watch of a feed while it is read. The threads of all feeds use it at once.
 pub trait FeedWatch: Sync {
     /// A change of the feed was sent.
     fn sent(&self, feed: Feed);

@@ -7,7 +7,7 @@ pub fn each_line_is_read_alone()
     ensures { EachLineIsReadAlone }
 {}
 
-/// What stands for a line that is not passed on is one record, and every feed refuses it by `L1`.
+/// The replacement of a line that is not passed on is one record, and every feed refuses it by `L1`.
 pub fn a_refused_line_is_one_refused_record()
     ensures { RefusesOneRecord }
 {}

@@ -26,8 +26,8 @@ use std::sync::Wait;
 /// watch; if `strict` is set it ends the reading. A feed may be read from several streams, one after another: the
 /// counts go on from one to the next. `Ok` is the end of the stream.
 ///
-/// A failing stream, want of memory and more than 2^40 records end it early, and leave the changes of the first
-/// records sent. It waits if the lane is full.
+/// It ends early on a failing stream, out of memory or at more than 2^40 records; the changes of the first records stay
+/// sent. It waits if the lane is full.
 pub fn send_stream<W: Wait, R: Read + Drop, O: FeedWatch>(
     rt: &W,
     alloc: Global,
@@ -43,7 +43,7 @@ pub fn send_stream<W: Wait, R: Read + Drop, O: FeedWatch>(
     ensures counted { IsCounted sender.new.sent counts.new }
     // All records of the whole lines were read, and the changes that they say were sent in order, and nothing else.
     ensures read { OnOk result (HasRead setup.now.roster sender.old.feed (option_map whole_lines (R.remaining source)) sender.old.sent sender.new.sent counts.old counts.new) }
-    // The same of the first records.
+    // As above, but of the first records.
     ensures begun { OnErr result (HasBegun setup.now.roster sender.old.feed (option_map whole_lines (R.remaining source)) sender.old.sent sender.new.sent counts.old counts.new) }
     // A refused record ends the reading only if the caller asked for it, and then none is passed over.
     ensures strict { strict ≡ true → counts.new.refused ≡ counts.old.refused }

@@ -6,7 +6,7 @@ use Rattle.nms_quote.specs.declared.side_quote.Side.{Side}
 use Rattle.nms_board.specs.View.{Seen, rows_on}
 use Rattle.nms_board.specs.declared.row.Row.{Row}
 
--- a leg goes to one of the first participants, where the rows are of them
+-- a leg goes to one of the first participants, if the rows are of them
 leg_part : (parts : ℕ) (leg : Leg) (rows : List Row) → Any (λ (row : Row). (row.part ≡ leg.part) × (row.price ≡ leg.price)) rows
     → All (λ (row : Row). row.part < parts) rows → leg.part < parts
 leg_part parts leg rows found all =

@@ -1,4 +1,4 @@
--- What was written of a report or of a plan where the writer failed.
+-- What was written of a report or of a plan if the writer failed.
 use Rattle.std.proofs.Common.{ℕ, ◌≡◌, ◌∙◌, ◌++◌, List, [], Option, Some, ap, subst}
 use Rattle.std.specs.Io.KnownBytes.{Appends, append_known}
 use Rattle.nms_quote.specs.Roster.{Listing, sizes_of}
@@ -21,7 +21,7 @@ use Rattle.nms_files.specs.ChangeFile.{IsFileTape}
 use Rattle.nms_file_answers.specs.ReportFile.{ReportsFile}
 use Rattle.nms_file_answers.specs.PlanFile.{PlansOn}
 
--- a first part of the report, which was made beside an empty text
+-- a first part of the report, which was made next to an empty text
 pub report_cut : (settings : Settings) (bytes old new : Option (List ℕ)) (sym : ℕ) (tape : Tape) (seen : Seen) (roster : Listing)
     (empty made shown : List ℕ) → IsFileTape settings bytes tape
     → seen ≡ view_of (sizes_of settings.roster) tape sym → roster ≡ settings.roster

@@ -28,7 +28,7 @@ abbrev pub IsBest : Settings → Tape → Plan → Type 0
 IsBest settings tape plan = IsOptimal (usable (seen_by settings tape plan) plan.order settings.fees) plan.order.shares
     (given_by plan.legs.items)
 
--- the version is longer than the changes, or else the doubt, or none. Want of memory says nothing of the plan
+-- the version is longer than the changes, or else the doubt, or none. Out of memory says nothing of the plan
 abbrev pub IsFinding : Settings → Tape → Plan → List Cut → Result (Unit {0}) AuditFault → Type 0
 IsFinding settings tape plan cuts (Err fault.VersionBeyondTape) = length tape < plan.version
 IsFinding settings tape plan cuts (Err (fault.Doubt doubt)) = (plan.version ≤ length tape) × (doubt_on settings tape plan cuts ≡ Some doubt)

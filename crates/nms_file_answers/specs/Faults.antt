@@ -1,5 +1,5 @@
--- The codes by which faults are told, and the exit status of a program that one of them ends: that of the file's fault, 1
--- for streams, 5 for memory. This product's own rule.
+-- The codes by which faults are reported, and the exit status of a program that one of them ends: that of the file's
+-- fault, 1 for streams, 5 for memory. This product's own rule.
 use Rattle.std.specs.Prelude.{ℕ, List, codes}
 use Rattle.nms_files.specs.Faults as file_faults
 use Rattle.nms_text.specs.Faults as text_faults

@@ -23,7 +23,7 @@ abbrev pub IsReportFault : Settings → Option (List ℕ) → ReportFault → Ty
 IsReportFault settings bytes (fault.Changes refused) = IsFileFault settings bytes refused
 IsReportFault settings bytes _ = ⊤
 
--- a report that is refused is not begun: where it was not the writer that failed nothing was written
+-- a report that is refused is not begun: if it was not the writer that failed, nothing was written
 abbrev pub WritesNothing : Option (List ℕ) → Option (List ℕ) → ReportFault → Type 0
 WritesNothing old new fault.WriteFault = ⊤
 WritesNothing old new _ = new ≡ old

@@ -11,14 +11,13 @@ use nms_fees::Setup;
 use nms_quote::{Certificate, Change, Plan};
 use std::alloc::Global;
 
-/// Confirms a plan by its certificate on the version that it names, the first `version` of these changes, for its
-/// own order and with the fees of the setup.
+/// Confirms a plan by its certificate on the version that it names, the first `version` of these changes, for its own
+/// order and with the fees of the setup.
 ///
-/// `Ok` says that the plan is lawful on that version, that no lawful plan fills more, and that none that fills as
-/// much costs less. `VersionBeyondTape` comes exactly where the version has more changes than there are, else
-/// `Doubt` with what `confirm` doubts; `NoMemory` only where there is none for a board, which is made once.
-/// Each change of the version is looked at once. Takes 0 to 10,000,000 changes of the setup's roster; the order's
-/// symbol is of that roster.
+/// `Ok` says that the plan is lawful on that version, that no lawful plan fills more, and that none that fills as much
+/// costs less. `VersionBeyondTape` comes exactly if the version has more changes than there are, else `Doubt` with what
+/// `confirm` doubts; `NoMemory` only if there is none for a board, which is made once. Each change of the version is
+/// looked at once. Takes 0 to 10,000,000 changes of the setup's roster; the order's symbol is of that roster.
 pub fn audit(
     alloc: Global,
     setup: &Setup,

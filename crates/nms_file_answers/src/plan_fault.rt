@@ -16,8 +16,8 @@ pub enum PlanFault {
     /// B1: no board was made. Nothing was written.
     #[error("{0}")]
     Board(BoardFault),
-    /// L12 or L13: there was no memory for the text, and nothing was written; or the writer failed, and a first
-    /// part of the text was written, and nothing else.
+    /// L12 or L13: there was no memory for the text, and nothing was written; or the writer failed, and a first part of
+    /// the text was written, and nothing else.
     #[error("{0}")]
     Text(TextFault),
 }

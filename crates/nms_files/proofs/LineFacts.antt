@@ -4,7 +4,7 @@ use Rattle.std.specs.Option.{is_some}
 use Rattle.nms_lines.specs.Layout.{Record}
 use Rattle.nms_files.specs.LineFile.{HaveCome}
 
--- a line behind a refused one
+-- a line after a refused one
 pub stay_refused : {X F : Type 0} (AreTaken : List Record → List X → Type 0) (IsRefused : List X → Record → F → Type 0)
     (records : List Record) (line : Record) (items : List X) (before : Option F)
     → is_some before ≡ true → HaveCome AreTaken IsRefused records items before

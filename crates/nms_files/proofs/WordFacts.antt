@@ -11,7 +11,7 @@ use Rattle.nms_lines.specs.declared.line_fault.LineFault.{LineFault}
 use Rattle.nms_lines.specs.declared.line_fault.LineFault.TheVariants as fault
 use Rattle.nms_files.specs.OrderWords.{named_by, order_asked, order_in, order_with}
 
--- what comes of the names, where there is something
+-- what comes of the names, if there is something
 abbrev pub after : Option ℕ → (ℕ → Option Terms) → Option Terms
 after None next = None
 after (Some set) next = next set

@@ -19,12 +19,12 @@ pub record IsTapeOf (settings : Settings) (records : List Record) (tape : Tape) 
   pub said : AreSaid (change_reading settings.roster) records tape
   pub within : length tape ≤ settings.tape_limit
 
--- why a line is refused behind so many changes: its own fault, else that the tape has no room
+-- why a line is refused after that many changes: its own fault, else that the tape has no room
 abbrev pub IsRefusedAfter : Settings → ℕ → Result Change LineFault → ChangesFault → Type 0
 IsRefusedAfter settings taken (Err own) refused = refused ≡ fault.Line own
 IsRefusedAfter settings taken (Ok change) refused = (refused ≡ fault.TapeFull) × (settings.tape_limit ≤ taken)
 
--- why one more line is refused behind a tape
+-- why one more line is refused after a tape
 abbrev pub IsRefusedBehind : Settings → Tape → Record → ChangesFault → Type 0
 IsRefusedBehind settings tape line why = IsRefusedAfter settings (length tape) (change_reading settings.roster line) why
 
@@ -38,7 +38,7 @@ is_of_line (fault.Record own) = false
 abbrev pub IsFileTape : Settings → Option (List ℕ) → Tape → Type 0
 IsFileTape settings bytes tape = (records : List Record) × AreAllRecords bytes records × IsTapeOf settings records tape
 
--- where a file is refused for a line, that is the first one that is refused
+-- if a file is refused for a line, that is the first one that is refused
 abbrev pub IsFileFault : Settings → Option (List ℕ) → ChangesFault → Type 0
 IsFileFault settings bytes why =
     is_of_line why ≡ true → (records : List Record) × AreAllRecords bytes records

@@ -1,4 +1,4 @@
--- The codes by which faults are told, and the exit status of a program that one of them ends: 1 for files, 5 for
+-- The codes by which faults are reported, and the exit status of a program that one of them ends: 1 for files, 5 for
 -- memory, 6 for lines and lengths. This product's own rule.
 use Rattle.std.specs.Prelude.{ℕ, List, codes}
 use Rattle.nms_lines.specs.Faults as line_faults

@@ -18,7 +18,7 @@ pub record IsFirstRefused {X : Type 0} (AreTaken : List Record → List X → Ty
   pub taken : AreTaken before items
   pub refused : IsRefused items line
 
--- what the lines so far came to: items, or why the first that was refused was
+-- the result of the lines so far: items, or why the first refused line was refused
 abbrev pub HaveCome : {X F : Type 0} → (List Record → List X → Type 0) → (List X → Record → F → Type 0) → List Record → List X → Option F
     → Type 0
 HaveCome AreTaken IsRefused records items None = AreTaken records items

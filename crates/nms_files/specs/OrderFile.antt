@@ -46,7 +46,7 @@ IsOrderFor settings order =
 abbrev pub AreFileOrders : Settings → Option (List ℕ) → List DeskOrder → Type 0
 AreFileOrders settings bytes orders = (records : List Record) × AreAllRecords bytes records × AreOrdersOf settings records orders
 
--- where a file is refused for a line, that is the first one that is refused
+-- if a file is refused for a line, that is the first one that is refused
 abbrev pub IsOrdersFault : Settings → Option (List ℕ) → OrdersFault → Type 0
 IsOrdersFault settings bytes (fault.Line own) =
     (records : List Record) × AreAllRecords bytes records

@@ -13,14 +13,14 @@ use Rattle.nms_lines.specs.declared.line.Line.TheVariants as line
 use Rattle.nms_lines.specs.declared.line.Reading.TheVariants as source
 use Rattle.nms_lines.specs.declared.line_fault.LineFault.{LineFault}
 
--- the fields of an order behind its limit: its flag, and the names that it has
+-- the fields of an order after its limit: its flag, and the names that it has
 abbrev pub last_fields : Bool → Option (List ℕ) → Record
 last_fields true None = codes "M" ∷ []
 last_fields false None = []
 last_fields true (Some names) = codes "M" ∷ names ∷ []
 last_fields false (Some names) = [] ∷ names ∷ []
 
--- the participants that names name: nobody where there are none
+-- the participants that names name; nobody if there are none
 abbrev pub named_by : Listing → Option (List ℕ) → Option ℕ
 named_by roster None = Some nobody
 named_by roster (Some names) = named_in roster names
@@ -54,7 +54,7 @@ order_with roster side sym shares limit manual self_help = order_in (do
   shares ← shares_in shares
   Ok (line.Sweep 0 (record { side = side; sym = sym; shares = shares; limit = limit; manual = manual; self_help = self_help })))
 
--- the order that a script of one desk reads of it, or none
+-- the order that a script of one desk reads from it, or none
 abbrev pub order_asked : Listing → List ℕ → List ℕ → List ℕ → List ℕ → Bool → Option (List ℕ) → Option Terms
 order_asked roster side sym shares limit manual names =
     order_in (reading roster (source.Script 1) (order_record side sym shares limit manual names))

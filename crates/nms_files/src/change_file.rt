@@ -12,10 +12,10 @@ use nms_quote::{Change, SideQuote};
 use std::alloc::Global;
 use std::io::Read;
 
-/// Reads the changes of a file, else gives the fault of its first line that is refused. `TapeFull` stands at
-/// the first accepted line beyond the tape's limit.
+/// Reads the changes of a file, or returns the fault of its first refused line. `TapeFull` is the fault of the first
+/// accepted line beyond the tape's limit.
 ///
-/// The file is read to its end even so: one that can't be read has that fault, whatever its lines are.
+/// The file is always read to its end: if it can't be read, that is the fault, whatever its lines are.
 pub fn read_changes<R: Read + Drop>(
     alloc: Global,
     setup: &Setup,

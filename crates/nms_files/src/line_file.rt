@@ -11,7 +11,7 @@ use nms_lines::{ByteRecord, Reader, RecordFault, open_records, read_next};
 use std::alloc::Global;
 use std::io::Read;
 
-/// What a line of a file says, where all its lines say one kind of thing.
+/// What a line of a file says, if all its lines say one kind of thing.
 pub trait FileItem: Sized + Drop {
     /// Why a line is refused.
     type Fault: Drop;
@@ -19,7 +19,7 @@ pub trait FileItem: Sized + Drop {
     // That lines say these items, each at its place, and what else holds of them.
     ghost are_taken: { Settings → List Record → List Self → Type 0 };
 
-    // Why one more line is refused behind these items.
+    // Why one more line is refused after these items.
     ghost is_refused: { Settings → List Self → Record → Self.Fault → Type 0 };
 
     /// Takes what one more line says, or refuses it.
@@ -30,14 +30,14 @@ pub trait FileItem: Sized + Drop {
         ensures refused { IfErr result (is_refused setup.now items.old.items (fields_of row.now)) };
 }
 
-/// What the lines so far came to: what they say, and the fault of the first line that was refused.
+/// The result of the lines so far: what they say, and the fault of the first line that was refused.
 #[derive(Drop)]
 pub struct Taken<T, F> {
     items: Vec<T>,
     refused: Option<F>,
 }
 
-/// What the lines of a file say, up to the first that is refused. The file is read to its end even so.
+/// What the lines of a file say, up to the first refused line. The file is always read to its end.
 pub(crate) fn read_items<R: Read + Drop, T: FileItem>(
     alloc: Global,
     setup: &Setup,
@@ -78,11 +78,11 @@ fn take_lines<R: Read, T: FileItem>(
             Err(fault) => return Err(fault),
         }
     }
-    // No source has so many records.
+    // No source has that many records.
     Err(RecordFault::Failed)
 }
 
-/// Takes one more line. Behind a refused one none counts.
+/// Takes one more line. No line counts after a refused one.
 fn take_next<T: FileItem>(so_far: &mut Taken<T, T::Fault>, setup: &Setup, row: &ByteRecord)
     ensures { (records : List Record) → HaveCome (T.are_taken setup.now) (T.is_refused setup.now) records so_far.old.items.items so_far.old.refused
         → HaveCome (T.are_taken setup.now) (T.is_refused setup.now) (records ++ fields_of row.now ∷ []) so_far.new.items.items so_far.new.refused }

@@ -12,10 +12,10 @@ use nms_quote::{DeskOrder, SideQuote};
 use std::alloc::Global;
 use std::io::Read;
 
-/// Reads the orders of a file in order, else gives the fault of its first line that is refused. A line of another
-/// kind is `UnknownKind`.
+/// Reads the orders of a file in order, or returns the fault of its first refused line. A line of another kind is
+/// `UnknownKind`.
 ///
-/// The file is read to its end even so: one that can't be read has that fault, whatever its lines are.
+/// The file is always read to its end: if it can't be read, that is the fault, whatever its lines are.
 pub fn read_orders<R: Read + Drop>(
     alloc: Global,
     setup: &Setup,

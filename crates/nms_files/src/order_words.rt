@@ -6,9 +6,9 @@ ghost use Rattle.nms_files.specs.OrderWords.{named_by, order_asked, order_with};
 use nms_lines::{price_of, read_names, side_of, some_shares_of};
 use nms_quote::{Order, PartSet, Roster};
 
-/// The order that words say: a side (`B` or `S`), a symbol, shares and a limit, as a script's record `O` has them, and
-/// the participants, joined by `+`, against which self-help is declared (17 CFR 242.611(b)(1)). None where such a record
-/// is refused.
+/// The order that words say: a side (`B` or `S`), a symbol, shares and a limit, as in a script's record `O`. The
+/// participants, joined by `+`, are those against which self-help is declared (17 CFR 242.611(b)(1)). `None` if such a
+/// record is refused.
 pub fn order_of(
     roster: &Roster,
     side: &str,
@@ -47,7 +47,7 @@ fn order_with(
     Order::new(side, sym, shares, limit, manual, self_help)
 }
 
-/// The participants that the names name: nobody where there are none.
+/// The participants that the names name; nobody if there are none.
 fn named_by(roster: &Roster, names: Option<&str>) -> Option<PartSet>
     ensures set { result ≡ named_by roster.now (option_copied names.entry) }
     ensures there { IfSome result (AreBelow (length roster.now.parts)) }

@@ -11,7 +11,7 @@ pub enum OrdersFault {
     /// E1 or E4: the file could not be read, or memory ran out.
     #[error("{0}")]
     Record(RecordFault),
-    /// L1 to L10: the first line that is refused, where every line before it was taken.
+    /// L1 to L10: the first line that is refused; every line before it was taken.
     #[error("{0}")]
     Line(LineFault),
 }

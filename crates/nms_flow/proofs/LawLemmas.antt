@@ -102,7 +102,7 @@ record IsSound (at : Standing) : Type 0 where
   published : at.published ≤ at.taken
   taken : at.taken ≤ length at.sent
 
--- where an event leads, that holds still, and the published version did not fall
+-- after an event that still holds, and the published version did not fall
 record GoesUp (at next : Standing) : Type 0 where
   sound : IsSound next
   up : at.published ≤ next.published

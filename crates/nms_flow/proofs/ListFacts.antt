@@ -1,4 +1,4 @@
--- Facts of lists that the library lacks.
+-- Facts of lists that the library does not have.
 use Rattle.std.proofs.Common.{ℕ, zero, suc, ◌≡◌, ◌-◌, ◌<◌, ◌≤◌, min, inl, inr, List, [], ◌∷◌, ◌++◌, length, take, drop, Option, Some, refl}
 use Rattle.std.proofs.Common.{sym, ap, subst, ◌∙◌, arith, append_assoc}
 use Rattle.std.specs.Prelude.{slice_get}
@@ -16,17 +16,17 @@ slice_get-front [] ys i h = absurd (omega arith)
 slice_get-front (x ∷ xs) ys zero h = refl
 slice_get-front (x ∷ xs) ys (suc i) h = slice_get-front xs ys i (omega arith)
 
--- the element behind the front
+-- the element after the front
 pub slice_get-seam : {X : Type 0} (xs : List X) (y : X) → slice_get (xs ++ y ∷ []) (length xs) ≡ Some y
 slice_get-seam [] y = refl
 slice_get-seam (x ∷ xs) y = slice_get-seam xs y
 
--- the last of two lists, one behind the other
+-- the last of two lists, one after the other
 pub last_or-append : {X : Type 0} (o : Option X) (xs ys : List X) → last_or o (xs ++ ys) ≡ last_or (last_or o xs) ys
 last_or-append o [] ys = refl
 last_or-append o (x ∷ xs) ys = last_or-append (Some x) xs ys
 
--- what holds of the empty list, and of a list with one more element where it held before, holds of every list
+-- what holds of the empty list, and of a list with one more element if it held before, holds of every list
 pub by_last : {X : Type 0} (P : List X → Type 0) → P [] → ((xs : List X) (x : X) → P xs → P (xs ++ x ∷ [])) → (xs : List X) → P xs
 by_last {X = X} P none more xs = from [] none xs
   where
@@ -34,7 +34,7 @@ by_last {X = X} P none more xs = from [] none xs
     from front holds [] = subst P (sym (append-nil front)) holds
     from front holds (x ∷ rest) = subst P (append_assoc front (x ∷ []) rest) (from (front ++ x ∷ []) (more front x holds) rest)
 
--- the first n of two lists, one behind the other, are the first of each
+-- the first n of two lists, one after the other, are the first of each
 pub first_of_two : {X : Type 0} (front back : List X) (n first : ℕ) → first ≡ min n (length front)
     → take first front ++ take (n - first) back ≡ take n (front ++ back)
 first_of_two front back n first least = elim (cases_lt (length front) n) [
@@ -47,7 +47,7 @@ first_of_two front back n first least = elim (cases_lt (length front) n) [
       ∙ sym (take-append-add front back (n - length front)) ∙ ap (λ k. take k (front ++ back)) (omega arith))
 ]
 
--- what holds of two lists, one behind the other, holds of the first of each
+-- what holds of two lists, one after the other, holds of the first of each
 pub all_front : {X : Type 0} (P : X → Type 0) (front back whole : List X) (n : ℕ) → front ++ back ≡ whole → n ≤ length front → All P whole
     → All P (take n front)
 all_front P front back whole n is within all =

@@ -30,7 +30,7 @@ taken_by-push events event = sum_by-append (λ (e : Event). cond (took e) 1 0) e
     of_one : (n : ℕ) → 0 + n ≡ n
     of_one n = omega arith
 
--- the version of the last publishing, where one more answer may publish
+-- the version of the last publishing, if one more answer may publish
 published_by-push : (events : List Event) (event : Event) → published_by (events ++ event ∷ [])
     ≡ unwrap_or (version_published event.1) (published_by events)
 published_by-push events event =
@@ -81,7 +81,7 @@ is_run-push room events event run answer place other at = elim (cases_lt place (
     some_is : {X : Type 0} {x y : X} → Some x ≡ Some y → x ≡ y
     some_is h = cc
 
--- the machine stands where one event more has led
+-- the machine stands at the point that one event more has led to
 pub goes_on : (old new : State) (before : List Event) (event : Event) → WentOn old new event → IsAfter old before
     → IsAfter new (before ++ event ∷ [])
 goes_on old new before event went h = record {

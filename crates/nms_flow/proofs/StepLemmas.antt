@@ -31,7 +31,7 @@ first_taken cs p t le within =
 sent_len : (sent : List Marked) → length (changes_in sent) ≡ length sent
 sent_len sent = length-map sent (λ (m : Marked). m.change)
 
--- where it stands, the changes kept are those taken since the publishing and the queue
+-- at each point, the changes kept are those taken since the publishing and the queue
 record Reading (state : State) (at : Standing) : Type 0 where
   changes : length state.changes + at.published ≡ length at.sent
   queue : length (queue_at at) + state.pending ≡ length state.changes
@@ -122,7 +122,7 @@ went_full state some full =
     (λ at h. let test : eqb at.taken state.most_taken ≡ true = eq-eqb at.taken state.most_taken (sym (taken_is state at h) ∙ full) in
     inl (rw (filled state at h some, test) refl))
 
--- a taking that succeeds where there is memory
+-- a taking that succeeds if there is memory
 takes : (state : State) (at : Standing) → StandsAt state at → state.pending ≢ length state.changes
     → state.board.applied + state.pending ≢ state.most_taken
     → answer_to_take (room_of state) at ≡ Ok (reply.Taken (at.taken + 1))

@@ -1,4 +1,4 @@
--- What is taken at once is what takings one after another come to.
+-- Taking all at once has the same result as takings one after another.
 use Rattle.std.proofs.Common.{ℕ, zero, suc, ◌≡◌, ◌≢◌, ◌+◌, ◌≤◌, true, List, [], ◌∷◌, ◌++◌, length, Ok, Err, refl, ap, subst, sym, arith}
 use Rattle.std.proofs.Common.{append_assoc}
 use Rattle.std.specs.Prelude.{All}
@@ -21,7 +21,7 @@ abbrev TakesSome : State → State → Type 0
 TakesSome old new = (before : List Event) → IsAfter old before
     → (takes : List Event) × All (λ event. took event ≡ true) takes × IsAfter new (before ++ takes)
 
--- so many more are taken
+-- that many more are taken
 abbrev with_more : State → ℕ → State
 with_more state count = record state { pending = state.pending + count }
 
@@ -39,7 +39,7 @@ takes_more old now new r some went before h =
       subst (IsAfter new) (append_assoc before so_far.0 (event ∷ [])) (goes_on now new (before ++ so_far.0) event went so_far.2),
     )
 
--- so many takings succeed where as many changes are queued and the tape has room for them
+-- that many takings succeed if as many changes are queued and the tape has room for them
 takes_some : (old : State) (count : ℕ) → old.pending + count ≤ length old.changes → old.board.applied + old.pending + count ≤ old.most_taken
     → TakesSome old (with_more old count)
 takes_some old zero queued room = subst (TakesSome old) (ap (λ (p : ℕ). record old { pending = p }) (omega arith)) (takes_none old)
@@ -50,7 +50,7 @@ takes_some old (suc count) queued room =
     (went_taken now (with_more old (suc count)) (λ e. absurd (omega (arith, e, queued))) (omega (arith, queued))
     (λ e. absurd (omega (arith, e, room))) (ap (λ (p : ℕ). record old { pending = p }) (omega arith)))
 
--- a taking was refused behind them
+-- a taking was refused after them
 takes_until : (old new : State) (why : StepFault) → TakesSome old new → WentOn new new (step.Take, Err why) → TakesUntil why old new
 takes_until old new why some went before h =
     let so_far = some before h in
@@ -71,7 +71,7 @@ pub takes_until_full : (old : State) (count : ℕ) (kept : List Marked) → kept
 takes_until_full old count kept same queued some full = rw same (takes_until old (with_more old count) fault.TapeFull
     (takes_some old count queued (omega (arith, full))) (went_full (with_more old count) some (omega (arith, full))))
 
--- the first taking found no memory
+-- the first taking ran out of memory
 pub takes_until_wanting : (old : State) (kept : List Marked) → kept ≡ old.changes → old.pending ≢ length old.changes
     → old.board.applied + old.pending ≢ old.most_taken
     → TakesUntil fault.NoMemory old (record old { changes = kept })

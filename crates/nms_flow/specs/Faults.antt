@@ -3,7 +3,7 @@ use Rattle.std.specs.Prelude.{ℕ, List, codes}
 use Rattle.nms_flow.specs.declared.step_fault.StepFault.{StepFault}
 use Rattle.nms_flow.specs.declared.step_fault.StepFault.TheVariants as fault
 
--- the code by which a fault is told
+-- the code by which a fault is reported
 abbrev pub code_of : StepFault → List ℕ
 code_of fault.QueueFull = codes "F2"
 code_of fault.QueueEmpty = codes "F3"

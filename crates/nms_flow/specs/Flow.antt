@@ -1,4 +1,4 @@
--- What a machine keeps, and that it stands where a run has led. The tape itself is not stored.
+-- What a machine keeps, and that its state is the one that a run has led to. The tape itself is not stored.
 use Rattle.std.specs.Prelude.{ℕ, ◌≡◌, ◌+◌, ◌≤◌, All, true, List, [], length, drop}
 use Rattle.nms_quote.specs.Roster.{holds}
 use Rattle.nms_quote.specs.declared.TheConstants.{MOST_CHANGES}
@@ -23,7 +23,7 @@ room_of state = record { sizes = state.board.sizes; queue = state.most_queued; t
 abbrev pub room_under : Settings → Room
 room_under settings = record { sizes = sizes_of settings.roster; queue = settings.queue; tape = settings.tape_limit }
 
--- the machine stands where these were sent, so many of them taken, and so many published
+-- the machine's state once these were sent, that many of them taken, and that many published
 pub record StandsAt (state : State) (at : Standing) : Type 0 where
   pub board : StandsFor state.board (version_at at)
   pub changes : state.changes ≡ drop at.published at.sent
@@ -34,13 +34,13 @@ pub record StandsAt (state : State) (at : Standing) : Type 0 where
 abbrev pub start : Standing
 start = record { sent = []; taken = 0; published = 0 }
 
--- the machine stands where the run of these events has led
+-- the machine's state is the one that the run of these events has led to
 pub record IsAfter (state : State) (events : List Event) : Type 0 where
   pub run : IsRun (room_of state) events
   pub stands : StandsAt state (standing_after events)
 
--- the machine went on by an event: wherever it stood, the answer is the one due there, and it stands
--- where the event leads
+-- the machine went on by an event: whatever its state was, the answer is the one due there, and its new state is the
+-- one that the event leads to
 pub record WentOn (old new : State) (event : Event) : Type 0 where
   pub answered : (at : Standing) → StandsAt old at → IsAnswered (room_of old) at event
   pub stands : (at : Standing) → StandsAt old at → StandsAt new (after at event)

@@ -38,7 +38,7 @@ version_for desk other = None
 abbrev pub versions_of : ℕ → List Event → List ℕ
 versions_of desk events = filter_map (version_for desk) events
 
--- each view is that of the version published before it
+-- each view is that of the version published last before it
 abbrev pub ShowsPublished : Room → List Event → Type 0
 ShowsPublished room events =
     (place desk sym : ℕ) (seen : Seen) → slice_get events place ≡ Some (step.Look desk sym, Ok (reply.Seen seen))

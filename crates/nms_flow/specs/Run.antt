@@ -1,5 +1,5 @@
--- The machine that consolidates. What it answers to a step is told by looking back over the steps before:
--- no queue and no board stands here. This product's own rule.
+-- The machine that consolidates. Its answer to a step follows from the steps before: there is no queue and no board
+-- here. This product's own rule.
 use Rattle.std.specs.Prelude.{ℕ, ◌≡◌, ◌+◌, ◌==◌, ◌⊎◌, Bool, true, false, IsOk, List, ◌++◌, length, map, option_to_list, take, drop}
 use Rattle.std.specs.Prelude.{slice_get, count_by, unwrap_or, Option, Some, None, Result, Ok, Err, if◌then◌else◌}
 use Rattle.std.specs.List.{filter_map, last_or}
@@ -81,7 +81,7 @@ taken_by events = count_by took events
 abbrev pub published_by : List Event → ℕ
 published_by events = unwrap_or (last_or None (filter_map (λ event. version_published event.1) events)) 0
 
--- where the steps so far have led: what was sent, how many of that were taken, and the published version
+-- the point that the steps so far have led to: what was sent, how many of that were taken, and the published version
 pub record Standing : Type 0 where
   pub sent : List Marked
   pub taken : ℕ
@@ -113,7 +113,7 @@ answer_to_take room at =
     if length (queue_at at) == 0 then Err fault.QueueEmpty
     else (if at.taken == room.tape then Err fault.TapeFull else Ok (reply.Taken (at.taken + 1)))
 
--- what the machine answers to a step
+-- the machine's answer to a step
 abbrev pub answer_to : Room → Standing → Step → Answer
 answer_to room at (step.Send feed change) = answer_to_send room at
 answer_to room at step.Take = answer_to_take room at
@@ -121,13 +121,13 @@ answer_to room at step.Publish = Ok (reply.Published at.taken)
 answer_to room at (step.Tell desk) = Ok (reply.Told desk at.published)
 answer_to room at (step.Look desk sym) = Ok (reply.Seen (view_of room.sizes (version_at at) sym))
 
--- a taking that would have succeeded found no memory
+-- a taking that would have succeeded ran out of memory
 pub record WantsMemory (room : Room) (at : Standing) (event : Event) : Type 0 where
   pub takes : event.0 ≡ step.Take
   pub would : IsOk (answer_to_take room at)
   pub answer : event.1 ≡ Err fault.NoMemory
 
--- the machine's answer to a step, or want of memory at a taking
+-- the machine's answer to a step, or out of memory at a taking
 abbrev pub IsAnswered : Room → Standing → Event → Type 0
 IsAnswered room at event = (event.1 ≡ answer_to room at event.0) ⊎ WantsMemory room at event
 

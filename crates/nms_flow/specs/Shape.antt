@@ -18,7 +18,7 @@ holds_step sizes step.Publish = true
 holds_step sizes (step.Tell desk) = true
 holds_step sizes (step.Look desk sym) = true
 
--- a look answers a view of its symbol, a telling names its desk
+-- a look answers a view of its symbol, and the answer to telling a desk names the desk
 abbrev pub IsReplyTo : Step → Reply → Type 0
 IsReplyTo (step.Send feed change) r = r ≡ reply.Sent
 IsReplyTo step.Take r = (version : ℕ) × (r ≡ reply.Taken version)

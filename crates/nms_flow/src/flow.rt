@@ -30,13 +30,12 @@ use std::marker::Model;
 
 /// The machine that consolidates, in one thread. This product's own rule.
 ///
-/// The board's rows and the whole queue are made with it; from then on only a taking can want memory.
+/// The board's rows and the whole queue are made with it; later only a taking can run out of memory.
 #[derive(Drop)]
 pub struct Flow {
     /// The published version.
     board: Boards,
-    /// The changes sent since the last publishing, each with its feed: first those taken to the tape, then
-    /// the queue.
+    /// The changes sent since the last publishing, each with its feed: first those taken to the tape, then the queue.
     changes: VecDeque<Marked>,
     /// How many of them were taken.
     pending: usize,
@@ -112,8 +111,8 @@ impl Flow {
         Ok(())
     }
 
-    /// Takes the change at the queue's front to the tape, and gives the tape's length. A fault leaves the
-    /// machine as it was: `QueueEmpty`, `TapeFull`, or `NoMemory` where the taking would have succeeded.
+    /// Takes the change at the queue's front to the tape, and returns the tape's length. A fault leaves the machine as
+    /// it was: `QueueEmpty`, `TapeFull`, or `NoMemory` if the taking would have succeeded.
     pub fn take(&mut self) -> Result<u64, StepFault>
         ensures went { WentOn self.old self.new (step.Take, replied (λ version. reply.Taken version) result) }
         ensures sends_nothing { result ≢ Err StepFault.QueueFull }
@@ -136,9 +135,9 @@ impl Flow {
         Ok(version + 1)
     }
 
-    /// Takes changes from the queue's front to the tape until a taking is refused, and gives the refusal, as that of
-    /// `take`. It raises one count, however many are taken. `NoMemory` leaves the machine as it was: it comes before
-    /// the first taking, where that would have succeeded.
+    /// Takes changes from the queue's front to the tape until a taking is refused, and returns the refusal, as `take`
+    /// does. It raises one count, however many are taken. `NoMemory` leaves the machine as it was: it comes before the
+    /// first taking, if that would have succeeded.
     pub fn take_all(&mut self) -> StepFault
         ensures run { TakesUntil result self.old self.new }
         ensures sends_nothing { result ≢ StepFault.QueueFull }
@@ -160,8 +159,8 @@ impl Flow {
         StepFault::TapeFull
     }
 
-    /// Makes the whole tape the published version, and gives its number. Takes no memory: each change taken
-    /// since the last publishing is applied to the board.
+    /// Makes the whole tape the published version, and returns its number. Takes no memory: each change taken since the
+    /// last publishing is applied to the board.
     pub fn publish(&mut self) -> u64
         ensures went { WentOn self.old self.new (step.Publish, Ok (reply.Published result)) }
     {
@@ -189,7 +188,7 @@ impl Flow {
         self.board.applied() + self.pending as u64
     }
 
-    /// The change that was sent at a place, counted from 0, if it was sent since the last publishing.
+    /// The change that was sent at a place, from 0, if it was sent since the last publishing.
     pub fn sent_at(&self, place: u64) -> Option<Change>
         ensures { (at : Standing) → StandsAt self.now at → at.published ≤ place
             → result ≡ slice_get (changes_in at.sent) place }
@@ -211,7 +210,7 @@ impl Flow {
         self.board.view(sym)
     }
 
-    /// The published version's board, for a caller that reads what a look shows off it, with no view made.
+    /// The published version's board, for a caller that reads a look off it, with no view made.
     pub fn board(&self) -> &Boards
         ensures board { result.now ≡ self.now.board }
         ensures went { (desk sym : ℕ) → WentOn self.now self.now (step.Look desk sym, Ok (reply.Seen (seen_on self.now.board sym))) }
@@ -234,7 +233,7 @@ impl Flow {
     }
 
     /// Makes one step, which is one event. A fault leaves the machine as it was. `NoMemory` comes at a taking alone, and only
-    /// where it would have succeeded.
+    /// if it would have succeeded.
     pub fn step(&mut self, step: Step) -> Result<Reply, StepFault>
         requires { holds_step self.old.board.sizes step ≡ true }
         ensures went { WentOn self.old self.new (step, result) }
@@ -301,7 +300,7 @@ fn apply_all(board: &mut Boards, changes: &[Marked])
     }
 }
 
-/// Makes room for that many changes. It fails only where there was less.
+/// Makes room for that many changes. It fails only if there was less.
 fn make_room(queue: &mut VecDeque<Marked>, most: usize) -> Result<(), AllocError>
     requires { deque_len queue.old ≤ most }
     ensures items { queue.new.items ≡ queue.old.items }

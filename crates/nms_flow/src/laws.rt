@@ -6,7 +6,7 @@ ghost use Rattle.nms_quote.specs.declared.feed.Feed.{Feed};
 ghost use Rattle.nms_flow.specs.Laws.{IsOnOwnFeed, ShowsPublished, fed_by, versions_of};
 ghost use Rattle.nms_flow.specs.Run.{Event, IsRun, Room, changes_in, queue_at, sent_by, standing_after, tape_at};
 
-/// Each view that a run shows is that of the version published before.
+/// Each view that a run shows is of the version published last before.
 pub fn looks_show_the_published_version()
     ensures { (room : Room) (events : List Event) → IsRun room events → ShowsPublished room events }
 {}
@@ -17,8 +17,8 @@ pub fn desks_versions_never_fall()
         → AllPairs (λ earlier later. earlier ≤ later) (versions_of desk events) }
 {}
 
-/// The tape followed by the queue is what was sent, a merge of what the feeds sent. Where each change was
-/// sent on the feed that it belongs to, a tape alone tells what a feed sent: the changes that belong to it.
+/// The tape followed by the queue is what was sent, a merge of what the feeds sent. If each change was sent on its own
+/// feed, a tape alone shows what a feed sent: the changes that belong to it.
 pub fn tape_and_queue_are_a_merge()
     ensures merge { (events : List Event) → IsMerge (map (λ feed. fed_by feed events) feeds) (sent_by events) }
     ensures whole { (events : List Event)

@@ -1,8 +1,8 @@
-//! What the machine answers to a step (specs/Run).
+//! The machine's answer to a step (specs/Run).
 use nms_board::View;
 
-/// The answer to a step that was not refused. A look's has room for a whole view, so a path that runs for
-/// each record calls the steps by their own methods.
+/// The answer to a step that was not refused. A look's has room for a whole view: for each record, call the steps by
+/// their own methods.
 #[derive(Drop)]
 pub enum Reply {
     /// The change stands at the queue's end.

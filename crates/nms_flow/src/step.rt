@@ -1,4 +1,4 @@
-//! A step of the machine. Runs of steps are told in specs/Run.
+//! A step of the machine. Runs of steps are defined in specs/Run.
 use nms_quote::{Change, Feed, Sym};
 
 /// A step of the machine, which is one event. This product's own rule.

@@ -16,7 +16,7 @@ pub enum StepFault {
     /// F4: the tape has as many changes as the setup's limit.
     #[error("F4: the tape is full")]
     TapeFull,
-    /// F5: a taking found no memory. It would have succeeded otherwise.
+    /// F5: a taking that would have succeeded ran out of memory.
     #[error("F5: out of memory")]
     NoMemory,
 }

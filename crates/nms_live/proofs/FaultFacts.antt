@@ -24,7 +24,7 @@ if_line P Q fault.Desk step holds = tt
 if_line P Q fault.GateLimit step holds = tt
 if_line P Q fault.NoMemory step holds = tt
 
--- the record behind those that say changes is the first that is refused
+-- the record after those that say changes is the first that is refused
 pub first_refused : (roster : Listing) (feed : Feed) (text : List ℕ) (records : List Record) (fields : Record) (changes : List Change)
     (place : ℕ) (why : LiveFault)
     → BeginRecords (Some text) (records ++ fields ∷ []) → Says roster feed records changes → place ≡ length records + 1
@@ -83,7 +83,7 @@ first_of_two roster texts (Some one) (Some other) of_one of_other =
       | false ↦ of_one
     ]
 
--- where there is no first of two, there is neither
+-- if there is no first of two, there is neither
 pub none_of_two : (one other : Option LiveFault) → first_fault one other ≡ None → (one ≡ None) × (other ≡ None)
 none_of_two None other none = (refl, none)
 none_of_two (Some one) None none = absurd (cc)

@@ -1,4 +1,4 @@
--- What the feeds' workers gave back, each for its sender, and what all of them came to.
+-- What the feeds' workers returned, each for its sender, and what they all did.
 use Rattle.std.proofs.Common.{ℕ, ◌≡◌, ◌≢◌, ◌++◌, ◌∷◌, List, [], map, take, Option, Some, None, IfSome, refl}
 use Rattle.std.proofs.Common.{ap, sym, ◌∙◌}
 use Rattle.std.specs.List.{AllByRecursion, AllZip}
@@ -79,7 +79,7 @@ pub fault_of_fed : (roster : Listing) (texts : List (List ℕ)) (senders : List 
     → IfSome (first_stop fed) (IsLiveFault roster texts)
 fault_of_fed roster texts senders fed all = among_fed roster texts senders fed None tt all
 
--- where there is no fault among them, none of them stopped
+-- if there is no fault among them, none of them stopped
 none_among : (fed : List Fed) (fault : Option LiveFault) → first_among (λ back. back.stop) fault fed ≡ None
     → (fault ≡ None) × AllByRecursion (λ back. back.stop ≡ None) fed
 none_among [] fault none = (none, tt)

@@ -75,7 +75,7 @@ first_or_later f low n row (Some other) is rest found =
       | inr later ↦ later_answered f low n row (rest later)
     ]
 
--- what stands among the answers of places some place answers
+-- each row among the answers of the places is answered by some place
 answered_somewhere : (f : ℕ → Option Row) (low n : ℕ) (row : Row) → Contains (filter_map f (range_with_len low n)) row
     → IsAnswered f low n row
 answered_somewhere f low zero row among = absurd (omega (arith, among.1))

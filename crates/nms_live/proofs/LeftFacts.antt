@@ -30,7 +30,7 @@ zip_some : {A B : Type 0} (R : A → B → Type 0) (x : A) (xs : List A) (ys : L
 zip_some R x xs [] all = absurd all
 zip_some R x xs (y ∷ ys) all = omega arith
 
--- an order with those behind it, the answers that were put before it, and the one that is put now
+-- an order with those after it, the answers that were put before it, and the one that is put now
 pub record Turn : Type 0 where
   pub order : ℕ × DeskOrder
   pub rest : List (ℕ × DeskOrder)
@@ -106,7 +106,7 @@ zip_none : {A B : Type 0} (R : A → B → Type 0) (ys : List B) → AllZip R []
 zip_none R [] all = refl
 zip_none R (y ∷ ys) all = absurd all
 
--- where no order is left, all answers of the desk are put
+-- if no order is left, all answers of the desk are put
 pub all_put : (IsWanted : Answer → Type 0) (desk : ℕ) (put first now : List Answer) → IsLeft IsWanted desk [] put first now
     → of_desk desk put ≡ first
 all_put IsWanted desk put first now left =
@@ -126,7 +126,7 @@ none_of (order ∷ orders) place desks desk (answer ∷ answers) below le all =
     ap (λ (b : Bool). if b then answer ∷ of_desk desk answers else of_desk desk answers) test
     ∙ none_of orders (place + 1) desks desk answers (All-tail (λ (o : DeskOrder). o.desk < desks) order orders below) le all.1
 
--- so no desk goes back to an older version, where no desk that is there does
+-- so no desk goes back to an older version, if no desk that is there does
 pub rising_all : (orders : List DeskOrder) (desks : ℕ) (put put_closing : List Answer) → All (λ order. order.desk < desks) orders
     → AllZip IsFor (numbered orders) put → AllZip IsFor (numbered orders) put_closing
     → ((desk : ℕ) → desk < desks → IsRising (versions (of_desk desk put ++ of_desk desk put_closing)))

@@ -17,7 +17,7 @@ abbrev pub on : {X : Type 0} → (X → ℕ) → ℕ → List X → List X
 on key level xs = filter (λ x. nat_eq (key x) level) xs
 
 module _ {X : Type 0} (key : X → ℕ) where
-  -- where none is less, none is below
+  -- if none is less, none is below
   none_below : (level : ℕ) (xs : List X) → AllByRecursion (λ n. level ≤ n) (map key xs) → below key level xs ≡ []
   none_below level [] all = refl
   none_below level (x ∷ xs) all = rw (le-ltb (key x) level all.0) (none_below level xs all.1)
@@ -26,7 +26,7 @@ module _ {X : Type 0} (key : X → ℕ) where
   below_zero [] = refl
   below_zero (x ∷ xs) = rw (le-ltb (key x) 0 (omega arith)) (below_zero xs)
 
-  -- where all are less, all are below
+  -- if all are less, all are below
   pub all_below : (level : ℕ) (xs : List X) → AllByRecursion (λ x. key x < level) xs → below key level xs ≡ xs
   all_below level [] all = refl
   all_below level (x ∷ xs) all = rw (lt-ltb (key x) level all.0) (ap (λ l. x ∷ l) (all_below level xs all.1))
@@ -76,7 +76,7 @@ last_same n o (m ∷ ns) is = elim (eqb_tells m n) [
   | inr other ↦ rw other.0 (last_same n o ns is)
 ]
 
--- the last of those on a level, where there is one
+-- the last of those on a level, if there is one
 pub last_contained : (n : ℕ) (o : Option ℕ) (ns : List ℕ) → Contains ns n → unwrap_or (last_or o (on itself n ns)) 0 ≡ n
 last_contained n o [] (place, lt, is) = absurd (omega arith)
 last_contained n o (m ∷ ns) (zero, lt, is) = rw (eq-eqb m n is) (last_same n (Some m) ns is)
@@ -90,7 +90,7 @@ at_end : (P : ℕ → Type 0) (front : List ℕ) (last : ℕ) → AllByRecursion
 at_end P [] last all = all.0
 at_end P (n ∷ front) last all = at_end P front last all.1
 
--- where numbers never fall, none is above the last
+-- if numbers never fall, none is above the last
 pub none_above : (ns : List ℕ) (last : ℕ) → IsRising ns → EndsWith ns last → AllByRecursion (λ n. n < last + 1) ns
 none_above ns last rising ends = subst (AllByRecursion (λ n. n < last + 1)) (sym ends.1) (of_front ends.0 (subst IsRising ends.1 rising))
   where

@@ -22,7 +22,7 @@ own_other desk orders order is =
     ∙ ap (λ (b : Bool). own desk orders ++ (if b then order ∷ [] else [])) is
     ∙ append-nil (own desk orders)
 
--- one order more, put behind those of its desk
+-- one order more, put after those of its desk
 pub own_more : (orders all : List DeskOrder) (number : ℕ) (order : DeskOrder) (old new : List OwnOrders)
     → numbered all ≡ numbered orders ++ (number, order) ∷ [] → length new ≡ length old
     → ((k : ℕ) (d : OwnOrders) → k < length old → k ≢ order.desk → slice_index_or new k d ≡ slice_index_or old k d)

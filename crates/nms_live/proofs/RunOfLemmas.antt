@@ -1,4 +1,4 @@
--- The run of the sequential machine that a live run was as good as.
+-- The run of the sequential machine that has the result of a live run.
 use Rattle.std.proofs.Common.{ℕ, ◌≡◌, ◌+◌, ◌<◌, ◌≤◌, ◌⊎◌, inl, inr, List, [], ◌∷◌, ◌++◌, length, map, take, None, refl, sym, ap, subst, ◌∙◌}
 use Rattle.std.proofs.Common.{arith, append_assoc, length-append}
 use Rattle.std.specs.Prelude.{All, nat_eq, unwrap_or}
@@ -34,7 +34,7 @@ use Rattle.nms_live.proofs.SequentialLemmas.{IsShown, Led, level_of, look_all, n
 abbrev WasPublished : List ℕ → Answer → Type 0
 WasPublished published answer = (level_of answer ≡ 0) ⊎ Contains published (level_of answer)
 
--- the tape that a run has taken, where it took all that it sent
+-- the tape that a run has taken, if it took all that it sent
 taken_is : (roster : Listing) (tape : Tape) (lengths : List ℕ) → tape_at (standing_at roster tape lengths) ≡ tape
 taken_is roster tape lengths = rw (changes_in-marked roster tape) (take_all (length tape) tape (omega arith))
 
@@ -51,7 +51,7 @@ abbrev made_on : Room → Tape → Answer → Seen
 made_on room whole answer = view_of room.sizes (version (level_of answer) whole) answer.plan.order.sym
 
 module _ (room : Room) (roster : Listing) (whole : Tape) (published : List ℕ) (all : List Answer) where
-  -- once a level's publishings are made, the published version is of that length, where an answer was made on it
+  -- once a level's publishings are made, the published version is of that length, if an answer was made on it
   published_now : (level : ℕ) (answer : Answer) → level_of answer ≡ level → WasPublished published answer
       → unwrap_or (last_or None (below itself level published ++ on itself level published)) 0 ≡ level
   published_now level answer is was =

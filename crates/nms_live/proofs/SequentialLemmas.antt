@@ -30,7 +30,7 @@ use Rattle.nms_live.proofs.LevelLemmas.{itself, on}
 abbrev pub level_of : Answer → ℕ
 level_of answer = answer.plan.version
 
--- where a run has led that took all that it sent, and published last the last of these lengths
+-- the point that a run has led to if it took all that it sent, and published last the last of these lengths
 abbrev pub standing_at : Listing → Tape → List ℕ → Standing
 standing_at roster tape lengths = record {
   sent = map (marked_by roster) tape;
@@ -42,7 +42,7 @@ standing_at roster tape lengths = record {
 same_standing : (one other : Standing) → one.sent ≡ other.sent → one.taken ≡ other.taken → one.published ≡ other.published → one ≡ other
 same_standing one other same_sent same_taken same_published = rw (same_sent, same_taken, same_published) refl
 
--- a run that was refused nothing, with what it came to
+-- a run that was refused nothing, with its result
 pub record IsLed (room : Room) (basis : Answer → Seen) (at : Standing) (lengths : List ℕ) (looked : List Answer) (events : List Event) :
     Type 0 where
   pub run : IsRun room events
@@ -99,7 +99,7 @@ module _ (room : Room) (roster : Listing) (basis : Answer → Seen) where
     ne_eqb at.taken room.tape (λ e. omega (arith, e, left)),
   ) refl
 
-  -- how many are queued, of so many sent
+  -- how many are queued, of that many sent
   queued : (at : Standing) → length (queue_at at) ≡ length at.sent - at.taken
   queued at = length-drop at.taken (changes_in at.sent) ∙ ap (λ n. n - at.taken) (length-map at.sent (λ (m : Marked). m.change))
 

@@ -35,7 +35,7 @@ rest_of_more : (P : Change → Type 0) (change : Change) (more : List Change) (b
 rest_of_more P change more true all = all.1
 rest_of_more P change more false all = all
 
--- each change bears the mark of the feed that it belongs to, where those of each mark are the feed's own
+-- each change bears the mark of the feed that it belongs to, if those of each mark are the feed's own
 pub all_own : (roster : Listing) (marked : List Marked) → ((f : Feed) → AllByRecursion (IsOwn roster f) (of_feed f marked))
     → AllByRecursion (λ m. IsOwn roster m.feed m.change) marked
 unfolding of_feed
@@ -45,7 +45,7 @@ all_own roster (m ∷ ms) each = (
   all_own roster ms (λ f. rest_of_more (IsOwn roster f) m.change (of_feed f ms) (is_same_feed f m.feed) (each f)),
 )
 
--- so the tape alone tells what each feed sent
+-- so the tape alone shows what each feed sent
 changes_of-own : (roster : Listing) (f : Feed) (marked : List Marked) → AllByRecursion (λ m. IsOwn roster m.feed m.change) marked
     → changes_of roster f (changes_in marked) ≡ of_feed f marked
 unfolding of_feed
@@ -56,7 +56,7 @@ changes_of-own roster f (m ∷ ms) own =
     ap (λ b. if b then m.change ∷ changes_of roster f (changes_in ms) else changes_of roster f (changes_in ms)) test
     ∙ ap (λ cs. if is_same_feed f m.feed then m.change ∷ cs else cs) (changes_of-own roster f ms own.1)
 
--- the tape, where every feed was read to its end
+-- the tape, if every feed was read to its end
 pub tape_of_feeds : (roster : Listing) (texts : List (List ℕ)) (marked : List Marked) (tape : Tape) → tape ≡ changes_in marked
     → ((f : Feed) → IsRead roster f (text_of f texts) (of_feed f marked)) → IsTapeOf roster texts tape
 tape_of_feeds roster texts marked tape is reads =
@@ -106,7 +106,7 @@ below_all feed.F = omega arith
 below_all feed.G = omega arith
 below_all feed.H = omega arith
 
--- what a feed's worker sent where none stopped
+-- what a feed's worker sent if none stopped
 sent_whole : (roster : Listing) (texts : List (List ℕ)) (senders : List Sending) (fed : List Fed) (f : Feed) (k : ℕ)
     → AllZip (IsFedBy roster texts) senders fed
     → AllByRecursion (λ back. back.stop ≡ None) fed → slice_index_or (map (λ s. s.feed) senders) k f ≡ f → k < length senders

@@ -52,8 +52,8 @@ versions answers = map (λ answer. answer.plan.version) answers
 abbrev pub of_desk : ℕ → List Answer → List Answer
 of_desk desk answers = filter (λ answer. answer.desk == desk) answers
 
--- what a desk's worker did: an answer to each of the desk's own orders, in order, each on a version that the desk
--- knows, and none on an older one than before
+-- what a desk's worker did: an answer to each of the desk's own orders, in order; each is on a version that the desk
+-- knows, and none is on an older one than before
 pub record IsWorked (settings : Settings) (orders : List (ℕ × DeskOrder)) (known : List Tape) (answers : List Answer) : Type 0 where
   pub matched : AllZip IsFor orders answers
   pub best : AllByRecursion (λ answer. SomeOf (λ tape. IsBestOn settings tape answer) known) answers

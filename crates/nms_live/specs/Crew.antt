@@ -1,4 +1,4 @@
--- The workers of the feeds and of the desks as they start and as they come back, and what all came to. This product's
+-- The workers of the feeds and of the desks as they start and as they come back, and what they all did. This product's
 -- own rule.
 use Rattle.std.specs.Prelude.{ℕ, ◌≡◌, ◌<◌, List, [], length, map, slice_index_or, Option, None}
 use Rattle.std.specs.List.{AllByRecursion}
@@ -35,21 +35,21 @@ pub record AreFreshEnds (texts : List (List ℕ)) (taker : Taking) (senders : Li
   pub fresh : AllByRecursion IsFresh senders
   pub none_taken : taker.taken ≡ []
 
--- a feed's worker gave back its end of the lane; it sent what its text says, or reports why it stopped
+-- a feed's worker returned its end of the lane; it sent what its text says, or reports why it stopped
 pub record IsFedBy (roster : Listing) (texts : List (List ℕ)) (before : Sending) (back : Fed) : Type 0 where
   pub lane_is : back.sender.lane ≡ before.lane
   pub feed_is : back.sender.feed ≡ before.feed
   pub fed : IsFed roster before.feed (text_of before.feed texts) back.sender.sent back.stop
 
--- what a feed's worker gives back keeps this promise
+-- what a feed's worker returns keeps this promise
 abbrev pub KeepsFeedJob : FeedJob → Fed → Type 0
 KeepsFeedJob job back = IsFedBy job.setup.value.roster (map (λ text. text.items) job.feeds.value.items) job.sender.value back
 
--- what a started worker of a feed gave back keeps its promise
+-- what a started worker of a feed returned keeps its promise
 abbrev pub HasKept : PromisedHandle Fed FeedJob → Fed → Type 0
 HasKept handle back = KeepsFeedJob handle.promise back
 
--- whatever the worker of a feed gives back, it is so
+-- the promise holds of whatever the worker of a feed returns
 abbrev pub WillBeFed : Listing → List (List ℕ) → Sending → PromisedHandle Fed FeedJob → Type 0
 WillBeFed roster texts before handle = (back : Fed) → HasKept handle back → IsFedBy roster texts before back
 
@@ -63,11 +63,11 @@ AreReady settings opening desks =
     (k : ℕ) (d : Knowing) → k < length desks → ((slice_index_or desks k d).opening ≡ opening)
     × ((slice_index_or desks k d).sizes ≡ sizes_of settings.roster)
 
--- what a desk's worker gives back keeps this promise
+-- what a desk's worker returns keeps this promise
 abbrev pub KeepsJob : DeskJob → Desked → Type 0
 KeepsJob job back = IsDesked job.setup.value job.mine.value.orders.items job.desk.value back
 
--- whatever the worker of a desk gives back, its work on these orders is done as the desk went
+-- whatever the worker of a desk returns, its work on these orders is done from the desk as it went
 abbrev pub WillBeDesked : Settings → List (ℕ × DeskOrder) → Knowing → PromisedHandle Desked DeskJob → Type 0
 WillBeDesked settings orders desk handle = (back : Desked) → KeepsJob handle.promise back → IsDesked settings orders desk back
 

@@ -1,5 +1,5 @@
--- The codes of a live run's faults, the exit status of a program that one of them ends, and which of several is answered.
--- This product's own rule.
+-- The codes of a live run's faults, the exit status of a program that one ends, and which of several is answered. This
+-- product's own rule.
 use Rattle.std.specs.Prelude.{ℕ, ⊤, ◌+◌, List, [], ◌∷◌, codes, nat_lt, Option, Some, None, if◌then◌else◌}
 use Rattle.nms_quote.specs.declared.feed.Feed.{Feed}
 use Rattle.nms_quote.specs.Merge.{place_of}
@@ -24,7 +24,7 @@ status_of fault.Desk = 7
 status_of fault.GateLimit = 7
 status_of fault.NoMemory = 5
 
--- of several faults the one of least rank is answered; of the records that are refused, that of the first feed
+-- the fault of least rank is answered; if records are refused, the refusal of the first feed's record
 abbrev pub rank_of : LiveFault → ℕ
 rank_of fault.Open = 0
 rank_of (fault.Line of number why) = 1 + place_of of
@@ -33,7 +33,7 @@ rank_of fault.Desk = 10
 rank_of fault.GateLimit = 11
 rank_of fault.NoMemory = 12
 
--- of two faults the one of the lower rank, of equal ranks the first; else the one that there is
+-- the fault of the lower rank, the first one if the ranks are equal; else the only fault
 abbrev pub first_fault : Option LiveFault → Option LiveFault → Option LiveFault
 first_fault None other = other
 first_fault (Some one) None = Some one
@@ -44,7 +44,7 @@ abbrev pub first_among : {Worker : Type 0} → (Worker → Option LiveFault) →
 first_among stop fault [] = fault
 first_among stop fault (worker ∷ workers) = first_among stop (first_fault fault (stop worker)) workers
 
--- where it is the fault of a record, this holds of the feed, the record's number and its fault
+-- if it is the fault of a record, this holds of the feed, the record's number and its fault
 abbrev pub IfLine : (Feed → ℕ → LineFault → Type 0) → LiveFault → Type 0
 IfLine Holds (fault.Line of number why) = Holds of number why
 IfLine Holds fault.Open = ⊤

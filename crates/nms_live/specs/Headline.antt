@@ -30,7 +30,8 @@ abbrev pub IsQuotation : Settings → Tape → ℕ → Side → Row → Type 0
 IsQuotation settings tape sym side row =
     (part : ℕ) × (part < (sizes_of settings.roster).parts) × (quotation_of (sizes_of settings.roster) tape sym side part ≡ Some row)
 
--- one published version of the tape, its first so many changes: the length at some publishing, or 0, of the empty one
+-- one published version of the tape, its first changes up to that number: the length at some publishing, or 0, of the
+-- empty one
 pub record IsPublishedVersion (live : Live) (number : ℕ) : Type 0 where
   pub published : (number ≡ 0) ⊎ Contains live.published.items number
   pub first_changes : length (version number live.tape.items) ≡ number
@@ -38,28 +39,28 @@ pub record IsPublishedVersion (live : Live) (number : ℕ) : Type 0 where
 -- what the answer's plan is on the quotations of its symbol in its version
 pub record IsBestPlanOn (settings : Settings) (seen : Seen) (answer : Answer) : Type 0 where
   pub of_version : seen.version ≡ answer.plan.version
-  -- at each price that it trades at it keeps the limit, and every protected quotation on the side that the order trades
-  -- with, of participants that the order does not name, that this price would trade through gets its full displayed size
+  -- at each price that it trades at it keeps the limit. Every protected quotation on the side that the order trades with
+  -- gets its full displayed size, if this price would trade through it and the order does not name its participant
   pub never_through : NeverTradesThrough seen answer.plan.order answer.plan.legs.items
   -- it is lawful, and no lawful plan fills more, or as much for less with fees
   pub optimal : IsOptimal (usable seen answer.plan.order settings.fees) answer.plan.order.shares (given_by answer.plan.legs.items)
   -- as its certificate shows to the caller who checks it
   pub accepted : IsAccepted seen answer.plan.order settings.fees answer.plan answer.certificate.items
 
--- the answer names one published version, the best quotes there are the rule's ranking of the changes published, and
+-- the answer names one published version; the best quotes there are the rule's ranking of the changes published, and
 -- its plan is the best lawful one there
 pub record IsBestOfItsVersion (settings : Settings) (live : Live) (answer : Answer) : Type 0 where
   pub version_is : IsPublishedVersion live answer.plan.version
-  -- the rows that the plan was made on are what the version's changes leave quoted in its symbol, none missing and
-  -- none more; of these rows speak all that follow
+  -- the rows that the plan was made on are what the version's changes leave quoted in its symbol, none missing and none
+  -- more; all that follow speak of these rows
   pub rows : (side : Side) (row : Row) → Contains (rows_on side (basis_of settings live answer)) row
       ↔ IsQuotation settings (version answer.plan.version live.tape.items) answer.plan.order.sym side row
   pub bid : HasOneBest Bid (basis_of settings live answer).bids
   pub offer : HasOneBest Offer (basis_of settings live answer).offers
   pub plan_is : IsBestPlanOn settings (basis_of settings live answer) answer
 
--- all answers are, those of the run and the closing ones; none is on an older version than its desk saw before; and
--- the closing ones are on the whole tape, of which their desk was told
+-- this holds of all answers, those of the run and the closing ones; none is on an older version than its desk saw
+-- before; and the closing ones are on the whole tape, of which their desk was told
 pub record AreBestOfTheirVersions (settings : Settings) (live : Live) : Type 0 where
   pub each : AllByRecursion (IsBestOfItsVersion settings live) (live.answers.items ++ live.closing.items)
   pub no_older : (desk : ℕ) → AllPairs (λ earlier later. earlier ≤ later)

@@ -42,8 +42,8 @@ pub record IsWhole (keeping : Keeping) : Type 0 where
   pub published : changes keeping.taped.published ≡ tape_of keeping.taped
   pub ends : EndsWith keeping.listed (length (tape_of keeping.taped))
 
--- the tape was published in batches, none of them empty, and a length is the one after some of them exactly if it
--- is 0 or listed
+-- the tape was published in batches, none of them empty; a length is the one after some of them exactly if it is 0 or
+-- listed
 pub record WasPublished (tape : Tape) (listed : List ℕ) : Type 0 where
   pub batches : Batches
   pub whole : changes batches ≡ tape

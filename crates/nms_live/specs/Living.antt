@@ -1,4 +1,4 @@
--- What a live run came to: the tape, what was published, and the answers. This product's own rule.
+-- The result of a live run: the tape, what was published, and the answers. This product's own rule.
 use Rattle.std.specs.Prelude.{ℕ, ◌≤◌, List, length}
 use Rattle.nms_fees.specs.Settings.{Settings}
 use Rattle.nms_live.specs.Answering.{IsAnswered}
@@ -8,7 +8,7 @@ use Rattle.nms_live.specs.Reading.{IsTapeOf}
 use Rattle.nms_quote.specs.declared.desk_order.DeskOrder.{DeskOrder}
 use Rattle.nms_live.specs.declared.live.Live.{Live}
 
--- what a run over the feeds' texts and these orders came to
+-- the result of a run over the feeds' texts and these orders
 pub record IsLive (settings : Settings) (texts : List (List ℕ)) (orders : List DeskOrder) (live : Live) : Type 0 where
   -- every record of each feed reads as a change of its feed, and the tape is a merge of these, within its limit
   pub tape : IsTapeOf settings.roster texts live.tape.items

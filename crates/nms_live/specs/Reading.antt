@@ -46,7 +46,7 @@ IsFeedFault roster feed text why = IfLine (λ of number own. (of ≡ feed) × Is
 abbrev pub IsRefusal : Feed → ℕ → Result Line LineFault → LiveFault → Type 0
 IsRefusal feed place said why = IfLine (λ of number own. (of ≡ feed) × (number ≡ place) × (said ≡ Err own)) why
 
--- what a feed's worker sent where it did not stop early, else why it did
+-- what a feed's worker sent if it did not stop early, else why it did
 abbrev pub IsFed : Listing → Feed → List ℕ → List Change → Option LiveFault → Type 0
 IsFed roster feed text sent None = IsRead roster feed text sent
 IsFed roster feed text sent (Some why) = IsFeedFault roster feed text why
@@ -59,9 +59,8 @@ text_of feed texts = own_of feed texts
 abbrev pub IsLiveFault : Listing → List (List ℕ) → LiveFault → Type 0
 IsLiveFault roster texts why = IfLine (λ of number own. IsFirstRefused roster of (text_of of texts) number own) why
 
--- what one feed gave: its text reads as changes, and of the changes that bear the marks of their feeds they are those
--- that bear its own, in order. The mark of a change is the feed that it belongs to: so the tape alone shows what the
--- feed gave
+-- what one feed gave: its text reads as changes. They are those of the tape that bear the feed's mark, in order. The
+-- mark of a change is the feed that it belongs to: so the tape alone shows what the feed gave
 pub record HasGiven (roster : Listing) (text : List ℕ) (marked : List Marked) (feed : Feed) : Type 0 where
   pub reads : IsRead roster feed text (of_feed feed marked)
   pub own : changes_of roster feed (changes_in marked) ≡ of_feed feed marked

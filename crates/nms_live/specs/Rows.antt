@@ -1,5 +1,5 @@
--- The answers of each desk, and what is left of them while they are put in the order of the orders. This product's
--- own rule.
+-- The answers of each desk, and what is left of them while they are put in the order of the orders. This product's own
+-- rule.
 use Rattle.std.specs.Prelude.{ℕ, ◌≡◌, ◌<◌, ◌++◌, List, length, slice_index_or}
 use Rattle.std.specs.List.{AllByRecursion, AllZip}
 use Rattle.nms_quote.specs.Tape.{Tape}
@@ -19,13 +19,13 @@ abbrev pub IsLast : Settings → Tape → List ℕ → Answer → Type 0
 IsLast settings tape published answer = IsSound settings tape published answer × (answer.plan.version ≡ length tape)
 
 -- of a desk's answers some were put after the others: what is left answers the desk's orders from there on, and each is
--- as wanted
+-- as required
 pub record IsLeft (IsWanted : Answer → Type 0) (desk : ℕ) (left : List (ℕ × DeskOrder)) (put first now : List Answer) : Type 0 where
   pub parted : of_desk desk put ++ now ≡ first
   pub matched : AllZip IsFor (own desk left) now
   pub wanted : AllByRecursion IsWanted now
 
--- so it is with each desk, of its answers or of its closing ones
+-- this holds of each desk, of its answers or of its closing ones
 abbrev pub AreLeft : (DeskRow → List Answer) → (Answer → Type 0) → List (ℕ × DeskOrder) → List Answer → List DeskRow → List DeskRow → Type 0
 AreLeft part IsWanted left put first now =
     (k : ℕ) (d : DeskRow) → k < length now

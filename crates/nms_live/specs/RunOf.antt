@@ -1,4 +1,4 @@
--- The runs of the sequential machine that a live run was as good as. This product's own rule.
+-- The runs of the sequential machine that have the result of a live run. This product's own rule.
 use Rattle.std.specs.Prelude.{ℕ, ◌≡◌, ◌==◌, ◌++◌, true, All, List, map, Option, Some, None, Ok, if◌then◌else◌}
 use Rattle.std.specs.List.{filter_map}
 use Rattle.nms_quote.specs.Tape.{version}
@@ -32,7 +32,7 @@ looks_of desk events = filter_map (shown_to desk) events
 abbrev pub basis_of : Settings → Live → Answer → Seen
 basis_of settings live answer = seen_in settings (version answer.plan.version live.tape.items) answer
 
--- the events are a run of the sequential machine that came to the same: no step of it was refused
+-- the events are a run of the sequential machine that had the same result: no step of it was refused
 pub record IsRunOf (settings : Settings) (texts : List (List ℕ)) (live : Live) (events : List Event) : Type 0 where
   pub run : IsRun (room_under settings) events
   pub answered : All (λ event. is_answered event.1 ≡ true) events

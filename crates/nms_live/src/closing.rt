@@ -20,9 +20,9 @@ use std::sync::Wait;
 /// A desk's answers.
 #[derive(Drop)]
 pub struct DeskRow {
-    /// Those that it made while the feeds were running.
+    /// The answers that it made while the feeds were running.
     pub(crate) answers: VecDeque<Answer>,
-    /// Those on the whole tape.
+    /// The answers that it made on the whole tape.
     pub(crate) closing: VecDeque<Answer>,
 }
 

@@ -1,4 +1,4 @@
-//! The desks' workers: how they are started, and what they gave back (specs/Crew).
+//! The desks' workers: how they are started, and what they returned (specs/Crew).
 ghost use Rattle.std.specs.Prelude.{◌≡◌, ℕ, ◌<◌, ◌≤◌, ◌⊎◌, ◌++◌, ◌∷◌, [], length, slice_index_or, None, IfErr, IfOk, OnOk};
 ghost use Rattle.std.specs.Vec.{vec_len, vec_capacity};
 ghost use Rattle.std.specs.declared.thread.PromisedHandle.{PromisedHandle};
@@ -20,7 +20,7 @@ use std::snapshot::Snapshot;
 use std::sync::Wait;
 use std::thread::{PromisedHandle, Scope, Threads};
 
-/// Makes room for what the desks' workers give back, and starts them.
+/// Makes room for what the desks' workers return, and starts them.
 pub(crate) fn start_crew<'s, E, R: Threads + Wait + Sync, G: Gate>(
     scope: &'s Scope<'s, E>,
     means: &'s Means<'s, R, G>,
@@ -61,7 +61,7 @@ fn start_desks<'s, E, R: Threads + Wait + Sync, G: Gate>(
     // They are few enough for their numbers.
     let _most = given.setup.desks();
     let mut handles = Vec::new(means.alloc);
-    // A worker that was started must be heard out: so there is room for it before.
+    // A worker that was started must be waited for: so there is room for it before.
     if handles.reserve(desks.len()).is_err() {
         return Err(LiveFault::NoMemory);
     }
@@ -134,15 +134,15 @@ fn put_handle<R: Threads>(
     }
 }
 
-/// Waits for the desks' workers that were started where not all of them could be. What they give back is let go: a
-/// handle that is dropped would keep it for ever.
+/// Waits for the desks' workers that were started if not all could be. What they return is let go: a handle that is
+/// dropped would keep it for ever.
 fn join_started<R: Threads>(rt: &R, handles: Vec<PromisedHandle<Desked, DeskJob>>) {
     for handle in handles {
         let _worked = handle.join(rt);
     }
 }
 
-/// Waits for the desks' workers. There is room for what they give back, so no fault of theirs is lost.
+/// Waits for the desks' workers. There is room for what they return, so no fault of theirs is lost.
 pub(crate) fn join_desks<R: Threads>(
     rt: &R,
     handles: Vec<PromisedHandle<Desked, DeskJob>>,
@@ -162,7 +162,7 @@ pub(crate) fn join_desks<R: Threads>(
     back
 }
 
-/// The fault that is answered, of those that the desks' workers stopped with and one more.
+/// The fault that is answered, from the faults of the desks' workers and one more.
 pub(crate) fn fault_among(fault: Option<LiveFault>, desks: &[Desked]) -> Option<LiveFault>
     requires no_line { (k : ℕ) (d : Desked) → k < length desks.now → IsNoLineIfAny (slice_index_or desks.now k d).stop }
     ensures first { result ≡ first_among (λ d. d.stop) fault desks.now }

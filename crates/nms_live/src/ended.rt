@@ -9,7 +9,7 @@ pub struct Ended {
 }
 
 impl Ended {
-    /// None has ended.
+    /// No feed's worker has ended.
     pub(crate) fn none() -> Self {
         Ended {
             flags: [
@@ -30,7 +30,7 @@ impl Ended {
         self.flags[usize::from(feed.place())].store(true, Ordering::SeqCst);
     }
 
-    /// Whether those of the first so many feeds have ended.
+    /// Whether the workers of that many first feeds have ended.
     pub(crate) fn have_first(&self, count: usize) -> bool {
         self.flags
             .iter()

@@ -22,7 +22,7 @@ use std::snapshot::Snapshot;
 use std::sync::Wait;
 use std::thread::Promise;
 
-/// What a feed's worker gives back: its end of the lane, and why it stopped early, if so.
+/// What a feed's worker returns: its end of the lane, and why it stopped early, if so.
 #[derive(Drop)]
 pub struct Fed {
     pub(crate) sender: Sender,
@@ -108,11 +108,11 @@ fn send_rows<R: Wait, G: Gate>(
             Err(_) => return Err(LiveFault::NoMemory),
         }
     }
-    // No text has so many records.
+    // No text has that many records.
     Err(LiveFault::NoMemory)
 }
 
-/// Sends the change that a record says, with so many sent before it.
+/// Sends the change that a record says, with that many sent before it.
 fn send_record<R: Wait, G: Gate>(
     means: &Means<'_, R, G>,
     setup: &Setup,

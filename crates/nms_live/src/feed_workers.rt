@@ -1,4 +1,4 @@
-//! The feeds' workers: how they are started, and what they gave back (specs/Crew).
+//! The feeds' workers: how they are started, and what they returned (specs/Crew).
 ghost use Rattle.std.specs.Prelude.{◌≡◌, ◌≢◌, ◌≤◌, ◌⊎◌, true, List, [], map, Some, None, IfSome};
 ghost use Rattle.std.specs.List.{AllByRecursion, AllZip};
 ghost use Rattle.std.specs.Vec.{vec_len, vec_capacity};
@@ -25,7 +25,7 @@ use std::snapshot::Snapshot;
 use std::sync::Wait;
 use std::thread::{PromisedHandle, Scope, Threads};
 
-/// Starts the feeds' workers, takes what they send until all have ended, and then the rest. Gives the fault of the
+/// Starts the feeds' workers, takes what they send until all have ended, and then the rest. Returns the fault of the
 /// first feed that stopped early.
 pub(crate) fn run_feeds<'s, E, R: Threads + Wait + Sync, G: Gate>(
     scope: &'s Scope<'s, E>,
@@ -44,7 +44,7 @@ pub(crate) fn run_feeds<'s, E, R: Threads + Wait + Sync, G: Gate>(
     let (senders, mut taker) = ends;
     let mut handles = Vec::new(means.alloc);
     let mut back = Vec::new(means.alloc);
-    // A worker that was started must be heard out: so there is room for it before.
+    // A worker that was started must be waited for: so there is room for it before.
     if handles.reserve(senders.len()).is_err() || back.reserve(senders.len()).is_err() {
         return Some(LiveFault::NoMemory);
     }
@@ -121,7 +121,7 @@ fn start_feed<'s, E, R: Wait + Sync, G: Gate>(
     Some(handle)
 }
 
-/// Waits for the feeds' workers. There is room for what they give back, so no fault of theirs is lost.
+/// Waits for the feeds' workers. There is room for what they return, so no fault of theirs is lost.
 fn join_feeds<R: Threads>(
     rt: &R,
     handles: Vec<PromisedHandle<Fed, FeedJob>>,
@@ -139,7 +139,7 @@ fn join_feeds<R: Threads>(
     back
 }
 
-/// Takes the rest of what all feeds sent, unless one of them stopped early. Gives the fault of the first that did.
+/// Takes the rest of what all feeds sent, unless one stopped early. Returns the fault of the first that did.
 fn end_feeds<R: Wait, G: Gate>(
     means: &Means<'_, R, G>,
     keeper: &mut Keeper,
@@ -166,7 +166,7 @@ fn end_feeds<R: Wait, G: Gate>(
     None
 }
 
-/// The fault that is answered, of those that the feeds' workers stopped with.
+/// The fault that is answered, from the faults of the feeds' workers.
 fn fault_of_feeds(fed: &[Fed]) -> Option<LiveFault>
     ensures first { result ≡ first_stop fed.now }
 {
@@ -177,7 +177,7 @@ fn fault_of_feeds(fed: &[Fed]) -> Option<LiveFault>
     first
 }
 
-/// The feeds' ends of the lane, in the order in which they came back. `None` if there was no memory for them.
+/// The feeds' ends of the lane, in the order in which they came back. `None` if out of memory.
 fn senders_of(alloc: Global, fed: Vec<Fed>) -> Option<Vec<Sender>>
     ensures senders { IfSome result (λ senders. senders.items ≡ map (λ back. back.sender) fed.items) }
 {

@@ -1,10 +1,10 @@
-//! Which of several faults a run answers (specs/Faults).
+//! Which fault a run answers if there are several (specs/Faults).
 ghost use Rattle.std.specs.Prelude.{◌≡◌, ◌⊎◌, None};
 ghost use Rattle.nms_live.specs.Faults.{first_fault};
 
 use crate::live_fault::LiveFault;
 
-/// Of two faults the one of the lower rank, of equal ranks the first; else the one that there is.
+/// Returns the fault of the lower rank, the first one if the ranks are equal; else the only fault.
 pub(crate) fn first_of(one: Option<LiveFault>, other: Option<LiveFault>) -> Option<LiveFault>
     ensures first { result ≡ first_fault one other }
     ensures either { (result ≡ one) ⊎ (result ≡ other) }

@@ -29,9 +29,9 @@ pub enum GatePoint {
     },
 }
 
-/// Says when each send, look and publishing of a live run may be made. All threads of the run use it at once.
+/// Decides when each send, look and publishing of a live run may be made. All threads of the run use it at once.
 pub trait Gate: Sync {
-    /// Whether it may be made now. It is asked up to 1,000,000 times, until it says so.
+    /// Whether it may be made now. It is asked up to 1,000,000 times, until it agrees.
     fn may(&self, at: GatePoint) -> bool;
 
     /// It was made.

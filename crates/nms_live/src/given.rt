@@ -33,7 +33,7 @@ pub struct Means<'m, R, G> {
 }
 
 impl<'g> Given<'g> {
-    /// How many changes the tape comes to at most, where each record of the feeds ends with a line feed.
+    /// The most changes that the tape can come to, if each record of the feeds ends with a line feed.
     pub(crate) fn most_changes(&self) -> usize {
         let mut records = self.feeds.len();
         for text in &self.feeds {
@@ -57,7 +57,7 @@ fn line_feeds(text: &[u8]) -> usize {
     found
 }
 
-/// The text of a feed, of those that stand in order of place. A feed beyond them has no bytes.
+/// The text of a feed, from texts in order of place. A feed beyond them has no bytes.
 pub(crate) fn text_of(feeds: &[Vec<u8>], feed: Feed) -> &[u8]
     ensures { result.now ≡ text_of feed (map (λ text. text.items) feeds.now) }
 {

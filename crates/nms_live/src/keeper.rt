@@ -41,7 +41,7 @@ impl Model for Keeper {
 }
 
 impl Keeper {
-    /// Keeps a tape that was just opened. It makes room for so many changes and publishings, if there is memory: so
+    /// Keeps a tape that was just opened. It makes room for that many changes and publishings, if there is memory: so
     /// nothing that was taken in has to move while the feeds send.
     pub(crate) fn new(alloc: Global, mut publisher: Publisher, changes: usize) -> Self
         requires { publisher.published ≡ [] }
@@ -131,7 +131,7 @@ impl Keeper {
         means.gate.done(at);
     }
 
-    /// Word of the published version.
+    /// A receipt of the published version.
     pub(crate) fn receipt(&mut self) -> Receipt
         ensures opening { result.opening ≡ self.old.taped.opening }
         ensures published { result.published ≡ self.old.taped.published }
@@ -141,7 +141,7 @@ impl Keeper {
         self.publisher.receipt()
     }
 
-    /// Ends the publishing, and gives the tape and the lengths published.
+    /// Ends the publishing, and returns the tape and the lengths published.
     pub(crate) fn end<R: Wait>(self, rt: &R) -> (Vec<Change>, Vec<u64>)
         ensures tape { result.0.items ≡ tape_of self.taped }
         ensures within { length result.0.items ≤ self.taped.limit }

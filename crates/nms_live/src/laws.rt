@@ -12,11 +12,10 @@ use nms_nbbo::{one_best_row, some_row_is_best};
 use nms_quote::DeskOrder;
 use nms_rules::a_lawful_plan_never_trades_through;
 
-/// Each plan of a live run names one published version, no older than any that its desk saw before, whose best quotes
-/// are the rule's ranking of the changes published; it keeps the limit, sweeps in full every protected quotation, of
-/// participants that the order does not name, better than a price it trades at, and no lawful plan on that version
-/// fills more, or as much for less with fees (17 CFR 242.600, 242.611(a), (b)(1), (5) and (6); what is best is this
-/// product's own rule).
+/// Each plan of a live run names one published version, no older than any that its desk saw before. Its best quotes are
+/// the rule's ranking of the changes published. The plan keeps the limit, and sweeps in full every protected quotation
+/// better than a price it trades at, of participants not named. No lawful plan on that version fills more, or as much
+/// for less with fees (17 CFR 242.600, 242.611(a), (b)(1), (5) and (6); what is best is this product's own rule).
 pub fn each_answer_is_the_best_of_its_version(
     setup: &Setup,
     feeds: &[Vec<u8>],
@@ -32,9 +31,9 @@ pub fn each_answer_is_the_best_of_its_version(
     a_lawful_plan_never_trades_through();
 }
 
-/// What a live run came to is what the sequential machine comes to in one thread: by some run that sends what the
-/// feeds say, takes the same tape, publishes the same lengths in order, and shows each desk in order what its
-/// answers were made on, the closing ones last. This product's own rule.
+/// A live run has the result of some run of the sequential machine, in one thread. That run sends what the feeds say,
+/// takes the same tape and publishes the same lengths in order. It shows each desk in order what its answers were made
+/// on, the closing ones last. This product's own rule.
 pub fn a_live_run_is_a_run_of_the_machine(
     setup: &Setup,
     feeds: &[Vec<u8>],

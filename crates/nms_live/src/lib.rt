@@ -1,5 +1,5 @@
-//! The live run: one to eight feeds send, a taker publishes, desks plan on what is published, each in its own thread; and
-//! of all that they did together it is proved what it was worth.
+//! The live run: one to eight feeds send, a taker publishes, desks plan on what is published, each in its own thread.
+//! What they all did together is proved.
 #![tactic(auto)]
 
 mod closing;

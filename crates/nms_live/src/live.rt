@@ -1,4 +1,4 @@
-//! What a live run came to (specs/Living).
+//! The result of a live run (specs/Living).
 use nms_quote::{Answer, Change};
 
 /// What a live run came to.

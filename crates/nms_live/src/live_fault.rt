@@ -62,7 +62,7 @@ impl LiveFault {
         }
     }
 
-    /// Of several faults of a run the one of least rank is answered.
+    /// The fault's rank: a run answers the fault of least rank.
     pub(crate) fn rank(self) -> u8
         ensures { result ≡ rank_of self }
     {

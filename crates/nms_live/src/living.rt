@@ -24,9 +24,9 @@ use std::alloc::Global;
 use std::sync::Wait;
 use std::thread::Threads;
 
-/// Reads the setup's feeds, given in order of letter, each in a thread of its own, and appends their changes to one
-/// tape, which is published from time to time; each desk answers its orders meanwhile, in a thread of its own, on
-/// what is published. Then each desk answers them again on the whole tape.
+/// Reads the setup's feeds, given in order of letter, each in its own thread, and appends their changes to one tape.
+/// The tape is published from time to time; each desk answers its orders meanwhile, in its own thread, on what is
+/// published. Then each desk answers them again on the whole tape.
 ///
 /// Each answer is the best lawful plan on its version of the tape, which was published, and no desk goes back to an
 /// older version. `Line` names the first refused record of a feed. After a fault all threads have ended.
@@ -82,7 +82,7 @@ fn run_over<R: Threads + Wait + Sync, G: Gate>(
     }
 }
 
-/// The closing answers, and all that the run came to.
+/// The closing answers, and the result of the run.
 fn close_all<R: Wait, G>(
     means: &Means<'_, R, G>,
     given: &Given<'_>,

@@ -12,7 +12,7 @@ pub struct OwnOrders {
     pub(crate) orders: Vec<(usize, DeskOrder)>,
 }
 
-/// Parts the orders by desk, those of each in order of number. `None` if there was no memory.
+/// Parts the orders by desk, each desk's in order of number. `None` if out of memory.
 pub(crate) fn part_by_desk(alloc: Global, desks: u8, orders: &[DeskOrder]) -> Option<Vec<OwnOrders>>
     requires desks { All (λ order. order.desk < desks) orders.now }
     ensures all { IfSome result (λ rows. length rows.items ≡ desks) }

@@ -1,4 +1,4 @@
-//! The threads of a live run, and what all of them came to (specs/Crew).
+//! The threads of a live run, and what they all did (specs/Crew).
 ghost use Rattle.std.specs.Prelude.{◌≡◌, [], length, IfErr, IfOk};
 ghost use Rattle.nms_versions.specs.Taped.{tape_of};
 ghost use Rattle.nms_live.specs.Crew.{AreFreshEnds, AreReady, IsDone, texts_of};
@@ -56,7 +56,7 @@ pub(crate) fn run_in_threads<R: Threads + Wait + Sync, G: Gate>(
     desks
 }
 
-/// Starts all workers and waits for them. Gives back the desks, unless anybody stopped early.
+/// Starts all workers and waits for them. Returns the desks, unless a worker stopped early.
 fn run_workers<'s, E, R: Threads + Wait + Sync, G: Gate>(
     scope: &'s Scope<'s, E>,
     means: &'s Means<'s, R, G>,

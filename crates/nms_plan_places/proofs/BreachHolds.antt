@@ -1,4 +1,4 @@
--- The breach that is told holds by itself.
+-- The breach that is reported holds by itself.
 use Rattle.std.proofs.Common.{◌≡◌, true, List, Option, Some, refl}
 use Rattle.std.specs.Prelude.{◌==◌, IfSome, not, option_map}
 use Rattle.std.specs.List.{list_any}
@@ -79,7 +79,7 @@ each_holds seen order fees plan =
     next-holds P (not (plan.filled == sum_of legs)) breach.FilledWrong cost (λ e. e)
     (when-holds P (not (int_eq plan.cost (cost_of fees order.side legs))) breach.CostWrong (λ e. e))))))
 
--- the breach that is told holds
+-- the breach that is reported holds
 pub told_holds : (seen : Seen) (order : Terms) (fees : Charges) (plan : Plan) (why : Breach) → breach_of seen order fees plan ≡ Some why
     → Holds seen order fees plan why
 told_holds seen order fees plan why is =

@@ -1,4 +1,4 @@
--- The doubt that is told holds by itself.
+-- The doubt that is reported holds by itself.
 use Rattle.std.proofs.Common.{ℕ, ℤ, ◌≡◌, Bool, true, false, List, Option, Some, None, refl, ap, ◌∙◌}
 use Rattle.std.specs.Prelude.{◌==◌, ◌||◌, IfSome, not, option_map}
 use Rattle.nms_quote.specs.Terms.{Terms}
@@ -56,7 +56,7 @@ abbrev pub cuts_doubt_of : Seen → Terms → Charges → Plan → List Cut → 
 cuts_doubt_of seen order fees plan cuts =
     cuts_doubt order.side (usable seen order fees) (fillable (usable seen order fees) order.shares) plan.cost cuts
 
--- the condition of each doubt of a plan: a breach is the one that is told, and a doubt of the cuts is told of them alone
+-- the condition of each doubt of a plan: a breach is the one reported, and a doubt of the cuts is of the cuts alone
 abbrev pub DoubtHolds : Seen → Terms → Charges → Plan → List Cut → Doubt → Type 0
 DoubtHolds seen order fees plan cuts (doubt.Breach why) = breach_of seen order fees plan ≡ Some why
 DoubtHolds seen order fees plan cuts doubt.NotMost = not (plan.filled == fillable (usable seen order fees) order.shares) ≡ true
@@ -91,7 +91,7 @@ each_doubt_holds seen order fees plan cuts =
     (of-cuts seen order fees plan cuts by_cuts refl
     (each_cut_holds order.side (usable seen order fees) (fillable (usable seen order fees) order.shares) plan.cost cuts)))
 
--- the doubt that is told holds
+-- the doubt that is reported holds
 pub told_doubt_holds : (seen : Seen) (order : Terms) (fees : Charges) (plan : Plan) (cuts : List Cut) (why which : Doubt)
     → doubt_of seen order fees plan cuts ≡ Some why → why ≡ which → DoubtHolds seen order fees plan cuts which
 told_doubt_holds seen order fees plan cuts why which is same =

@@ -1,4 +1,4 @@
--- What a search of a list says: where some element passes a test, a search finds one that does.
+-- What a search of a list returns: if some element passes a test, a search finds one that does.
 use Rattle.std.proofs.Common.{ℕ, ◌≡◌, ◌<◌, ◌≤◌, ◌+◌, ◌-◌, Bool, cond, drop, true, false, List, [], ◌∷◌, length, refl}
 use Rattle.std.proofs.Common.{get_or, All, Option, Some, None}
 use Rattle.std.proofs.Common.{◌⊎◌, inl, inr, ap, sym}
@@ -20,17 +20,17 @@ none_position-step p xs k d none below (inl before) =
     (lt-ltb (position_or_len p xs) (length xs) before)) ∙ none))))
 none_position-step p xs k d none below (inr after) = fails_before_first p xs k d (omega (arith, below, after))
 
--- where a search finds nothing, no element passes
+-- if a search finds nothing, no element passes
 pub none_position : {X : Type 0} (p : X → Bool) (xs : List X) → position p xs ≡ None → All (λ x. p x ≡ false) xs
 none_position p xs none k d below = none_position-step p xs k d none below (cases_lt (position_or_len p xs) (length xs))
 
--- where some element passes, it finds one
+-- if some element passes, it finds one
 pub some_position : {X : Type 0} (p : X → Bool) (xs : List X) → list_any p xs ≡ true → position p xs ≡ None → ⊥
 some_position p xs some none =
     let found = Any-from_list_any p xs some in
     false≢true (sym (none_position p xs none found.0 found.1 found.2) ∙ (ap p found.3 ∙ found.4))
 
--- where it finds nothing, none passes
+-- if it finds nothing, none passes
 pub none_any : {X : Type 0} (p : X → Bool) (xs : List X) → position p xs ≡ None → list_any p xs ≡ false
 none_any p xs none = list_any_none p xs (none_position p xs none)
 
@@ -46,7 +46,7 @@ pub not-false : (b : Bool) → not b ≡ false → b ≡ true
 not-false true e = refl
 not-false false e = absurd (false≢true (sym e))
 
--- what a search behind an element finds stands behind it
+-- what a search after an element finds stands after it
 pub behind-at : {X : Type 0} (p : X → Bool) (xs : List X) (i at : ℕ) (d : X) → position p (drop (i + 1) xs) ≡ Some at
     → p (get_or xs (i + 1 + at) d) ≡ true
 behind-at p xs i at d found =
@@ -56,7 +56,7 @@ behind-at p xs i at d found =
 pub found-at : {X : Type 0} (p : X → Bool) (xs : List X) (i : ℕ) (x : X) → position p xs ≡ Some i → x ≡ get_or xs i x → p x ≡ true
 found-at p xs i x found is = ap p is ∙ (position-Some p xs i x found).1
 
--- what stands between an element and the one that is found behind it does not pass
+-- no element between an element and the one that is found after it passes
 pub behind-next : {X : Type 0} (p : X → Bool) (xs : List X) (i at k : ℕ) (d : X) → position p (drop (i + 1) xs) ≡ Some at → i < k
     → k < i + 1 + at → p (get_or xs k d) ≡ false
 behind-next p xs i at k d found after before =
@@ -87,7 +87,7 @@ find-none-step : {X : Type 0} (b : Bool) (x : X) (more : Option X) (rest : Bool)
 find-none-step true x more rest later e = cc
 find-none-step false x more rest later e = later e
 
--- where it finds nothing, none passes
+-- if it finds nothing, none passes
 pub find-none : {X : Type 0} (p : X → Bool) (xs : List X) → find p xs ≡ None → list_any p xs ≡ false
 find-none p [] e = refl
 find-none p (x ∷ xs) e = find-none-step (p x) x (find p xs) (list_any p xs) (find-none p xs) e

@@ -1,4 +1,4 @@
--- What holds of each thing that a search in order may tell holds of the one that it tells.
+-- What holds of each thing that a search in order may return holds of the one that it returns.
 use Rattle.std.proofs.Common.{◌≡◌, Bool, true, false, Option, Some, None, refl, subst}
 use Rattle.std.specs.Prelude.{IfSome, option_map}
 use Rattle.nms_rules.specs.First.{when, ◌or_else◌}

@@ -79,7 +79,7 @@ named-among seen order legs row part first same =
     (In-map (passed_by legs) (filter (is_traded_through order legs) (contra_rows order.side seen)) row
     (In-filter (is_traded_through order legs) (contra_rows order.side seen) row found.0 found.1)) (sym same)
 
--- where something is traded through there is a leg
+-- if something is traded through, there is a leg
 pub some-leg : (seen : Seen) (order : Terms) (legs : List Leg) (row : Row) → first_traded_through seen order legs ≡ Some row
     → 0 < length legs
 some-leg seen order legs row first =

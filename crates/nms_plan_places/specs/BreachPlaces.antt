@@ -1,5 +1,5 @@
--- Where a breach stands in a plan, what was found there and what was expected: each says so by the breach's own condition
--- (`Breach` of `nms_rules`). This product's own rule, after 17 CFR 242.600, "trade-through", and 242.611(b)(1).
+-- Where a breach stands in a plan, what was found there and what was expected. Each place follows from the breach's own
+-- condition (`Breach` of `nms_rules`). This product's own rule, after 17 CFR 242.600, "trade-through", and 242.611(b)(1).
 use Rattle.std.specs.Prelude.{ℕ, ◌≡◌, ◌≢◌, ◌<◌, All, Any, true, false, List, filter, map, slice_index_or}
 use Rattle.nms_quote.specs.Terms.{Terms}
 use Rattle.nms_quote.specs.declared.order.OrderSide.{OrderSide}
@@ -26,13 +26,13 @@ passed_by legs row = record { row = row; given = given_by legs row.part }
 abbrev pub passed_over : Seen → Terms → List Leg → List PassedOver
 passed_over seen order legs = map (passed_by legs) (filter (is_traded_through order legs) (contra_rows order.side seen))
 
--- the first leg than which none has a worse price
+-- the first leg at the worst price of all
 pub record IsWorst (seen : Seen) (side : OrderSide) (legs : List Leg) (at : LegPlace) : Type 0 where
   pub stands : IsLegPlace seen side legs at
   pub worst : All (λ leg. is_better side at.leg.price leg.price ≡ false) legs
   pub first : (k : ℕ) → k < at.number → (d : Leg) → is_better side (slice_index_or legs k d).price at.leg.price ≡ true
 
--- the quotations that are traded through, all of them at better prices than the plan's worst one, with the one that the breach names
+-- the quotations that are traded through, all at better prices than the plan's worst one, with the one that the breach names
 pub record IsThrough (seen : Seen) (order : Terms) (legs : List Leg) (part : ℕ) (at : LegPlace) (passed : List PassedOver) : Type 0 where
   pub worst : IsWorst seen order.side legs at
   pub rows : passed ≡ passed_over seen order legs

@@ -1,5 +1,5 @@
--- Where a doubt stands in a plan or its certificate, what was found there and what was expected: each says so by the doubt's
--- own condition (`Doubts` of `nms_cert`). This product's own rule.
+-- Where a doubt stands in a plan or its certificate, what was found there and what was expected. Each place follows from the
+-- doubt's own condition (`Doubts` of `nms_cert`). This product's own rule.
 use Rattle.std.specs.Prelude.{ℕ, ℤ, ⊤, ◌≡◌, ◌≢◌, ◌+◌, ◌<◌, true, false, not, List, Some, drop, position, slice_get, slice_index_or}
 use Rattle.std.specs.Int.RustNames.{int_lt}
 use Rattle.std.specs.List.{find}
@@ -23,11 +23,11 @@ use Rattle.nms_plan_places.specs.declared.cut_place.CutSums.{CutSums}
 use Rattle.nms_plan_places.specs.declared.doubt_places.DoubtPlace.{DoubtPlace}
 use Rattle.nms_plan_places.specs.declared.doubt_places.DoubtPlace.TheVariants as place
 
--- the cut of its number, counted from 0
+-- the cut of that number, counted from 0
 abbrev pub IsCutPlace : List Cut → CutPlace → Type 0
 IsCutPlace cuts at = slice_get cuts at.number ≡ Some at.cut
 
--- the sums at a cutoff, where so many shares can be filled
+-- the sums at a cutoff, if that many shares can be filled
 pub record AreSums (rows : List Usable) (all : ℕ) (cutoff : ℤ) (sums : CutSums) : Type 0 where
   pub most : sums.most ≡ all
   pub swept : sums.swept ≡ swept cutoff rows
@@ -52,19 +52,19 @@ IsShort seen order fees plan (place.NotMost found expected) =
     (found ≡ plan.filled) × (expected ≡ fillable (usable seen order fees) order.shares) × (found ≢ expected)
 IsShort seen order fees plan _ = ⊥
 
--- the first usable row, by participant place, at whose price no cut is
+-- the first usable row, by participant place, whose price has no cut
 abbrev pub IsMissingPlace : List Usable → List Cut → DoubtPlace → Type 0
 IsMissingPlace rows cuts (place.CutMissing row) =
     (find (λ it. not (has_cut cuts it.price)) rows ≡ Some row) × (has_cut cuts row.price ≡ false)
 IsMissingPlace rows cuts _ = ⊥
 
--- the first cut that is not at a better price than one behind it, and the first such one
+-- the first cut that is not at a better price than a later one, and the first such later one
 pub record IsOutOfOrder (side : OrderSide) (cuts : List Cut) (at later : CutPlace) : Type 0 where
   pub stands : IsCutPlace cuts at
   pub stands_too : IsCutPlace cuts later
   pub before : at.number < later.number
   pub worse : is_better side at.cut.price later.cut.price ≡ false
-  -- each before it is better than all behind it
+  -- each before it is better than all later ones
   pub first : (k : ℕ) → k < at.number → (d : Cut) → is_not_better side (slice_index_or cuts k d).price (drop (k + 1) cuts) ≡ false
   -- and it is better than each between the two
   pub next : (k : ℕ) → at.number < k → k < later.number → (d : Cut) → is_better side at.cut.price (slice_index_or cuts k d).price ≡ true
@@ -73,13 +73,13 @@ abbrev pub IsDisorder : OrderSide → List Cut → DoubtPlace → Type 0
 IsDisorder side cuts (place.OutOfOrder at later) = IsOutOfOrder side cuts at later
 IsDisorder side cuts _ = ⊥
 
--- the first cut at no usable price, or else, where each is at one, a cut that is out of order
+-- the first cut at no usable price, or else, if each is at one, a cut that is out of order
 abbrev pub IsExtraPlace : OrderSide → List Usable → List Cut → DoubtPlace → Type 0
 IsExtraPlace side rows cuts (place.CutExtra at) = IsCutPlace cuts at × (has_row rows at.cut.price ≡ false)
     × (position (λ cut. not (has_row rows cut.price)) cuts ≡ Some at.number)
 IsExtraPlace side rows cuts other = IsDisorder side cuts other × (some_is_extra rows cuts ≡ false)
 
--- the first cut that says what the sums at its price deny
+-- the first cut that contradicts the sums at its price
 abbrev pub IsKindPlace : OrderSide → List Usable → ℕ → List Cut → DoubtPlace → Type 0
 IsKindPlace side rows most cuts (place.WrongKind at sums) =
     IsCutPlace cuts at × AreSums rows most (rank_of side at.cut.price) sums
@@ -102,7 +102,7 @@ IsBoundPlace side rows most cost cuts number _ = ⊥
 
 -- ---- all of them
 
--- a doubt of the cuts, where so many shares can be filled and the plan costs so much
+-- a doubt of the cuts, if that many shares can be filled and the plan costs that much
 abbrev pub IsCutsPlace : OrderSide → List Usable → ℕ → ℤ → List Cut → Doubt → DoubtPlace → Type 0
 IsCutsPlace side rows most cost cuts doubt.CutMissing at = IsMissingPlace rows cuts at
 IsCutsPlace side rows most cost cuts doubt.CutExtra at = IsExtraPlace side rows cuts at

@@ -1,4 +1,4 @@
--- Legs of a plan, each beside the quotation that it goes to, and the legs that have a breach by themselves. The conditions are
+-- Legs of a plan, each with the quotation that it goes to, and the legs that have a breach by themselves. The conditions are
 -- those of `Breach` of `nms_rules`. This product's own rule.
 use Rattle.std.specs.Prelude.{ℕ, ◌≡◌, ◌==◌, ◌+◌, ◌<◌, Bool, true, false, List, Some, drop, position, slice_get, slice_index_or}
 use Rattle.nms_quote.specs.Terms.{Terms}
@@ -10,7 +10,7 @@ use Rattle.nms_rules.specs.declared.breach_kind.Breach.{Breach}
 use Rattle.nms_rules.specs.declared.breach_kind.Breach.TheVariants as breach
 use Rattle.nms_plan_places.specs.declared.leg_place.LegPlace.{LegPlace}
 
--- the leg of its number, counted from 0, and the quotation that this leg goes to
+-- the leg of that number, counted from 0, and the quotation that this leg goes to
 pub record IsLegPlace (seen : Seen) (side : OrderSide) (legs : List Leg) (place : LegPlace) : Type 0 where
   pub own : slice_get legs place.number ≡ Some place.leg
   pub quotation : place.quotation ≡ row_for seen side place.leg
@@ -36,13 +36,13 @@ pub record IsBrokenLeg (seen : Seen) (order : Terms) (legs : List Leg) (why : Br
   pub holds : breaks seen order why place.leg ≡ true
   pub first : position (breaks seen order why) legs ≡ Some place.number
 
--- the first leg with one behind it that goes to the same participant, and the first such one
+-- the first leg with a later one to the same participant, and the first such later one
 pub record IsRepeat (seen : Seen) (side : OrderSide) (legs : List Leg) (one other : LegPlace) : Type 0 where
   pub stands : IsLegPlace seen side legs one
   pub stands_too : IsLegPlace seen side legs other
   pub before : one.number < other.number
   pub same : one.leg.part ≡ other.leg.part
-  -- none before it has one behind it
+  -- no leg before it has a later one to the same participant
   pub first : (k : ℕ) → k < one.number → (d : Leg) → goes_to (slice_index_or legs k d).part (drop (k + 1) legs) ≡ false
-  -- none between the two goes there
+  -- no leg between the two goes there
   pub next : (k : ℕ) → one.number < k → k < other.number → (d : Leg) → ((slice_index_or legs k d).part == one.leg.part) ≡ false

@@ -21,16 +21,16 @@ pub enum BreachPlace {
     OtherVersion {
         /// The version that the plan names.
         found: u64,
-        /// The version that is looked at.
+        /// The version of the view.
         expected: u64,
     },
-    /// P2: the plan's order, and the one given, or the symbol that is looked at.
+    /// P2: the plan's order, and the order given, or the view's symbol.
     OtherOrder {
         /// The order that the plan names.
         found: Order,
         /// The order that was given.
         expected: Order,
-        /// The symbol that is looked at.
+        /// The symbol of the view.
         seen: Sym,
     },
     /// P3: the first leg whose participant has no quotation there, is named by the order, or has a manual one that the order
@@ -51,9 +51,9 @@ pub enum BreachPlace {
     },
     /// P7: two legs to one participant.
     Repeated {
-        /// The first leg with one behind it that goes to the same participant.
+        /// The first leg with a later one to the same participant.
         first: LegPlace,
-        /// The first such leg behind it.
+        /// The first such later leg.
         again: LegPlace,
     },
     /// P9: the shares of all legs, and those asked for.
@@ -63,7 +63,7 @@ pub enum BreachPlace {
         /// The shares that were asked for, which they exceed.
         expected: u32,
     },
-    /// P10: the quotations that are traded through at the plan's worst price.
+    /// P10: the quotations that the plan's worst price trades through.
     TradedThrough {
         /// The first leg at the plan's worst price.
         worst: LegPlace,
@@ -86,8 +86,8 @@ pub enum BreachPlace {
     },
 }
 
-/// Where the breach of a plan for an order on a view stands, which is the one that `breach` of `nms_rules` tells: the
-/// first leg that has it, what was found and what was expected. Takes no memory. This product's own rule.
+/// Where the breach of a plan that `breach` of `nms_rules` reports stands: the first leg that has it, what was found
+/// and what was expected. Takes no memory. This product's own rule.
 pub fn breach_place(
     view: &View,
     order: &Order,
@@ -148,7 +148,7 @@ pub fn breach_place(
     }
 }
 
-/// The first leg with one behind it that goes to the same participant, and that one.
+/// The first leg with a later one to the same participant, and that later leg.
 fn repeat_places(view: &View, side: OrderSide, legs: &[Leg]) -> (LegPlace, LegPlace)
     requires repeat { has_repeat legs.now ≡ true }
     requires few { length legs.now ≤ MOST_ROWS }

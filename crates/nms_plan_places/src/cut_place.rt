@@ -16,10 +16,10 @@ pub struct CutPlace {
     pub cut: Cut,
 }
 
-/// What must be swept and may be taken at the price of a cut, beside what can be filled, in shares.
+/// What must be swept and may be taken at a cut's price, and what can be filled, in shares.
 #[derive(Clone, Copy)]
 pub struct CutSums {
-    /// All that can be filled: what was asked for, or what may be traded with where that is less.
+    /// All that can be filled: what was asked for, or what may be traded with if that is less.
     pub most: u64,
     /// The displayed sizes of the protected quotations at better prices, which must be swept first.
     pub swept: u64,
@@ -27,7 +27,7 @@ pub struct CutSums {
     pub pool: u64,
 }
 
-/// The cut of a number.
+/// The cut of that number.
 pub(crate) fn cut_place(cuts: &[Cut], number: usize) -> CutPlace
     requires within { number < length cuts.now }
     requires few { length cuts.now ≤ MOST_ROWS }

@@ -1,4 +1,4 @@
-//! Which cut of a certificate a doubt speaks of (specs/DoubtPlaces).
+//! Which cut of a certificate has a doubt (specs/DoubtPlaces).
 ghost use Rattle.std.specs.Prelude.{ℕ, ◌≡◌, ◌+◌, ◌<◌, ◌≤◌, drop, false, length, not, position, slice_index_or, true};
 ghost use Rattle.std.specs.List.{find};
 ghost use Rattle.nms_quote.specs.declared.certificate.Cut.{Cut};
@@ -11,7 +11,7 @@ use nms_quote::{Cut, CutKind, OrderSide};
 use nms_rules::{Rank, UsableRow, is_better};
 use nms_units::{Money, Price};
 
-/// The first row at whose price no cut is.
+/// The first row whose price has no cut.
 pub(crate) fn row_without_cut(rows: &[UsableRow], cuts: &[Cut]) -> Option<UsableRow>
     ensures { result ≡ find (λ row. not (has_cut cuts.now row.price)) rows.now }
 {
@@ -25,7 +25,7 @@ pub(crate) fn cut_without_row(rows: &[UsableRow], cuts: &[Cut]) -> Option<usize>
     cuts.iter().position(|cut| !has_row(rows, cut.price))
 }
 
-/// The numbers of the first cut with one behind it than whose price its own is not better, and of the first such one.
+/// The numbers of the first cut whose price is not better than a later one's, and of the first such later cut.
 pub(crate) fn out_of_order_in(side: OrderSide, cuts: &[Cut]) -> (usize, usize)
     requires { is_out_of_order side cuts.now ≡ true }
     ensures before { result.0 < result.1 }
@@ -44,7 +44,7 @@ pub(crate) fn out_of_order_in(side: OrderSide, cuts: &[Cut]) -> (usize, usize)
     unreachable!()
 }
 
-/// The number of the first cut than whose price this one is not better.
+/// The number of the first cut whose price this cut's price does not beat.
 fn first_not_after(side: OrderSide, price: Price, cuts: &[Cut]) -> Option<usize>
     ensures { result ≡ position (λ cut. not (is_better side price cut.price)) cuts.now }
 {
@@ -52,7 +52,7 @@ fn first_not_after(side: OrderSide, price: Price, cuts: &[Cut]) -> Option<usize>
         .position(|cut| !is_better(side, price, cut.price))
 }
 
-/// The number of the first cut that says what the sums at its price deny.
+/// The number of the first cut that contradicts the sums at its price.
 pub(crate) fn wrong_kind_in(
     side: OrderSide,
     rows: &[UsableRow],

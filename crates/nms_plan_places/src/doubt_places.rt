@@ -32,18 +32,18 @@ pub enum DoubtPlace {
         /// The most that can be filled.
         expected: u64,
     },
-    /// K3: the first usable quotation, by participant place, at whose price no cut is.
+    /// K3: the first usable quotation, by participant place, whose price has no cut.
     CutMissing(UsableRow),
-    /// K4: the first cut at a price where no usable quotation is.
+    /// K4: the first cut at a price of no usable quotation.
     CutExtra(CutPlace),
-    /// K4: a cut, and the first one behind it than whose price its own is not better. Each cut is at a usable price.
+    /// K4: a cut, and the first later one whose price it does not beat. Each cut is at a usable price.
     OutOfOrder {
-        /// The first cut that has such a one behind it.
+        /// The first cut with such a later one.
         cut: CutPlace,
-        /// That one.
+        /// The later cut.
         later: CutPlace,
     },
-    /// K5: the first cut that says what the sums at its price deny.
+    /// K5: the first cut that contradicts the sums at its price.
     WrongKind {
         /// The cut.
         cut: CutPlace,
@@ -63,8 +63,8 @@ pub enum DoubtPlace {
     },
 }
 
-/// Where the doubt of a plan for an order on a view stands, which is the one that `confirm` of `nms_cert` tells: in the plan
-/// or in its certificate, with what was found and what was expected. Takes no memory. This product's own rule.
+/// Where the doubt of a plan that `confirm` of `nms_cert` reports stands: in the plan or in its certificate, with what was
+/// found and what was expected. Takes no memory. This product's own rule.
 pub fn doubt_place(
     view: &View,
     order: &Order,
@@ -156,7 +156,7 @@ fn extra_place(side: OrderSide, rows: &[UsableRow], cuts: &[Cut]) -> DoubtPlace
     }
 }
 
-/// A cut, and the first one behind it than whose price its own is not better.
+/// A cut, and the first later one whose price it does not beat.
 fn disordered(side: OrderSide, cuts: &[Cut]) -> DoubtPlace
     requires order { is_out_of_order side cuts.now ≡ true }
     requires few { length cuts.now ≤ MOST_ROWS }
@@ -169,7 +169,7 @@ fn disordered(side: OrderSide, cuts: &[Cut]) -> DoubtPlace
     }
 }
 
-/// The first usable quotation at whose price no cut is.
+/// The first usable quotation whose price has no cut.
 fn missing_row(rows: &[UsableRow], cuts: &[Cut]) -> UsableRow
     requires { some_lacks_cut rows.now cuts.now ≡ true }
     ensures first { find (λ row. not (has_cut cuts.now row.price)) rows.now ≡ Some result }
@@ -181,7 +181,7 @@ fn missing_row(rows: &[UsableRow], cuts: &[Cut]) -> UsableRow
     }
 }
 
-/// The first cut that says what the sums at its price deny.
+/// The first cut that contradicts the sums at its price.
 fn wrong_cut(side: OrderSide, rows: &[UsableRow], most: u64, cuts: &[Cut]) -> CutPlace
     requires wrong { some_is_wrong_kind side rows.now most cuts.now ≡ true }
     requires rows { length rows.now ≤ MOST_ROWS }
@@ -210,7 +210,7 @@ fn ranging_cut(cuts: &[Cut]) -> CutPlace
     }
 }
 
-/// The first cut that says what the sums at its price deny, and these sums.
+/// The first cut that contradicts the sums at its price, and these sums.
 fn kind_place(side: OrderSide, rows: &[UsableRow], most: u64, cuts: &[Cut]) -> DoubtPlace
     requires wrong { some_is_wrong_kind side rows.now most cuts.now ≡ true }
     requires rows { length rows.now ≤ MOST_ROWS }

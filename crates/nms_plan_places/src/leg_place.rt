@@ -1,4 +1,4 @@
-//! A leg of a plan beside the quotation that it goes to (specs/LegPlaces).
+//! A leg of a plan, and the quotation that it goes to (specs/LegPlaces).
 ghost use Rattle.std.specs.Prelude.{◌≡◌, ◌<◌, ◌≤◌, length, slice_index_or};
 ghost use Rattle.nms_quote.specs.declared.plan.Leg.{Leg};
 ghost use Rattle.nms_plan_places.specs.LegPlaces.{IsLegPlace};
@@ -7,7 +7,7 @@ use nms_board::{MOST_ROWS, Row, View};
 use nms_quote::{Leg, OrderSide};
 use nms_rules::row_for;
 
-/// A leg of a plan beside the quotation that it goes to.
+/// A leg of a plan, and the quotation that it goes to.
 #[derive(Clone, Copy)]
 pub struct LegPlace {
     /// The leg's number in the plan, counted from 0: at most 31.
@@ -19,7 +19,7 @@ pub struct LegPlace {
     pub quotation: Option<Row>,
 }
 
-/// The leg of a number, with the quotation that it goes to.
+/// The leg of that number, with the quotation that it goes to.
 pub(crate) fn leg_place(view: &View, side: OrderSide, legs: &[Leg], number: usize) -> LegPlace
     requires within { number < length legs.now }
     requires few { length legs.now ≤ MOST_ROWS }

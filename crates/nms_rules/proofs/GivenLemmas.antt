@@ -59,7 +59,7 @@ given-none (leg ∷ legs) part each =
       given-none legs part (λ other within. each other (inr within)),
     )
 
--- a leg's shares to its participant, where no two go to one
+-- a leg's shares to its participant, if no two go to one
 pub given-leg : (legs : List Leg) → Apart leg_part legs → (leg : Leg) → In leg legs → given_by legs leg.part ≡ leg.shares
 given-leg [] apart leg within = absurd within
 given-leg (first ∷ legs) apart leg (inl e) =
@@ -115,7 +115,7 @@ total-gives leg (first ∷ rows) apart row (inl same) e =
 total-gives leg (first ∷ rows) apart row (inr within) e =
     omega (arith, gives-other leg first.part (λ also. apart.0 row within (sym also ∙ e)), total-gives leg rows apart.1 row within e)
 
--- where each leg goes to a row, the rows get what the legs have
+-- if each leg goes to a row, the rows get what the legs have
 pub filled-given : (legs : List Leg) (rows : List Usable) → Apart row_part rows
     → ((leg : Leg) → In leg legs → (row : Usable) × In row rows × (leg.part ≡ row.part)) → filled (given_by legs) rows ≡ sum_of legs
 filled-given [] rows apart each = total-zero (λ row. given_by [] row.part) rows (λ row within. refl)

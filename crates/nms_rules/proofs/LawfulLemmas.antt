@@ -188,7 +188,7 @@ on_usable seen asked fees legs is part some =
 
 -- ---- trading through
 
--- a protected quotation with a leg beyond it gets its full size, where the legs do not trade through it
+-- a protected quotation with a leg beyond it gets its full size, if the legs do not trade through it
 swept-step : (asked : Terms) (legs : List Leg) (quoted : Row) (leg : Leg) → is_traded_through asked legs quoted ≡ false
     → is_binding asked quoted ≡ true
     → In leg legs → is_better asked.side quoted.price leg.price ≡ true
@@ -296,7 +296,7 @@ faultless_of_none seen asked fees plan bids offers none =
 
 -- ---- a lawful plan is without a breach
 
--- the usable row of a leg, as a quotation, is the one that its price is of
+-- the usable row of a leg, as a quotation, is the one at the leg's price
 serves-step : (seen : Seen) (asked : Terms) (fees : Charges) (legs : List Leg) → Apart place (contra_rows asked.side seen)
     → Apart leg_part legs → (leg : Leg) → In leg legs
     → (quoted : Row) → In quoted (contra_rows asked.side seen) → quoted.part ≡ leg.part → quoted.price ≡ leg.price

@@ -1,4 +1,4 @@
--- What an order's names change: nothing where there are none, and the quotations of each alone.
+-- What an order's names change: nothing if there are none, and the quotations of each alone.
 use Rattle.std.proofs.Common.{◌≡◌, ℕ, ◌==◌, Bool, true, false, ◌||◌, not, List, refl, ap, sym, ◌∙◌, map}
 use Rattle.std.specs.List.{filter}
 use Rattle.std.proofs.lemmas.Bool.{and_parts, eq-eqb, ne_eqb, not-true, or_left}

@@ -1,4 +1,4 @@
--- What a lawful plan's legs give the usable rows is what it fills, and costs what it costs.
+-- A lawful plan's legs give the usable rows what the plan fills, at what the plan costs.
 use Rattle.std.proofs.Common.{ℕ, zero, suc, ◌≡◌, ◌<◌, ◌≤◌, ◌+◌, ◌==◌, true, false, List, [], ◌∷◌, length, map, get_or, Any, ◌⊎◌, inl, inr}
 use Rattle.std.proofs.Common.{refl, ap, sym, ◌∙◌, subst, arith, add-one}
 use Rattle.std.specs.Prelude.{pos, ◌+ℤ◌, ◌*ℤ◌, if◌then◌else◌}
@@ -107,7 +107,7 @@ apart_usable asked fees (row ∷ quoted) apart =
     apart_usable-step asked fees row quoted (lack_usable asked fees row.part quoted apart.0) (apart_usable asked fees quoted apart.1)
     (cases_Bool (is_usable asked row))
 
--- a usable row of a leg's participant costs what the leg costs, where the leg has the quotation's price
+-- a usable row of a leg's participant costs what the leg costs, if the leg has the quotation's price
 abbrev IsRowOf : Terms → Charges → Leg → Usable → Type 0
 IsRowOf asked fees leg row = (row_place row ≡ leg.part) × (row.cost ≡ unit_cost_of fees leg.part asked.side leg.price)
 

@@ -107,7 +107,7 @@ no_less cutoff marginal given rows each =
 
 -- ---- the worst price that an assignment trades at
 
--- a row that gets shares, where no row at a worse price does
+-- a row that gets shares, if no row at a worse price does
 record IsWorst (P : Usable → Type 0) (given : Assignment) (rows : List Usable) (row : Usable) : Type 0 where
   pub holds : P row
   pub some : 0 < given row.part

@@ -1,6 +1,6 @@
--- When a certificate shows that a plan is optimal: the plan is lawful and fills all that can be filled, and for
--- each price that it could trade at a cut says why no plan that trades there, and at no worse price, is better.
--- This product's own rule.
+-- When a certificate shows that a plan is optimal: the plan is lawful and fills all that can be filled. For each price
+-- that the plan could trade at, a cut says why no plan that trades there, and at no worse price, is better. This
+-- product's own rule.
 use Rattle.std.specs.Prelude.{◌≡◌, true, List, All, AllPairs, Any}
 use Rattle.nms_quote.specs.Terms.{Terms}
 use Rattle.nms_quote.specs.declared.certificate.Cut.{Cut}
@@ -16,7 +16,7 @@ pub record IsAccepted (seen : Seen) (asked : Terms) (fees : Charges) (plan : Pla
   pub faultless : IsFaultless seen asked fees plan
   -- it fills all that can be filled
   pub full : plan.filled ≡ fillable (usable seen asked fees) asked.shares
-  -- each usable price has a cut, each cut is at a usable price, and each is at a better one than all after it
+  -- each usable price has a cut, each cut is at a usable price, and each is at a better price than all after it
   pub each_price : All (λ row. Any (λ cut. cut.price ≡ row.price) cuts) (usable seen asked fees)
   pub no_other : All (λ cut. Any (λ row. row.price ≡ cut.price) (usable seen asked fees)) cuts
   pub best_first : AllPairs (λ cut later. is_better asked.side cut.price later.price ≡ true) cuts

@@ -25,7 +25,7 @@ filled given rows = total (λ row. given row.part) rows
 abbrev pub total_cost : Assignment → List Usable → ℤ
 total_cost given rows = amount (λ row. row.cost *ℤ pos (given row.part)) rows
 
--- the most that can be filled: all that is shown, or what is asked where that is less
+-- the most that can be filled: all that is shown, or what is asked if that is less
 abbrev pub fillable : List Usable → ℕ → ℕ
 fillable rows asked = min asked (total (λ row. row.size) rows)
 
@@ -37,8 +37,8 @@ SweepsBetter rows given row = All (λ other. other.protected ≡ true → other.
 abbrev pub IsOnUsable : List Usable → Assignment → Type 0
 IsOnUsable rows given = (part : ℕ) → 0 < given part → Any (λ row. row.part ≡ part) rows
 
--- shares go to usable rows alone, no row gets more than it shows, no more is bought or sold than asked, and where
--- a row gets shares every better protected one is swept
+-- shares go to usable rows alone, no row gets more than it shows, and no more is bought or sold than asked; if a row
+-- gets shares, every better protected one is swept
 pub record IsLawful (rows : List Usable) (asked : ℕ) (given : Assignment) : Type 0 where
   pub on_usable : IsOnUsable rows given
   pub within : All (λ row. given row.part ≤ row.size) rows

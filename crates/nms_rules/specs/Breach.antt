@@ -1,6 +1,6 @@
--- What breaks a plan. Each breach says by itself when it holds; of those that hold the first is told. This
--- product's own rule, after 17 CFR 242.600, "intermarket sweep order" and "trade-through", and 242.611. An order's
--- self-help is a part of it (242.611(b)(1)).
+-- What breaks a plan. Each breach says by itself when it holds; the first that holds is reported. This product's own
+-- rule, after 17 CFR 242.600, "intermarket sweep order" and "trade-through", and 242.611. An order's self-help is a
+-- part of it (242.611(b)(1)).
 use Rattle.std.specs.Prelude.{ℕ, ◌==◌, ◌&&◌, ◌||◌, Bool, true, false, not, nat_lt, List, [], ◌∷◌, Option, Some, None, option_map}
 use Rattle.std.specs.List.{find, list_any}
 use Rattle.std.specs.Ordering.{int_eq}
@@ -50,7 +50,8 @@ is_other_order seen order plan = not (is_same_order plan.order order) || not (pl
 abbrev pub row_for : Seen → OrderSide → Leg → Option Row
 row_for seen side leg = find (λ row. row.part == leg.part) (contra_rows side seen)
 
--- it goes to no quotation, to one of a participant that the order names, or to a manual one without the order's leave
+-- it goes to no quotation, to one of a participant that the order names, or to a manual one that the order does not
+-- allow
 abbrev pub lacks_quotation : Terms → Option Row → Bool
 lacks_quotation order None = true
 lacks_quotation order (Some row) = not (is_allowed order row)
@@ -101,8 +102,8 @@ has_repeat (leg ∷ legs) = goes_to leg.part legs || has_repeat legs
 abbrev pub has_leg_beyond : OrderSide → ℕ → List Leg → Bool
 has_leg_beyond side price legs = list_any (λ leg. is_better side price leg.price) legs
 
--- a protected quotation, of nobody named, that is strictly better than the price of some leg gets less than its full
--- size: the legs trade through it (17 CFR 242.600, "trade-through"; 242.611(b)(1))
+-- the legs trade through a protected quotation of a participant that is not named: it is strictly better than the price
+-- of some leg and gets less than its full size (17 CFR 242.600, "trade-through"; 242.611(b)(1))
 unfoldable pub is_traded_through : Terms → List Leg → Row → Bool
 is_traded_through order legs row =
     is_binding order row && nat_lt (given_by legs row.part) row.size && has_leg_beyond order.side row.price legs
@@ -132,7 +133,7 @@ sum_breach seen order legs =
     when (is_over_asked order legs) breach.OverAsked
     or_else option_map (λ row. breach.TradedThrough row.part) (first_traded_through seen order legs)
 
--- what breaks a plan first, and none where nothing does
+-- what breaks a plan first; none if nothing does
 abbrev pub breach_of : Seen → Terms → Charges → Plan → Option Breach
 breach_of seen order fees plan =
     when (is_other_version seen plan) breach.OtherVersion

@@ -3,7 +3,7 @@ use Rattle.std.specs.Prelude.{ℕ, List, codes}
 use Rattle.nms_rules.specs.declared.breach_kind.Breach.{Breach}
 use Rattle.nms_rules.specs.declared.breach_kind.Breach.TheVariants as breach
 
--- the code by which a breach is told
+-- the code by which a breach is reported
 abbrev pub code_of : Breach → List ℕ
 code_of breach.OtherVersion = codes "P1"
 code_of breach.OtherOrder = codes "P2"

@@ -1,6 +1,6 @@
--- What a cut at a price says of all rows that an order may trade with. An order that trades at the price, and at
--- no worse one, has to sweep the protected rows at better prices in full (17 CFR 242.600, "intermarket sweep
--- order"), and takes the rest from the pool. The sums and the bound are this product's own rule.
+-- What a cut at a price says of all rows that an order may trade with. An order that trades at the price, and at no
+-- worse one, has to sweep the protected rows at better prices in full (17 CFR 242.600, "intermarket sweep order"). It
+-- takes the rest from the pool. The sums and the bound are this product's own rule.
 use Rattle.std.specs.Prelude.{ℕ, ℤ, pos, neg_ℤ, ◌+◌, ◌-◌, ◌^◌, ◌<◌, ◌≤◌, ◌+ℤ◌, ◌-ℤ◌, ◌*ℤ◌, ◌≤ℤ◌, ◌&&◌, Bool, not, List, if◌then◌else◌}
 use Rattle.std.specs.Int.{int_max}
 use Rattle.std.specs.Int.RustNames.{int_le, int_lt}
@@ -36,14 +36,14 @@ swept_cost cutoff rows = amount (swept_cost_part cutoff) rows
 abbrev pub pool : ℤ → List Usable → ℕ
 pool cutoff rows = total (pool_part cutoff) rows
 
--- how much less than the marginal the shares of the pool cost, where they cost less
+-- how much less than the marginal the shares of the pool cost, if they cost less
 abbrev pub savings_part : ℤ → ℤ → Usable → ℤ
 savings_part cutoff marginal row = if is_pooled cutoff row then int_max (marginal -ℤ row.cost) (pos 0) *ℤ pos row.size else pos 0
 
 abbrev pub savings : ℤ → ℤ → List Usable → ℤ
 savings cutoff marginal rows = amount (savings_part cutoff marginal) rows
 
--- the least that it can cost to fill so many, by the marginal: the rest costs that much a share, less the savings
+-- the least that filling that many shares can cost, by the marginal: the rest costs that much a share, less the savings
 abbrev pub least_cost : List Usable → ℕ → ℤ → ℤ → ℤ
 least_cost rows most cutoff marginal =
     swept_cost cutoff rows +ℤ marginal *ℤ pos (most - swept cutoff rows) -ℤ savings cutoff marginal rows
@@ -55,8 +55,8 @@ pub record IsBounded (rows : List Usable) (most : ℕ) (cost cutoff marginal : �
   pub high : marginal ≤ℤ pos (10 ^ 18)
   pub bound : cost ≤ℤ least_cost rows most cutoff marginal
 
--- what a cut of each kind says at a cutoff: more must be swept than can be filled; less is there than can be
--- filled; or the cost is bounded
+-- what a cut of each kind says at a cutoff: more must be swept than can be filled; there is less than can be filled; or
+-- the cost is bounded
 abbrev pub KindHolds : List Usable → ℕ → ℤ → ℤ → CutKind → Type 0
 KindHolds rows most cost cutoff TooMuch = most < swept cutoff rows
 KindHolds rows most cost cutoff TooLittle = swept cutoff rows + pool cutoff rows < most

@@ -1,6 +1,6 @@
--- What a lawful plan is: a plan of the view and the order given, whose legs go to quotations of the view at
--- their prices and are a lawful assignment, summed rightly. This product's own rule, after 17 CFR 242.600,
--- "intermarket sweep order", and 242.611(b)(5) and (6).
+-- What a lawful plan is: a plan of the view and the order given. Its legs go to quotations of the view at their prices,
+-- are a lawful assignment, and are summed rightly. This product's own rule, after 17 CFR 242.600, "intermarket sweep
+-- order", and 242.611(b)(5) and (6).
 use Rattle.std.specs.Prelude.{ℕ, ℤ, pos, ◌≡◌, ◌≤◌, ◌==◌, ◌+ℤ◌, ◌*ℤ◌, List, [], ◌∷◌, All, Any, map, sum_by, nat_eq, if◌then◌else◌}
 use Rattle.std.specs.List.{IsDistinct}
 use Rattle.nms_quote.specs.Terms.{Terms}

@@ -1,8 +1,8 @@
--- The laws above plans. Of lawful ones, in the words of 17 CFR 242.600, "trade-through" and "intermarket sweep order", and
--- 242.611(a), (b)(5) and (6): what the plan trades at a price that would trade through a protected quotation on the
--- side that the order trades with, it trades with that quotation swept. In a crossed market the other side is not
--- looked at: the exception for crossed markets, 242.611(b)(4), is not part of this product. What the participants quote
--- that the order names is not looked at either: self-help, 242.611(b)(1).
+-- The laws above plans. Those of lawful plans are in the words of 17 CFR 242.600, "trade-through" and "intermarket sweep
+-- order", and 242.611(a), (b)(5) and (6). A plan's price may trade through a protected quotation on the side that the
+-- order trades with: then the plan also sweeps that quotation. In a crossed market the other side is not looked at: the
+-- exception for crossed markets, 242.611(b)(4), is not part of this product. Quotations of participants that the order
+-- names are not looked at either: self-help, 242.611(b)(1).
 use Rattle.std.specs.Prelude.{ℕ, ◌≡◌, ◌≢◌, ◌≤◌, ◌≤ℤ◌, ◌&&◌, ◌||◌, Bool, false, not, None, List, All, filter, map}
 use Rattle.nms_quote.specs.Members.{has_part, nobody, with_part}
 use Rattle.nms_quote.specs.Terms.{Terms}
@@ -23,19 +23,19 @@ use Rattle.nms_rules.specs.Usable.{contra, contra_rows, is_better, is_binding, i
 abbrev pub KeepsLimit : Terms → ℕ → Type 0
 KeepsLimit order price = is_better order.side order.limit price ≡ false
 
--- each quotation on the side that the order trades with, of nobody that it names, that a trade at the price would trade
--- through gets its full size
+-- each quotation that a trade at the price would trade through gets its full size: those on the side that the order
+-- trades with, of participants that it does not name
 abbrev pub SweepsThroughOnItsSide : Seen → Terms → List Leg → ℕ → Type 0
 SweepsThroughOnItsSide seen order legs price =
     All (λ found. found.0 ≡ contra order.side → is_named order found.1 ≡ false → found.1.size ≤ given_by legs found.1.part)
     (traded_through_at seen price)
 
--- at none of its prices does a plan trade through a protected quotation on the side that it trades with and leave it,
--- but for those of the participants that its order names, and each keeps the limit
+-- each price keeps the limit, and the plan sweeps each protected quotation on the side that it trades with that a price
+-- would trade through, except those of participants that its order names
 abbrev pub NeverTradesThrough : Seen → Terms → List Leg → Type 0
 NeverTradesThrough seen order legs = All (λ leg. KeepsLimit order leg.price × SweepsThroughOnItsSide seen order legs leg.price) legs
 
--- so it is with each plan that has no breach
+-- this holds of each plan that has no breach
 abbrev pub LawfulPlansNeverTradeThrough : Type 0
 LawfulPlansNeverTradeThrough =
     (seen : Seen) (order : Terms) (fees : Charges) (plan : Plan)
@@ -47,11 +47,11 @@ LawfulPlansPassOverTheNamed =
     (seen : Seen) (order : Terms) (fees : Charges) (plan : Plan)
     → breach_of seen order fees plan ≡ None → All (λ leg. has_part order.self_help leg.part ≡ false) plan.legs.items
 
--- a row of a view within the limit, protected or, by the order's leave, manual: no name is looked at
+-- a row of a view within the limit, protected, or manual if the order allows it: no name is looked at
 abbrev pub is_usable_by_state : Terms → Row → Bool
 is_usable_by_state order row = (row.protected || order.manual) && not (is_better order.side order.limit row.price)
 
--- an order that names nobody may trade with the rows that are so, and has to sweep what is protected
+-- an order that names nobody may trade with these rows, and has to sweep the protected ones
 pub record NamesNobody (seen : Seen) (order : Terms) (fees : Charges) : Type 0 where
   pub usable : usable seen order fees ≡ map (usable_row order fees) (filter (is_usable_by_state order) (contra_rows order.side seen))
   pub binding : (row : Row) → is_binding order row ≡ row.protected
@@ -70,7 +70,7 @@ naming order part = record {
   self_help = with_part order.self_help part;
 }
 
--- who is named more is neither traded with nor swept, and what every other quotes stays what it was
+-- quotations of the added participant are neither traded with nor swept, and all other quotations stay as they were
 pub record NamesOneMore (order : Terms) (part : ℕ) (row : Row) : Type 0 where
   pub own : row.part ≡ part → (is_usable (naming order part) row ≡ false) × (is_binding (naming order part) row ≡ false)
   pub other : row.part ≢ part → (is_usable (naming order part) row ≡ is_usable order row)
@@ -79,8 +79,8 @@ pub record NamesOneMore (order : Terms) (part : ℕ) (row : Row) : Type 0 where
 abbrev pub NamingOneLeavesTheOthers : Type 0
 NamingOneLeavesTheOthers = (order : Terms) (part : ℕ) (row : Row) → NamesOneMore order part row
 
--- a plan that is accepted with its cuts is an optimal way to spread shares over the usable rows, whoever made it (this
--- product's own rule)
+-- a plan that is accepted with its cuts is an optimal way to spread shares over the usable rows, whatever the plan's
+-- source (this product's own rule)
 abbrev pub AcceptedPlansAreOptimal : Type 0
 AcceptedPlansAreOptimal =
     (seen : Seen) (order : Terms) (fees : Charges) (plan : Plan) (cuts : List Cut)
@@ -93,7 +93,7 @@ pub record IsBestPlan (seen : Seen) (order : Terms) (fees : Charges) (plan : Pla
   pub most : (other : Plan) → IsFaultless seen order fees other → other.filled ≤ plan.filled
   pub cheapest : (other : Plan) → IsFaultless seen order fees other → other.filled ≡ plan.filled → plan.cost ≤ℤ other.cost
 
--- so it is with each plan that is accepted with its cuts (this product's own rule)
+-- this holds of each plan that is accepted with its cuts (this product's own rule)
 abbrev pub AcceptedPlansAreBest : Type 0
 AcceptedPlansAreBest =
     (seen : Seen) (order : Terms) (fees : Charges) (plan : Plan) (cuts : List Cut)

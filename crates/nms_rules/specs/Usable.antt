@@ -1,7 +1,7 @@
--- The quotations that an order may trade with, and how shares are spread over them. A buyer trades with offers
--- and a seller with bids, at the limit or better (17 CFR 242.600, "intermarket sweep order"). What the participants
--- quote that an order names under self-help is passed over (17 CFR 242.611(b)(1)). That a manual quotation may be used
--- where the order says so is this product's own rule.
+-- The quotations that an order may trade with, and how shares are spread over them. A buyer trades with offers and a
+-- seller with bids, at the limit or better (17 CFR 242.600, "intermarket sweep order"). Quotations of participants that
+-- an order names under self-help are passed over (17 CFR 242.611(b)(1)). A manual quotation may be used if the order
+-- says so: this is this product's own rule.
 use Rattle.std.specs.Prelude.{ℕ, ℤ, pos, neg_ℤ, ◌&&◌, ◌||◌, Bool, not, List, filter, map}
 use Rattle.nms_quote.specs.Members.{has_part}
 use Rattle.nms_quote.specs.Terms.{Terms}
@@ -35,11 +35,13 @@ rank_of Sell price = neg_ℤ (pos price)
 abbrev pub is_named : Terms → Row → Bool
 is_named order row = has_part order.self_help row.part
 
--- a quotation that the order may trade with, but for its price: of nobody named, and protected, or manual by its leave
+-- a quotation that the order may trade with, apart from its price: its participant is not named, and it is protected,
+-- or manual if allowed
+-- if allowed
 abbrev pub is_allowed : Terms → Row → Bool
 is_allowed order row = not (is_named order row) && (row.protected || order.manual)
 
--- a quotation that is swept before a worse price is traded: a protected one, of nobody named
+-- a quotation that is swept before a worse price is traded: a protected one of a participant that is not named
 abbrev pub is_binding : Terms → Row → Bool
 is_binding order row = not (is_named order row) && row.protected
 

@@ -1,7 +1,7 @@
 //! What breaks a plan.
 use nms_quote::Part;
 
-/// What breaks a plan, least number first. Only the first that holds is told.
+/// What breaks a plan, least number first. Only the first that holds is reported.
 #[derive(Clone, Copy, Debug, PartialEq, Eq)]
 pub enum Breach {
     /// P1: the plan is of another version than the view.
@@ -26,7 +26,7 @@ pub enum Breach {
     /// P10: a protected quotation, of a participant that the order does not name, at a strictly better price than some
     /// leg's gets less than its full displayed size (17 CFR 242.611).
     TradedThrough {
-        /// Its participant, the least place where several are traded through.
+        /// Its participant; the least place if several are traded through.
         part: Part,
     },
     /// P11: `filled` is not the sum of the legs' shares.

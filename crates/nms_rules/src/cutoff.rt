@@ -1,4 +1,4 @@
-//! What must be swept at a cutoff, what the pool has, and the least that filling so many can cost:
+//! What must be swept at a cutoff, what the pool has, and the least that filling that many shares can cost:
 //! `specs/Cutoff`.
 ghost use Rattle.std.specs.Prelude.{◌≡◌, ◌≤◌, ◌*◌, ◌^◌, ◌-ℤ◌, ◌≤ℤ◌, neg_ℤ, pos, length};
 ghost use Rattle.std.specs.Int.{int_max};
@@ -11,7 +11,7 @@ use crate::usable_row::UsableRow;
 use nms_board::MOST_ROWS;
 use nms_units::{MOST_SHARES, Money, Shares};
 
-/// How many shares can be filled: all that the rows show, or what is asked where that is less.
+/// How many shares can be filled: all that the rows show, or what is asked if that is less.
 ///
 /// There are at most `MOST_ROWS` rows, one for each participant.
 pub fn fillable(rows: &[UsableRow], asked: Shares) -> u64
@@ -116,7 +116,7 @@ fn swept_cost_part(row: &UsableRow, cutoff: Rank) -> Money
     }
 }
 
-/// How much less than the marginal a row's share costs, if it does.
+/// How much less than the marginal a row's share costs, if less.
 fn saved_by(row: &UsableRow, marginal: Money) -> Money
     requires low { neg_ℤ (pos (10 ^ 18)) ≤ℤ marginal }
     requires high { marginal ≤ℤ pos (10 ^ 18) }
@@ -128,7 +128,7 @@ fn saved_by(row: &UsableRow, marginal: Money) -> Money
     Money::new(difference.max(0))
 }
 
-/// What a row's shares in the pool cost less than the marginal, where they cost less.
+/// How much less than the marginal a row's shares in the pool cost, if less.
 fn savings_part(row: &UsableRow, cutoff: Rank, marginal: Money) -> Money
     requires low { neg_ℤ (pos (10 ^ 18)) ≤ℤ marginal }
     requires high { marginal ≤ℤ pos (10 ^ 18) }
@@ -167,7 +167,7 @@ fn swept_cost(rows: &[UsableRow], cutoff: Rank) -> Money
     sum
 }
 
-/// What the shares of the pool cost less than the marginal, where they cost less.
+/// How much less than the marginal the shares of the pool cost, if less.
 #[tactic(auto, using(crate::proofs::SumLemmas::amount_none, crate::proofs::SumLemmas::amount_more))]
 fn savings(rows: &[UsableRow], cutoff: Rank, marginal: Money) -> Money
     requires rows { length rows.now ≤ MOST_ROWS }
@@ -184,8 +184,8 @@ fn savings(rows: &[UsableRow], cutoff: Rank, marginal: Money) -> Money
     sum
 }
 
-/// The least that it can cost to fill so many and to trade at a price of that rank, and at no worse one, by a
-/// marginal: the price, in nanodollars, of one more share. This product's own rule.
+/// The least cost of filling that many shares at that rank and no worse, by a marginal: the price, in nanodollars, of
+/// one more share. This product's own rule.
 ///
 /// The marginal is from -10^18 to 10^18.
 pub fn least_cost(rows: &[UsableRow], most: u64, cutoff: Rank, marginal: Money) -> Money

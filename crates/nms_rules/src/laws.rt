@@ -1,9 +1,9 @@
 //! The laws above plans: `specs/Laws`. The functions do nothing: their contracts are the laws.
 ghost use Rattle.nms_rules.specs.Laws.{AcceptedPlansAreBest, AcceptedPlansAreOptimal, LawfulPlansNeverTradeThrough, LawfulPlansPassOverTheNamed, NamingNobodyChangesNothing, NamingOneLeavesTheOthers};
 
-/// A plan without a breach never trades through a protected quotation on the side that the order trades with, at any
-/// of its prices, and keeps its limit (17 CFR 242.611(a), (b)(5) and (6)). What the participants quote that the order
-/// names is left out (242.611(b)(1)). In a crossed market the other side is not looked at: the exception for crossed
+/// A plan without a breach keeps its limit. At none of its prices does it trade through a protected quotation on the
+/// side that its order trades with (17 CFR 242.611(a), (b)(5) and (6)). Quotations of participants that the order names
+/// are left out (242.611(b)(1)). In a crossed market the other side is not looked at: the exception for crossed
 /// markets, 242.611(b)(4), is not part of this product.
 pub fn a_lawful_plan_never_trades_through()
     ensures { LawfulPlansNeverTradeThrough }
@@ -14,14 +14,14 @@ pub fn a_lawful_plan_passes_over_the_named()
     ensures { LawfulPlansPassOverTheNamed }
 {}
 
-/// An order that names nobody may trade with the quotations of its side within its limit that are protected or, by its
-/// leave, manual, and has to sweep those that are protected, as if there were no self-help. This product's own rule.
+/// An order that names nobody is treated as if there were no self-help. It may trade with quotations of its side within
+/// its limit: protected, or manual if it allows them. It has to sweep the protected ones. This product's own rule.
 pub fn naming_nobody_changes_nothing()
     ensures { NamingNobodyChangesNothing }
 {}
 
-/// To name one participant more makes what that one quotes neither usable nor binding, and leaves what every other
-/// quotes as it was (17 CFR 242.611(b)(1)).
+/// Naming one more participant makes its quotations neither usable nor binding, and leaves all other quotations as they
+/// were (17 CFR 242.611(b)(1)).
 pub fn naming_one_leaves_the_others()
     ensures { NamingOneLeavesTheOthers }
 {}

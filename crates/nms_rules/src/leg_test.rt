@@ -34,8 +34,7 @@ pub fn row_for(view: &View, side: OrderSide, leg: &Leg) -> Option<Row>
     view.row(contra(side), leg.part)
 }
 
-/// Whether a leg goes to no quotation, to one of a participant that the order names, or to a manual one without the
-/// order's leave.
+/// Whether a leg goes to no quotation, to one of a participant that the order names, or to a manual one not allowed.
 pub fn lacks_quotation(view: &View, order: &Order, leg: &Leg) -> bool
     ensures { result ≡ lacks_quotation order.now (row_for view.now order.now.side leg.now) }
 {
@@ -79,8 +78,7 @@ fn is_beyond_limit(order: &Order, leg: &Leg) -> bool
     is_better(order.side, order.limit, leg.price)
 }
 
-/// Whether some leg goes to no quotation, to one of a participant that the order names, or to a manual one without the
-/// order's leave.
+/// Whether some leg goes to no quotation, to one of a participant that the order names, or to a manual one not allowed.
 #[tactic(auto, unfolding(crate::specs::Breach::some_lacks_quotation))]
 pub(crate) fn some_lacks_quotation(view: &View, order: &Order, legs: &[Leg]) -> bool
     ensures { result ≡ some_lacks_quotation view.now order.now legs.now }
@@ -158,7 +156,7 @@ pub fn given_to(legs: &[Leg], part: Part) -> u64
     given
 }
 
-/// The first protected quotation of nobody named that the legs trade through, by participant place.
+/// The first protected quotation that the legs trade through, of nobody named, by participant place.
 pub(crate) fn first_traded_through(view: &View, order: &Order, legs: &[Leg]) -> Option<Row>
     requires { length legs.now ≤ MOST_ROWS }
     ensures { result ≡ first_traded_through view.now order.now legs.now }
@@ -171,8 +169,8 @@ pub(crate) fn first_traded_through(view: &View, order: &Order, legs: &[Leg]) -> 
     None
 }
 
-/// Whether the legs trade through a quotation: it is protected and of nobody named, gets less than its full size, and
-/// some leg has a worse price (17 CFR 242.600, "trade-through"; 242.611(b)(1)).
+/// Whether the legs trade through a quotation: it is protected, of nobody named, gets less than its full size, and some
+/// leg has a worse price (17 CFR 242.600, "trade-through"; 242.611(b)(1)).
 #[tactic(auto, unfolding(crate::specs::Breach::is_traded_through))]
 pub fn is_traded_through(order: &Order, legs: &[Leg], row: &Row) -> bool
     requires { length legs.now ≤ MOST_ROWS }

@@ -12,16 +12,15 @@ fn is_named(order: &Order, row: &Row) -> bool
     order.self_help.has(row.part)
 }
 
-/// Whether an order may trade with a quotation, but for its price: nobody named gave it, and it is protected, or
-/// manual by the order's leave.
+/// Whether an order may trade with a quotation, apart from its price: it is of nobody named, and protected, or manual
+/// if the order allows it.
 pub(crate) fn is_allowed(order: &Order, row: &Row) -> bool
     ensures { result ≡ is_allowed order.now row.now }
 {
     !is_named(order, row) && (row.protected || order.manual)
 }
 
-/// Whether an order has to sweep a quotation before it trades at a worse price: nobody named gave it, and it is
-/// protected.
+/// Whether an order has to sweep a quotation before it trades at a worse price: it is of nobody named, and protected.
 pub(crate) fn is_binding(order: &Order, row: &Row) -> bool
     ensures { result ≡ is_binding order.now row.now }
 {

@@ -13,14 +13,14 @@ use nms_quote::{Order, OrderSide, Part};
 use nms_units::{Money, Price};
 use std::marker::Model;
 
-/// A quotation that an order may trade with: protected, or manual where the order allows it, of a participant that the
-/// order does not name, and not beyond the limit (17 CFR 242.600, "intermarket sweep order"; 242.611(b)(1); manual ones
-/// are this product's own rule).
+/// A quotation that an order may trade with: protected, or manual if the order allows it. The order does not name its
+/// participant, and it is within the limit (17 CFR 242.600, "intermarket sweep order"; 242.611(b)(1); manual ones are
+/// this product's own rule).
 #[derive(Clone, Copy)]
 pub struct UsableRow {
-    /// Whose it is.
+    /// The participant.
     pub part: Part,
-    /// How good its price is.
+    /// The rank of its price.
     pub rank: Rank,
     /// In 1/10,000 dollar.
     pub price: Price,
@@ -78,7 +78,7 @@ impl UsableRow {
     }
 }
 
-/// The row that stands in a list's unused places.
+/// The row that fills a list's unused places.
 impl Default for UsableRow {
     fn default() -> Self {
         let price = Price::new(1).unwrap();
@@ -107,8 +107,8 @@ pub fn usable_rows(view: &View, order: &Order, fees: &FeeBook) -> ArrayVec<Usabl
     usable
 }
 
-/// Whether an order may trade with a row: of a participant that it does not name, protected or, by its leave, manual,
-/// and within the limit.
+/// Whether an order may trade with a row: of nobody named, protected, or manual if the order allows it, and within the
+/// limit.
 pub fn is_usable(order: &Order, row: &Row) -> bool
     ensures { result ≡ is_usable order.now row.now }
 {

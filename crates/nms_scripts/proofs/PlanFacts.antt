@@ -1,4 +1,4 @@
--- A plan as a desk is told it refuses no record.
+-- A plan in a desk's answer refuses no record.
 use Rattle.std.proofs.Common.{◌≡◌, ◌++◌, List, [], ◌∷◌, map, refl}
 use Rattle.std.specs.Prelude.{count_by}
 use Rattle.nms_quote.specs.Roster.{Listing}

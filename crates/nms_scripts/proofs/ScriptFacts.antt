@@ -35,11 +35,11 @@ use Rattle.nms_scripts.specs.Script.{AsksAll, AsksOne, Sends, Serves, ShowsBest,
 use Rattle.nms_scripts.proofs.PlanFacts.{plan_refuses_none}
 use Rattle.nms_scripts.proofs.ThroughFacts.{through_refuses_none}
 
--- a reply is no want of memory
+-- a reply is not out of memory
 pub no_want : (r : Reply) → (let a : Answer = Ok r in a) ≢ Err fault.NoMemory
 no_want r e = cc
 
--- one step, and what it tells
+-- one step, and its records
 pub asks_one : (number : ℕ) (asked : Step) (answer : Answer) (old new : State) (before after : List ℕ) (is_refused : Bool)
     → WentOn old new (asked, answer) → answer ≢ Err fault.NoMemory → after ≡ before ++ text_of (told_by number answer)
     → count_by is_refusal (told_by number answer) ≡ cond is_refused 1 0
@@ -47,7 +47,7 @@ pub asks_one : (number : ℕ) (asked : Step) (answer : Answer) (old new : State)
 asks_one number asked answer old new before after is_refused went memory text count events h =
     ((asked, answer) ∷ [], told_by number answer, (answer, memory, refl, refl), goes_on old new events (asked, answer) went h, text, count)
 
--- one step that was refused, as it is told
+-- one step that was refused, and its record
 pub refuses_one : (number : ℕ) (asked : Step) (why : StepFault) (old new : State) (before after : List ℕ) (told : Result Bool AllocError)
     → WentOn old new (asked, Err why) → why ≢ fault.NoMemory
     → IfOk told (λ refused. (refused ≡ true) × (after ≡ before ++ text_of (told_by number (Err why))))
@@ -166,7 +166,7 @@ takes_all number old drained new r before after until went text none events h =
       none,
     )
 
--- a taking was refused, and not for an empty queue or want of memory
+-- a taking was refused, and not for an empty queue or for memory
 pub takes_refused : (number : ℕ) (old new : State) (before after : List ℕ) (why : StepFault) (told : Result Bool AllocError)
     → TakesUntil why old new
     → why ≢ fault.QueueEmpty → why ≢ fault.QueueFull → why ≢ fault.NoMemory

@@ -1,4 +1,4 @@
--- What a price trades through, as it is told: quotations of the roster's participants, and no refusal.
+-- What a price trades through, as an answer lists it: quotations of the roster's participants, and no refusal.
 use Rattle.std.proofs.Common.{ℕ, ◌≡◌, ◌<◌, List, [], ◌∷◌, false, map, refl, sym, subst, ap, arith, Option, Some, None}
 use Rattle.std.specs.Prelude.{All, count_by, IfSome}
 use Rattle.std.specs.List.{filter}
@@ -42,7 +42,7 @@ pub through_refuses_none : (roster : Listing) (desk : ℕ) (seen : Seen) (price 
     → count_by is_refusal (through_records roster desk seen price quotations) ≡ 0
 through_refuses_none roster desk seen price quotations = no_refusal roster quotations
 
--- a row that does not rank above the best is not traded through where the best is not
+-- a row that does not rank above the best is not traded through if the best is not
 not_through : (side : Side) (price : ℕ) (best row : Row) → better_price side best.price price ≡ false → ranks_above side row best ≡ false
     → is_through side price row ≡ false
 not_through Bid price best row h k = grind (arith, nat_tests)

@@ -14,7 +14,7 @@ use Rattle.nms_fees.specs.Settings.{Settings}
 use Rattle.nms_flow.specs.Run.{Event}
 use Rattle.nms_scripts.specs.Script.{AnswersFrom, AnswersInPart, IsTooLong, is_refusal}
 
--- so many records were answered, so many of them refused, and the answers were written
+-- that many records were answered, that many of them refused, and the answers were written
 pub record HasAnswered (settings : Settings) (machine : State) (old new : Option (List ℕ)) (done refused : ℕ) : Type 0 where
   pub records : List Record
   pub events : List Event
@@ -26,7 +26,7 @@ pub record HasAnswered (settings : Settings) (machine : State) (old new : Option
   pub counted : length records ≡ done
   pub refusals : count_by is_refusal told ≡ refused
 
--- those are the records that were read, and the reader stands behind them
+-- those are the records that were read, and the reader stands after them
 pub record HasCome {R : Type 0} (remaining : R → Option (List ℕ)) (settings : Settings) (bytes : Option (List ℕ)) (reader : Reader R)
     (machine : State) (old new : Option (List ℕ)) (done refused : ℕ) : Type 0 where
   pub so_far : HasAnswered settings machine old new done refused
@@ -43,7 +43,7 @@ pub record IsEnd (settings : Settings) (bytes old new : Option (List ℕ)) (done
   pub stopped : fault ≢ script_fault.WriteFault → StopsAfter settings bytes old new done refused fault
   pub cut : fault ≡ script_fault.WriteFault → AnswersInPart settings bytes old new
 
--- where one record more leads
+-- the point that one record more leads to
 abbrev pub AdvancesTo : {R : Type 0} (remaining : R → Option (List ℕ)) (settings : Settings) (bytes : Option (List ℕ)) (reader : Reader R)
     (machine : State) (old new : Option (List ℕ)) (done refused : ℕ) → Result Progress ScriptFault → Type 0
 AdvancesTo remaining settings bytes reader machine old new done refused (Ok (progress.Answered more)) =

@@ -1,5 +1,5 @@
--- The answer to a script: a run of the machine whose steps are those that the records ask for, in order,
--- and the records that it is told. This product's own rule.
+-- The answer to a script: a run of the machine whose steps are those that the records ask for, in order, and the
+-- records of its answers. This product's own rule.
 use Rattle.std.specs.Prelude.{ℕ, ◌≡◌, ◌≢◌, ◌≤◌, ◌+◌, All, Bool, true, List, [], ◌∷◌, ◌++◌, length, Option, Some, Result, Ok, Err, count_by}
 use Rattle.std.specs.Prelude.{codes, if◌then◌else◌}
 use Rattle.std.specs.Str.{bytes_eq}
@@ -45,7 +45,7 @@ use Rattle.nms_text.specs.declared.script_fault.ScriptFault.TheVariants as scrip
 abbrev pub script_reading : Settings → Record → Result Line LineFault
 script_reading settings fields = reading settings.roster (source.Script settings.desks) fields
 
--- one step, and what its answer tells. Want of memory is no answer: it ends the script
+-- one step, and its answer. Out of memory is no answer: it ends the script
 abbrev pub AsksOne : ℕ → Step → List Event → List Record → Type 0
 AsksOne number asked events told = (answer : Answer) × (answer ≢ Err fault.NoMemory) × (events ≡ (asked, answer) ∷ [])
     × (told ≡ told_by number answer)
@@ -68,21 +68,21 @@ TakesAll (Err _) events = ⊥
 abbrev pub AsksAll : ℕ → List Event → List Record → Type 0
 AsksAll number events told = (answer : Answer) × TakesAll answer events × (told ≡ told_by number answer)
 
--- a desk looked, and is told the best bid and the best offer of what it saw
+-- a desk looked, and its answer is the best bid and the best offer of what it saw
 abbrev pub ShowsBest : Listing → ℕ → ℕ → List Event → List Record → Type 0
 ShowsBest roster desk sym events told =
     (seen : Seen) × (bid offer : Option Row) × (events ≡ (step.Look desk sym, Ok (reply.Seen seen)) ∷ [])
     × IsBestOf Bid (rows_on Bid seen) bid × IsBestOf Offer (rows_on Offer seen) offer
     × (told ≡ best_record roster desk seen bid offer ∷ [])
 
--- a desk looked, and is told the protected quotations that a trade at the price trades through (17 CFR 242.611)
+-- a desk looked, and its answer is the protected quotations that a trade at the price trades through (17 CFR 242.611)
 abbrev pub ShowsThrough : Listing → ℕ → ℕ → ℕ → List Event → List Record → Type 0
 ShowsThrough roster desk sym price events told =
     (seen : Seen) × (events ≡ (step.Look desk sym, Ok (reply.Seen seen)) ∷ [])
     × (told ≡ through_records roster desk seen price (traded_through_at seen price))
 
--- a desk looked, and is told a plan of what it saw with a certificate that is accepted there: no lawful plan fills
--- more, or as much for less with fees (17 CFR 242.600, "intermarket sweep order")
+-- a desk looked, and its answer is a plan of what it saw with a certificate that is accepted there: no lawful plan
+-- fills more, or as much for less with fees (17 CFR 242.600, "intermarket sweep order")
 abbrev pub ShowsPlan : Settings → ℕ → Terms → List Event → List Record → Type 0
 ShowsPlan settings desk order events told =
     (seen : Seen) × (plan : Plan) × (cuts : List Cut) × (events ≡ (step.Look desk order.sym, Ok (reply.Seen seen)) ∷ [])
@@ -92,7 +92,7 @@ ShowsPlan settings desk order events told =
 abbrev pub IsRefused : ℕ → LineFault → List Event → List Record → Type 0
 IsRefused number fault events told = (events ≡ []) × (told ≡ refusal number (line_faults.code_of fault) ∷ [])
 
--- the steps that a line asks for, each with an answer, and what they tell
+-- the steps that a line asks for, each with an answer, and the records of these answers
 abbrev pub AnswersLine : Settings → ℕ → Line → List Event → List Record → Type 0
 AnswersLine settings number (line.Change change) events told = Sends settings.roster number change events told
 AnswersLine settings number line.TakeOne events told = AsksOne number step.Take events told
@@ -117,7 +117,7 @@ AnswersFrom settings number (fields ∷ records) events told =
     (first rest : List Event) × (now later : List Record) × (events ≡ first ++ rest) × (told ≡ now ++ later)
     × AnswersRecord settings number fields first now × AnswersFrom settings (number + 1) records rest later
 
--- the answer to these records: a run from the start, and what it is told
+-- the answer to these records: a run from the start, and the records of its answers
 pub record IsScriptAnswer (settings : Settings) (records : List Record) (events : List Event) (told : List Record) : Type 0 where
   pub run : IsRun (room_under settings) events
   pub answers : AnswersFrom settings 1 records events told
@@ -135,7 +135,7 @@ tally_of records events told = record {
   published = published_by events;
 }
 
--- so many came first, and the text has one more
+-- that many came first, and the text has one more
 abbrev pub IsTooLong : Option (List ℕ) → List Record → Type 0
 IsTooLong bytes records = (length records ≡ MOST_RECORDS) × (next : Record) × BeginRecords bytes (records ++ next ∷ [])
 
@@ -150,7 +150,7 @@ pub record Answers (settings : Settings) (bytes old new : Option (List ℕ)) (co
   pub written : Appends old new (text_of told)
   pub counted : counts ≡ tally_of records events told
 
--- one that ended early: what was written is the answer to the first records of the text
+-- a script that ended early: what was written is the answer to the first records of the text
 pub record AnswersBeginning (settings : Settings) (bytes old new : Option (List ℕ)) (fault : ScriptFault) : Type 0 where
   pub records : List Record
   pub events : List Event
@@ -160,12 +160,12 @@ pub record AnswersBeginning (settings : Settings) (bytes old new : Option (List 
   pub written : Appends old new (text_of told)
   pub long : fault ≡ script_fault.TooLong → IsTooLong bytes records
 
--- one whose writer failed: what was written is a first part of the answer to the first records of the text
+-- a script whose writer failed: what was written is a first part of the answer to the first records of the text
 abbrev pub AnswersInPart : Settings → (bytes old new : Option (List ℕ)) → Type 0
 AnswersInPart settings bytes old new = WritesPart (λ whole. AnswersBeginning settings bytes old whole script_fault.WriteFault) old new
 
--- the machine went on by events that were answered so, and what they tell was added to the text. Whether
--- it was a refusal is told too
+-- the machine went on by events with these answers, and the records of the answers were added to the text. Whether the
+-- record was refused is returned too
 abbrev pub Serves : (List Event → List Record → Type 0) → State → State → Option (List ℕ) → Option (List ℕ) → Bool → Type 0
 Serves Asked old new text_before text_after refused =
     (before : List Event) → IsAfter old before → (events : List Event) × (told : List Record) × Asked events told

@@ -1,4 +1,4 @@
--- What each step of a script tells. This product's own rule.
+-- The records that each step of a script adds. This product's own rule.
 use Rattle.std.specs.Prelude.{ℕ, List, [], ◌∷◌, Ok, Err}
 use Rattle.nms_lines.specs.Layout.{Record}
 use Rattle.nms_flow.specs.Faults as step_faults
@@ -6,7 +6,7 @@ use Rattle.nms_flow.specs.Run.{Answer}
 use Rattle.nms_flow.specs.declared.reply.Reply.TheVariants as reply
 use Rattle.nms_text.specs.Answers.{published_record, refusal, taken_record, told_record}
 
--- what a step's answer tells. A sent change tells nothing, and what a look shows is told by what asked for it
+-- the records of a step's answer. A sent change adds none, and what a look shows is added by the record that looked
 abbrev pub told_by : ℕ → Answer → List Record
 told_by number (Ok reply.Sent) = []
 told_by number (Ok (reply.Taken version)) = taken_record version ∷ []

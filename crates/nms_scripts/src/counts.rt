@@ -1,6 +1,6 @@
-//! What a script came to (specs/Script).
+//! The result of a script (specs/Script).
 
-/// What a script came to.
+/// The result of a script.
 #[derive(Clone, Copy, PartialEq, Eq)]
 pub struct Counts {
     /// How many records were read, at most 10,000,000.

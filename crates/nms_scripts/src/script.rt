@@ -21,12 +21,12 @@ use nms_text::{ScriptFault, tell};
 use std::alloc::Global;
 use std::io::{Read, Write};
 
-/// What became of one more record.
+/// The outcome of one more record.
 #[derive(Clone, Copy)]
 pub enum Progress {
     /// It was answered; `refused` by an `ERR` record.
     Answered { refused: bool },
-    /// There was none.
+    /// There was no record.
     Ended,
 }
 
@@ -42,10 +42,10 @@ struct Script {
 /// Answers the records of a script, one after another. Each answer is one write, flushed before the
 /// next record is read.
 ///
-/// A refused record is answered by `ERR`, its number and the code, and changes nothing, except that `F`
-/// keeps what it took before a full tape. `ReadFault`, `TooLong` (more than 10,000,000 records) and
-/// `NoMemory` leave the answers to the records before; `WriteFault` leaves a first part of the answers to
-/// the records that were read. No fault leaves anything else.
+/// A refused record is answered by `ERR`, its number and the code. It changes nothing, except that `F` keeps what it
+/// took before a full tape. `ReadFault`, `TooLong` (more than 10,000,000 records) and `NoMemory` leave the answers to
+/// the records before; `WriteFault` leaves a first part of the answers to the records that were read. No fault leaves
+/// anything else.
 pub fn run_script<R: Read + Drop, W: Write>(
     alloc: Global,
     setup: &Setup,
@@ -105,7 +105,7 @@ fn open(alloc: Global, setup: &Setup) -> Result<Script, ScriptFault>
     })
 }
 
-/// Reads and answers the record behind the first `done`, if there is one.
+/// Reads and answers the record after the first `done`, if there is one.
 fn advance<R: Read, W: Write>(
     script: &mut Script,
     setup: &Setup,
@@ -144,7 +144,7 @@ fn advance<R: Read, W: Write>(
     Ok(Progress::Answered { refused })
 }
 
-/// Tells an answer, if there is one: most records have none, and ask nothing of what writes.
+/// Writes an answer, if there is one: most records have none, and use no writer.
 fn tell_answer<W: Write>(writer: &mut W, answer: &[u8]) -> Result<(), ScriptFault>
     ensures written { OnOk result (Appends (W.contents writer.old) (W.contents writer.new) answer.now) }
     ensures part { OnErr result (AppendsPart (W.contents writer.old) (W.contents writer.new) answer.now) }
@@ -171,7 +171,7 @@ pub fn read<R: Read>(reader: &mut Reader<R>, row: &mut ByteRecord) -> Result<boo
     }
 }
 
-/// What the script came to.
+/// The result of the script.
 fn counts(flow: &Flow, records: u64, refused: u64) -> Counts
     ensures { (events : List Event) → IsAfter flow.now events → result ≡ record { records = records; refused = refused; tape = taken_by events; published = published_by events } }
 {

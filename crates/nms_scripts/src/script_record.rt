@@ -1,5 +1,5 @@
-//! One record of a script, served: the machine moves, and what is told is added to the answer's text
-//! (`Serves` of specs/Script).
+//! One record of a script, served: the machine moves, and its answer is added to the answer's text (`Serves` of
+//! specs/Script).
 ghost use Rattle.std.specs.Prelude.{◌≡◌, ◌<◌, ◌++◌, length, true, Some, Ok, Err, IfOk, OnOk};
 ghost use Rattle.csv.specs.Records.{fields_of};
 ghost use Rattle.nms_quote.specs.Roster.{holds, sizes_of};
@@ -20,8 +20,8 @@ use nms_text::{tell_best, tell_published, tell_refusal, tell_taken, tell_through
 use nms_units::Price;
 use std::alloc::AllocError;
 
-/// Answers a record: moves the machine, and appends what is told of it. Returns whether it was refused. Out of memory
-/// leaves the machine where the record's steps so far led.
+/// Answers a record: moves the machine, and appends its answer. Returns whether it was refused. Out of memory leaves
+/// the machine as the record's steps so far left it.
 pub fn serve(
     flow: &mut Flow,
     setup: &Setup,
@@ -107,7 +107,7 @@ fn refuse_step(out: &mut Vec<u8>, number: u64, fault: StepFault) -> Result<bool,
     Ok(true)
 }
 
-/// Takes one change. Want of memory ends the script.
+/// Takes one change. Out of memory ends the script.
 fn serve_take(flow: &mut Flow, number: u64, out: &mut Vec<u8>) -> Result<bool, AllocError>
     ensures served { IfOk result (Serves (AsksOne number step.Take) flow.old flow.new (Some out.old.items) (Some out.new.items)) }
     ensures room { room_of flow.new ≡ room_of flow.old }
@@ -124,8 +124,8 @@ fn serve_take(flow: &mut Flow, number: u64, out: &mut Vec<u8>) -> Result<bool, A
     }
 }
 
-/// Takes until the queue is empty, then publishes. A full tape ends it, and what was taken stays. Want of
-/// memory ends the script.
+/// Takes until the queue is empty, then publishes. A full tape ends it, and what was taken stays. Out of memory ends
+/// the script.
 fn serve_take_all(flow: &mut Flow, number: u64, out: &mut Vec<u8>) -> Result<bool, AllocError>
     ensures served { IfOk result (Serves (AsksAll number) flow.old flow.new (Some out.old.items) (Some out.new.items)) }
     ensures room { room_of flow.new ≡ room_of flow.old }
@@ -184,8 +184,8 @@ fn serve_best(
     Ok(false)
 }
 
-/// Lets a desk look, and appends the protected quotations that a trade at the price trades through. Between the best
-/// bid and the best offer there are none, and no view is made.
+/// Lets a desk look, and appends the protected quotations that a trade at the price trades through. If the price is
+/// between the best bid and the best offer there are none, and no view is made.
 fn serve_through(
     flow: &Flow,
     roster: &Roster,
@@ -208,7 +208,7 @@ fn serve_through(
 
 /// Appends the protected quotations that a trade at the price trades through, of what a desk sees.
 ///
-/// Not inlined: a view is large, and the other records are to pay nothing for one.
+/// Not inlined: a view is large, and the other records should pay nothing for it.
 #[inline(never)]
 fn list_through(
     flow: &Flow,

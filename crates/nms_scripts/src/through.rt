@@ -1,4 +1,4 @@
-//! The protected quotations that a trade at a price trades through, as a desk is told them.
+//! The protected quotations that a trade at a price trades through, as a desk's answer lists them.
 ghost use Rattle.std.specs.Prelude.{◌≡◌, ◌<◌, ◌++◌, All, length, false, OnOk, IfSome};
 ghost use Rattle.nms_lines.specs.Text.{text_of};
 ghost use Rattle.nms_quote.specs.declared.side_quote.Side.{Side};

@@ -69,7 +69,7 @@ shows_more sizes before now count shown quoted below shows is symbol there =
           rw lt (get_beside shown count symbol quoted differ ∙ shows symbol there)
     ]
 
--- the next one was shown last as the earlier tape has it
+-- the next one was last shown as the earlier tape has it
 pub each_place : (sizes : Sizes) (before now : Tape) (count : ℕ) (shown : List Quoted) → count < length sizes.lots
     → ShowsUpTo sizes before now count shown → ShowsOne sizes shown before count
 each_place sizes before now count shown below shows =
@@ -133,7 +133,7 @@ one_told board roster before now symbol stands same =
     ap (λ (n : ℕ). line_of roster n symbol was (quoted_in (seen_on board symbol))) stands.applied
     ∙ ap (λ (q : Quoted). line_of roster (length now) symbol was q) (quoted_stands board now (sizes_of roster) symbol stands same)
 
--- where one symbol alone may have a line, it is the only one
+-- if one symbol alone may have a line, it is the only one
 pub lone_line : (roster : Listing) (before now : Tape) (own : ℕ) → own < length roster.syms
     → ((sym : ℕ) → sym ≢ own → quoted_at (sizes_of roster) before sym ≡ quoted_at (sizes_of roster) now sym)
     → line_between roster before now own ≡ lines_between roster None before now
@@ -169,7 +169,7 @@ turn_shown board before now sizes count shown new stands same below shows set =
     (shows_more sizes before now count shown (quoted_in (seen_on board count)) below shows
     (quoted_stands board now sizes count stands same))
 
--- and tells its line
+-- and adds its line
 pub turn_told : (board : Board) (roster : Listing) (before now : Tape) (count : ℕ) (old had new : List ℕ) → StandsFor board now
     → board.sizes ≡ sizes_of roster
     → had ≡ old ++ text_of (flat_map (line_between roster before now) (range_with_len 0 count))

@@ -9,7 +9,7 @@ use Rattle.std.proofs.lemmas.List.Concat.{flat_map-append}
 use Rattle.nms_lines.specs.Layout.{Record}
 use Rattle.nms_lines.specs.Text.{record_text, text_of}
 
--- what is read where it was written
+-- what is read at the place that was written
 pub get_written : {X : Type 0} (xs : List X) (i : ℕ) (x y : X) → slice_get xs i ≡ Some x → slice_get (slice_set xs i y) i ≡ Some y
 get_written [] i x y there = absurd (cc)
 get_written (z ∷ xs) zero x y there = refl
@@ -35,7 +35,7 @@ quiet_range f low zero none = refl
 quiet_range f low (suc n) none =
     rw (none low (omega arith)) (quiet_range f (low + 1) n (λ k from. none k (omega arith)))
 
--- where one place alone gives something, it gives all
+-- if one place alone gives something, it gives all
 pub lone_range : {X : Type 0} (f : ℕ → List X) (own low n : ℕ) → low ≤ own → own < low + n → ((k : ℕ) → k ≢ own → f k ≡ [])
     → flat_map f (range_with_len low n) ≡ f own
 lone_range f own low zero from below none = absurd (omega arith)

@@ -94,7 +94,7 @@ pub anyway_failed : {A E P : Type 0} (result : Result A E) → P → OnErr resul
 anyway_failed (Ok x) holds = tt
 anyway_failed (Err e) holds = holds
 
--- the header and the lines of so many versions
+-- the header and the lines of that many versions
 abbrev pub told_to : Listing → Option ℕ → Tape → ℕ → List ℕ
 told_to roster asked tape count = text_of (header ∷ flat_map (lines_behind roster asked tape) (range_with_len 0 count))
 
@@ -106,7 +106,7 @@ told_more roster asked tape count =
     ap (λ (t : List ℕ). record_text header ++ t) (texts_more f count)
     ∙ sym (append_assoc (record_text header) (text_of (flat_map f (range_with_len 0 count))) (text_of (f count)))
 
--- the same, where the next change is known
+-- as above, if the next change is known
 pub told_on : (roster : Listing) (asked : Option ℕ) (tape : Tape) (count : ℕ) (change : Change)
     → version (count + 1) tape ≡ version count tape ++ change ∷ []
     → told_to roster asked tape count ++ text_of (lines_between roster asked (version count tape) (version count tape ++ change ∷ []))
@@ -115,7 +115,7 @@ told_on roster asked tape count change next =
     ap (λ (now : Tape). told_to roster asked tape count ++ text_of (lines_between roster asked (version count tape) now)) (sym next)
     ∙ sym (told_more roster asked tape count)
 
--- what is told of more versions begins with what is told of these
+-- the text of more versions begins with the text of these
 front : (roster : Listing) (asked : Option ℕ) (tape : Tape) (count more : ℕ)
     → (rest : List ℕ) × (told_to roster asked tape (count + more) ≡ told_to roster asked tape count ++ rest)
 front roster asked tape count zero =
@@ -138,7 +138,7 @@ part_of_stream old new roster asked tape count within cut =
     subst (AppendsPart old new) (sym begins ∙ ap (told_to roster asked tape) all)
     (part_of_longer old new (told_to roster asked tape count) rest cut)
 
--- what is told of all versions is the stream
+-- the text of all versions is the stream
 pub told_all : (roster : Listing) (asked : Option ℕ) (tape : Tape) (count : ℕ) → count ≤ length tape → length tape ≤ count
     → told_to roster asked tape count ≡ stream_text roster asked tape
 unfolding stream_text

@@ -36,7 +36,7 @@ quoted_stands board tape sizes sym stands same =
 best_of : List Row → List Row → Quoted
 best_of bids offers = record { bid = ranked_at Bid bids 0; offer = ranked_at Offer offers 0 }
 
--- where a board's rows of a symbol stay, what is quoted of it stays
+-- if a board's rows of a symbol stay, what is quoted of it stays
 pub quoted_stays : (board moved : Board) (before now : Tape) (sizes : Sizes) (sym : ℕ) → StandsFor board before → StandsFor moved now
     → board.sizes ≡ sizes → moved.sizes ≡ sizes → ((side : Side) → rows_held moved sym side ≡ rows_held board sym side)
     → quoted_at sizes before sym ≡ quoted_at sizes now sym
@@ -131,7 +131,7 @@ no_line_alike roster number symbol was quoted true is none = is
 no_line_alike roster number symbol was quoted false is none =
     absurd (some_line (line_record roster number symbol quoted) (sym (line_other roster number symbol was quoted is) ∙ none))
 
--- what one change tells of a symbol
+-- the line that one change adds of a symbol
 pub tells_of : (roster : Listing) (tape : Tape) (change : Change) (sym : ℕ) → TellsOf roster tape change sym
 unfolding line_between
 tells_of roster tape change symbol =

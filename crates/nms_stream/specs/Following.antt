@@ -1,4 +1,4 @@
--- What the code keeps beside a board while it goes along a tape: what was shown last of each symbol that is asked for.
+-- What the code keeps with a board while it goes along a tape: what was last shown of each symbol that is asked for.
 use Rattle.std.specs.Prelude.{ℕ, ◌≡◌, ◌<◌, List, length, nat_lt, slice_get, Option, Some, None, if◌then◌else◌}
 use Rattle.nms_quote.specs.Roster.{Sizes}
 use Rattle.nms_quote.specs.Tape.{Tape}
@@ -9,18 +9,18 @@ use Rattle.nms_stream.specs.Quoted.{quoted_at}
 use Rattle.nms_stream.specs.declared.following.Follower.{Follower}
 use Rattle.nms_stream.specs.declared.quoted.Quoted.{Quoted}
 
--- the symbol that a change speaks of alone. A withdrawal speaks of all
+-- the only symbol that a change speaks of. A withdrawal speaks of all
 abbrev pub symbol_of : Change → Option ℕ
 symbol_of (change.Quote part sym state bid offer) = Some sym
 symbol_of (change.State part sym state) = Some sym
 symbol_of (change.Withdraw part) = None
 symbol_of (change.Lot sym lot) = Some sym
 
--- what was shown last of one symbol is what a tape shows of it
+-- what was last shown of one symbol is what a tape shows of it
 abbrev pub ShowsOne : Sizes → List Quoted → Tape → ℕ → Type 0
 ShowsOne sizes shown tape sym = slice_get shown sym ≡ Some (quoted_at sizes tape sym)
 
--- the same of all symbols, or of the one that is asked for
+-- as above, of all symbols, or of the one that is asked for
 abbrev pub Shows : Sizes → Option ℕ → List Quoted → Tape → Type 0
 Shows sizes None shown tape = (sym : ℕ) → sym < length sizes.lots → ShowsOne sizes shown tape sym
 Shows sizes (Some sym) shown tape = ShowsOne sizes shown tape sym

@@ -1,4 +1,4 @@
--- Laws above the stream: what a reader may conclude of a line, and of none. This product's own rule.
+-- Laws above the stream: what a reader may conclude from a line, and from none. This product's own rule.
 use Rattle.std.specs.Prelude.{ℕ, ◌≡◌, ◌≢◌, true, false, [], ◌∷◌, ◌++◌, length}
 use Rattle.nms_quote.specs.Roster.{Listing, sizes_of}
 use Rattle.nms_quote.specs.Tape.{Tape}
@@ -12,7 +12,7 @@ use Rattle.nms_stream.specs.Stream.{line_between, line_record}
 abbrev pub market_at : Listing → Tape → ℕ → Market
 market_at roster tape sym = market_of (quoted_at (sizes_of roster) tape sym).bid (quoted_at (sizes_of roster) tape sym).offer
 
--- what one more change tells of a symbol
+-- the lines that one more change adds of a symbol
 pub record TellsOf (roster : Listing) (tape : Tape) (change : Change) (sym : ℕ) : Type 0 where
   pub alike : are_alike (quoted_at (sizes_of roster) tape sym) (quoted_at (sizes_of roster) (tape ++ change ∷ []) sym) ≡ true
       → line_between roster tape (tape ++ change ∷ []) sym ≡ []

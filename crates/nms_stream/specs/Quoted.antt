@@ -1,5 +1,5 @@
--- What is quoted best of a symbol (17 CFR 242.600, "national best bid and national best offer"), and when two such
--- look alike. That only what a line shows is compared is this product's own rule.
+-- The best quotations of a symbol (17 CFR 242.600, "national best bid and national best offer"), and when two of them
+-- look alike. Only what a line shows is compared: this is this product's own rule.
 use Rattle.std.specs.Prelude.{ℕ, ◌==◌, ◌&&◌, Bool, true, false, Option, Some, None}
 use Rattle.nms_quote.specs.Roster.{Sizes}
 use Rattle.nms_quote.specs.Tape.{Tape}
@@ -9,7 +9,7 @@ use Rattle.nms_board.specs.View.{Seen, view_of}
 use Rattle.nms_board.specs.declared.row.Row.{Row}
 use Rattle.nms_stream.specs.declared.quoted.Quoted.{Quoted}
 
--- the best bid and the best offer of what is seen: on each side the row above which none ranks
+-- the best bid and the best offer of what is seen: on each side the row that no row ranks above
 abbrev pub quoted_in : Seen → Quoted
 quoted_in seen = record { bid = ranked_at Bid seen.bids 0; offer = ranked_at Offer seen.offers 0 }
 

@@ -1,4 +1,4 @@
--- The stream of a tape: a header, and a line exactly where a symbol's best bid, best offer or market changes from one
+-- The stream of a tape: a header, and a line exactly when a symbol's best bid, best offer or market changes from one
 -- version to the next. At version 0 nothing is quoted. This product's own rule.
 use Rattle.std.specs.Prelude.{ℕ, ◌+◌, List, [], ◌∷◌, ◌++◌, codes, length, Option, Some, None, if◌then◌else◌}
 use Rattle.std.specs.Fmt.{decimal}
@@ -20,7 +20,7 @@ header =
     codes "version" ∷ codes "symbol" ∷ codes "market" ∷ codes "bid_participant" ∷ codes "bid_price" ∷ codes "bid_shares"
     ∷ codes "offer_participant" ∷ codes "offer_price" ∷ codes "offer_shares" ∷ []
 
--- what a line shows of a best row: participant, price, displayed size; three empty fields where a side has none
+-- what a line shows of a best row: participant, price, displayed size; three empty fields if a side has none
 abbrev pub side_fields : Listing → Option Row → List (List ℕ)
 side_fields roster None = [] ∷ [] ∷ [] ∷ []
 side_fields roster (Some row) = part_text roster row.part ∷ price_text row.price ∷ decimal row.size ∷ []
@@ -34,7 +34,7 @@ abbrev pub line_record : Listing → ℕ → ℕ → Quoted → Record
 line_record roster number sym quoted =
     decimal number ∷ symbol_text roster sym ∷ market_word (market_of quoted.bid quoted.offer) ∷ both_fields roster quoted
 
--- the line where what is quoted does not look like what was quoted before, and none where it does
+-- the line if what is quoted does not look like what was quoted before, and none if it does
 abbrev pub line_of : Listing → ℕ → ℕ → Quoted → Quoted → List Record
 line_of roster number sym was quoted = if are_alike was quoted then [] else line_record roster number sym quoted ∷ []
 
@@ -52,7 +52,7 @@ asked_for roster (Some sym) = sym ∷ []
 abbrev pub lines_between : Listing → Option ℕ → Tape → Tape → List Record
 lines_between roster asked before now = flat_map (line_between roster before now) (asked_for roster asked)
 
--- the lines of the version behind version n
+-- the lines of the version after version n
 abbrev pub lines_behind : Listing → Option ℕ → Tape → ℕ → List Record
 lines_behind roster asked tape n = lines_between roster asked (version n tape) (version (n + 1) tape)
 

@@ -1,4 +1,4 @@
-//! A board that goes along a tape, with what was shown last of each symbol: `specs/Following`.
+//! A board that goes along a tape, with what was last shown of each symbol: `specs/Following`.
 ghost use Rattle.std.specs.Prelude.{◌≡◌, ◌<◌, ◌++◌, ◌∷◌, [], length, true, None, Some, IfOk, IfSome, OnOk, slice_get, slice_set};
 ghost use Rattle.nms_quote.specs.Roster.{sizes_of};
 ghost use Rattle.nms_quote.specs.Tape.{Tape};
@@ -16,7 +16,7 @@ use nms_board::{BoardFault, Boards, Row, other_symbols_stay};
 use nms_quote::{Change, Roster, Sym};
 use std::alloc::{AllocError, Global};
 
-/// A board that goes along a tape, and what was shown last of each symbol, by place.
+/// A board that goes along a tape, and what was last shown of each symbol, by place.
 #[derive(Drop)]
 pub(crate) struct Follower {
     pub(crate) board: Boards,
@@ -51,8 +51,8 @@ fn shown_on(alloc: Global, roster: &Roster, board: &Boards) -> Result<Vec<Quoted
     Ok(shown)
 }
 
-/// Goes on by one change, and appends the lines of the symbols that are asked for. None is looked at that the change
-/// does not concern.
+/// Goes on by one change, and appends the lines of the symbols that are asked for. Symbols that the change does not
+/// concern are not looked at.
 pub(crate) fn follow(
     follower: &mut Follower,
     roster: &Roster,
@@ -75,7 +75,7 @@ pub(crate) fn follow(
     }
 }
 
-/// The same for one symbol.
+/// As `follow`, for one symbol.
 fn follow_one(
     follower: &mut Follower,
     roster: &Roster,
@@ -102,7 +102,7 @@ fn follow_one(
     show(follower, roster, sym, out)
 }
 
-/// The same for all symbols.
+/// As `follow`, for all symbols.
 fn follow_all(
     follower: &mut Follower,
     roster: &Roster,
@@ -125,7 +125,7 @@ fn follow_all(
     }
 }
 
-/// The symbol that a change speaks of alone; a withdrawal speaks of all.
+/// The only symbol that a change speaks of; a withdrawal speaks of all.
 fn symbol_of(change: &Change) -> Option<Sym>
     ensures { result ≡ symbol_of change.now }
 {
@@ -137,7 +137,7 @@ fn symbol_of(change: &Change) -> Option<Sym>
     }
 }
 
-/// Appends the line of a symbol where what its board has does not look like what was shown last, and keeps that as
+/// Appends the line of a symbol if its board does not look like what was last shown, and keeps the board's rows as
 /// shown.
 fn show(
     follower: &mut Follower,

@@ -74,7 +74,7 @@ fn rows_before(buf: &mut [u8], roster: &Roster, quoted: &Quoted) -> usize
     row_before(buf, end, roster, &quoted.bid)
 }
 
-/// Writes a best row's three fields, which take at most 52 bytes, so that they end at a place, and tells where they
+/// Writes a best row's three fields, which take at most 52 bytes, so that they end at a place, and returns where they
 /// start.
 fn row_before(buf: &mut [u8], end: usize, roster: &Roster, row: &Option<Row>) -> usize
     requires row { IfSome row.now (λ row. row.part < length roster.now.parts) }

@@ -1,4 +1,4 @@
-//! What is quoted best of a symbol: `specs/Quoted`.
+//! The best quotations of a symbol: `specs/Quoted`.
 ghost use Rattle.std.specs.Prelude.{◌≡◌, ◌<◌, length, IfSome};
 ghost use Rattle.nms_board.specs.Shown.{seen_on};
 ghost use Rattle.nms_board.specs.declared.row.Row.{Row};
@@ -7,17 +7,17 @@ ghost use Rattle.nms_stream.specs.Quoted.{are_alike, is_alike, quoted_in};
 use nms_board::{Boards, Row};
 use nms_quote::{Side, Sym};
 
-/// The best bid and the best offer of a symbol (17 CFR 242.600, "national best bid and national best offer"),
-/// `None` where a side has no quotation.
+/// The best bid and the best offer of a symbol (17 CFR 242.600, "national best bid and national best offer"), `None` if
+/// a side has no quotation.
 #[derive(Clone, Copy)]
 pub struct Quoted {
     /// The best bid: its price in 1/10,000 dollar, its displayed size in shares.
     pub bid: Option<Row>,
-    /// The best offer, likewise.
+    /// The best offer, as the bid.
     pub offer: Option<Row>,
 }
 
-/// What is quoted best of a symbol of a board. Takes no memory, and ranks nothing.
+/// The best quotations of a symbol of a board. Takes no memory, and ranks nothing.
 pub fn quoted_on(board: &Boards, sym: Sym) -> Quoted
     requires { sym < length board.now.sizes.lots }
     ensures best { result ≡ quoted_in (seen_on board.now sym) }

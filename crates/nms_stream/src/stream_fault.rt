@@ -18,7 +18,7 @@ pub enum StreamFault {
     /// E2: the writer failed. A first part of the stream was written, and nothing else.
     #[error("E2: the output could not be written")]
     WriteFault,
-    /// E4: out of memory. A first part of the stream was written, which may be none, and nothing else.
+    /// E4: out of memory. A first part of the stream was written, possibly none, and nothing else.
     #[error("E4: out of memory")]
     NoMemory,
 }

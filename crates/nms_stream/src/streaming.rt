@@ -25,9 +25,8 @@ use std::io::{Read, Write};
 /// How many bytes wait before they are written.
 const PIECE: usize = 65_536;
 
-/// Streams the changes of a file: a header, then a line exactly where the best bid, the best offer or the market of a
-/// symbol that is asked for changes, in order of versions, then of symbols. Without a symbol all of the roster are
-/// asked for.
+/// Streams the changes of a file: a header, then a line exactly when the best bid, best offer or market of a symbol
+/// that is asked for changes; in order of versions, then of symbols. Without a symbol all of the roster are asked for.
 ///
 /// The file is read first. `Changes` and `Board` leave nothing written, `WriteFault` and `NoMemory` a first part of
 /// the stream, and nothing else. Beyond the file's changes memory is taken for a board and some 128 KiB of lines.
@@ -50,7 +49,7 @@ pub fn stream_file<R: Read + Drop, W: Write>(
     }
 }
 
-/// Streams changes of a roster, as `stream_file` does those of a file.
+/// Streams changes of a roster, as `stream_file` streams those of a file.
 pub fn stream<W: Write>(
     alloc: Global,
     roster: &Roster,

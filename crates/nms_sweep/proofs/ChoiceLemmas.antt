@@ -40,7 +40,7 @@ least : (one other : Choice) → (cheaper (Some one) (Some other) ≡ Some other
     ⊎ (cheaper (Some one) (Some other) ≡ Some one) × (one.cost ≤ℤ other.cost)
 least one other = least-step one other (cases_Bool (int_lt other.cost one.cost))
 
--- no dearer than either
+-- neither one costs less
 left-least : (best found : Option Choice) (choice : Choice) → best ≡ Some choice → IsNoDearer (cheaper best found) choice
 left-least None found choice e = absurd (false≢true (ap is_some e))
 left-least (Some one) None choice e = record {

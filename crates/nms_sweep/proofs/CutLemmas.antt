@@ -158,7 +158,7 @@ no_less-in row [] each later within = absurd within
 no_less-in row (first ∷ rows) each later (inl e) = rw e each.0
 no_less-in row (first ∷ rows) each later (inr within) = no_less-in row rows each.1 later within
 
--- a row is better than all later ones, where the next one has another price
+-- a row is better than all later ones, if the next one has another price
 pub beyond : (side : OrderSide) (row : Usable) (rows : List Usable) → row.rank ≡ rank_of side row.price
     → ((one : Usable) → In one rows → one.rank ≡ rank_of side one.price) → NoLess Price row rows → Ordered Price rows
     → starts_at row.price rows ≡ false → (later : Usable) → In later rows → rank_of side row.price <ℤ rank_of side later.price

@@ -70,7 +70,7 @@ usable_cutoffs seen asked fees rows by_price are same ordered =
 abbrev pub no_row : Passed
 no_row = record { rows = 0; shown = 0; protected = 0; cost = pos 0 }
 
--- where no row of them is passed the walk begins
+-- if no row is passed, the walk begins
 pub begins_with : (seen : Seen) (asked : Terms) (fees : Charges) (by_price : List Usable) (passed : Passed)
     → IsPermutation (usable seen asked fees) by_price → IsOrdered Price by_price → length by_price ≤ MOST_ROWS → passed ≡ no_row
     → IsPassed by_price passed
@@ -85,7 +85,7 @@ begins_with seen asked fees by_price passed same ordered few is =
     begins by_price passed are (ap (λ (one : Passed). one.rows) is) (ap (λ (one : Passed). one.shown) is)
     (ap (λ (one : Passed). one.protected) is) (ap (λ (one : Passed). one.cost) is)
 
--- and in the order of their costs they tell the same sums
+-- and in the order of their costs they have the same sums
 pub sums_by_cost : (side : OrderSide) (rows by_price by_cost costs : List Usable) (cutoffs : List Cutoff) → IsPermutation rows by_price
     → IsPermutation by_price by_cost → costs ≡ by_cost → AreCutoffs side rows cutoffs
     → All (λ cutoff. IsCutoffOf side costs cutoff) cutoffs

@@ -1,4 +1,4 @@
--- Each cut is the one that its price asks for, and its marginal is what the last share costs that is needed.
+-- Each cut is the one that its price requires, and its marginal is the cost of the last share that is needed.
 use Rattle.std.proofs.Common.{ℕ, ◌≡◌, ◌<◌, ◌≤◌, ◌+◌, ◌-◌, ◌&&◌, true, false, List, [], ◌∷◌, ◌⊎◌, inl, inr, refl, ap, sym, ◌∙◌, subst, arith}
 use Rattle.std.proofs.Common.{nat_le}
 use Rattle.std.specs.Prelude.{ℤ, pos, ◌<ℤ◌, ◌≤ℤ◌, max}
@@ -59,7 +59,7 @@ record IsCostOf (cutoff : ℤ) (rows : List Usable) (number : ℕ) (cost : ℤ) 
 HasPooled : ℤ → List Usable → Type 0
 HasPooled cutoff rows = (row : Usable) × In row rows × (is_pooled cutoff row ≡ true)
 
--- where the pool has shares it has a row
+-- if the pool has shares, it has a row
 pool-step : (cutoff : ℤ) (row : Usable) (rows : List Usable) → (0 < pool cutoff rows → HasPooled cutoff rows) → 0 < pool cutoff (row ∷ rows)
     → (is_pooled cutoff row ≡ true) ⊎ (is_pooled cutoff row ≡ false) → HasPooled cutoff (row ∷ rows)
 unfolding total HasPooled

@@ -67,7 +67,7 @@ level-is cutoff marginal row pooled same (inr (inr (inl at))) = at.0.level
 level-is cutoff marginal row pooled same (inr (inr (inr (inl at)))) = absurd (omega (arith, ints, same, at.1))
 level-is cutoff marginal row pooled same (inr (inr (inr (inr at)))) = absurd (both_ways (is_pooled cutoff row) at.0.pooled pooled)
 
--- and so much less is left
+-- and that much less is left
 left-level : (cutoff marginal : ℤ) (left : ℕ) (row : Usable) → is_level cutoff marginal row ≡ true
     → left_after cutoff marginal left row ≡ left - row.size
 left-level cutoff marginal left row level = rw level refl

@@ -1,4 +1,4 @@
--- At some usable price an order can be filled: where the sizes up to it, best price first, reach what can be filled.
+-- At some usable price an order can be filled: when the sizes up to it, best price first, reach what can be filled.
 use Rattle.std.proofs.Common.{ℕ, ◌≡◌, ◌<◌, ◌≤◌, ◌+◌, List, [], ◌∷◌, ◌++◌, ◌⊎◌, inl, inr, refl, ap, subst, arith}
 use Rattle.std.specs.Prelude.{ℤ, ◌≤ℤ◌}
 use Rattle.std.specs.List.{AllByRecursion}
@@ -16,7 +16,7 @@ use Rattle.nms_sweep.proofs.TotalLemmas.{total_append}
 abbrev pub shown : List Usable → ℕ
 shown rows = total (λ row. row.size) rows
 
--- a price at which so many can be filled
+-- a price at which that many can be filled
 pub record Fits (rows : List Usable) (most : ℕ) (row : Usable) : Type 0 where
   pub sweeps : swept row.rank rows ≤ most
   pub reaches : most ≤ swept row.rank rows + pool row.rank rows

@@ -1,5 +1,5 @@
--- What share number so and so of the pool costs: the shares that cost less are no more, and with those that cost as
--- much there are enough.
+-- The cost of one share of the pool, by its number: no more shares cost less, and with those that cost as much there
+-- are enough.
 use Rattle.std.proofs.Common.{ℕ, ◌≡◌, ◌≤◌, ◌+◌, ◌-◌, true, false, ◌&&◌, List, [], ◌∷◌, ◌⊎◌, inl, inr, refl, ap, sym, ◌∙◌, subst, arith}
 use Rattle.std.proofs.Common.{nat_le}
 use Rattle.std.specs.Prelude.{ℤ, ◌≤ℤ◌}

@@ -111,7 +111,7 @@ table seen asked fees by_price by_cost rising same ordered again cheapest = reco
 
 -- ---- what a cut says
 
--- more must be swept, or less is there, or it has a marginal
+-- more must be swept, or there is less, or it has a marginal
 pub record IsFit (rows by_cost : List Usable) (most : ℕ) (cutoff : ℤ) : Type 0 where
   pub sweeps : swept cutoff rows ≤ most
   pub reaches : most ≤ swept cutoff rows + pool cutoff rows
@@ -238,7 +238,7 @@ right-step side fees rows by_price by_cost table' most choice (inr at) =
 
 -- ---- what the legs fill and cost
 
--- the legs are those of some cutoff, fill so much and cost so much
+-- the legs are those of some cutoff, fill that much and cost that much
 pub record Fills (side : OrderSide) (fees : Charges) (by_price : List Usable) (most : ℕ) (cost : ℤ) (legs : List Leg) : Type 0 where
   pub cutoff : ℤ
   pub marginal : ℤ
@@ -297,7 +297,7 @@ fills-right side fees rows by_price by_cost table' most choice right =
       );
     }
 
--- where there is a usable row, some cut offers something
+-- if there is a usable row, some cut offers something
 fit-is : (rows by_cost : List Usable) (most : ℕ) (cutoff : ℤ) → swept cutoff rows ≤ most → most ≤ swept cutoff rows + pool cutoff rows
     → Kinds rows by_cost most cutoff → IsFit rows by_cost most cutoff
 unfolding Kinds

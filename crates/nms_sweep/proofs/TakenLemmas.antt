@@ -66,7 +66,7 @@ none_taken cutoff (row ∷ rows) =
     let rest : 0 - pool_part cutoff row ≡ 0 = omega arith in
     omega (arith, ints, ap (λ n. row.cost *ℤ pos n) none, *ℤ-zero row.cost, ap (λ n. taken_cost cutoff n rows) rest, none_taken cutoff rows)
 
--- the row that has as many as are wanted
+-- the row that has the shares that are needed
 pub taken_here : (cutoff : ℤ) (number : ℕ) (row : Usable) (rows : List Usable) → is_pooled cutoff row ≡ true → number ≤ row.size
     → taken_cost cutoff number (row ∷ rows) ≡ row.cost *ℤ pos number
 unfolding taken_cost
@@ -191,7 +191,7 @@ came (first ∷ coming) cutoff later is = step (some-same cutoff first is.0)
     step : cutoff ≡ first → first ∷ coming ≡ cutoff ∷ later
     step e = ap (λ (one : Cutoff). one ∷ coming) (sym e) ∙ ap (λ (more : List Cutoff). cutoff ∷ more) (sym is.1)
 
--- where none is given there was none
+-- if none is given, there was none
 pub none_came : (coming later : List Cutoff) → GivesNext coming None later → coming ≡ []
 none_came [] later is = refl
 none_came (first ∷ coming) later is = absurd (false≢true (ap is_some is.0))

@@ -110,7 +110,7 @@ share_costs cutoff marginal left row (inr (inr (inr (inl at)))) =
 share_costs cutoff marginal left row (inr (inr (inr (inr at)))) =
     rw (at.0.level, at.0.below, at.0.pooled, at.0.swept) (omega (arith, ints, *ℤ-zero marginal, *ℤ-zero row.cost))
 
--- its share is within its size, is all of it where it must be swept, and is none beyond the cutoff
+-- its share is within its size, is all of it if it must be swept, and is none beyond the cutoff
 pub record Gets (cutoff : ℤ) (row : Usable) (share : ℕ) : Type 0 where
   pub within : share ≤ row.size
   pub sweeps : is_swept cutoff row ≡ true → share ≡ row.size

@@ -46,7 +46,7 @@ next_row rows i row later within is =
       all = sym (take-append-drop i rows) ∙ ap (λ (some : List Usable). take i rows ++ some) is;
     }
 
--- where some are left they begin within the rows
+-- if some are left, they begin within the rows
 pub within_rows : (rows : List Usable) (i : ℕ) (row : Usable) (later : List Usable) → i ≤ length rows → drop i rows ≡ row ∷ later
     → i < length rows
 within_rows [] zero row later within is = absurd (cc)
@@ -185,7 +185,7 @@ swept-next side before row (next ∷ later) ranks ordered last =
 
 -- ---- one row of the walk
 
--- a row at whose price the next one is too
+-- a row with the next one at the same price
 again-rank : (rows : List Usable) (side : OrderSide) (row next : Usable) → row.rank ≡ rank_of side row.price
     → next.rank ≡ rank_of side next.price → (next.price ≡ row.price) → row.rank ≡ next.rank
 again-rank rows side row next is also same = is ∙ ap (rank_of side) (sym same) ∙ sym also
@@ -334,7 +334,7 @@ gives_at rows start row later left price shares cost count still last is sweeps 
         (cutoffs_of rows left)) (sym (still ∙ ends.1))
         (ap Some (cutoff-is price shares cost count rows row is sweeps pools), ap (cutoffs_of rows) rest)
 
--- where the price comes again nothing is given yet
+-- if the price comes again, nothing is given yet
 pub still_at : (rows : List Usable) (row : Usable) (later : List Usable) → starts_at row.price later ≡ true
     → cutoffs_of rows (row ∷ later) ≡ cutoffs_of rows later
 still_at rows row later again = step (per_cases (cutoff_at rows) row later)

@@ -5,7 +5,7 @@ use Rattle.nms_quote.specs.declared.certificate.Cut.{Cut}
 use Rattle.nms_quote.specs.declared.plan.Plan.{Plan}
 use Rattle.nms_sweep.specs.Choice.{IsInRange}
 
--- the most that a share costs with its fee, or brings, in nanodollars: the highest price and the highest fee
+-- the most that a share costs or earns with its fee, in nanodollars: the highest price and the highest fee
 abbrev pub most_unit : ℕ
 most_unit = 10 ^ 16 + 10 ^ 7
 

@@ -1,5 +1,5 @@
 -- Which of the best plans is chosen. At a cutoff, the protected rows at better prices in full, then the pool by unit
--- cost, then better price, then place; of the cutoffs the one of least cost, of equals the one at the best price.
+-- cost, then better price, then place. Of the cutoffs, the one of least cost; of equals, the one at the best price.
 -- This product's own rule.
 use Rattle.std.specs.Prelude.{ℕ, ℤ, pos, neg_ℤ, ◌-◌, ◌^◌, ◌==◌, ◌≤ℤ◌, ◌&&◌, Bool, false, not, min, nat_le, nat_lt, List, [], ◌∷◌, Option}
 use Rattle.std.specs.Prelude.{Some, None, if◌then◌else◌}
@@ -17,12 +17,12 @@ use Rattle.nms_sweep.specs.declared.cutoffs.Cutoff.{Cutoff}
 
 -- ---- the marginal
 
--- a row of the pool has as many shares as are wanted
+-- a row of the pool has the shares that are needed
 abbrev pub has_last : ℤ → ℕ → Usable → Bool
 has_last cutoff number row = is_pooled cutoff row && nat_le number row.size
 
--- what share number `number` of the pool costs, of rows in the order of their costs; the pool's least unit cost for
--- number 0
+-- what share number `number` of the pool costs, of rows in the order of their costs; for number 0, the pool's least
+-- unit cost
 unfoldable pub share_cost : ℤ → ℕ → ℤ → List Usable → ℤ
 share_cost cutoff number last [] = last
 share_cost cutoff number last (row ∷ rows) =
@@ -30,7 +30,7 @@ share_cost cutoff number last (row ∷ rows) =
 
 -- ---- the cuts
 
--- what the cut at a cutoff says, where so many shares must be swept and the pool has so many
+-- what the cut at a cutoff says, if that many shares must be swept and the pool has that many
 abbrev pub kind_by : List Usable → ℕ → ℤ → ℕ → ℕ → CutKind
 kind_by by_cost most cutoff swept pool =
     if nat_lt most swept then TooMuch
@@ -48,7 +48,7 @@ abbrev pub starts_at : ℕ → List Usable → Bool
 starts_at price [] = false
 starts_at price (row ∷ rows) = row.price == price
 
--- of each price of rows in the order of their prices, what its last row makes
+-- what the last row of each price makes, of rows in the order of their prices
 unfoldable pub per_price : {X : Type 0} → (Usable → X) → List Usable → List X
 per_price made [] = []
 per_price made (row ∷ rows) = if starts_at row.price rows then per_price made rows else made row ∷ per_price made rows
@@ -70,7 +70,7 @@ candidate rows most cutoff TooLittle = None
 candidate rows most cutoff (Marginal marginal) =
     Some (record { cutoff = cutoff; marginal = marginal; cost = least_cost rows most cutoff marginal })
 
--- the one of less cost, the first where they cost alike
+-- the one of less cost; the first one if they cost alike
 abbrev pub cheaper : Option Choice → Option Choice → Option Choice
 cheaper None other = other
 cheaper (Some one) None = Some one
@@ -87,7 +87,7 @@ chosen side rows most best (cut ∷ cuts) = chosen side rows most (cheaper best 
 abbrev pub is_below : ℤ → ℤ → Usable → Bool
 is_below cutoff marginal row = is_pooled cutoff row && int_lt row.cost marginal
 
--- a row of the pool that costs just the marginal
+-- a row of the pool that costs exactly the marginal
 abbrev pub is_level : ℤ → ℤ → Usable → Bool
 is_level cutoff marginal row = is_pooled cutoff row && not (int_lt row.cost marginal) && not (int_lt marginal row.cost)
 
@@ -98,7 +98,7 @@ below_part cutoff marginal row = if is_below cutoff marginal row then row.size e
 abbrev pub below : ℤ → ℤ → List Usable → ℕ
 below cutoff marginal rows = total (below_part cutoff marginal) rows
 
--- what a row gets, where so many shares are left to take at the marginal
+-- what a row gets, if that many shares are left to take at the marginal
 abbrev pub share_of : ℤ → ℤ → ℕ → Usable → ℕ
 share_of cutoff marginal left row =
     if is_swept cutoff row then row.size else if is_below cutoff marginal row then row.size else if is_level cutoff marginal row then min
@@ -112,14 +112,13 @@ left_after cutoff marginal left row = if is_level cutoff marginal row then left 
 abbrev pub with_leg : Usable → ℕ → List Leg → List Leg
 with_leg row shares legs = if nat_lt 0 shares then record { part = row.part; price = row.price; shares = shares } ∷ legs else legs
 
--- the legs, of rows in the order of their prices: so of those at the marginal the better price is first, then the
--- lower place
+-- the legs, of rows in the order of their prices: at the marginal the better price is first, then the lower place
 unfoldable pub legs_of : ℤ → ℤ → ℕ → List Usable → List Leg
 legs_of cutoff marginal left [] = []
 legs_of cutoff marginal left (row ∷ rows) =
     with_leg row (share_of cutoff marginal left row) (legs_of cutoff marginal (left_after cutoff marginal left row) rows)
 
--- the legs at the chosen cutoff, and none where nothing can be filled
+-- the legs at the chosen cutoff; none if nothing can be filled
 abbrev pub legs_chosen : List Usable → ℕ → Option Choice → List Usable → List Leg
 legs_chosen rows most None by_price = []
 legs_chosen rows most (Some choice) by_price =

@@ -1,6 +1,6 @@
 -- How a plan fills its order, and what its cuts say. At a cutoff the protected rows at better prices get their full
--- size (17 CFR 242.600, "intermarket sweep order"), then the pool is taken by unit cost, then better price, then place;
--- a cut tells what the last share costs that is so needed. Both are this product's own rule.
+-- size (17 CFR 242.600, "intermarket sweep order"). Then the pool is taken by unit cost, then better price, then place.
+-- A cut states what the last needed share costs. Both are this product's own rule.
 use Rattle.std.specs.Prelude.{ℕ, ℤ, ◌≡◌, ◌<◌, ◌≤◌, ◌+◌, ◌-◌, ◌<ℤ◌, ◌&&◌, true, max, List, All, Any, if◌then◌else◌}
 use Rattle.std.specs.Int.RustNames.{int_le}
 use Rattle.nms_quote.specs.declared.certificate.Cut.{Cut}
@@ -20,8 +20,8 @@ abbrev pub TakesEarlier : ℤ → List Usable → Assignment → Usable → Type
 TakesEarlier cutoff rows given row = All (λ other. is_pooled cutoff other ≡ true → is_taken_before other row ≡ true → given other.part
     ≡ other.size) rows
 
--- at a cutoff, which is a usable price where anything is filled: what must be swept is, a row of the pool gets shares
--- only where every earlier one is full, and no row at a worse price gets any
+-- at a cutoff, which is a usable price if anything is filled: what must be swept is swept; a row of the pool gets
+-- shares only if every earlier one is full; no row at a worse price gets any
 pub record FillsAt (rows : List Usable) (given : Assignment) (cutoff : ℤ) : Type 0 where
   pub at : 0 < filled given rows → Any (λ row. row.rank ≡ cutoff) rows
   pub sweeps : All (λ row. is_swept cutoff row ≡ true → given row.part ≡ row.size) rows
@@ -34,32 +34,32 @@ FillsInOrder rows given = (cutoff : ℤ) × FillsAt rows given cutoff
 
 -- ---- the cuts
 
--- how many shares of the pool cost no more than so much
+-- how many shares of the pool cost no more than that
 abbrev pub up_to_part : ℤ → ℤ → Usable → ℕ
 up_to_part cutoff cost row = if is_pooled cutoff row && int_le row.cost cost then row.size else 0
 
 abbrev pub up_to : ℤ → ℤ → List Usable → ℕ
 up_to cutoff cost rows = total (up_to_part cutoff cost) rows
 
--- what share number so and so of the pool costs, the cheapest first: what some row of the pool costs, where the shares
--- that cost less are fewer, and those that cost no more are as many; of no shares, what the cheapest costs
+-- the cost of one share of the pool, by its number, the cheapest first: the cost of some row of the pool. Fewer shares
+-- than the number cost less, and at least that many cost no more. For number 0, what the cheapest costs
 pub record IsShareCost (rows : List Usable) (cutoff : ℤ) (number : ℕ) (cost : ℤ) : Type 0 where
   pub some : Any (λ row. (is_pooled cutoff row ≡ true) × (row.cost ≡ cost)) rows
   pub fewer : below cutoff cost rows < max number 1
   pub as_many : number ≤ up_to cutoff cost rows
 
--- the marginal of a price at which so many can be filled: what the last share costs that is needed from the pool
+-- the marginal of a price at which that many can be filled: the cost of the last share that is needed from the pool
 pub record IsMarginalAt (rows : List Usable) (most : ℕ) (cutoff marginal : ℤ) : Type 0 where
   pub sweeps : swept cutoff rows ≤ most
   pub reaches : most ≤ swept cutoff rows + pool cutoff rows
   pub last : IsShareCost rows cutoff (most - swept cutoff rows) marginal
 
--- the kind that a price has: more must be swept than can be filled, or less is there, or it has a marginal
+-- the kind that a price has: more must be swept than can be filled, or there is less, or it has a marginal
 abbrev pub KindIs : List Usable → ℕ → ℤ → CutKind → Type 0
 KindIs rows most cutoff TooMuch = most < swept cutoff rows
 KindIs rows most cutoff TooLittle = swept cutoff rows + pool cutoff rows < most
 KindIs rows most cutoff (Marginal marginal) = IsMarginalAt rows most cutoff marginal
 
--- each cut says what its price asks for
+-- each cut says what its price requires
 abbrev pub AreExact : OrderSide → List Usable → ℕ → List Cut → Type 0
 AreExact side rows most cuts = All (λ cut. KindIs rows most (rank_of side cut.price) cut.kind) cuts

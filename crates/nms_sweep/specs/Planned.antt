@@ -32,7 +32,7 @@ pub record IsTable (seen : Seen) (order : Terms) (fees : Charges) (number : ℕ)
   pub all : walk.to_come ≡ cutoffs_of walk.rows walk.rows
 
 -- lawful, of as many shares as can be filled, accepted with its certificate, so optimal, its legs in order, filled in
--- order, and each cut says what its price asks for
+-- order, and each cut says what its price requires
 pub record IsPlanned (seen : Seen) (order : Terms) (fees : Charges) (plan : Plan) (cuts : List Cut) : Type 0 where
   pub lawful : breach_of seen order fees plan ≡ None
   pub most : plan.filled ≡ fillable (usable seen order fees) order.shares

@@ -16,7 +16,7 @@ pub(crate) struct Choice {
     pub(crate) cost: Money,
 }
 
-/// The one of less cost, the first where they cost alike.
+/// The cutoff of less cost; the first one if they cost alike.
 pub(crate) fn cheaper(best: Option<Choice>, other: Option<Choice>) -> Option<Choice>
     ensures { result ≡ cheaper best other }
 {

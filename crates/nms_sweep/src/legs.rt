@@ -12,8 +12,8 @@ use nms_quote::Leg;
 use nms_rules::{MOST_SIZE, Rank};
 use nms_units::{MOST_SHARES, Money, Shares};
 
-/// Puts the legs at the chosen cutoff into a list that has none, best price first, then by place; none where nothing can
-/// be filled. The rows come in the order of their prices.
+/// Puts the legs at the chosen cutoff into an empty list, best price first, then by place; none if nothing can be
+/// filled. The rows come in the order of their prices.
 pub(crate) fn put_legs(
     rows: &[PricedRow],
     most: u64,
@@ -32,7 +32,7 @@ pub(crate) fn put_legs(
     }
 }
 
-/// The same at a cutoff, where so many shares are left to take at the marginal.
+/// As `put_legs`, but at a cutoff, with that many shares left at the marginal.
 #[tactic(auto, unfolding(crate::specs::Choice::legs_of))]
 fn put_legs_at(
     cutoff: Rank,
@@ -77,7 +77,7 @@ fn is_below(cutoff: Rank, marginal: Money, row: &PricedRow) -> bool
     row.is_pooled(cutoff) && row.unit_cost() < marginal
 }
 
-/// Whether a row of the pool costs just the marginal.
+/// Whether a row of the pool costs exactly the marginal.
 fn is_level(cutoff: Rank, marginal: Money, row: &PricedRow) -> bool
     ensures { result ≡ is_level cutoff marginal row.now }
 {
@@ -123,7 +123,7 @@ fn below_part(row: &PricedRow, cutoff: Rank, marginal: Money) -> u64
     }
 }
 
-/// What a row gets, where so many shares are left to take at the marginal.
+/// What a row gets, if that many shares are left to take at the marginal.
 fn share_of(cutoff: Rank, marginal: Money, left: u64, row: &PricedRow) -> u64
     ensures share { result ≡ share_of cutoff marginal left row.now }
     ensures within { result ≤ MOST_SIZE }

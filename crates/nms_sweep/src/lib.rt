@@ -1,5 +1,5 @@
-//! The planner of intermarket sweep orders: it finds a lawful plan that fills most, and of those the one of least
-//! cost with fees, and writes the certificate that shows it.
+//! The planner of intermarket sweep orders: it finds a lawful plan that fills most, and of those the one of least cost
+//! with fees. It also writes the certificate that shows it.
 #![tactic(auto)]
 
 mod choice;

@@ -1,4 +1,4 @@
-//! What plans one order after another: `specs/Planned`.
+//! A planner for one order after another: `specs/Planned`.
 ghost use Rattle.std.specs.Prelude.{◌≡◌, ◌<◌, [], None, length};
 ghost use Rattle.nms_board.specs.Shown.{seen_on};
 ghost use Rattle.nms_rules.specs.Accepted.{IsAccepted};
@@ -19,8 +19,8 @@ use nms_quote::{Certificate, Order, OrderSide, PartSet, Plan, Sym};
 use nms_units::{Money, Price, Shares};
 use std::marker::Model;
 
-/// A planner that is kept, for a caller who plans one order after another: its rooms are made once, so that an order
-/// clears and moves none of them.
+/// A planner for a caller who plans one order after another: its rooms are made once, and an order clears and moves
+/// none of them.
 #[derive(Drop)]
 pub struct Planner {
     cutoffs: Cutoffs,
@@ -66,8 +66,8 @@ impl Planner {
         }
     }
 
-    /// Plans an order on what a look at a board shows of its symbol, as `plan` does on a view, and keeps the plan with its
-    /// certificate in place of the ones before. The rows are read off the board, with no view made. Takes no memory.
+    /// As `plan`, but on what a look at a board shows of the order's symbol. The plan and its certificate replace the ones
+    /// before. The rows are read off the board, with no view made. Takes no memory.
     pub fn plan_on(&mut self, board: &Boards, order: &Order, fees: &FeeBook)
         requires { order.now.sym < length board.now.sizes.lots }
         ensures lawful { breach_of (seen_on board.now order.now.sym) order.now fees.now self.new.plan ≡ None }
@@ -99,7 +99,7 @@ impl Planner {
         &self.plan
     }
 
-    /// Its certificate.
+    /// The certificate.
     pub fn certificate(&self) -> &Certificate
         ensures { result.now.items ≡ self.now.cuts }
     {

@@ -23,14 +23,13 @@ use nms_fee_book::FeeBook;
 use nms_quote::{Certificate, Order, Plan};
 use nms_units::{MOST_SHARES, Money, Shares};
 
-/// Plans an intermarket sweep order on a view (17 CFR 242.600; 242.611(b)(5) and (6)), and gives the certificate
-/// that the plan is optimal: no lawful plan fills more, and none that fills as much costs less with fees.
+/// Plans an intermarket sweep order on a view (17 CFR 242.600; 242.611(b)(5) and (6)), and returns the certificate that
+/// the plan is optimal: no lawful plan fills more, and none that fills as much costs less with fees.
 ///
 /// It always answers, and takes no memory. Legs stand by price, best first, then by participant place. Among equally
 /// good plans the choice is fixed: the cutoff at the best price; there the protected quotations that are better in
 /// full, then the others by unit cost, then better price, then place. The cuts are made in one walk over the prices;
-/// for each that can be filled at, one pass over the usable quotations, of which there are at most 32, gives the
-/// marginal and the cost.
+/// for each that can be filled at, one pass over the usable quotations, at most 32, gives the marginal and the cost.
 pub fn plan(view: &View, order: &Order, fees: &FeeBook) -> (Plan, Certificate)
     requires { order.now.sym ≡ view.now.sym }
     ensures lawful { breach_of view.now order.now fees.now result.0 ≡ None }
@@ -53,7 +52,7 @@ pub fn plan(view: &View, order: &Order, fees: &FeeBook) -> (Plan, Certificate)
     (plan, cuts)
 }
 
-/// The same into a plan and a certificate that are there, whatever they say: a caller who plans one order after another
+/// As `plan`, but into a plan and a certificate that are there, whatever they say: a caller who plans many orders
 /// clears and moves no room for each.
 pub fn plan_into(
     view: &View,
@@ -77,7 +76,7 @@ pub fn plan_into(
     fill(version, order, &mut cutoffs, &mut by_cost, plan, cuts);
 }
 
-/// Plans an order on the cutoffs of a version, all of which are to come. The list takes the rows in the order of their
+/// Plans an order on the cutoffs of a version, all of them still to come. The list takes the rows in the order of their
 /// costs.
 pub(crate) fn fill(
     version: u64,
@@ -104,7 +103,7 @@ pub(crate) fn fill(
     plan.cost = cost_chosen(&choice);
 }
 
-/// How many shares can be filled: all that the rows show, or what is asked where that is less.
+/// How many shares can be filled: all that the rows show, or what is asked if that is less.
 fn fillable(rows: &[PricedRow], asked: Shares) -> u64
     requires { length rows.now ≤ MOST_ROWS }
     ensures most { result ≡ fillable rows.now asked }

@@ -10,11 +10,11 @@ use nms_rules::{Rank, UsableRow};
 use nms_units::{Money, Price};
 use std::marker::Model;
 
-/// A quotation that an order may trade with, as `UsableRow` has it. What a share costs lies within 10^16 + 10^7
-/// nanodollars, so that 64 bits hold it; the wide fields stand first: a row takes 32 bytes.
+/// A quotation that an order may trade with, as `UsableRow` has it. A share costs at most 10^16 + 10^7 nanodollars
+/// either way, so 64 bits hold it. The wide fields stand first: a row takes 32 bytes.
 #[derive(Clone, Copy)]
 pub(crate) struct PricedRow {
-    /// How good its price is.
+    /// The rank of its price.
     pub(crate) rank: Rank,
     /// In 1/10,000 dollar.
     pub(crate) price: Price,
@@ -22,7 +22,7 @@ pub(crate) struct PricedRow {
     pub(crate) cost: i64,
     /// The displayed size, in shares.
     pub(crate) size: u32,
-    /// Whose it is.
+    /// The participant.
     pub(crate) part: Part,
     /// Whether it is protected; else it is manual.
     pub(crate) protected: bool,
@@ -55,7 +55,7 @@ impl Model for PricedRow {
     } };
 }
 
-/// The row that stands in a list's unused places.
+/// The row that fills a list's unused places.
 impl Default for PricedRow {
     fn default() -> Self {
         let price = Price::new(1).unwrap();

@@ -130,7 +130,7 @@ line_of-nested (column ∷ next ∷ columns) =
     ap (λ (rest : List ℕ). column ++ 32 ∷ rest) (line_of-nested (next ∷ columns))
     ∙ sym (append_assoc column (32 ∷ join_with_byte 32 (next ∷ columns)) (10 ∷ []))
 
--- the first columns of a line, each with the space behind it
+-- the first columns of a line, each with the space after it
 abbrev pub begun : List (List ℕ) → List ℕ
 begun [] = []
 begun (column ∷ columns) = column ++ 32 ∷ begun columns

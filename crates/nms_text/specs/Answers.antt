@@ -1,4 +1,4 @@
--- What a desk is told: records of text. This product's own rule.
+-- The answers that a desk gets: records of text. This product's own rule.
 use Rattle.std.specs.Prelude.{ℕ, List, [], ◌∷◌, ◌++◌, codes, length, map, Option, Some, None}
 use Rattle.std.specs.List.{join_with_byte}
 use Rattle.std.specs.Fmt.{decimal}
@@ -18,7 +18,7 @@ use Rattle.nms_lines.specs.Text.{later_fields}
 abbrev pub refusal : ℕ → List ℕ → Record
 refusal number code = codes "ERR" ∷ decimal number ∷ code ∷ []
 
--- so many changes were taken
+-- a change was taken, and the tape has that many
 abbrev pub taken_record : ℕ → Record
 taken_record version = codes "TAKEN" ∷ decimal version ∷ []
 
@@ -37,7 +37,7 @@ market_word market.Normal = codes "NORMAL"
 market_word market.Locked = codes "LOCKED"
 market_word market.Crossed = codes "CROSSED"
 
--- a best row: participant, price, displayed size, receipt; four empty fields where a side has none
+-- a best row: participant, price, displayed size, receipt; four empty fields if a side has none
 abbrev pub best_fields : Listing → Option Row → List (List ℕ)
 best_fields roster None = [] ∷ [] ∷ [] ∷ [] ∷ []
 best_fields roster (Some row) = part_text roster row.part ∷ price_text row.price ∷ decimal row.size ∷ decimal row.receipt ∷ []
@@ -52,7 +52,7 @@ best_record roster desk seen bid offer =
 abbrev pub look_text : ℕ → List ℕ → ℕ → List ℕ → List ℕ
 look_text desk sym version market = join_with_byte 44 (codes "BEST" ∷ decimal desk ∷ sym ∷ decimal version ∷ market ∷ [])
 
--- the fields of both rows behind those, and the end of the record
+-- the fields of both rows after those, and the end of the record
 abbrev pub rows_text : Listing → Option Row → Option Row → List ℕ
 rows_text roster bid offer = later_fields (best_fields roster bid) ++ later_fields (best_fields roster offer) ++ 10 ∷ []
 

@@ -1,5 +1,5 @@
--- The codes by which faults are told, and the exit status of a program that one of them ends: 1 for streams and files,
--- 5 for memory, 6 for lines, plans and lengths. This product's own rule.
+-- The codes by which faults are reported, and the exit status of a program that one of them ends: 1 for streams and
+-- files, 5 for memory, 6 for lines, plans and lengths. This product's own rule.
 use Rattle.std.specs.Prelude.{ℕ, List, codes}
 use Rattle.nms_text.specs.declared.text_fault.TextFault.{TextFault}
 use Rattle.nms_text.specs.declared.text_fault.TextFault.TheVariants as text_fault

@@ -1,4 +1,4 @@
--- What a live run came to, as text: the length of the tape, and each order's closing answer. This product's own rule.
+-- The result of a live run, as text: the length of the tape, and each order's closing answer. This product's own rule.
 use Rattle.std.specs.Prelude.{ℕ, List, [], ◌∷◌, codes}
 use Rattle.std.specs.List.{flat_map}
 use Rattle.std.specs.Fmt.{decimal}

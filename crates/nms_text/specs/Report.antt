@@ -24,7 +24,7 @@ use Rattle.nms_text.specs.Answers.{market_word}
 abbrev pub at_left : ℕ → List ℕ → List ℕ
 at_left width text = text ++ replicate (width - length text) 32
 
--- a text at the right of a column, behind spaces
+-- a text at the right of a column, after spaces
 abbrev pub at_right : ℕ → List ℕ → List ℕ
 at_right width text = replicate (width - length text) 32 ++ text
 
@@ -84,7 +84,7 @@ report_text roster seen bid offer =
     header_line roster seen (market_of bid offer) ++ side_text roster seen Bid bid ++ side_text roster seen Offer offer
     ++ pairs_text roster seen
 
--- the report of what is seen, whichever rows are taken for the best where several are
+-- the report of what is seen, whichever rows are taken for the best if there are several
 pub record IsReport (roster : Listing) (seen : Seen) (text : List ℕ) : Type 0 where
   pub bid : Option Row
   pub offer : Option Row

@@ -1,4 +1,4 @@
-//! What a desk is told, a record at a time (specs/Answers).
+//! The answers that a desk gets, a record at a time (specs/Answers).
 ghost use Rattle.std.specs.Prelude.{◌≡◌, ◌+◌, ◌<◌, ◌≤◌, ◌++◌, ◌∷◌, [], All, drop, length, map, false, OnOk, IfSome, Ok, Err};
 ghost use Rattle.nms_lines.specs.Text.{later_fields, text_of};
 ghost use Rattle.nms_board.specs.View.{Seen};
@@ -14,10 +14,10 @@ use nms_quote::{Roster, Side, Sym};
 use nms_units::Price;
 use std::alloc::AllocError;
 
-/// Room for the record of a best bid and offer, which takes at most 147 bytes behind its market and 66 before.
+/// Room for the record of a best bid and offer, which takes at most 147 bytes after its market and 66 before.
 const BEST_ROOM: usize = 224;
 
-/// Appends the record that refuses the one of that number.
+/// Appends the record that refuses the record of that number.
 pub fn tell_refusal(out: &mut Vec<u8>, number: u64, code: &str) -> Result<(), AllocError>
     ensures { OnOk result (out.new.items ≡ out.old.items ++ text_of (refusal number code.now ∷ [])) }
 {
@@ -27,7 +27,7 @@ pub fn tell_refusal(out: &mut Vec<u8>, number: u64, code: &str) -> Result<(), Al
     end_record(out)
 }
 
-/// Appends that a change was taken, which made the tape so long.
+/// Appends that a change was taken, and the tape's length after it.
 pub fn tell_taken(out: &mut Vec<u8>, version: u64) -> Result<(), AllocError>
     ensures { OnOk result (out.new.items ≡ out.old.items ++ text_of (taken_record version ∷ [])) }
 {
@@ -123,7 +123,7 @@ fn rows_before(buf: &mut [u8], roster: &Roster, bid: &Option<Row>, offer: &Optio
     row_before(buf, end, roster, bid)
 }
 
-/// Writes a best row's four fields, which take at most 73 bytes, so that they end at a place, and tells where they
+/// Writes a best row's four fields, which take at most 73 bytes, so that they end at a place, and returns where they
 /// start.
 fn row_before(buf: &mut [u8], end: usize, roster: &Roster, row: &Option<Row>) -> usize
     requires row { IfSome row.now (λ row. row.part < length roster.now.parts) }

@@ -1,4 +1,4 @@
-//! What a live run came to, as text (specs/LiveText).
+//! The result of a live run, as text (specs/LiveText).
 ghost use Rattle.std.specs.Prelude.{◌≡◌, ◌≢◌, ◌++◌, ◌∷◌, [], IfErr, OnOk};
 ghost use Rattle.std.specs.List.{flat_map};
 ghost use Rattle.std.specs.Io.KnownBytes.{Appends};
@@ -38,7 +38,7 @@ pub fn write_live<W: Write>(
     }
 }
 
-/// Appends what a live run came to.
+/// Appends the result of a live run.
 fn tell_live(
     out: &mut Vec<u8>,
     roster: &Roster,

@@ -81,7 +81,7 @@ fn write_side<W: Write>(
     Ok(())
 }
 
-/// Writes a row of a side, with a star where its participant is that of the side's best row.
+/// Writes a row of a side, with a star if its participant is that of the side's best row.
 fn write_row<W: Write>(
     writer: &mut W,
     roster: &Roster,

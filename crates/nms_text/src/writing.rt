@@ -7,7 +7,7 @@ use crate::script_fault::ScriptFault;
 use nms_lines::write_text;
 use std::io::Write;
 
-/// Writes a text at once, and flushes it. An empty one asks for nothing.
+/// Writes a text at once, and flushes it. An empty one needs nothing.
 ///
 /// `WriteFault` is its only fault, and leaves a first part of the text written, and nothing else.
 pub fn tell<W: Write>(writer: &mut W, text: &[u8]) -> Result<(), ScriptFault>

@@ -61,7 +61,7 @@ pub all_begin : (memory : List Batches) (longest new : Batches) → AllByRecursi
 all_begin [] longest new h p = tt
 all_begin (m ∷ memory) longest new h p = (prefix_changes m new (prefix_trans m longest new h.0 p), all_begin memory longest new h.1 p)
 
--- the changes of the first batches are so many as were published once
+-- the changes of the first batches are as many as were published once
 pub among : (front whole : Batches) (n : ℕ) → IsPrefix front whole → Contains (lengths_from n whole) (n + length (changes front))
 among [] [] n p = (0, omega arith, omega arith)
 among [] (batch ∷ whole) n p = (0, omega arith, omega arith)

@@ -38,7 +38,7 @@ pub none_empty_push : (log : Batches) (batch : List Change) → NoneEmpty log �
 none_empty_push [] batch h some = (some, tt)
 none_empty_push (x ∷ log) batch h some = (h.0, none_empty_push log batch h.1 some)
 
--- where the cell behind all that was seen is not at home, nothing more was published, and a batch is open
+-- if the cell after all that was seen is not at home, nothing more was published, and a batch is open
 lone : (seen log : Batches) (is_open : Bool) → IsPrefix seen log → length seen < length (cells_of log is_open)
     → (cell (cells_of log is_open) (length seen)).1 ≡ false → (seen ≡ log) × (is_open ≡ true)
 lone [] [] true p within away = (refl, refl)
@@ -54,7 +54,7 @@ module _ (seen : Batches) (old : ℕ) (same : length seen ≡ old) where
   Tells key words log = Goes IsKept shown moved key (seen, (no_nib, None)) (λ n. either (n == old) (old + 1) n)
       (Opens (step key old (old + 1) []) (seen, (no_nib, None))) words log
 
-  -- the exchange opens a batch where nothing was published that had not been seen; else it leaves all
+  -- the exchange opens a batch if nothing was published that had not been seen; else it leaves all
   opens_goes : (log : Batches) (is_open : Bool) → NoneEmpty log → IsPrefix seen log → (b : Bool)
       → (length (cells_of log is_open) == old) ≡ b
       → Tells 0 ((length (cells_of log is_open), true) ∷ (0, true) ∷ cells_of log is_open) log

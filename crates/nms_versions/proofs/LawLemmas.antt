@@ -29,7 +29,7 @@ some_same : (count x : ℕ) → 0 < count → Contains (replicate count x) x
 some_same zero x some = absurd (omega arith)
 some_same (suc count) x some = (0, omega arith, refl)
 
--- where a batch is to come, a change bears the length before it
+-- if a batch is to come, a change bears the length before it
 first_borne : (m : ℕ) (log : Batches) → NoneEmpty log → Contains (borne_from m log) m ⊎ (length (changes log) ≡ 0)
 first_borne m [] some = inr refl
 first_borne m (batch ∷ log) some = inl (Contains-append_left (replicate (length batch) m) (borne_from (m

@@ -53,7 +53,7 @@ contains_push xs y n = (
     only zero within is = sym is
     only (suc k) within is = absurd (omega arith)
 
--- publishing adds the length of the whole tape to the publications, where it is not there yet
+-- publishing adds the length of the whole tape to the publications, if it is not there yet
 pub publications_push : (log : Batches) (pending : List Change) (n : ℕ)
     → Contains (publications (committed log pending)) n ↔ Contains (publications log) n ⊎ (n ≡ length (changes log ++ pending))
 publications_push log [] n =
@@ -107,7 +107,7 @@ takes_batch (change ∷ batch) board tape stands held room =
     subst (λ (b : Board). StandsFor (fold after_taken b batch) (tape ++ change ∷ batch)) (sym one)
     (subst (StandsFor (fold after_taken (after board change) batch)) seam rest)
 
--- what was pending goes behind what is shown
+-- what was pending goes after what is shown
 pub follows : (sealed : Sealed) (waiting : List Batch) (history : Chronicle) (tape pending : List Change) (published limit : ℕ)
     (batch : Batch)
     → IsSound sealed waiting history → IsTaped history tape pending published limit sealed.boards.sizes

@@ -81,7 +81,7 @@ admits shown views kept = record {
       (at_snoc views unnamed known seat at);
 }
 
--- the writer tells what it knows
+-- the writer passes on what it knows
 pub tells : (seat : ℕ) (known : Known) → Forks Kept seat known known known
 tells seat known shown views kept at = record {
   stands = kept.stands;

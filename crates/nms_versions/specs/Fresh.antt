@@ -14,7 +14,7 @@ Shared = Arc (Vec Change Global) Global
 abbrev pub items_of : Shared → List Change
 items_of buffer = (arc_value buffer).items
 
--- the same where there may be none
+-- as above, but there may be no buffer
 abbrev pub items_in : Option Shared → List Change
 items_in None = []
 items_in (Some buffer) = items_of buffer

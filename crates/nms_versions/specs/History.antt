@@ -1,5 +1,4 @@
--- The history of an opening, which exists in proofs alone: the batches that were published. This product's
--- own rule.
+-- The history of an opening, which exists in proofs alone: the batches that were published. This product's own rule.
 use Rattle.std.specs.Prelude.{ℕ, ◌≡◌, suc, Bool, true, false, List, [], ◌∷◌, ◌++◌, length, if◌then◌else◌}
 use Rattle.logbook.specs.Pages.{Book, Cell, Named, Nib, Step, View, nib, may_make, may_write}
 use Rattle.nms_quote.specs.declared.change.Change.{Change}
@@ -20,7 +19,7 @@ pub record IsKept (words : List Cell) (log : Batches) : Type 0 where
 abbrev pub count_of : Book → Named
 count_of book = record { tracked = true; key = 0; book = book }
 
--- the key of the cell behind so many batches
+-- the key of the cell after that many batches
 abbrev pub key_of : ℕ → ℕ
 key_of batches = suc (suc batches)
 
@@ -28,7 +27,7 @@ key_of batches = suc (suc batches)
 abbrev pub Opens : Step (List Change) → View (List Change) ℕ → ℕ → View (List Change) ℕ → Type 0
 Opens s before found after = found ≡ s.old → (after.0 ≡ before.0) × (after.1.0 ≡ nib may_make (key_of (length before.0)) 0)
 
--- the open batch was published, behind all that had been seen
+-- the open batch was published, after all that had been seen
 abbrev pub Closes : Step (List Change) → View (List Change) ℕ → ℕ → View (List Change) ℕ → Type 0
 Closes s before found after = after.0 ≡ before.0 ++ s.ask ∷ []
 

@@ -18,7 +18,7 @@ changes (batch ∷ batches) = batch ++ changes batches
 abbrev pub NoneEmpty : Batches → Type 0
 NoneEmpty batches = AllByRecursion (λ batch. 0 < length batch) batches
 
--- the batches with what was pending as one more, where anything was
+-- the batches with what was pending as one more, if anything was
 abbrev pub committed : Batches → List Change → Batches
 committed batches [] = batches
 committed batches (change ∷ pending) = batches ++ (change ∷ pending) ∷ []

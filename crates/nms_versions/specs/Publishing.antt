@@ -1,4 +1,4 @@
--- What a publisher keeps beside what it tells. This product's own rule.
+-- What a publisher keeps beside what it reports. This product's own rule.
 use Rattle.std.specs.Prelude.{ℕ, ◌≡◌, ◌<◌, ◌≤◌, true, List, [], ◌∷◌, ◌++◌, All, length}
 use Rattle.nms_quote.specs.Roster.{Sizes, holds}
 use Rattle.nms_quote.specs.declared.TheConstants.{MOST_CHANGES}
@@ -25,7 +25,7 @@ pub record IsTaped (history : Chronicle) (tape pending : List Change) (published
   pub within : length tape ≤ limit
   pub most : limit ≤ MOST_CHANGES
 
--- a batch that goes behind what is shown: its changes are of the roster, and the tape has room for them
+-- a batch that goes after what is shown: its changes are of the roster, and the tape has room for them
 pub record Follows (sealed : Sealed) (batch : Batch) : Type 0 where
   pub book : batch.seen.book ≡ sealed.seen.book
   pub log : batch.seen.log ≡ sealed.seen.log ++ items_of batch.changes ∷ []

@@ -1,5 +1,5 @@
--- The rule of the pair of boards: the board that is shown stands for what its history says was published.
--- This product's own rule.
+-- The rule of the pair of boards: the board that is shown is the one that its published history makes. This product's
+-- own rule.
 use Rattle.std.specs.Prelude.{ℕ, ◌≡◌, List, [], fold, Option, Some, None, if◌then◌else◌}
 use mathlib.Core.Option.{some}
 use lib.ListN.{get_elem?}
@@ -18,7 +18,7 @@ use Rattle.nms_versions.specs.declared.known.Known.{Known}
 abbrev pub after_taken : Board → Change → Board
 after_taken board change = if takes board change then after board change else board
 
--- a board once it has taken in a batch: the changes applied, and the history as far as the batch
+-- a board once it has taken in a batch: the changes applied, and the history up to the batch
 abbrev pub absorbed : Sealed → Batch → Sealed
 absorbed sealed batch = record { boards = fold after_taken sealed.boards (items_of batch.changes); seen = batch.seen }
 

@@ -1,4 +1,4 @@
--- What a publisher, a receipt and a desk tell of themselves. This product's own rule.
+-- What a publisher, a receipt and a desk say of themselves. This product's own rule.
 use Rattle.std.specs.Prelude.{ℕ, List, [], ◌∷◌, ◌++◌, length, max}
 use Rattle.std.specs.List.{AllByRecursion}
 use mathlib.Core.List.{IsPrefix}

@@ -7,7 +7,7 @@ pub enum AppendFault {
     /// V3: out of memory.
     #[error("V3: out of memory")]
     NoMemory,
-    /// V4: the tape has as many changes as it may.
+    /// V4: the tape already has as many changes as allowed.
     #[error("V4: the tape is full")]
     TapeFull,
 }

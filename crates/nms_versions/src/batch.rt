@@ -1,10 +1,10 @@
-//! What is given to the pair of boards at once.
+//! What the pair of boards is given at once.
 use crate::history::Token;
 use nms_quote::Change;
 use std::sync::Arc;
 
-/// The changes of one publishing, with the history as far as it. The publisher has their buffer too, and uses it
-/// again once the pair has let it go.
+/// The changes of one publishing, and the history up to it. The publisher has their buffer too, and uses it again once
+/// the pair has let it go.
 #[derive(Drop)]
 pub struct Batch {
     pub(crate) changes: Arc<Vec<Change>>,

@@ -44,7 +44,7 @@ impl Model for Desk {
 }
 
 impl Desk {
-    /// Learns of the version that a receipt of its own opening stands for. No look shows an older one from then on.
+    /// Learns the version of a receipt of its own opening. No look shows an older one from then on.
     pub fn learn(&mut self, receipt: Receipt)
         requires opening { receipt.opening ≡ self.old.opening }
         ensures { self.new ≡ record self.old { known = changes receipt.published ∷ self.old.known } }
@@ -60,8 +60,8 @@ impl Desk {
         self.newest = seen;
     }
 
-    /// What the published version shows of a symbol; no rows for a symbol out of the roster. Waits for nobody and
-    /// takes no memory. `NoReading` leaves the desk as it was.
+    /// What the published version shows of a symbol; no rows for a symbol out of the roster. Waits for nobody and takes
+    /// no memory. `NoReading` leaves the desk as it was.
     pub fn look(&mut self, sym: Sym) -> Result<View, NoReading>
         ensures shown { IfOk result (λ view. (version : Tape) × (view ≡ view_of self.old.sizes version sym)
             × AllBegin version self.old.known × (self.new ≡ record self.old { known = version ∷ self.old.known })) }
@@ -93,7 +93,7 @@ impl Desk {
     }
 
     /// Ends the desk on a receipt of its own opening: each version that it knew begins the receipt's, and was
-    /// published. `Newer` where it knows a longer one than the receipt's; it comes back as it was.
+    /// published. `Newer` if it knows a longer one than the receipt's; it comes back as it was.
     pub fn settle(self, receipt: Receipt) -> Result<Settled, Unsettled>
         requires opening { receipt.opening ≡ self.opening }
         ensures begins { OnOk result (AllBegin (changes receipt.published) self.known) }

@@ -8,11 +8,11 @@ use std::alloc::Global;
 use std::marker::Model;
 use std::sync::Arc;
 
-/// The changes since the last publishing. Two buffers serve by turns: the pair of boards has the one of a publishing
-/// until the next publishing is done, since only then both boards have its changes.
+/// The changes since the last publishing. Two buffers take turns: the pair of boards has the one of a publishing until
+/// the next publishing is done, since only then both boards have its changes.
 #[derive(Drop)]
 pub struct Fresh {
-    /// What was appended since the last publishing. `None` where there is no buffer yet.
+    /// What was appended since the last publishing. `None` if there is no buffer yet.
     filled: Option<Arc<Vec<Change>>>,
     /// The buffer of the last publishing, which the pair has too.
     lent: Option<Arc<Vec<Change>>>,
@@ -49,7 +49,7 @@ impl Fresh {
         }
     }
 
-    /// Appends a change, and tells whether there was memory for it.
+    /// Appends a change, and returns whether there was memory for it.
     pub(crate) fn push(&mut self, alloc: Global, change: &Change) -> bool
         ensures { MatchBool result (self.new ≡ self.old ++ change.now ∷ []) (self.new ≡ self.old) }
     {
@@ -72,7 +72,7 @@ impl Fresh {
         buffer
     }
 
-    /// Begins with no changes, in the buffer that the pair gave back.
+    /// Begins with no changes, in the buffer that the pair returned.
     pub(crate) fn begin(&mut self)
         ensures { self.new ≡ [] }
     {
@@ -83,7 +83,7 @@ impl Fresh {
     }
 }
 
-/// A buffer, or a new one. `None` where there is no memory for it.
+/// A buffer, or a new one. `None` if out of memory.
 fn taken_or_new(alloc: Global, buffer: Option<Arc<Vec<Change>>>) -> Option<Arc<Vec<Change>>>
     ensures items { IfSome result (λ made. items_of made ≡ items_in buffer) }
     ensures none { result ≡ None → items_in buffer ≡ [] }
@@ -97,7 +97,7 @@ fn taken_or_new(alloc: Global, buffer: Option<Arc<Vec<Change>>>) -> Option<Arc<V
     }
 }
 
-/// Puts a change behind those of a buffer, and tells whether there was memory for it.
+/// Puts a change after those of a buffer, and returns whether there was memory for it.
 fn put_behind(buffer: &mut Arc<Vec<Change>>, change: &Change) -> bool
     ensures { MatchBool result (items_of buffer.new ≡ items_of buffer.old ++ change.now ∷ []) (items_of buffer.new ≡ items_of buffer.old) }
 {

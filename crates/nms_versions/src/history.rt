@@ -1,5 +1,5 @@
-//! The history of an opening: the batches that were published (specs/History). It exists in proofs alone; at
-//! run time it is a word, which nothing but the publisher reaches.
+//! The history of an opening: the batches that were published (specs/History). It exists in proofs alone; at run time
+//! it is a word, which nothing but the publisher reaches.
 ghost use Rattle.std.specs.Prelude.{◌≡◌, ◌<◌, ◌++◌, ◌∷◌, [], true, false, length, MatchBool};
 ghost use Rattle.nms_quote.specs.declared.TheConstants.{MOST_CHANGES};
 ghost use Rattle.nms_versions.specs.Fresh.{items_of};
@@ -128,8 +128,8 @@ impl History {
         self.seen.again()
     }
 
-    /// Sees to it that a batch is open, and tells whether one is. None is where another holder opened one;
-    /// there is no other holder.
+    /// Makes sure that a batch is open, and returns whether one is. None is if another holder opened one; there is no
+    /// other holder.
     pub(crate) fn be_open(&mut self) -> bool
         requires room { length self.old.published < MOST_CHANGES }
         ensures opened { MatchBool result (self.new ≡ record self.old { is_open = true }) (self.new ≡ self.old) }

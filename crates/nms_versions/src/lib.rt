@@ -1,5 +1,5 @@
-//! The published versions: one publisher appends changes and publishes them in batches, and each desk looks at
-//! the version published last, which is never older than one that it saw or was told of.
+//! The published versions: one publisher appends changes and publishes them in batches. Each desk looks at the version
+//! published last, never older than one that it saw or was told of.
 #![tactic(auto)]
 
 mod append_fault;

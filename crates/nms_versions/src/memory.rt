@@ -5,7 +5,7 @@ use crate::history::Token;
 use std::marker::Model;
 use std::snapshot::Snapshot;
 
-/// What was seen or told last, and what before that.
+/// What was seen or told last, and what came before.
 #[derive(Drop)]
 pub struct Memory {
     last: Token,

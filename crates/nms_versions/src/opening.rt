@@ -53,8 +53,8 @@ pub fn open_tape<R: Wait>(
     }
 }
 
-/// Makes the pair of boards of a roster, with nothing on them. An empty batch is published, from which the pair
-/// knows its opening and has room for batches.
+/// Makes the pair of boards of a roster, with nothing on them. An empty batch is published, from which the pair knows
+/// its opening and has room for batches.
 fn open_pair<R: Wait>(
     alloc: Global,
     rt: &R,

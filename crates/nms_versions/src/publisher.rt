@@ -23,7 +23,7 @@ use std::sync::Wait;
 use std::thread::Parker;
 use std::time::Duration;
 
-/// How long it rests before it tries again, where there was no memory, in microseconds. This product's own rule.
+/// How long it rests before it tries again after running out of memory, in microseconds. This product's own rule.
 const REST: u64 = 1_000;
 
 /// Appends changes to the tape, and publishes it to the desks of its opening. It is not `Drop`: end it by `close`.
@@ -67,8 +67,8 @@ impl Publisher {
         self.writer.published().boards.holds(change)
     }
 
-    /// Appends a change of the roster to the tape. It is published by the next `publish`. `TapeFull` where the tape
-    /// has as many changes as it may, else `NoMemory`; both leave all as it was.
+    /// Appends a change of the roster to the tape. It is published by the next `publish`. `TapeFull` if the tape has as
+    /// many changes as it may, else `NoMemory`; both leave all as it was.
     pub fn append(&mut self, change: Change) -> Result<(), AppendFault>
         requires held { holds self.old.sizes change ≡ true }
         ensures added { OnOk result (self.new ≡ record self.old { pending = self.old.pending ++ change ∷ [] }) }
@@ -113,8 +113,8 @@ impl Publisher {
         self.published = self.tape.len() as u64;
     }
 
-    /// Makes room for so many changes more, as far as the tape's limit goes and there is memory, so that none of them
-    /// waits until the tape has moved. Where there is no memory the tape grows as it is appended to.
+    /// Makes room for that many changes more, within the tape's limit and the memory there is: so none of them waits
+    /// until the tape has moved. Out of memory, the tape grows as it is appended to.
     pub fn make_room(&mut self, changes: usize)
         ensures { self.new ≡ self.old }
     {
@@ -122,7 +122,7 @@ impl Publisher {
         let _room = self.tape.reserve(changes.min(most as usize));
     }
 
-    /// Word of the published version, and of all publications, for a desk.
+    /// A receipt of the published version and all publications, for a desk.
     pub fn receipt(&mut self) -> Receipt
         ensures opening { result.opening ≡ self.old.opening }
         ensures published { result.published ≡ self.old.published }
@@ -134,7 +134,7 @@ impl Publisher {
         }
     }
 
-    /// All that was appended. Told of every publisher: it is within its limit, and no publishing was of nothing.
+    /// All that was appended. Of every publisher: it is within its limit, and no publishing was empty.
     pub fn tape(&self) -> &[Change]
         ensures tape { result.now ≡ tape_of self.now }
         ensures within { length (tape_of self.now) ≤ self.now.limit }
@@ -143,7 +143,7 @@ impl Publisher {
         self.tape.as_slice()
     }
 
-    /// Ends the publishing, and gives all that was appended. Waits for looks. Desks show nothing from then on.
+    /// Ends the publishing, and returns all that was appended. Waits for looks. Desks show nothing from then on.
     pub fn close<R: Wait>(self, rt: &R) -> Vec<Change>
         ensures { result.items ≡ tape_of self }
     {
@@ -161,7 +161,7 @@ impl Publisher {
     }
 }
 
-/// Appends a change where there is room for it.
+/// Appends a change if there is room for it.
 fn put(tape: &mut Vec<Change>, change: Change)
     requires { vec_len tape.old + 1 ≤ vec_capacity tape.old }
     ensures { tape.new.items ≡ tape.old.items ++ change ∷ [] }
@@ -182,7 +182,7 @@ fn show<R: Wait>(rt: &R, writer: &mut PairWriter, batch: Batch)
     replace_with(writer, (rt, batch), publish_batch);
 }
 
-/// The same, with a writer that is given back.
+/// As `show`, but the writer is returned.
 #[tactic(auto, using(crate::proofs::PublishLemmas::sizes_taken))]
 fn publish_batch<R: Wait>(writer: PairWriter, with: (&R, Batch)) -> (PairWriter, ())
     requires idle { drop writer.behind writer.log.items ≡ [] }

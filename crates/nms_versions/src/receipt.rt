@@ -1,11 +1,11 @@
-//! A receipt: word of what was published, for a desk to learn or to settle on (specs/Taped).
+//! A receipt: what was published, for a desk to learn or to settle on (specs/Taped).
 ghost use Rattle.std.specs.Prelude.{◌≡◌, length};
 ghost use Rattle.nms_versions.specs.Published.{changes};
 
 use crate::history::Token;
 use std::marker::Model;
 
-/// Word of the version that was published when it was given, and of all publications up to it.
+/// The version that was published when the receipt was given, and all publications up to it.
 #[derive(Drop)]
 pub struct Receipt {
     pub(crate) seen: Token,

@@ -1,4 +1,4 @@
-//! The rule of the pair of boards (specs/Rule), and what each step over it tells.
+//! The rule of the pair of boards (specs/Rule), and what each step over it shows.
 ghost use Rattle.std.specs.Prelude.{◌≡◌};
 ghost use Rattle.nms_board.specs.Cells.{StandsFor};
 ghost use Rattle.nms_versions.specs.Published.{changes};
@@ -18,7 +18,7 @@ pub type PairWriter = Writer<Sealed, Batch, Known, Faithful>;
 /// A reader's end of the pair.
 pub type PairReader = Reader<Sealed, Known, Faithful>;
 
-/// The rule: what is shown stands for its history, and is of the opening that is known.
+/// The rule: the shown board is the board of its history, and is of the opening that is known.
 pub struct Faithful;
 
 impl Protocol<Sealed, Known> for Faithful {
@@ -48,7 +48,7 @@ impl Outcome<Sealed, Known> for Reading {
     ghost then = { λ before shown same after. (after ≡ before) × StandsFor shown.boards (changes shown.seen.log) × IsOf shown before };
 }
 
-/// The writer tells what it knows.
+/// The writer passes on what it knows.
 pub struct Telling;
 
 impl Split<Known> for Telling {

@@ -1,4 +1,4 @@
-//! What the pair shows (specs/Rule): a board, with the history that it stands for.
+//! What the pair shows (specs/Rule): a board with its history.
 ghost use Rattle.std.specs.Prelude.{◌≡◌, fold};
 ghost use Rattle.nms_versions.specs.Rule.{absorbed, after_taken};
 
@@ -9,7 +9,7 @@ use nms_board::Boards;
 use nms_quote::Change;
 use std::alloc::AllocError;
 
-/// A board with the history that it stands for. The pair has two, and readers take one of them.
+/// A board with its history. The pair has two, and readers take one of them.
 #[derive(Drop)]
 pub struct Sealed {
     pub(crate) boards: Boards,

@@ -86,7 +86,7 @@ fits_more line byte fit good =
     let returns : returns_within (line ++ byte ∷ []) ≡ false = returns_among line byte [] ∙ (rw (had.2, next.2) refl) in
     rw (few, quotes, returns) refl
 
--- and by a byte that spoils it to no line that fits
+-- and a byte that spoils it makes no line that fits
 spoilt : (line : List ℕ) (byte : ℕ) (more : List ℕ) → spoils line byte ≡ true → is_fit (line ++ byte ∷ more) ≡ false
 spoilt line byte more bad = elim (one_of (byte == 34) (nat_le MOST_LINE (length line)) (ends_in_return line) bad) [
   | inl quote ↦

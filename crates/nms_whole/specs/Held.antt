@@ -12,7 +12,7 @@ ready_of held = drop held.given held.ready.items
 abbrev pub still : Held → List ℕ → List ℕ
 still held bytes = ready_of held ++ given_after held.line.items held.is_bad bytes
 
--- how much is held, with a place for what stands for a bad line
+-- how much is held, with a place for the replacement of a bad line
 abbrev pub weight : Held → ℕ
 weight held = length held.ready.items + length held.line.items + (if held.is_bad then 1 else 0)
 

@@ -1,4 +1,4 @@
--- The lines of a stream, and what of them is passed on to whoever reads its records. This product's own rule.
+-- The lines of a stream, and what of them is passed on to the reader of its records. This product's own rule.
 use Rattle.std.specs.Prelude.{ℕ, ◌==◌, ◌&&◌, ◌||◌, not, Bool, false, List, [], ◌∷◌, ◌++◌, length, nat_le, if◌then◌else◌}
 use Rattle.nms_whole.specs.declared.TheConstants.{MOST_LINE}
 
@@ -17,7 +17,7 @@ returns_within (first ∷ second ∷ rest) = (first == 13) || returns_within (se
 abbrev pub is_fit : List ℕ → Bool
 is_fit line = nat_le (length line) MOST_LINE && not (has_byte 34 line) && not (returns_within line)
 
--- what stands for a line that is not: one question mark (63), which no record of a kind begins with
+-- the replacement of a line that may not: one question mark (63), which no record of a kind begins with
 abbrev pub refused_line : List ℕ
 refused_line = 63 ∷ 10 ∷ []
 
@@ -25,7 +25,7 @@ refused_line = 63 ∷ 10 ∷ []
 abbrev pub passed : List ℕ → List ℕ
 passed line = if is_fit line then line ++ 10 ∷ [] else refused_line
 
--- what is left of a stream behind its last line feed: a line that was torn, unless it is nothing
+-- what is left of a stream after its last line feed: a line that was torn, unless it is nothing
 abbrev pub torn : List ℕ → List ℕ
 torn [] = []
 torn (first ∷ rest) = refused_line

@@ -146,7 +146,7 @@ fn push_line(ready: &mut ArrayVec<u8, ROOM>, line: &[u8])
     ready.push(b'\n');
 }
 
-/// Adds what stands for a refused line.
+/// Adds the line that replaces a refused line.
 fn refuse(ready: &mut ArrayVec<u8, ROOM>)
     requires room { length ready.old.items + 2 ≤ ROOM }
     ensures { ready.new.items ≡ ready.old.items ++ refused_line }

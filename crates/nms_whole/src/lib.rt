@@ -8,7 +8,7 @@ mod whole_lines;
 pub const MOST_LINE: usize = 4_096;
 /// How many bytes are read of a stream at once. This product's own rule.
 const MOST_READ: usize = 4_096;
-/// Room for a line that was begun, for what is read at once, and for what stands for a refused line.
+/// Room for a line that was begun, for what is read at once, and for the replacement of a refused line.
 const ROOM: usize = 8_256;
 
 pub use whole_lines::WholeLines;

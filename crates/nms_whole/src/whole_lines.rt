@@ -51,7 +51,7 @@ impl<R: Read> WholeLines<R> {
     }
 
     /// Reads once, and goes through what was read, if nothing was ready. Returns how many bytes that were: none at the
-    /// end of the stream, where a line that was begun is refused as torn.
+    /// end of the stream, when a line that was begun is refused as torn.
     fn read_more(&mut self) -> io::Result<usize>
         requires empty { ready_of self.old.held ≡ [] }
         ensures same { Keeps (lines_left R.remaining self.old) (lines_left R.remaining self.new) }

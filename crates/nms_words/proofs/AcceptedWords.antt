@@ -38,7 +38,7 @@ level_checked s words none =
 abbrev is_own : Sub → Text → Bool
 is_own sub id = list_any (bytes_eq id) (own_names sub)
 
--- where nothing that is required is missed, each of it is given
+-- if nothing that is required is missed, each of it is given
 none_missing : (rows : List Row) (ids : List Text) → check_kinds false false (list_any (λ id. not (is_given id rows)) ids) ≡ []
     → list_all (λ id. is_given id rows) ids ≡ true
 none_missing rows [] e = refl

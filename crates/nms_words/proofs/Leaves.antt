@@ -1,4 +1,4 @@
--- The subcommands as the parser has them, and what a call of one has to meet.
+-- The subcommands as the parser has them, and what a call of one must satisfy.
 use Rattle.std.proofs.Common.{◌≡◌, Bool, true, false, List, [], ◌∷◌, Some, find, fold, refl, unwrap_or, codes}
 use Rattle.std.specs.List.{list_all, list_any}
 use Rattle.std.specs.Str.{bytes_eq}

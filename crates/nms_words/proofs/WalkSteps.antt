@@ -14,14 +14,14 @@ use Rattle.nms_words.specs.PlainCall.{Choice, choices_words, is_plain_choice, is
 use Rattle.nms_words.specs.declared.option_word.OptionWord.{OptionWord}
 use Rattle.nms_words.specs.declared.option_word.OptionWord.TheVariants.{Setup, Manual, SelfHelp}
 
--- where nothing waits for a value, with what is held and the place of the next positional
+-- when nothing waits for a value, with what is held and the place of the next positional
 abbrev pub At : Type 0
 At = Held × ℕ
 
 abbrev pub at_word : At → Walk
 at_word at = record { held = at.0; waiting = idle; position = at.1; is_trailing = false; stopped = None }
 
--- where an option waits for its value
+-- when an option waits for its value
 abbrev at_value : Text → At → Walk
 at_value id at = record { held = at.0; waiting = option id; position = at.1; is_trailing = false; stopped = None }
 
@@ -138,7 +138,7 @@ valued_met rules name at = (record (settled rules at.0) { pending = Some (name, 
 abbrev pub valued_taken : List Rule → Text → At → Text → At
 valued_taken rules name at text = (pushed name text (valued_met rules name at).0, at.1)
 
--- the word leads the walk to where its option waits for the value
+-- the word leads the walk to the state in which its option waits for the value
 abbrev Leads : Text → Text → Type 0
 Leads word name = (rules : List Rule) (at : At) → HasValued rules name
     → walked rules [] (at_word at) word ≡ at_value name (valued_met rules name at)
@@ -303,7 +303,7 @@ choices_walk_passes s at (self_help_of names ∷ rest) have plain passes =
 abbrev pub start : At
 start = (nothing_held, 1)
 
--- where the walk ends
+-- the state in which the walk ends
 abbrev pub call_taken : List Rule → List Text → List Choice → At
 call_taken rules own choices = choices_taken rules (own_taken rules start own) choices
 

@@ -52,7 +52,7 @@ more_names Live =
     codes "FEED_B" ∷ codes "FEED_C" ∷ codes "FEED_D" ∷ codes "FEED_E" ∷ codes "FEED_F" ∷ codes "FEED_G" ∷ codes "FEED_H" ∷ []
 more_names _ = []
 
--- a subcommand may have so many own words
+-- a subcommand may have that many own words
 abbrev pub AreCounted : Sub → ℕ → Type 0
 AreCounted sub count = (length (own_names sub) ≤ count) × (count ≤ length (own_names sub) + length (more_names sub))
 
@@ -105,7 +105,7 @@ with_words sub = fold with_rule (with_own sub) (map new_rule (more_names sub))
 abbrev pub app_of_sub : Sub → App
 app_of_sub sub = fold with_rule (with_words sub) (map option_rule (options_of sub))
 
--- the words are those after the program's name, `help` is no subcommand, and there is a version to tell
+-- the words are those after the program's name, `help` is no subcommand, and there is a version to print
 abbrev pub without_subs : App
 without_subs = on_top (λ top. record top { no_binary_name = true; disable_help_subcommand = true; has_version = true })
     (new_app (codes "nms_tool"))
@@ -177,7 +177,7 @@ shown request = record {
 
 -- ---- words that are no request
 
--- the kinds of fault that the parser finds in the words, among which it answers one; none where it takes them
+-- the kinds of fault that the parser finds in the words, among which it answers one; none if it takes them
 abbrev pub faults_in : List Text → Kinds
 faults_in = fault_of tool
 

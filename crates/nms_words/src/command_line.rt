@@ -78,7 +78,7 @@ fn with_words<'a, W: ParserWord>(
 
 /// A word that the parser takes.
 trait ParserWord: Copy {
-    // How the parser has it.
+    // The word as the parser has it.
     ghost rule: { Self → Rule };
 
     /// The word with its explanation in the help.

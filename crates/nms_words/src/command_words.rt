@@ -20,9 +20,9 @@ tip: give --setup behind the subcommand: nms_tool script --setup FILE
 
 /// Reads the words that follow the program's name: a subcommand, its own words and its options.
 ///
-/// No words ask for the script with no setup. Words in which the parser finds no fault are a request.
-/// Else the answer is `Parser`, for one of the faults that it finds, or for the help or the version
-/// that was asked for. `NoMemory` may come in place of any answer.
+/// No words ask for the script with no setup. Words in which the parser finds no fault are a request. Else the answer
+/// is `Parser`, for one of the faults that it finds, or for the help or the version that was asked for. `NoMemory` may
+/// come in place of any answer.
 pub fn read_words<'a>(alloc: Global, words: &'a [&'a str]) -> Result<Request, WordsFault>
     ensures read { IfOk result (λ request. asked_by (map (λ word. word.now) words.entry.now) ≡ Some (shown request)) }
     ensures accepted { IfOk result (λ _. faults_in (map (λ word. word.now) words.entry.now) ≡ []) }
@@ -66,7 +66,7 @@ fn fault_of(alloc: Global, words: &[&str], error: &Error) -> WordsFault
     }
 }
 
-// The parser's text with escapes, and with a tip for an option that stands before its subcommand.
+// The parser's text with escapes, and with a tip for an option before its subcommand.
 fn text_of(alloc: Global, words: &[&str], error: &Error) -> Result<String, AllocError> {
     let text = format!(in alloc; "{error}")?;
     let shown = Shown(text.as_str());
@@ -167,7 +167,7 @@ fn own_words(
     Ok(Some(words))
 }
 
-// Adds the values of those words that have one.
+// Adds the values of the words that have one.
 fn add_more(
     alloc: Global,
     words: &mut Vec<String>,

@@ -3,8 +3,8 @@
 /// The version that `--version` reports.
 pub(crate) const VERSION: &str = "0.2.0";
 
-/// The end of the help. A program that is installed has no `docs/ERRORS.md` beside it, so each code of
-/// a refusal is explained here; that page says what to do about it.
+/// The end of the help. An installed program has no `docs/ERRORS.md` beside it, so each code of a refusal is explained
+/// here; that page says what to do about it.
 pub(crate) const AFTER_HELP: &str = "Each command also takes:
       --setup <FILE>  The file of the setup, in place of the built-in one
 

@@ -1,10 +1,10 @@
-//! The parser's text as it is printed: it quotes words of the call, and an escape stands for each character of them that
-//! a terminal could act on.
+//! The parser's text as it is printed: it quotes words of the call, and replaces each character of them that a terminal
+//! could act on by an escape.
 use std::fmt;
 use std::fmt::Write;
 
-/// A text with printable ASCII, line feeds and the letters of European alphabets as they are, and any other character as
-/// `\x1b` or `\u{202e}`, a backslash as two.
+/// A text with printable ASCII, line feeds and the letters of European alphabets as they are. Any other character
+/// becomes `\x1b` or `\u{202e}`, and a backslash two.
 #[derive(Clone, Copy)]
 pub(crate) struct Shown<'a>(pub(crate) &'a str);
 

@@ -134,7 +134,7 @@ impl Sub {
     ghost use Rattle.std.specs.Prelude.{◌≡◌, map};
     ghost use Rattle.nms_words.specs.CommandLine.{more_names, name_of, options_of, own_names, sub_named};
 
-    /// Each of them.
+    /// Every subcommand.
     pub(crate) const ALL: [Self; 5] = [
         Self::Script,
         Self::Report,
@@ -181,7 +181,7 @@ impl Sub {
         }
     }
 
-    /// The words that may stand after those, in order: where one stands, each before it does.
+    /// The words that may stand after those, in order: each needs all before it.
     pub(crate) fn more_words(self) -> &'static [MoreWord]
         ensures { map (λ word. word.name.now) result.now ≡ more_names self }
     {

@@ -38,7 +38,7 @@ returns-in-Err-WriteFault g c = record {
   unwritten = λ other. absurd (other refl);
 }
 
--- and where it took the text and could not flush it
+-- and if it took the text and could not flush it
 pub returns-in-Err-clause-cut : goal.returns-in-Err-clause-cut
 returns-in-Err-clause-cut g c _ =
     plan_cut c.args.setup.now c.args.view.now c.args.order.now _ _ c.plan-plan.result.0 c.plan-plan.result.1.items _ _ c.fees.ensures.value

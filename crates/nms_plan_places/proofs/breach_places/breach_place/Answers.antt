@@ -1,4 +1,5 @@
--- `breach_place`: what its calls ask for, and all that it promises, by `told` (the breach that is told holds by itself).
+-- `breach_place`: what its calls ask for, and all that it promises, by `told` (the breach that is reported holds by
+-- itself).
 use Rattle.std.proofs.Common.{◌≡◌, refl, ap, sym, subst, ◌∙◌}
 use Rattle.std.specs.Prelude.{List, Some}
 use Rattle.std.proofs.lemmas.Bool.{eq-eqb, false≢true}
@@ -19,7 +20,7 @@ use Rattle.nms_plan_places.proofs.BreachHolds.{Holds, told_holds}
 use Rattle.nms_plan_places.proofs.ThroughLemmas.{all-better, named-among, some-leg}
 use Rattle.nms_plan_places.proofs.breach_places.breach_place.Goals as goal
 
--- the breach that is told, by its name
+-- the breach that is reported, by its name
 told : (seen : Seen) (order : Terms) (fees : Charges) (plan : Plan) (why which : Breach)
     → breach_of seen order fees plan ≡ Some why → why ≡ which
     → Holds seen order fees plan which

@@ -4,7 +4,7 @@ use Rattle.nms_quote.specs.declared.certificate.Cut.{Cut}
 use Rattle.nms_cert.specs.Doubts.{is_not_better, is_out_of_order}
 use Rattle.nms_plan_places.proofs.cut_tests.out_of_order_in.Given as goal
 
--- one of the cuts from here on is not at a better price than one behind it, and each so far is better than all behind it
+-- one of the cuts from here on is not at a better price than a later one, and each so far is better than all later ones
 abbrev pub invariant-loop-first : goal.invariant-loop-first
 invariant-loop-first l = record {
   some : is_out_of_order l.side (drop l.first l.cuts) ≡ true;

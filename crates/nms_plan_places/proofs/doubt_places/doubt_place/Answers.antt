@@ -1,4 +1,4 @@
--- `doubt_place`: what its calls ask for, by `told_doubt_holds` (the doubt that is told holds by itself).
+-- `doubt_place`: what its calls ask for, by `told_doubt_holds` (the doubt that is reported holds by itself).
 use Rattle.nms_cert.specs.declared.doubt.Doubt.TheVariants as doubt
 use Rattle.nms_plan_places.proofs.DoubtHolds.{told_doubt_holds}
 use Rattle.nms_plan_places.proofs.doubt_places.doubt_place.Goals as goal

@@ -1,4 +1,4 @@
--- `extra_place`: all that it promises, by `found-at`, and that the cuts are out of order where each is at a usable price.
+-- `extra_place`: all that it promises, by `found-at`, and that the cuts are out of order if each is at a usable price.
 use Rattle.std.proofs.Common.{Some, ap, sym, ◌∙◌}
 use Rattle.std.specs.Prelude.{not}
 use Rattle.nms_quote.specs.declared.certificate.Cut.{Cut}

@@ -4,7 +4,7 @@ use Rattle.nms_quote.specs.declared.plan.Leg.{Leg}
 use Rattle.nms_rules.specs.Breach.{goes_to, has_repeat}
 use Rattle.nms_plan_places.proofs.leg_tests.repeat_in.Given as goal
 
--- two of the legs from here on go to one participant, and none so far has one behind it that goes to the same
+-- two of the legs from here on go to one participant, and no leg so far has a later one to the same participant
 abbrev pub invariant-loop-first : goal.invariant-loop-first
 invariant-loop-first l = record {
   some : has_repeat (drop l.first l.legs) ≡ true;

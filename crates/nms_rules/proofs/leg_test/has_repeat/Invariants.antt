@@ -3,7 +3,7 @@ use Rattle.std.proofs.Common.{◌≡◌, length}
 use Rattle.nms_rules.specs.Breach.{has_repeat}
 use Rattle.nms_rules.proofs.leg_test.has_repeat.Given as goal
 
--- no leg so far has another behind it that goes to its participant
+-- no leg so far has another after it that goes to its participant
 abbrev pub invariant-loop-leg : goal.invariant-loop-leg
 invariant-loop-leg l = has_repeat l.fn.legs ≡ has_repeat l.behind
 

@@ -1,4 +1,4 @@
--- put_cuts: the cuts so far and those of the cutoffs to come are all cuts, and so it is with the choice.
+-- put_cuts: the cuts so far and those of the cutoffs to come are all cuts, and the same holds of the choice.
 use Rattle.std.proofs.Common.{◌≡◌, ◌≤◌, ◌+◌, ◌++◌, All, None, length, map}
 use Rattle.nms_board.specs.declared.TheConstants.{MOST_ROWS}
 use Rattle.nms_quote.specs.declared.certificate.Cut.{Cut}

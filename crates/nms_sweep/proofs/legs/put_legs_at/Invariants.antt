@@ -1,4 +1,4 @@
--- put_legs_at: the legs so far and those of the rows behind are all legs, by what legs_of unfolds to.
+-- put_legs_at: the legs so far and those of the later rows are all legs, by what legs_of unfolds to.
 use Rattle.std.proofs.Common.{◌≡◌, ◌≤◌, ◌+◌, ◌++◌, length}
 use Rattle.nms_sweep.specs.Choice.{legs_of}
 use Rattle.nms_board.specs.declared.TheConstants.{MOST_ROWS}

@@ -1,4 +1,4 @@
--- `sub_command`: clause `app`: each list of words stands behind the ones before it.
+-- `sub_command`: clause `app`: each list of words stands after the ones before it.
 use Rattle.std.proofs.Common.{rules, ◌≡◌, ◌∙◌, List, map, fold, ap, sym}
 use Rattle.std.proofs.lemmas.Simd.{map-map}
 use Rattle.std.proofs.lemmas.Result.{IfOk-weaker}
@@ -8,7 +8,7 @@ use Rattle.nms_words.specs.declared.subcommand.MoreWord.{MoreWord}
 use Rattle.nms_words.specs.declared.subcommand.OwnWord.{OwnWord}
 use Rattle.nms_words.proofs.command_line.sub_command.Goals as goal
 
--- a command with more words, where both are as they should be
+-- a command with more words, if both are as they should be
 behind : (app was : App) (met due : List Rule) → met ≡ due → app ≡ was → fold with_rule app met ≡ fold with_rule was due
 behind app was met due rules first = ap (λ (rs : List Rule). fold with_rule app rs) rules ∙ ap (λ (a : App). fold with_rule a due) first
 

@@ -20,7 +20,7 @@ exact = refl
 simple : is_simple tool ≡ true
 simple = refl
 
--- what is told of one kind is told of more
+-- what is reported of one kind is reported of more
 among : (kinds : Kinds) (error : Error) (fault : WordsFault) → HasKind kinds error → (kind_of error ≡ OutOfMemory → fault ≡ NoMemory)
     → IsRefusal (kind_of error ∷ []) fault → IsRefusal kinds fault
 among kinds error NoMemory has memory refusal = tt

@@ -1,4 +1,4 @@
--- `Flow::new`: the invariant of what it gives.
+-- `Flow::new`: the invariant of what it returns.
 use Rattle.std.proofs.Common.{◌≡◌, true, List, [], arith, length, ap, sym, subst}
 use Rattle.std.specs.Prelude.{All}
 use Rattle.std.proofs.lemmas.List.Elements.{All-nil}

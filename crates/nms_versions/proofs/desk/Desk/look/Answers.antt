@@ -31,7 +31,7 @@ named c = at_some _ c.self.inside.reader c.unwrap-reader.result (sym c.take.ensu
 of_opening : (c : goal.After-drop-both-2) → IsOf c.get-sealed.result.now c.unwrap-reader.result.place.me.0.client
 of_opening c = rw c.get-sealed.ensures c.in-Ok.ensures.1.2
 
--- and stands for the history that came with it
+-- and is the board of the history that came with it
 stands : (c : goal.After-drop-both-2) → StandsFor c.get-sealed.result.now.boards (changes c.again-seen.result.log)
 stands c = rw (c.again-seen.ensures, c.get-sealed.ensures) c.in-Ok.ensures.1.1
 

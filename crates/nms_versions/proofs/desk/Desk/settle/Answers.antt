@@ -8,7 +8,7 @@ use Rattle.nms_versions.specs.Taped.{AllBegin, Knowing, Receipted}
 use Rattle.nms_versions.proofs.BatchLemmas.{all_begin, all_published, prefix_shorter}
 use Rattle.nms_versions.proofs.desk.Desk.settle.Goals as goal
 
--- what the desk knows begins what the receipt stands for
+-- what the desk knows begins the receipt's version
 begins : (c : goal.After-drop-self-inside-4) → IsPrefix c.self.inside.newest.log c.receipt.inside.seen.log
 begins c =
     let knew : IsPrefix c.self.inside.newest.log c.learn.new.self.log =
