@@ -8,11 +8,11 @@ ghost use Rattle.nms_calls.specs.ChangeNumbers.{no_change};
 pub struct NmsChange {
     /// The best bid in 1/10,000 dollar; 0 with 0 shares for none.
     pub bid_price: u64,
-    /// The best offer in 1/10,000 dollar; 0 with 0 shares for none.
+    /// The best offer, as `bid_price`.
     pub offer_price: u64,
     /// The shares of the bid, 1 to 999,999,999; 0 with price 0 for none.
     pub bid_shares: u32,
-    /// The shares of the offer, 1 to 999,999,999; 0 with price 0 for none.
+    /// The shares of the offer, as `bid_shares`.
     pub offer_shares: u32,
     /// The symbol's place.
     pub sym: u16,

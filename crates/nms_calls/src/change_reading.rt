@@ -8,7 +8,7 @@ use crate::change_numbers::NmsChange;
 use nms_quote::{Change, Part, QState, Roster, SideQuote, Sym};
 use nms_units::{Lot, Price, Shares};
 
-/// The change given by its numbers on a roster, or the fault of least code.
+/// The change that numbers give on a roster, or the fault of least code.
 pub(crate) fn change_of(roster: &Roster, numbers: &NmsChange) -> Result<Change, CallFault>
     ensures change { result ≡ change_said (sizes_of roster.now) numbers.now }
     ensures held { IfOk result (λ change. holds (sizes_of roster.now) change ≡ true) }

@@ -135,7 +135,7 @@ impl OpenBoard {
         Ok(())
     }
 
-    /// Plans the order given by its numbers, and writes the plan with its certificate.
+    /// Plans the order that numbers give, and writes the plan with its certificate.
     pub fn plan(&mut self, numbers: &NmsOrder, out: &mut NmsPlan) -> Result<(), CallFault>
         ensures answer { result_err result ≡ order_fault self.old numbers.now }
         ensures best { OnOk result (IfOk (order_said (sizes_on self.old) numbers.now) (λ order. IsBestPlan self.old.board self.old.settings.fees order out.new)) }

@@ -9,7 +9,7 @@ use crate::order_numbers::NmsOrder;
 use nms_quote::{Order, OrderSide, PartSet, Roster};
 use nms_units::{Price, Shares};
 
-/// The order given by its numbers on a roster, or the fault of least code.
+/// The order that numbers give on a roster, or the fault of least code.
 pub(crate) fn order_of(roster: &Roster, numbers: &NmsOrder) -> Result<Order, CallFault>
     ensures order { result ≡ order_said (sizes_of roster.now) numbers.now }
     ensures there { IfOk result (λ order. order.sym < length roster.now.syms) }

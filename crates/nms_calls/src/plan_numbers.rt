@@ -50,7 +50,7 @@ pub struct NmsPlan {
     pub spare: u32,
     /// The legs; the places from their number on are 0.
     pub leg: [NmsLeg; 32],
-    /// The cuts; the places from their number on are 0.
+    /// The cuts; after them 0.
     pub cut: [NmsCut; 32],
 }
 

@@ -39,7 +39,7 @@ fn put_legs(legs: &[Leg], places: &mut [NmsLeg; 32])
     }
 }
 
-/// Writes cuts to the first places, and none to the others.
+/// Writes cuts, as `put_legs`.
 fn put_cuts(cuts: &[Cut], places: &mut [NmsCut; 32])
     requires { All (λ cut. IsInRange cut.kind) cuts.now }
     ensures { AreCuts places.new cuts.now }

@@ -8,7 +8,7 @@ use nms_setup_places::{Examined, Finding, KnownKey, SetupTable, Spot, examine};
 use std::alloc::Global;
 use std::str;
 
-/// Why a text is no setup, and the place. All 0 if it is one.
+/// Why a text is no setup, and where. All 0 if it is one.
 #[repr(C)]
 #[derive(Clone, Copy)]
 pub struct NmsPlace {
@@ -31,8 +31,8 @@ pub struct NmsPlace {
     pub end: u64,
 }
 
-/// Writes why a text is no setup, and the place: the first of its faults with the least number. If a text is not UTF-8, the
-/// place is all of it. It takes memory and gives it back; `NoMemory` if out of memory.
+/// Writes why a text is no setup, and where: the first fault of least number. A text that is not UTF-8 is no document from its
+/// first byte to its last. Takes memory and gives it back; `NoMemory` if there is too little.
 pub fn put_setup_place(alloc: Global, text: &[u8], out: &mut NmsPlace) -> Result<(), CallFault>
     ensures placed { OnOk result (IsPlaceOf text.now out.new) }
     ensures refused { IfErr result (λ fault. fault ≡ CallFault.Setup SetupFault.NoMemory) }
