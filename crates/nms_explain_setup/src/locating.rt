@@ -68,7 +68,7 @@ struct Reached {
     /// How many lines, and how many bytes, stand before it.
     lines: u64,
     bytes: usize,
-    /// The table or value that it lies in.
+    /// The nesting that it lies in.
     nest: Nest,
     /// The table in which it is, if that is one of a setup's.
     table: Option<SetupTable>,

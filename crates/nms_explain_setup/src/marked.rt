@@ -10,7 +10,7 @@ pub struct Marked<'a> {
     pub before: usize,
     /// The line's number, from 1.
     pub number: u64,
-    /// The key and the value that are marked, by the bytes of the line: the same if no value stands there.
+    /// The marked key and value, by the bytes of the line: the same if that is no key with its value.
     pub pair: Pair,
 }
 
