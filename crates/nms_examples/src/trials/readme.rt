@@ -9,7 +9,7 @@ use std::alloc::Global;
 enum LookFault {
     /// The change at this place, counted from 0, is not of the roster, or is one too many.
     Refused(usize),
-    /// Out of memory for a board.
+    /// There is no memory for a board.
     Board(BoardFault),
 }
 
