@@ -31,7 +31,7 @@ def without(text, start, end):
 
 
 text = without(text, "/// How many random plans", "/// What is asked for")
-text = without(text, "// ---- every small board", "// ---- boards drawn by chance")
+text = without(text, "// ---- every small board", "// ---- boards drawn at random")
 text = text[: text.index("#[test]")]
 for old, new in (
     ("use nms_scripts::SETUP_K;\n", ""),
