@@ -20,7 +20,7 @@ use std::alloc::Global;
 /// How many random plans are compared. `bench/plans.sh` compares a million, with a program that it makes of this file.
 const RANDOM_PLANS: u32 = 4000;
 
-/// What an order asks for: shares, a limit in 1/10,000 dollar, whether manual quotations may be used, and against whom
+/// What is asked for: shares, a limit in 1/10,000 dollar, whether manual quotations may be used, and against whom
 /// self-help is declared.
 #[derive(Clone, Copy)]
 struct Wanted {
