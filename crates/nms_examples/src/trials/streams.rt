@@ -29,7 +29,6 @@ impl<'a> Read for Source<'a> {
 }
 
 /// Takes that many more writes and flushes, and fails from then on. Reports how many bytes are out: written, and flushed since.
-/// flushed since.
 #[derive(Drop)]
 pub(super) struct Pipe<'a> {
     pub(super) bytes: usize,
