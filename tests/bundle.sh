@@ -96,7 +96,7 @@ crowds() {
     printf '%s\n' '-- gives' 'L11: not the text of a plan'
 }
 
-# A live run of that many changes under the built-in setup, whose tape holds 1,000. What stands last of each
+# A live run of that many changes under the built-in setup, whose tape holds 1,000. The last record of each
 # participant is the same.
 live() {
     printf '%s\n' live orders feed_a feed_b '-- file feed_a'

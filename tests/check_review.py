@@ -7,7 +7,7 @@ writes on both streams and its status with what must come.
 A file `X.cases` has cases of the form of cases/commands.cases, of the kind `command`: the words, the files, the streams,
 the status and the texts. The files of examples/review/ are what docs/REVIEW.md names, and each has to be named. In a
 page a line of four spaces and `./nms_review WORDS` is a call, or one of `./nms_tool`, which is TOOL; the block
-after it is what it writes, with the words `status N` in the text between them where N is not 0. Beside these the program
+after it is what it writes, with the words `status N` in the text between them if N is not 0. Besides these the program
 meets a closed output, one whose reader has gone, records of a million bytes, records whose fields and lists are longer than
 any that is right, byte order marks before quotes, each byte of a file once, a setup of many symbols, streams of several
 pieces, a day with more versions than a picture has columns, a page of as many executions as it shows and of one more, a symbol

@@ -3,8 +3,8 @@
 
     tests/forge.py [EXAMPLES [PROGRAM]]      EXAMPLES is nms_examples, PROGRAM is nms_tool
 
-What must be found is `doubt` of rules.py: the least that holds; or none, where what was forged is itself a plan than which
-no way to spread the shares is better. EXAMPLES judges the forged fields of a plan in one run, PROGRAM is called with each
+What must be found is `doubt` of rules.py: the least that holds; or none, if the forged plan is itself one than which no way
+to spread the shares is better. EXAMPLES judges the forged fields of a plan in one run, PROGRAM is called with each
 forged text: records that are gone, doubled, added, in another order, or too many. A forged plan that differs is made as
 small as it can be. The trials are `plan N` and `texts of plan N`, counted from 0; they count what they forge.
 """

@@ -5,14 +5,14 @@
 
 On each board one order names nobody, one declares self-help against one participant, one against two, and one against
 all: the quotations of a named participant are neither usable nor binding for it (17 CFR 242.611(b)(1)). Half of the
-boards stand under the built-in setup, half under one whose fees lie whole steps of price apart, so that unit costs tie
+boards have the built-in setup, half have one whose fees lie whole steps of price apart, so that unit costs tie
 across prices, with round lots of 100 and of 1. What is judged of a plan: its record says the order, with the names by
 place; its legs are in their one order, lawful and summed rightly; no lawful way to give shares to the quotations, by the
 lot, fills more, or as much for less; and each cut says what it has to (`doubt` of rules.py). Names that are none are
 refused by their code.
 
 The best of every lawful way is found here once more: it gives shares to all quotations and asks of each whether it may have
-them, where `best_way` of rules.py tries the usable ones alone. The trials `both judges, seed N` compare the two. A script
+them, while `best_way` of rules.py tries only the usable ones. The trials `both judges, seed N` compare the two. A script
 that differs is made as short as it can be. The trials are `seed N`, 25 boards each; odd seeds have the second setup.
 """
 import itertools

@@ -27,7 +27,7 @@ pub record IsEnd (settings : Settings) (bytes : Option (List ℕ)) (first now : 
   pub stopped : why ≢ fault.WriteFault → AnswersFirst settings bytes first now before after
   pub cut : why ≡ fault.WriteFault → AnswersInPart settings bytes first now before after
 
--- where one request more leads
+-- the state after one more request
 abbrev pub AdvancesTo : {R : Type 0} (remaining : R → Option (List ℕ)) (settings : Settings) (bytes : Option (List ℕ)) (reader : Reader R)
     (first now : EpochDesk) (before after : Option (List ℕ)) (done refused : ℕ) → Result Progress AnswerFault → Type 0
 AdvancesTo remaining settings bytes reader first now before after done refused (Ok (progress.Answered more)) =

@@ -85,7 +85,7 @@ pub struct NmsThrough {
     pub version: u64,
     /// How many bids there are. The places from there on are rows of size 0.
     pub bids: u32,
-    /// How many offers there are, likewise.
+    /// How many offers there are; as `bids`.
     pub offers: u32,
     /// The bids above the price.
     pub bid: [NmsRow; 32],

@@ -3,7 +3,7 @@
 use crate::Failed;
 use std::alloc::Global;
 
-/// The bytes that a text stands for. A backslash with two hexadecimal digits after it is one byte; a backslash at the end of a
+/// The bytes that a text encodes. A backslash with two hexadecimal digits after it is one byte; a backslash at the end of a
 /// line drops that line end.
 pub(crate) fn bytes_of(alloc: Global, text: &str) -> Result<Vec<u8>, Failed> {
     let mut bytes = Vec::new(alloc);

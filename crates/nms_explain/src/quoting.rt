@@ -1,6 +1,6 @@
 //! What is within quotes, as the reader of records sees it.
 
-/// How a byte stands to quotes.
+/// Where a byte is, within quotes or not.
 #[derive(Clone, Copy)]
 pub(crate) enum Quoting {
     /// At the start of a field.

@@ -49,7 +49,7 @@ pub(crate) fn key_in(table: &[u8], key: &[u8]) -> Option<(usize, Pair)> {
     None
 }
 
-/// Whether a key may begin after a byte of a table in braces, where one may begin at it or not.
+/// Whether a key may begin after a byte of a table in braces, given whether one may begin at it.
 fn keys_begin_behind(nest: Nest, byte: u8, may_begin: bool) -> bool {
     match byte {
         b'{' => nest.is_plain_at(0),

@@ -21,7 +21,7 @@ use std::test::Fail;
 use std::thread;
 use std::thread::{Promise, Threads};
 
-/// A bid of that many shares by the participant at a place: the number tells it from its other ones.
+/// A bid of that many shares by the participant at a place: the number distinguishes it from its other ones.
 fn bid_of(place: u8, shares: u32) -> Option<Change> {
     let bid = SideQuote::new(Price::new(100_000)?, Shares::new(shares)?);
     Some(Change::Quote {

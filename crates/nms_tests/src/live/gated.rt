@@ -70,8 +70,8 @@ fn compare_counts<R: Abort>(rt: &R, gate: &Counting, live: &Live) {
     same(rt, (asked, told), (3, 3));
 }
 
-/// After a send, a publishing and a look the gate stops each until the next one was made. The next one finds the change of the
-/// one that stopped.
+/// After a send, a publishing and a look it holds the thread until the next one of them was made. So that one finds the one
+/// before it made.
 #[derive(Drop)]
 struct Relay {
     published_first: AtomicBool,
