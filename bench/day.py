@@ -4,7 +4,7 @@
     day.py CHANGES FILE [SEED]
 
 Four participants quote ABC, and every fourth change is of PNY. Prices drift. In some eight stretches of the day quotations
-are late, and stand where the market was some changes ago, so that it locks and crosses. Now and then a participant
+are late, and stay where the market was some changes ago, so that it locks and crosses. Now and then a participant
 withdraws or quotes by hand. The same number and seed give the same bytes.
 """
 import random

@@ -1,11 +1,11 @@
 #!/usr/bin/env bash
-# Draws days and takes their pictures in a browser, to be looked at: a short day, of which every version is drawn, a whole
+# Draws days and takes their pictures in a browser, for people to look at: a short day, of which every version is drawn, a whole
 # day and one of 1,000,000 changes, each with locked and crossed stretches and a plan made in its middle. Prints how long
-# each drawing took and how large its SVG is; status 1 where the largest takes 5 seconds or its SVG 1,000,000 bytes. Last
+# each drawing took and how large its SVG is; status 1 if the largest takes 5 seconds or its SVG 1,000,000 bytes. Last
 # it compares the records a second of `stream` with those of a script and of a report of nms_tool on the same changes. It
 # is no part of the gate. Needs python3 and chromium, and both programs built.
 #
-#   bench/draw.sh [FOLDER]      leaves the days, their SVGs and their pictures in FOLDER, bench/out/drawn where none is given
+#   bench/draw.sh [FOLDER]      leaves the days, their SVGs and their pictures in FOLDER, bench/out/drawn if none is given
 set -eu
 cd "$(dirname "$0")/.."
 folder=${1:-bench/out/drawn}
@@ -13,7 +13,7 @@ mkdir -p "$folder"
 sed 's/^tape_limit.*/tape_limit = 10000000/' examples/builtin.toml >"$folder/setup.toml"
 status=0
 
-# draw NAME CHANGES PLANNED: a day of so many changes, with a plan on the first PLANNED of them.
+# draw NAME CHANGES PLANNED: a day of that many changes, with a plan on the first PLANNED of them.
 draw() {
     local day=$folder/$1
     python3 bench/day.py "$2" "$day.changes"

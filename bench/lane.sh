@@ -1,6 +1,6 @@
 #!/usr/bin/env bash
 # Prints the processor time of a change through a lane of 4, 64 and 1,024, from two threads and from eight to a taker,
-# beside the same in ordinary Rust over the upstream queue (bench/lane_peer). The best of RUNS runs counts (15 where it
+# beside the same in ordinary Rust over the upstream queue (bench/lane_peer). The best of RUNS runs counts (15 if it
 # is not set), of CHANGES changes in all (1,000,000). Needs cargo and Debian's librust-crossbeam-queue-dev.
 set -eu
 bench=$(cd "$(dirname "$0")" && pwd)
@@ -12,7 +12,7 @@ registry=$(dpkg -L librust-crossbeam-queue-dev | grep '/registry$' | head -n 1)
 (cd "$bench/lane_peer" && cargo build --quiet --release --offline --target-dir "$bench/out/lane_peer" \
     --config 'source.crates-io.replace-with="debian"' --config "source.debian.directory=\"$registry\"")
 
-# The nanoseconds of processor time of a change, in the best run of a program, for a capacity and so many senders.
+# The nanoseconds of processor time of a change, in the best run of a program, for a capacity and that many senders.
 best_of() {
     local best= took
     for ((run = 0; run < ${RUNS:-15}; run++)); do

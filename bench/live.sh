@@ -1,8 +1,8 @@
 #!/usr/bin/env bash
-# Prints what a live run takes of CHANGES changes (1,000,000 where it is not set), the same in 1, 2, 4 and 8 feeds, with
+# Prints what a live run takes of CHANGES changes (1,000,000 if it is not set), the same in 1, 2, 4 and 8 feeds, with
 # 1,000 orders for each of 1, 4 and 16 desks: seconds and processor seconds, and by these the changes a second and the
 # plans a second (each order is planned twice). FEEDS and DESKS may name fewer of them, as FEEDS="1 8" DESKS=4. The run
-# of RUNS runs that takes the least processor time counts (3 where it is not set). Needs python3.
+# of RUNS runs that takes the least processor time counts (3 if it is not set). Needs python3.
 #
 #   bench/live.sh [PEER]      PEER is another program to measure beside it, which is given `live ORDERS FEED ..` and has
 #                             to write the same; then also how many times its processor time is taken

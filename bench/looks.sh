@@ -1,7 +1,7 @@
 #!/usr/bin/env bash
 # Prints how many looks a second 1, 2 and 4 desks make together, beside a publisher that publishes every 64 changes
-# with a pause of 100 microseconds behind each publishing, and the same in ordinary Rust over a mutex round one board
-# (bench/looks_peer). The best of RUNS runs counts (3 where it is not set), of LOOKS looks by each desk (3,000,000).
+# with a pause of 100 microseconds after each publishing, and the same in ordinary Rust over a mutex round one board
+# (bench/looks_peer). The best of RUNS runs counts (3 if it is not set), of LOOKS looks by each desk (3,000,000).
 # Takes about a minute on four processors that do nothing else. Needs cargo.
 set -eu
 bench=$(cd "$(dirname "$0")" && pwd)
@@ -11,7 +11,7 @@ peer=$bench/out/looks_peer/release/looks_peer
 [ -x "$desks" ] || (cd "$bench/../crates/nms_bench" && rt run <stdin >/dev/null)
 (cd "$bench/looks_peer" && cargo build --quiet --release --offline --target-dir "$bench/out/looks_peer")
 
-# The microseconds of the best run of a program by so many desks. Each look has to show both its rows.
+# The microseconds of the best run of a program by that many desks. Each look has to show both its rows.
 best_of() {
     local best= took from told
     for ((run = 0; run < ${RUNS:-3}; run++)); do

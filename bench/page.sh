@@ -1,7 +1,7 @@
 #!/usr/bin/env bash
 # Looks at the page of executions in a headless Chromium without network: the page of examples/trades/, and one of 3,000 random
 # executions of a made day. The browser must find a section and a picture for each execution that the page shows, no script and
-# no address, and print it. Leaves pages, pictures of them and prints in a folder to be looked at; status 1 if a count differs, 77
+# no address, and print it. Leaves pages, pictures of them and prints in a folder for people to look at; status 1 if a count differs, 77
 # if there is no chromium. It is no part of the gate. Needs python3, and the program built.
 #
 #   bench/page.sh [FOLDER [PROGRAM]]      FOLDER is bench/out/pages if none is given, PROGRAM ./nms_review
@@ -18,7 +18,7 @@ browse() {
         --host-resolver-rules="MAP * ~NOTFOUND" "$@" 2>"$folder/log"
 }
 
-# look NAME CHANGES EXECUTIONS WORD..: a page of these, looked at.
+# look NAME CHANGES EXECUTIONS WORD..: a page of these, with its pictures.
 look() {
     local page=$folder/$1.html through shown seen
     "$program" trades "$2" "$3" --html "$page" "${@:4}" >"$folder/$1.answers" || [ $? -eq 6 ]

@@ -2,10 +2,10 @@
 # Compares random plans of the planner with those of the plain slow one: each plan and certificate has to be the same,
 # and confirmed. Prints what each run compared: how many plans, of which seed, how many were right, and what is wrong
 # with the first that is not. It makes a program of nms_tests/src/plans.rt, which rt proves (some minutes) and LLVM
-# builds, so that a million plans take ten seconds; it leaves nothing behind. Status 1 where a plan differs. Needs
+# builds, so that a million plans take ten seconds; it leaves nothing behind. Status 1 if a plan differs. Needs
 # python3.
 #
-#   bench/plans.sh [NUMBER [SEED]]      1,000,000 and 600 where none is given; a seed for each 100,000
+#   bench/plans.sh [NUMBER [SEED]]      1,000,000 and 600 if none is given; a seed for each 100,000
 set -eu
 number=${1:-1000000} seed=${2:-600}
 cd "$(dirname "$0")/.."
@@ -26,12 +26,12 @@ text = open(sys.argv[1]).read()
 
 
 def without(text, start, end):
-    """The text without what stands from one mark up to the next."""
+    """The text without the part from one mark up to the next."""
     return text[: text.index(start)] + text[text.index(end) :]
 
 
 text = without(text, "/// How many random plans", "/// What is asked for")
-text = without(text, "// ---- every small board", "// ---- boards drawn by chance")
+text = without(text, "// ---- every small board", "// ---- boards drawn at random")
 text = text[: text.index("#[test]")]
 for old, new in (
     ("use nms_scripts::SETUP_K;\n", ""),
@@ -44,7 +44,7 @@ for old, new in (
 ):
     assert text.count(old) == 1, old
     text = text.replace(old, new)
-text += """/// Tries so many boards drawn from a seed: how many plans were right, and what is wrong with the first that is not.
+text += """/// Tries that many boards drawn from a seed: how many plans were right, and what is wrong with the first that is not.
 pub(crate) fn compare<R: AllocGlobal>(
     rt: &R,
     number: u32,
@@ -84,7 +84,7 @@ fn main(rt: HostRuntime) -> ExitCode {
     }
 }
 
-/// Makes each run and writes what came of it.
+/// Makes each run and writes its result.
 fn run_all<R: AllocGlobal, W: Write>(
     rt: &R,
     input: &[u8],

@@ -1,6 +1,6 @@
 #!/usr/bin/env bash
 # Prints how many records a second the built program answers, at 10,000 and 1,000,000 records of each load.
-# The best of RUNS runs counts (7 where it is not set). Needs python3.
+# The best of RUNS runs counts (7 if it is not set). Needs python3.
 #
 #   bench/run.sh [LOAD ..]        quotes, wide, looks, withdraws, sweeps; all of them by default
 set -eu

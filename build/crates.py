@@ -79,7 +79,7 @@ class Plan:
         return self.times.get(name, (60.0, 1, 100))[1]
 
     def granted(self, name, idle, at_once):
-        """The jobs that a crate gets when so many of `at_once` processors are idle: those that pay for it. Of more than two
+        """The jobs that a crate gets when that many of `at_once` processors are idle: those that pay for it. Of more than two
         processors one may be shared for a while, since a long crate with a job fewer would be late by more than that costs."""
         shared = 1 if at_once > 2 else 0
         return max(1, min(self.jobs(name), idle + shared))
@@ -170,11 +170,11 @@ class Toolchain:
         subprocess.run([f"{tools}/llvm-ar", "x", f"{self.folder}/c/liblibc_c.a"], cwd=room, check=True)
         objects = sorted(it for it in os.listdir(room) if it.endswith(".o"))
         subprocess.run([f"{tools}/llvm-ar", "rcs", f"{made}.new", *objects], cwd=room, check=True)
-        # It gives its callers the functions of nms.h, and needs the C library alone when it is loaded.
+        # It gives its callers the functions of nms.h, and needs only the C library when it is loaded.
         with open(f"{room}/exports", "w", encoding="ascii") as file:
             file.write("{ global: nms_*; local: *; };\n")
         words = ["-shared", "-soname", "libnms.so", "-z", "defs", "--version-script", "exports", "--whole-archive", f"{made}.new"]
-        # A division of 128 bits stands in the compiler's own library, which every linker of C adds by itself.
+        # A division of 128 bits is in the compiler's own library, which every linker of C adds by itself.
         words += ["--no-whole-archive", *(f"{self.folder}/toolchain/lib/{it}" for it in ("libgcc.a", "libc.so.6")), "-o", "libnms.so"]
         with contextlib.suppress(FileNotFoundError):
             os.remove(shared)
@@ -241,7 +241,7 @@ class Build:
         return f"{100 * sum(map(self.plan.seconds, self.done)) / self.plan.processor():.0f} of 100"
 
     def made(self, name):
-        """Where a crate is built, before it comes to its place."""
+        """Where a crate is built, before it moves to its place."""
         crate = self.tools.crate(name)
         return f"{TOP}/crates/{name}/out/made/{name}" + (".o" if crate.is_program else ".a" if crate.is_static else ".rlib")
 
@@ -278,7 +278,7 @@ class Build:
         return round(sum(map(os.path.getsize, paths)) / 1_000_000)
 
     def end(self, pid, status, used):
-        """Takes what a crate's proof came to."""
+        """Takes the result of a crate's proof."""
         name, report, jobs, process = self.running.pop(pid)
         process.returncode = status
         if status:

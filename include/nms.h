@@ -5,7 +5,7 @@
  *   as it was and writes nothing to the caller's structs; the calls that differ say so.
  *   Set a board to NMS_BOARD_CLOSED before nms_open. Close each board that was opened, once.
  *   Find the number of a name once (nms_find_part, nms_find_sym), and use the number after that. A participant's number is
- *   its place in the setup's document, 0 to 31; a symbol's likewise, 0 to 999.
+ *   its place in the setup's document, 0 to 31; so is a symbol's, 0 to 999.
  *
  * UNITS
  *   Prices are in 1/10,000 dollar, 1 to 99,999,999,999 (9,999,999.9999 dollars). A price for nms_traded_through is in
@@ -18,7 +18,7 @@
  * THREADS
  *   A board is for one call at a time. Give each thread a board of its own, or call under a lock of your own. A board may
  *   go from one thread to another if a lock, a start or a join orders the two. No call waits, starts a thread, or may be
- *   made from a signal handler. The library holds no state beside the boards. It does not publish versions to several
+ *   made from a signal handler. The library holds no state besides the boards. It does not publish versions to several
  *   threads: that needs the runtime of a whole program, and a library that C calls has none.
  *
  * NULL POINTERS
@@ -28,9 +28,9 @@
  *
  * WHAT NO CALL CAN SEE
  *   A pointer that is not null has to point at a whole struct of its type, or at as many bytes or elements as the caller
- *   says, and two arguments of one call may not overlap. A struct nms_board is never copied: after one copy is closed
- *   or used, the other points at memory that is no longer its own, and no test can find that out. Treat it as a
- *   pthread_mutex_t. The same holds for a board whose bytes the caller alters.
+ *   says. Two arguments of one call may not overlap. Never copy a struct nms_board. After one copy is closed or used, the
+ *   other points at memory that is no longer its own, and no test can find that out. Treat it as a pthread_mutex_t. The
+ *   same holds for a board whose bytes the caller alters.
  */
 #ifndef NMS_H
 #define NMS_H
@@ -54,8 +54,8 @@ extern "C" {
 #define NMS_CODE_TEXT_ROOM 128 /* the text of a code, or the library's version */
 #define NMS_PLAN_TEXT_ROOM 8192 /* the text of a plan with its certificate */
 
-/* The answer of a call. Of several faults of one struct's numbers the least code is answered. A call that takes an order
- * and a plan looks at the order first. */
+/* The answer of a call. If one struct's numbers have several faults, the call returns the least code. A call that takes an
+ * order and a plan checks the order first. */
 enum nms_code {
     NMS_OK = 0,
     /* why a text is no setup, as nms_tool names it: C1 to C9 */
@@ -116,7 +116,7 @@ typedef struct nms_board {
 } nms_board;
 #define NMS_BOARD_CLOSED { 0, 0 }
 
-/* A change of the board. The fields that its kind does not use are not looked at.
+/* A change of the board. The fields that its kind does not use are ignored.
  *   NMS_QUOTE     part, sym, state, and both sides: a side is a price and 1 or more shares, or 0 and 0 for no quotation
  *   NMS_STATE     part, sym, state
  *   NMS_WITHDRAW  part: no quotation in any symbol
@@ -192,7 +192,7 @@ typedef struct nms_leg {
 /* What a plan's certificate says of one price. */
 typedef struct nms_cut {
     uint64_t price;
-    int64_t marginal; /* nanodollars for one more share; 0 where kind is not NMS_MARGINAL */
+    int64_t marginal; /* nanodollars for one more share; 0 if kind is not NMS_MARGINAL */
     uint32_t kind;    /* enum nms_cut_kind */
     uint32_t spare;   /* 0 */
 } nms_cut;
@@ -209,12 +209,12 @@ typedef struct nms_plan {
     nms_cut cut[NMS_MOST_PARTS];
 } nms_plan;
 
-/* Why a plan is not confirmed, as nms_tool names it. All 0 where it is confirmed. */
+/* Why a plan is not confirmed, as nms_tool names it. All 0 if it is confirmed. */
 typedef struct nms_doubt {
     uint32_t doubt;  /* 1 to 7: K1 to K7 */
-    uint32_t breach; /* 1 to 12: P1 to P12, where doubt is 1; else 0 */
-    uint32_t part;   /* where breach is 10, the participant that is traded through; else 0 */
-    uint32_t cut;    /* where doubt is 7, the first cut whose bound fails, from 0 on; else 0 */
+    uint32_t breach; /* 1 to 12: P1 to P12, if doubt is 1; else 0 */
+    uint32_t part;   /* if breach is 10, the participant that is traded through; else 0 */
+    uint32_t cut;    /* if doubt is 7, the first cut whose bound fails, from 0 on; else 0 */
 } nms_doubt;
 
 /* Where a text is no setup, and why. All 0 if it is a setup. */
@@ -439,14 +439,14 @@ static inline uint32_t nms_traded_through(nms_board *board, uint16_t sym, uint64
     return board && through ? nms_raw_traded_through(board, sym, millionths, through) : (uint32_t)NMS_NULL;
 }
 
-/* Plans an order: a lawful plan that fills most, and of those one of least cost with fees, with its certificate. A plan
+/* Plans an order: a lawful plan that fills the most shares, at the least cost with fees, with its certificate. A plan
  * that fills nothing has 0 legs. Codes: NMS_RANGE, NMS_NO_PART (self_help), NMS_NO_SYM, NMS_CLOSED. */
 static inline uint32_t nms_plan_order(nms_board *board, const nms_order *order, nms_plan *plan)
 {
     return board && order && plan ? nms_raw_plan_order(board, order, plan) : (uint32_t)NMS_NULL;
 }
 
-/* Confirms on the board that a plan is lawful and the best one for the order, whoever made it. It trusts nothing of the
+/* Confirms on the board that a plan is lawful and the best one for the order, from any maker. It does not trust the
  * planner. Codes: NMS_OK if it is; NMS_DOUBTED, and then *doubt says why; NMS_RANGE, NMS_NO_PART and NMS_NO_SYM if the
  * numbers say no order and no plan; NMS_CLOSED. *doubt is written at NMS_OK and NMS_DOUBTED alone. */
 static inline uint32_t nms_confirm(nms_board *board, const nms_order *order, const nms_plan *plan, nms_doubt *doubt)
@@ -476,7 +476,7 @@ static inline uint32_t nms_read_plan(nms_board *board, const char *text, size_t 
     return board && text && order && plan ? nms_raw_read_plan(board, (const uint8_t *)text, text_bytes, order, plan) : (uint32_t)NMS_NULL;
 }
 
-/* Writes the changes that bring an empty board of the same setup to the symbol's rows: its round lot where it differs from
+/* Writes the changes that bring an empty board of the same setup to the symbol's rows: its round lot if it differs from
  * the setup's, then its sides in order of receipt, hidden ones included. A caller cuts its day with them: open a new
  * board, apply the opening of each symbol, close the old one. Codes: NMS_NO_SYM, NMS_CLOSED. */
 static inline uint32_t nms_opening_of(nms_board *board, uint16_t sym, nms_opening *opening)

@@ -32,7 +32,7 @@ filled() {
         '1066 read, 0 refused, 1000 taken, 1000 published'
 }
 
-# A setup file of so many participants, each with its place as its fee, and of so many symbols.
+# A setup file of that many participants, each with its place as its fee, and of that many symbols.
 crowd() {
     awk -v participants="$1" -v symbols="$2" 'BEGIN {
         print "tape_limit = 9\nqueue = 9\ndesks = 2"
@@ -45,7 +45,7 @@ crowd() {
     }'
 }
 
-# A plan of so many legs and cuts, with every number as wide as it can be.
+# A plan of that many legs and cuts, with every number as wide as it can be.
 widest() {
     echo 'PLAN,99999999,S,0.ABC,999999999,9999999.9999,M,999999999,-99999999999999999999.999999999'
     seq "$1" | awk '{ print "LEG,EX" $1 % 32 + 10 ",9999999.9999,999999999" }'
@@ -96,7 +96,7 @@ crowds() {
     printf '%s\n' '-- gives' 'L11: not the text of a plan'
 }
 
-# A live run of so many changes under the built-in setup, whose tape holds 1,000. What stands last of each
+# A live run of that many changes under the built-in setup, whose tape holds 1,000. The last record of each
 # participant is the same.
 live() {
     printf '%s\n' live orders feed_a feed_b '-- file feed_a'
@@ -147,7 +147,7 @@ bundle() {
     cat ../tests/cases/*.cases
 }
 
-# All but reports and calls, and no setup that nothing stands behind.
+# All but reports and calls, and no setup without anything after it.
 below() {
     bundle | awk '
         /^== / { kind = $2 }

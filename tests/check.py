@@ -116,7 +116,7 @@ KINDS = {"script": script, "report": report, "check": check, "command": lambda c
 
 
 def call_of(case, statuses, stored):
-    """The call that shows a case; `None` where there is none, or a row of the table has it."""
+    """The call that shows a case; `None` if there is none, or a row of the table has it."""
     if case.kind not in WHOLE and case.text not in stored:
         raise Wrong("not in the stored input of crates/nms_examples")
     if case.kind in KINDS and case.has_gives:

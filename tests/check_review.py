@@ -6,8 +6,8 @@ writes on both streams and its status with what must come.
 
 A file `X.cases` has cases of the form of cases/commands.cases, of the kind `command`: the words, the files, the streams,
 the status and the texts. The files of examples/review/ are what docs/REVIEW.md names, and each has to be named. In a
-page a line of four spaces and `./nms_review WORDS` is a call, or one of `./nms_tool`, which TOOL stands for; the block
-after it is what it writes, with the words `status N` in the text between them where N is not 0. Beside these the program
+page a line of four spaces and `./nms_review WORDS` is a call, or one of `./nms_tool`, which is TOOL; the block
+after it is what it writes, with the words `status N` in the text between them if N is not 0. Besides these the program
 meets a closed output, one whose reader has gone, records of a million bytes, records whose fields and lists are longer than
 any that is right, byte order marks before quotes, each byte of a file once, a setup of many symbols, streams of several
 pieces, a day with more versions than a picture has columns, a page of as many executions as it shows and of one more, a symbol
@@ -35,7 +35,7 @@ JUDGES = ("import_judge.py", "times_judge.py", "trades_judge.py", "day_judge.py"
 # Memory within which a file of two hundred million bytes is explained: it must not grow with the file, but with the longest
 # record alone.
 LITTLE = 256 << 20
-# A call of the page, what stands between it and its block, and the block.
+# A call of the page, the text between it and its block, and the block.
 CALL = re.compile(r"^    \./(nms_review|nms_tool) (.*)\n((?:(?!    \./nms_|```).*\n)*)```\w*\n([\s\S]*?)```$", re.M)
 
 
@@ -62,7 +62,7 @@ def pages(program, tool):
 
 
 def shown(program, words, status, text):
-    """A call at the top of the repository that writes this text, or its beginning where it ends with a line `..`."""
+    """A call at the top of the repository that writes this text, or its beginning if it ends with a line `..`."""
     words, _, _ = parted(words, ">")
     words, _, given = parted(words, "<")
     with open(os.path.join(TOP, *given) if given else os.devnull, "rb") as file:
@@ -120,7 +120,7 @@ def reader_gone(program, path):
 
 
 def long_records(file):
-    """A record of a million bytes, one that a stray quote makes of all behind it, and good ones between."""
+    """A record of a million bytes, one that a stray quote makes of all after it, and good ones between."""
     file.write(b"Q,N,ABC,A,,,10.00,300\nQ,N,ABC," + b"9" * 1_000_000 + b"\nX,N\n" + b'Q,"N,ABC' + b"\nX,N" * 250_000)
 
 
@@ -130,7 +130,7 @@ def long(program, path):
 
 
 def heads(program, words, path):
-    """The status of a call on a file, and of each line that it writes about the file what stands after the file's name."""
+    """The status of a call on a file, and the text after the file's name of each line that it writes about the file."""
     ran = called(program, [*words, "given.changes"], capture_output=True, cwd=os.path.dirname(path))
     lines = ran.stdout.decode().splitlines()
     return ran.returncode, [it.removeprefix("given.changes:") for it in lines if it.startswith("given.changes:")], lines
@@ -149,7 +149,7 @@ def far_name(program, path):
 
 
 def long_fields(file):
-    """Records with a hundred thousand digits or commas where few may stand, and good ones between."""
+    """Records with a hundred thousand digits or commas in place of a few, and good ones between."""
     many = b"0" * 100_000
     file.write(b"Q,N,ABC,A," + many + b",100,10.01,100\nF\nQ,N,ABC,A,9.99," + many + b",10.01,100\nF\n")
     file.write(b"N," + many + b",ABC\nF\nQ,N,ABC,A" + b"," * 100_000 + b"\nF\nR,ABC," + many + b"1\n")
@@ -218,7 +218,7 @@ def small_memory(program, path):
 
 
 def larger(file):
-    """A record of a thousand million bytes, which stand on no disk, after one that is refused."""
+    """A record of a thousand million bytes, which are on no disk, after one that is refused."""
     file.write(b"X,QQ\n")
     file.truncate(1_000_000_000)
 
@@ -329,7 +329,7 @@ def no_change(file):
 
 
 def flagged(program, path):
-    """1,000 executions that traded through stand on a page, and of 1,001 the first 1,000 with how many more there are."""
+    """A page shows 1,000 executions that traded through, and of 1,001 the first 1,000 with how many more there are."""
     room = os.path.dirname(path)
     with open(path, "wb") as file:
         file.write(b"Q,N,ABC,A,9.99,100,10.01,100\n" * 3)

@@ -3,8 +3,8 @@
 
     tests/forge.py [EXAMPLES [PROGRAM]]      EXAMPLES is nms_examples, PROGRAM is nms_tool
 
-What must be found is `doubt` of rules.py: the least that holds; or none, where what was forged is itself a plan than which
-no way to spread the shares is better. EXAMPLES judges the forged fields of a plan in one run, PROGRAM is called with each
+What must be found is `doubt` of rules.py: the least that holds; or none, if the forged plan is itself one than which no way
+to spread the shares is better. EXAMPLES judges the forged fields of a plan in one run, PROGRAM is called with each
 forged text: records that are gone, doubled, added, in another order, or too many. A forged plan that differs is made as
 small as it can be. The trials are `plan N` and `texts of plan N`, counted from 0; they count what they forge.
 """
@@ -23,7 +23,7 @@ KINDS = "TOOMUCH", "TOOLITTLE", "MARGINAL"
 
 
 class Forged:
-    """A plan as its text says it, beside the quotations that stand, one change for each."""
+    """A plan as its text says it, beside the present quotations, one change for each."""
 
     def __init__(self, rows, side, order, plan, cuts):
         self.rows, self.side = rows, side
@@ -63,7 +63,7 @@ class Forged:
         return [*(("row", it) for it in self.rows), *(("leg", it) for it in self.legs), *(("cut", it) for it in self.cuts)]
 
     def of_parts(self, parts):
-        """This plan with some of its parts alone, which is the least version that has them."""
+        """This plan with only some of its parts, which is the least version that has them."""
         it = self.copy()
         it.rows, it.legs, it.cuts = ([part for kind, part in parts if kind == wanted] for wanted in ("row", "leg", "cut"))
         it.version = self.version - len(self.rows) + len(it.rows)
@@ -174,7 +174,7 @@ def judged(examples, plan):
 
 
 def forged_texts(plan):
-    """Texts that say no plan: records gone, doubled, in another order, too many, or behind the end."""
+    """Texts that say no plan: records gone, doubled, in another order, too many, or after the end."""
     records = list(plan.records())
     head, body = records[0], records[1:-1]
     yield from ("".join(records[:it]) for it in range(len(records)))

@@ -8,7 +8,7 @@
  * -Wl,--wrap=malloc,--wrap=realloc,--wrap=calloc,--wrap=free; tests/library.py runs it under the address and
  * undefined-behaviour sanitizers, and under valgrind.
  *
- *     hostile SETUP [ROUNDS]     the built-in setup; so many rounds of random bytes, 20,000 by default
+ *     hostile SETUP [ROUNDS]     the built-in setup; that many rounds of random bytes, 20,000 by default
  *
  * Prints a line for each difference (the first forty), and last `N passed, M failed`.
  */
@@ -93,7 +93,7 @@ static void open_edges(void)
     }
 }
 
-/* The last so many bytes of an edge, all of one value. */
+/* That many last bytes of an edge, all of one value. */
 static void *filled(int edge, size_t size, int fill)
 {
     return memset(edges[edge] - size, fill, size);
@@ -392,7 +392,7 @@ static void changes(nms_board *board)
         change_gives(change, NMS_RANGE, "a lot out of range");
     }
 
-    /* The fields that a kind does not use are not looked at. */
+    /* The fields that a kind does not use are ignored. */
     nms_change strange;
     memset(&strange, 0xFF, sizeof strange);
     strange.kind = NMS_WITHDRAW;
@@ -409,7 +409,7 @@ static void changes(nms_board *board)
     strange.state = NMS_HALTED;
     change_gives(strange, NMS_OK, "a state with all else strange");
 
-    /* Of an array what stands before the first refused one is applied, and nothing after it. */
+    /* The changes of an array before the first refused one are applied, and nothing after it. */
     nms_change many[3] = { quote(0, 0, 99900, 300, 100000, 300), quote(9, 0, 99900, 300, 100000, 300), quote(1, 0, 99900, 300, 100000, 300) };
     size_t *applied = filled(2, sizeof *applied, 0x5A);
     nms_counts before, after;
@@ -597,7 +597,7 @@ static void plans(nms_board *board)
         at->leg[0].part = (uint8_t)part;
         equals(nms_confirm(board, &order, at, doubt), NMS_NO_PART, "a leg of a stranger");
     }
-    /* Each bit that a plan's meaning rests on, turned alone. */
+    /* Each bit that a plan's meaning rests on, flipped one at a time. */
     for (size_t byte = 0; byte < sizeof plan; ++byte)
         for (int bit = 0; bit < 8; ++bit) {
             const size_t legs = offsetof(nms_plan, leg), cuts = offsetof(nms_plan, cut);
@@ -646,7 +646,7 @@ static void plans(nms_board *board)
             } else
                 equals(is_filled(out_order, sizeof *out_order, 0x5A) && is_filled(at, sizeof *at, 0x5A), 1, "what an altered text wrote");
         }
-    /* The most bytes that a text may have, and one more: with blank lines behind the plan, in one field, and of commas alone. */
+    /* The most bytes that a text may have, and one more: with blank lines after the plan, in one field, and only of commas. */
     static char longest[NMS_PLAN_TEXT_ROOM + 1];
     for (size_t size = sizeof longest - 2; size <= sizeof longest; ++size) {
         const uint32_t too_long = size > NMS_PLAN_TEXT_ROOM ? NMS_RANGE : NMS_OK;

@@ -7,7 +7,7 @@ Each request for memory is refused, from the first one until none is: the call h
 out-of-memory code of its own, and of the answer at most a beginning. Each read and each write fails: the call has to end
 with E1 or E2, and what it wrote has to be the answers to the records that it had read, or to those that it had answered,
 byte for byte. And all streams move single bytes: nothing may change. It counts points. A machine that lets no process trace
-another one is skipped; `tests/refuse.py` stands for a part of it there.
+another one is skipped; `tests/refuse.py` does a part of it there.
 """
 import os
 import sys
@@ -90,7 +90,7 @@ class Call:
             return ran[:3] == ample[:3] or ran.status == STATUS.get(code, 5) and code in self.may and is_part
         if plan.write:
             return (ran.status, code) == (1, self.unwritten) and is_part
-        # The answers to the records that stand whole before the byte that could not be read; of files, nothing.
+        # The answers to the whole records before the byte that could not be read; for files, nothing.
         whole = answers[self.given[:plan.read - 1].count("\n")] if self.given else b""
         return (ran.status, code, ran.out) == (1, "E1", whole)
 

@@ -37,7 +37,7 @@ class Layout:
     mapping: str
     share: int
     names: list
-    # The column of each thing that is read; what is fixed stands in `fixed`.
+    # The column of each thing that is read; fixed values are in `fixed`.
     columns: dict
     header: bool = True
     delimiter: str = "|"
@@ -155,7 +155,7 @@ def time_of(layout, text):
 
 
 def state_of(layout, it):
-    """The state, empty for no quotation, and whether one side alone is manual; or the cause why there is none."""
+    """The state, empty for no quotation, and whether only one side is manual; or the cause why there is none."""
     if not layout.states:
         return "A", False
     state = STATE.get(it["source"] + it["condition"])
@@ -167,7 +167,7 @@ def state_of(layout, it):
 
 
 def outcome(layout, row, parts, syms):
-    """(record, time, symbol, one side alone is manual) of a row, or the cause why it makes none."""
+    """(record, time, symbol, only one side is manual) of a row, or the cause why it makes none."""
     if layout.end and row[0] == layout.end:
         return "last line of a file"
     if len(row) <= max(layout.columns.values()):
@@ -565,7 +565,7 @@ def judge_trades(program, layout, dice, rows):
 
 
 def read_back(program, room, records):
-    """What `trades` says of the records on the version of no change, which stands in place of their times."""
+    """What `trades` says of the records on the version of no change, which replaces their times."""
     paths = [os.path.join(room, name) for name in ("no.changes", "read.executions")]
     for path, text in zip(paths, ("", "".join(re.sub(",@[0-9]{15},", ",0,", record) + "\n" for record in records))):
         with open(path, "w", encoding="utf-8") as file:

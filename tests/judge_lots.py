@@ -22,7 +22,7 @@ PARTS = {"N": "A", "P": "A", "Y": "B", "Z": "B"}
 QUEUE, TAPE, DESKS, RECORDS = 12, 30, 2, 50
 # The opening lots of both symbols, one setup for each pair.
 LOTS = [(100, 100), (40, 10), (1, 1000), (7, 100)]
-# What stands in the field of a lot, and of an average, each drawn as often as it stands here.
+# The values of the field of a lot, and of an average, each drawn as often as it is listed here.
 NUMBERS = ["1", "0001", "7", "10", "010", "40", "40", "50", "99", "100", "100", "0100", "101", "200", "999", "1000"]
 NO_NUMBERS = ["0", "0000", "1001", "9999", "00001", "10000", "", "AVG", "4x", "-1", "1.0"]
 PRICES = ["0.0001", "1", "249.9999", "250", "250.0", "250.0000", "250.0001", "250.0050", "999.9999", "1000", "1000.0000"]
@@ -108,7 +108,7 @@ def setup(lots):
 
 
 def judge(program, path, lots, script):
-    """Raises what the program does otherwise on a script under a setup, which stands at a path."""
+    """Raises what the program does otherwise on a script under a setup, which is at a path."""
     lines, _ = answers(Machine(QUEUE, TAPE, dict(zip(("ABC", "PNY"), lots))), script)
     given = "".join(f"{record}\n" for record, _ in script).encode()
     ran = subprocess.run([program, "script", "--setup", path], input=given, capture_output=True, timeout=MOST, check=False)

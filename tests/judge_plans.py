@@ -1,7 +1,7 @@
 #!/usr/bin/env python3
 """Writes audits of random plans, each with what it must find: `tests/judge_plans.py CASES [SEED]`.
 
-What it must find is `doubt` of rules.py, over a few quotations that never change, under the built-in setup. It stops where a
+What it must find is `doubt` of rules.py, over a few quotations that never change, under the built-in setup. It stops if a
 certificate passes for a plan that is not the best of every way to spread the lots. tests/cases/chance_plans.cases has 100.
 """
 import random

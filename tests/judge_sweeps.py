@@ -5,14 +5,14 @@
 
 On each board one order names nobody, one declares self-help against one participant, one against two, and one against
 all: the quotations of a named participant are neither usable nor binding for it (17 CFR 242.611(b)(1)). Half of the
-boards stand under the built-in setup, half under one whose fees lie whole steps of price apart, so that unit costs tie
+boards have the built-in setup, half have one whose fees lie whole steps of price apart, so that unit costs tie
 across prices, with round lots of 100 and of 1. What is judged of a plan: its record says the order, with the names by
 place; its legs are in their one order, lawful and summed rightly; no lawful way to give shares to the quotations, by the
 lot, fills more, or as much for less; and each cut says what it has to (`doubt` of rules.py). Names that are none are
 refused by their code.
 
 The best of every lawful way is found here once more: it gives shares to all quotations and asks of each whether it may have
-them, where `best_way` of rules.py tries the usable ones alone. The trials `both judges, seed N` compare the two. A script
+them, while `best_way` of rules.py tries only the usable ones. The trials `both judges, seed N` compare the two. A script
 that differs is made as short as it can be. The trials are `seed N`, 25 boards each; odd seeds have the second setup.
 """
 import itertools
@@ -26,7 +26,7 @@ from stored import MOST, programs
 from trials import Trial, Wrong, least, run
 
 BOARDS_OF_A_SCRIPT = 25
-# What stands in the eighth field of an order that is refused: one of the names is not on the roster.
+# The eighth field of an order that is refused: one of the names is not on the roster.
 NO_NAMES = ["", "Q", "+", "N+", "+P", "N++P", "N+Q", "n", "N P", "N+P+"]
 # A setup in which a share costs as much with its fee at one participant as a step of price further on at another.
 TIED_FEES = {"N": (300_000, 30), "P": (200_000, 20), "Y": (-100_000, -10), "Z": (300_000, 30)}
@@ -50,7 +50,7 @@ def is_lawful(order, rows, given):
 
 
 def may_be_given(order, row, shares, ways):
-    """Whether a quotation may be given shares, where each other one is given what it is."""
+    """Whether a quotation may be given shares, if each other one is given what it is."""
     if is_named(order, row) or shares > row[2] or is_better(order, order["limit"], row[1]):
         return False
     if not row[3] and not order["manual"]:
@@ -140,7 +140,7 @@ def record_of(chance, order):
 
 
 def drawn_kind(chance, is_tied):
-    """The symbol and its lot, how far prices stand apart, the fees, and the price about which all are drawn."""
+    """The symbol and its lot, how far prices are apart, the fees, and the price about which all are drawn."""
     if not is_tied:
         return {"sym": "ABC", "lot": 100, "step": 100, "fees": FEES}, chance.choice([100_000, 100_000, 9_999])
     sym, lot = chance.choice([("ABC", 100), ("PNY", 1)])

@@ -21,7 +21,7 @@ TOP = os.path.dirname(os.path.dirname(os.path.realpath(__file__)))
 MOST_BYTES = 300_000
 # Seconds that a program may take.
 MOST = 3600
-# What counts requests for memory stands before the C library's own functions.
+# The functions that count requests for memory come before the C library's own.
 WRAP = "-Wl," + ",".join(f"--wrap={it}" for it in ("malloc", "realloc", "calloc", "free"))
 WARNINGS = ["-Wall", "-Wextra", "-Werror"]
 
@@ -50,7 +50,7 @@ def skip(what, lacks):
 
 
 def run(words, **how):
-    """Runs a command, and gives its status and what it wrote, the error stream behind it."""
+    """Runs a command, and gives its status and what it wrote, the error stream last."""
     try:
         ran = subprocess.run(words, stdout=subprocess.PIPE, stderr=subprocess.STDOUT, timeout=MOST, check=False, **how)
     except subprocess.TimeoutExpired:

@@ -21,7 +21,7 @@ PAGE = 4096
 STACK = 256 * 1024
 # Limits tried of each call.
 STEPS = 160
-# The C library asks the system for each piece of memory by itself; or for pieces alone that are not small.
+# The C library asks the system for each piece of memory by itself; or only for pieces that are not small.
 EACH = "glibc.malloc.mmap_threshold=1:glibc.malloc.mmap_max=1000000000:glibc.malloc.tcache_count=0"
 LARGE = "glibc.malloc.mmap_threshold=65536:glibc.malloc.top_pad=0:glibc.malloc.trim_threshold=4096"
 # The out-of-memory codes that any call may end with; a live run that can't begin, or can't append, ends with 7.

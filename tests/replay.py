@@ -49,7 +49,7 @@ def check(what, holds, shown=""):
 # ---- the replay
 
 def records(text):
-    """The records of a stream of whole lines: `?` stands for each line that is not passed on."""
+    """The records of a stream of whole lines: each line that is not passed on is `?`."""
     lines = text.split(b"\n")
     last = lines.pop()
     found = []
@@ -110,7 +110,7 @@ def said_in(line):
 
 
 def line_of(part, sym, state, sides):
-    """A quote as it stands on the tape."""
+    """A quote as it is on the tape."""
     texts = (f"{rules.dollars(it[0])},{it[1]}" if it else "," for it in sides)
     return f"Q,{part},{sym},{state},{','.join(texts)}".encode()
 
@@ -138,7 +138,7 @@ def version_of(block):
 
 
 def script_of(changes, published, asked, queue):
-    """The script of a run: its changes, a publishing where one was, or where the queue is full, and each request where its
+    """The script of a run: its changes, a publishing if one was, or if the queue is full, and each request where its
     version is published."""
     lines, done, waiting = [], 0, sorted(asked)
     points = sorted({*published, *(version for version, *_ in waiting)})
@@ -779,7 +779,7 @@ def held_requests(program, tool):
 
 
 def silent_feeds(program, tool):
-    """With --stale a silent feed is reported once a silence, and again when it speaks; an idle run takes no time."""
+    """With --stale a silent feed is reported once a silence, and again when it sends; an idle run takes no time."""
     with Failing(program, tool, "silent feeds") as it:
         fifos = it.room.fifo("a"), it.room.fifo("b")
         started = it.room.start(*it.words(*fifos, "--stale", "1"), stdin=subprocess.PIPE)

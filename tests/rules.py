@@ -28,7 +28,7 @@ def money(nanodollars):
 
 
 def price_of(text):
-    """The price that a text is; None where it is none, or zero."""
+    """The price that a text is; None if it is none, or zero."""
     parts = re.fullmatch(r"([0-9]{1,7})(?:\.([0-9]{1,4}))?", text)
     return (int(parts[1]) * 10_000 + int((parts[2] or "0").ljust(4, "0")) or None) if parts else None
 
@@ -310,9 +310,9 @@ def doubt(order, quotes, plan, cuts):
 
 
 def filled_at(order, quotes, most, price, is_fixed):
-    """The legs that sweep what must be swept at this price and fill up from the pool, the cheapest first; None where that
+    """The legs that sweep what must be swept at this price and fill up from the pool, the cheapest first; None if that
     is too much or too little; and the price's cut. The fixed choice takes the better price of two equal costs, and has the
-    cheapest of the pool as its marginal where nothing is left to fill. Without it participants go by place, and the
+    cheapest of the pool as its marginal if nothing is left to fill. Without it participants go by place, and the
     marginal is then the least that there is, which is as right."""
     swept, pool = parts_at(order, quotes, price)
     if size(swept) > most:

@@ -1,5 +1,5 @@
 /* Compares include/nms.h with what the library really reads and writes, since nothing else compares the two. The header's
- * own assertions hold of the header alone; here every struct is seen from the library's side.
+ * own assertions check only the header; here every struct is seen from the library's side.
  *
  *   - What a call writes: the struct is filled once with one byte and once with another, between guards, and the call is made
  *     twice. The library wrote exactly the struct if both are the same, byte for byte, and the guards are as they were.
@@ -89,7 +89,7 @@ int main(int count, char **words)
     holds(nms_abi() == NMS_ABI, "the library is of this header's layout");
     holds(nms_open(setup, bytes, &board) == NMS_OK, "the setup opens");
 
-    /* nms_place: an element of an array of tables, a name that stands twice, and a text that is no document. */
+    /* nms_place: an element of an array of tables, a name that comes twice, and a text that is no document. */
     {
         const char twice[] = "tape_limit = 9\nqueue = 9\ndesks = 1\n[[participant]]\nname = \"N\"\nfeed = \"A\"\nfee = 1\nrate = 1\n"
                              "[[participant]]\nname = \"P\"\nfeed = \"A\"\nfee = 1\nrate = 1\n"
@@ -240,7 +240,7 @@ int main(int count, char **words)
     holds(nms_plan_order(&board, &sale, &sold) == NMS_OK && sold.cost_high == -1 && (int64_t)sold.cost_low < 0,
           "nms_plan: cost_low, cost_high of a sale");
 
-    /* Texts: a buffer that is exactly long enough, one that is too short, and what stands after it. */
+    /* Texts: a buffer that is exactly long enough, one that is too short, and the bytes after it. */
     for (size_t size = 0; size <= 16; ++size) {
         room one;
         char *out = room_of(&one, size, 0x5A);

@@ -41,14 +41,14 @@ class Call:
             for name, text in self.files.items():
                 os.makedirs(os.path.dirname(os.path.join(room, name)), exist_ok=True)
                 with open(os.path.join(room, name), "wb") as file:
-                    # A number stands for a number of bytes 0, which take no room on the disk.
+                    # A number means that many bytes 0, which take no room on the disk.
                     file.truncate(text) if isinstance(text, int) else file.write(text)
             given, answers, errors = (os.path.join(room, f".{it}") for it in ("given", "answers", "errors"))
             with open(given, "wb") as file:
                 file.write(self.given if isinstance(self.given, bytes) else b"")
             given = given if isinstance(self.given, bytes) else self.given
             answers, errors = self.answers_to or answers, self.errors_to or errors
-            # A case may give a folder, which os.open alone opens.
+            # A case may give a folder, which only os.open opens.
             input = os.open(given, os.O_RDONLY)
             try:
                 with open(answers, "wb") as out, open(errors, "wb") as err:
@@ -123,7 +123,7 @@ def command(case):
 
 
 def programs(given, *names):
-    """The programs that the words of a call name, and for each that they leave out the one that stands in crates/."""
+    """The programs that the words of a call name, and for each that they leave out the one in crates/."""
     if len(given) > len(names) or any(it.startswith("-") for it in given):
         sys.exit(f"usage: {sys.argv[0]} [{' ['.join(names)}{']' * len(names)}")
     found = [*map(os.path.realpath, given), *(f"{TOP}/crates/{it}/out/{it}" for it in names[len(given) :])]

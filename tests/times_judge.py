@@ -44,7 +44,7 @@ def asked(dice, times):
 
 
 def counted(times, before, first, at):
-    """How many of the times are not later, or are earlier, from the first on: all are looked at."""
+    """How many of the times are not later, or are earlier, from the first on: it checks all."""
     at = at.ljust(15, "0")
     return first + sum(1 for it in times if (it < at if before else it <= at))
 

@@ -1,6 +1,6 @@
 """Runs a program and has one of its calls of the system fail, as on a machine that has no memory or a broken stream.
 
-The calls are counted and turned by ptrace(2). The C library is told to ask the system for each piece of memory by
+The calls are counted and turned by ptrace(2). The C library is set to ask the system for each piece of memory by
 itself, so that each request of the program is a call. What asks for memory right after a refusal, with no other call in
 between, is the library trying again, and is refused too. What the loader does before the program starts is no call of it.
 """
@@ -15,12 +15,12 @@ import tempfile
 from typing import NamedTuple
 
 TRACEME, GETREGS, SETREGS, GO_ON, SETOPTIONS, CALL_INFO = 0, 12, 13, 24, 0x4200, 0x420E
-# Calls are told apart from signals, threads are followed, a new program is told, and nothing outlives this process.
+# Calls are distinguished from signals, threads are followed, a new program is reported, and nothing outlives this process.
 OPTIONS = 0x1 | 0x8 | 0x10 | 0x100000
 ENTRY, EXIT, EXEC = 1, 2, 4
 READ, WRITE, MMAP, BRK, MREMAP = 0, 1, 9, 12, 25
 ANONYMOUS, WALL = 0x20, 0x40000000
-# Where registers stand in what GETREGS gives, and how many there are.
+# The places of registers in the result of GETREGS, and how many there are.
 ANSWER, LENGTH, NUMBER, REGISTERS = 10, 12, 15, 27
 EACH = "glibc.malloc.mmap_threshold=1:glibc.malloc.mmap_max=1000000000:glibc.malloc.tcache_count=0:glibc.malloc.arena_max=1"
 # Seconds that a run may take.
@@ -136,14 +136,14 @@ def ask(request, thread, place, data):
 
 
 def loader_of(process):
-    """Where the loader's code stands."""
+    """Where the loader's code is."""
     with open(f"/proc/{process}/maps", encoding="utf-8") as maps:
         bounds = [it.split()[0].split("-") for it in maps if "/ld-" in it]
     return range(int(bounds[0][0], 16), int(bounds[-1][1], 16)) if bounds else range(0)
 
 
 def begin(program, words, folder, streams):
-    """Becomes the program, once it is told to go on."""
+    """Becomes the program, once it gets the word to go on."""
     try:
         os.chdir(folder)
         for place, file in enumerate(streams):

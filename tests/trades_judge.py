@@ -73,7 +73,7 @@ def drawn_flags(chance):
     return "+".join(texts), {WORDS[it] for it in letters if it != "H"}, named
 
 
-BAD = [  # the place of the field, what stands in it, the column and the code
+BAD = [  # the place of the field, its text, the column and the code
     (0, "E", 1, "X1"), (0, "d", 1, "X1"), (1, "", 2, "X3"), (1, "a b", 2, "X3"), (1, "x" * 33, 2, "X3"), (2, "abc", 3, "X4"),
     (2, "", 3, "X4"), (3, "", 4, "X5"), (3, "0.000000", 4, "X5"), (3, "10.1234567", 4, "X5"), (3, "12345678", 4, "X5"),
     (3, "-1", 4, "X5"), (3, "1.", 4, "X5"), (3, ".5", 4, "X5"), (4, "0", 5, "X6"), (4, "", 5, "X6"), (4, "1234567890", 5, "X6"),

@@ -14,7 +14,7 @@ import shlex
 from concurrent.futures import ProcessPoolExecutor, ThreadPoolExecutor
 from typing import Callable, NamedTuple
 
-# Differences that are printed, and bytes of one where it is not asked for alone.
+# Differences that are printed, and bytes of one if more than one trial is asked for.
 MOST_SHOWN, MOST_BYTES = 50, 2000
 # Tries at making a failing case smaller.
 MOST_TRIES = 400
@@ -40,7 +40,7 @@ class Several(Exception):
 
 
 class Lacking(Exception):
-    """What this machine lacks for a trial."""
+    """What this machine does not have for a trial."""
 
 
 class Trial(NamedTuple):
@@ -58,7 +58,7 @@ class Trial(NamedTuple):
 
 
 def outcome(trial):
-    """How many points of a trial were right, what was found, and what this machine lacks."""
+    """How many points of a trial were right, what was found, and what this machine does not have."""
     try:
         points = trial.function(*trial.words)
         return 1 if points is None else points, [], None

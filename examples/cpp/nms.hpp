@@ -1,5 +1,5 @@
 // nms.hpp: an owner of a board for C++17. It opens in its constructor, closes in its destructor, can be moved and not
-// copied, and throws nms::Error when a call answers anything but NMS_OK. Everything else is nms.h, and stands there.
+// copied, and throws nms::Error when a call answers anything but NMS_OK. Everything else is in nms.h.
 #pragma once
 
 #include <nms.h>

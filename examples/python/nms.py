@@ -130,7 +130,7 @@ class OrderSide(enum.IntEnum):
 
 
 class Market(enum.IntEnum):
-    """How the best bid and the best offer stand to each other."""
+    """How the best bid and the best offer compare."""
     EMPTY, ONE_SIDED, NORMAL, LOCKED, CROSSED = range(5)
 
 
@@ -144,7 +144,7 @@ class Row(NamedTuple):
 
 
 class Best(NamedTuple):
-    """The best rows of a symbol; None where a side has none."""
+    """The best rows of a symbol; None if a side has none."""
     version: int
     market: Market
     bid: Optional[Row]

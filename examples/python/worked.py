@@ -47,7 +47,7 @@ for what, order in {
     print(f"\n{what}")
     print(board.text(board.plan(order)), end="")
 
-# %% A plan goes as text to whoever checks it. One that was altered, or that is of an older version, is doubted.
+# %% A plan goes as text to the one who checks it. One that was altered, or that is of an older version, is doubted.
 plan = board.plan(nms.Order(nms.OrderSide.BUY, "ABC", 600, 100_100))
 text = board.text(plan)
 print("\nread back:", board.confirm(board.read(text)))

@@ -131,7 +131,7 @@ fn state_of(state: u8) -> Option<QState> {
     [QState::Automated, QState::Manual, QState::Halted].get(usize::from(state)).copied()
 }
 
-/// A board with its fees, as it stands behind a handle.
+/// A board with its fees, as a handle holds it.
 pub struct Open {
     pub boards: Boards,
     pub fees: FeeBook,

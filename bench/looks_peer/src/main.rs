@@ -258,7 +258,7 @@ impl Publisher<'_> {
     }
 }
 
-/// Makes so many looks, at one symbol after another and a row of each side. Tells how many rows stood where they
+/// Makes that many looks, at one symbol after another and a row of each side. Reports how many rows stood where they
 /// belong.
 fn look_often(board: &Mutex<Board>, looks: u32) -> u64 {
     let (mut rows, mut last) = (0, 0);

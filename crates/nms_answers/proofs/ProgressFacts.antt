@@ -151,7 +151,7 @@ ends_before remaining settings bytes reader first now new before after done refu
   kept = kept;
 }
 
--- the same, whatever fault it was: all that was to be written was
+-- as above, for any fault: all that was to be written was
 pub ends_anyhow : {R : Type 0} (remaining : R → Option (List ℕ)) (settings : Settings) (bytes : Option (List ℕ)) (reader : Reader R)
     (first now new : EpochDesk) (before after : Option (List ℕ)) (done refused : ℕ) (why : AnswerFault)
     → HasCome remaining settings bytes reader first now before after done refused → KeepsEpochs now new

@@ -1,4 +1,4 @@
--- What a request says, and what is answered to it.
+-- What a request says, and the answer to it.
 use Rattle.std.proofs.Common.{ℕ, ◌≡◌, ◌++◌, true, false, List, [], ◌∷◌, Option, Some, None, Result, Ok, Err, refl, sym, subst}
 use Rattle.std.specs.Option.{ok_or}
 use Rattle.std.specs.Prelude.{IfOk, length, not}
@@ -85,7 +85,7 @@ named_looks settings fields (Some k) said asked is =
     let counted = bound (refuse_if (not (is_count k (length fields))) fault.FieldCount) _ said is in
     kind_looks settings.roster (source.Script settings.desks) fields k said asked counted.2
 
--- what was read of a request whose kind asks for a look
+-- the record read for a request whose kind asks for a look
 pub looks_read : (settings : Settings) (fields : Record) (read : Result Line LineFault) → is_asked (kind_named (field fields 0)) ≡ true
     → read ≡ script_reading settings fields → IfOk read (λ said. is_look said ≡ true)
 looks_read settings fields (Ok said) asked is = named_looks settings fields (kind_named (field fields 0)) said asked (sym is)

@@ -1,4 +1,4 @@
--- The laws above a client's answers: they are a script's, and its epochs never fall. This product's own rule.
+-- The laws about a client's answers: they are a script's, and its epochs never fall. This product's own rule.
 use Rattle.std.specs.Prelude.{ℕ, ◌≡◌, ◌++◌, ◌∷◌, List, [], true, Option, Some, None}
 use Rattle.std.specs.List.{AllByRecursion}
 use Rattle.nms_quote.specs.Tape.{Tape}
@@ -23,14 +23,14 @@ AreLooksAt settings (None ∷ looks) events = AreLooksAt settings looks events
 AreLooksAt settings (Some version ∷ looks) events =
     (number sym : ℕ) × (rest : List Event) × (events ≡ look_at settings number sym version ++ rest) × AreLooksAt settings looks rest
 
--- a client whose records are all of the kinds that ask for a look is told what a script of these records tells, of which
--- each look sees the version that the client's answer is on
+-- a client whose records are all of the kinds that ask for a look gets the answers of a script of these records, if each of the
+-- script's looks sees the version that the client's answer is on
 abbrev pub AnswersAsAScript : Type 0
 AnswersAsAScript = (settings : Settings) (number : ℕ) (requests : List Record) (looks : List (Option Tape)) (told : List Record)
     → AllByRecursion IsAsked requests → AnswersFrom settings number requests looks told
     → (events : List Event) × script.AnswersFrom settings number requests events told × AreLooksAt settings looks events
 
--- what is told of the requests of a client that goes over from epoch to epoch is what is told of them in one
+-- a client that goes over from epoch to epoch gets the same answers as in one epoch
 abbrev pub ServesAsAnswers : Type 0
 ServesAsAnswers = (settings : Settings) (number : ℕ) (requests : List Record) (old new : EpochDesk) (looks : List (Option Tape))
     (told shown : List Record)

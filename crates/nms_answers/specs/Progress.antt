@@ -11,7 +11,7 @@ use Rattle.nms_answers.specs.declared.epoch_desk.EpochDesk.{EpochDesk}
 use Rattle.nms_answers.specs.declared.request_stream.Progress.{Progress}
 use Rattle.nms_answers.specs.declared.request_stream.Progress.TheVariants as progress
 
--- so many requests were read and answered, so many of them refused, and the reader stands after them
+-- that many requests were read and answered, that many of them refused, and the reader stands after them
 pub record HasCome {R : Type 0} (remaining : R → Option (List ℕ)) (settings : Settings) (bytes : Option (List ℕ)) (reader : Reader R)
     (first now : EpochDesk) (before after : Option (List ℕ)) (done refused : ℕ) : Type 0 where
   pub requests : List Record
@@ -27,7 +27,7 @@ pub record IsEnd (settings : Settings) (bytes : Option (List ℕ)) (first now : 
   pub stopped : why ≢ fault.WriteFault → AnswersFirst settings bytes first now before after
   pub cut : why ≡ fault.WriteFault → AnswersInPart settings bytes first now before after
 
--- where one request more leads
+-- the state after one more request
 abbrev pub AdvancesTo : {R : Type 0} (remaining : R → Option (List ℕ)) (settings : Settings) (bytes : Option (List ℕ)) (reader : Reader R)
     (first now : EpochDesk) (before after : Option (List ℕ)) (done refused : ℕ) → Result Progress AnswerFault → Type 0
 AdvancesTo remaining settings bytes reader first now before after done refused (Ok (progress.Answered more)) =

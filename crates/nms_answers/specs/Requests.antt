@@ -1,4 +1,4 @@
--- A client's requests: the records of a script that look, and what is answered to each. This product's own rule.
+-- A client's requests: the records of a script that look, and the answer to each. This product's own rule.
 use Rattle.std.specs.Prelude.{ℕ, ◌≡◌, ◌++◌, ◌∷◌, is_none, Bool, true, false, List, [], Option, Some, None, Result, Ok, Err, if◌then◌else◌}
 use Rattle.nms_quote.specs.Tape.{Tape}
 use Rattle.nms_fees.specs.Settings.{Settings}
@@ -43,7 +43,7 @@ AnswersLine settings (line.Through number sym price) version told = TellsThrough
 AnswersLine settings (line.Sweep number order) version told = TellsPlan settings number order version told
 AnswersLine settings _ version told = ⊥
 
--- the answer to what was read, and the version that it is on; a refusal is on none
+-- the answer to a record that was read, and the version that it is on; a refusal is on none
 abbrev pub AnswersReading : Settings → ℕ → Result Line LineFault → Option Tape → List Record → Type 0
 AnswersReading settings number (Ok line) (Some version) told = AnswersLine settings line version told
 AnswersReading settings number (Ok line) None told = ⊥

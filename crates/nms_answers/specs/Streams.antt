@@ -12,16 +12,16 @@ use Rattle.nms_answers.specs.Requests.{AnswersRequest}
 use Rattle.nms_answers.specs.declared.epoch_desk.EpochDesk.{EpochDesk}
 use Rattle.nms_answers.specs.declared.request_counts.RequestCounts.{RequestCounts}
 
--- the requests in order, numbered from the given number on: for each the version that it was answered on, if any, and
--- what was told
+-- the requests in order, numbered from the given number on: for each the version that it was answered on, if any, and its
+-- answer
 unfoldable pub AnswersFrom : Settings → ℕ → List Record → List (Option Tape) → List Record → Type 0
 AnswersFrom settings number [] looks told = (looks ≡ []) × (told ≡ [])
 AnswersFrom settings number (fields ∷ requests) looks told =
     (look : Option Tape) × (rest : List (Option Tape)) × (now later : List Record) × (looks ≡ look ∷ rest) × (told ≡ now ++ later)
     × AnswersRequest settings number fields look now × AnswersFrom settings (number + 1) requests rest later
 
--- the requests in order, by a client that stands there before and there afterwards: for each the version that it was answered
--- on, if any, what was told of it, and what was shown, which has the lines of epochs too
+-- the requests in order, with the client's state before and after: for each the version that it was answered on, if any, its
+-- answer, and the text shown, which has the lines of epochs too
 unfoldable pub ServesFrom : Settings → ℕ → List Record → EpochDesk → EpochDesk → List (Option Tape) → List Record → List Record → Type 0
 ServesFrom settings number [] old new looks told shown = (new ≡ old) × (looks ≡ []) × (told ≡ []) × (shown ≡ [])
 ServesFrom settings number (fields ∷ requests) old new looks told shown =

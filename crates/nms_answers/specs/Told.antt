@@ -1,4 +1,4 @@
--- What a desk is told of one version: what a script's desk is told of it. This product's own rule.
+-- The answer to a desk on one version: the same as a script's desk gets. This product's own rule.
 use Rattle.std.specs.Prelude.{ℕ, ◌≡◌, ◌∷◌, ◌++◌, List, [], Ok}
 use Rattle.nms_quote.specs.Roster.{sizes_of}
 use Rattle.nms_quote.specs.Tape.{Tape}
@@ -25,16 +25,16 @@ look_at settings number sym version = (step.Look number sym, Ok (reply.Seen (vie
 abbrev pub TellsBest : Settings → ℕ → ℕ → Tape → List Record → Type 0
 TellsBest settings number sym version told = ShowsBest settings.roster number sym (look_at settings number sym version) told
 
--- `E`: the same
+-- `E`: the script's answer on the version
 abbrev pub TellsThrough : Settings → ℕ → ℕ → ℕ → Tape → List Record → Type 0
 TellsThrough settings number sym price version told =
     ShowsThrough settings.roster number sym price (look_at settings number sym version) told
 
--- `O`: the same
+-- `O`: the script's answer on the version
 abbrev pub TellsPlan : Settings → ℕ → Terms → Tape → List Record → Type 0
 TellsPlan settings number order version told = ShowsPlan settings number order (look_at settings number order.sym version) told
 
--- the desk looked at one version, and what it is told of that was appended to the text
+-- the desk looked at one version, and the answer on it was appended to the text
 abbrev pub AppendsOn : (Tape → List Record → Type 0) → Knowing → Knowing → List ℕ → List ℕ → Type 0
 AppendsOn Tells old new before after =
     (version : Tape) × (told : List Record) × Looks old new version × Tells version told × (after ≡ before ++ text_of told)

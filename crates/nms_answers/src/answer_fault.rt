@@ -1,10 +1,10 @@
-//! Why a request got no answer, and a client's stream no more answers.
+//! Why a request got no answer, and why a client's stream got no more answers.
 ghost use Rattle.std.specs.Prelude.{◌≡◌};
 ghost use Rattle.nms_answers.specs.Faults.{code_of};
 
 use thiserror::Error;
 
-/// Why a request got no answer, or a stream no more answers. What was answered before stands.
+/// Why a request, or the rest of a stream, got no answer. What was answered before stays.
 #[derive(Clone, Copy, Debug, PartialEq, Eq, Error)]
 pub enum AnswerFault {
     /// E1: the requests could not be read.

@@ -4,7 +4,7 @@ ghost use Rattle.nms_quote.specs.Roster.{Sizes};
 
 use nms_versions::Desk;
 
-/// A client's desk of one epoch of a run. An epoch is one tape with its board; they are counted from 0.
+/// A client's desk of one epoch of a run. An epoch is one tape with its board; epochs are counted from 0.
 #[derive(Drop)]
 pub struct EpochDesk {
     /// The number of the epoch.
@@ -13,7 +13,7 @@ pub struct EpochDesk {
     pub desk: Desk,
 }
 
-/// What gives a client its desk of a later epoch.
+/// The source of a client's desks of later epochs.
 pub trait LaterDesks {
     // The sizes of the roster, which all epochs of a run have.
     ghost sizes: { Sizes };

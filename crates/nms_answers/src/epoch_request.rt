@@ -13,7 +13,7 @@ use nms_fees::Setup;
 use nms_lines::{ByteRecord, end_record, push_number};
 use std::alloc::AllocError;
 
-/// Answers the request of this number, from 1, as `answer_request` does, in the latest epoch: the text is the answer alone,
+/// Answers the request of this number, from 1, as `answer_request` does, in the latest epoch. The text is the answer alone,
 /// after `EPOCH,k` if the client went over to epoch k for it. A desk whose epoch ends meanwhile goes over as well.
 ///
 /// `NoReading` if the desk had no reading and there was no later epoch; `NoMemory` as in `answer_request`.
@@ -85,7 +85,7 @@ fn answer_here(
     answer_request(&mut desk.desk, setup, row, number, text)
 }
 
-/// Appends the line of an epoch, if it is another than the first.
+/// Appends the line of an epoch, unless it is the first.
 fn tell_epoch(text: &mut Vec<u8>, first: u64, epoch: u64) -> Result<(), AllocError>
     ensures { OnOk result (text.new.items ≡ text.old.items ++ text_of (epoch_line first epoch)) }
 {

@@ -16,9 +16,9 @@ use nms_lines::{ByteRecord, Kind, Line, LineFault, Reading, field_at, kind_named
 use nms_text::tell_refusal;
 use nms_versions::Desk;
 
-/// Answers the request of this number, from 1: an `N`, `E` or `O` record of a script, for any desk of the setup, on
-/// what the desk sees now. The answer is the script's on that version, appended to the text. Returns whether the
-/// request was refused: any other record is, by `ERR`, its number and the code.
+/// Answers the request of this number, from 1: an `N`, `E` or `O` record of a script, for any desk of the setup, on what the
+/// desk sees now. The answer is the script's on that version, appended to the text. Any other record is refused by `ERR`, its
+/// number and the code. Returns whether it was refused.
 ///
 /// `NoReading` leaves the text as it was; `NoMemory` may leave a part of the answer appended.
 pub fn answer_request(
@@ -44,7 +44,7 @@ pub fn answer_request(
     }
 }
 
-/// What a request says: an `N`, `E` or `O` record of a script. Any other record is of no kind that a client may send.
+/// What a request says: an `N`, `E` or `O` record of a script. A client may send no record of another kind.
 fn read_request(row: &ByteRecord, setup: &Setup) -> Result<Line, LineFault>
     ensures said { result ≡ request_reading setup.now (fields_of row.now) }
     ensures look { IfOk result (λ line. is_look line ≡ true) }

@@ -21,7 +21,7 @@ use nms_whole::WholeLines;
 use std::alloc::Global;
 use std::io::{Read, Write};
 
-/// What became of one more request.
+/// The outcome of one more request.
 #[derive(Clone, Copy)]
 pub enum Progress {
     /// It was answered; `refused` by an `ERR` record.
@@ -30,10 +30,10 @@ pub enum Progress {
     Ended,
 }
 
-/// Answers the requests of a client's stream, one after another, each on what the desk sees then, in the latest epoch. Where
-/// the client goes over to epoch k, `EPOCH,k` comes before the answer. Only whole lines are read (`WholeLines`). Each answer is one
-/// write, flushed before the next request is read; a refused request is
-/// answered by `ERR`, its number and the code. `Ok` is the end of the stream.
+/// Answers the requests of a client's stream, one after another, each on what the desk sees then, in the latest epoch. If the
+/// client goes over to epoch k, `EPOCH,k` comes before the answer. Only whole lines are read (`WholeLines`). Each answer is one
+/// write, flushed before the next request is read. A refused request is answered by `ERR`, its number and the code. `Ok` is the
+/// end of the stream.
 ///
 /// `ReadFault`, `TooLong`, `NoMemory` and `NoReading` leave the answers to the requests before, whole; `WriteFault`
 /// leaves a first part of one more.
@@ -49,7 +49,7 @@ pub fn answer_stream<R: Read + Drop, W: Write, L: LaterDesks>(
     requires sizes { desk.old.desk.sizes ≡ sizes_of setup.now.roster }
     // All requests were answered in order, and nothing else was written.
     ensures answered { IfOk result (AnswersAll setup.now (option_map whole_lines (R.remaining requests)) desk.old desk.new (W.contents answers.old) (W.contents answers.new)) }
-    // The same of the first requests.
+    // The same holds for the first requests.
     ensures stopped { IfErr result (λ fault. fault ≢ AnswerFault.WriteFault → AnswersFirst setup.now (option_map whole_lines (R.remaining requests)) desk.old desk.new (W.contents answers.old) (W.contents answers.new)) }
     ensures cut { IfErr result (λ fault. fault ≡ AnswerFault.WriteFault → AnswersInPart setup.now (option_map whole_lines (R.remaining requests)) desk.old desk.new (W.contents answers.old) (W.contents answers.new)) }
     ensures knows { KeepsEpochs desk.old desk.new }

@@ -27,7 +27,7 @@ opened count taker senders are counted = record {
   in_order = rw are (feeds_of taker.lane (take count feeds)) ∙ ap (λ n. take n feeds) (sym counted);
 }
 
--- and nothing was sent by them
+-- and they have sent nothing
 pub opened_new : (count : ℕ) (taker : Taking) (senders : List Sending) → senders ≡ map (fresh taker.lane) (take count feeds)
     → All (λ s. s.sent ≡ []) senders
 opened_new count taker senders are = rw are (none_sent taker.lane (take count feeds))

@@ -16,7 +16,7 @@ use std::sync::Wait;
 use std::thread::Threads;
 pub(crate) use threads::{close_two, open_two};
 
-/// Makes the call that a word names, with so many changes, on the symbol at a place, and reports what came of it.
+/// Makes the call that a word names, with that many changes, on the symbol at a place, and reports the result.
 pub(crate) fn make<R: AllocGlobal + Threads + Wait + Sync>(
     rt: &R,
     kind: &str,
@@ -31,7 +31,7 @@ pub(crate) fn make<R: AllocGlobal + Threads + Wait + Sync>(
     make_over(rt, text.as_str(), kind, sym, changes)
 }
 
-/// The same over a setup's text.
+/// As above, over a setup's text.
 fn make_over<R: AllocGlobal + Threads + Wait + Sync>(
     rt: &R,
     text: &str,
@@ -45,7 +45,7 @@ fn make_over<R: AllocGlobal + Threads + Wait + Sync>(
     }
 }
 
-/// The same under a setup.
+/// As above, under a setup.
 fn make_under<R: AllocGlobal + Threads + Wait + Sync>(
     rt: &R,
     setup: &Setup,
@@ -77,7 +77,7 @@ fn tell_machine(alloc: Global, setup: &Setup, sym: Sym, changes: u32) -> Result<
     format!(in alloc; "{version} {place:?}").map_err(|_| Failed)
 }
 
-/// So many changes.
+/// That many changes.
 fn changes_of(alloc: Global, count: u32) -> Result<Vec<Change>, Failed> {
     let mut changes = Vec::new(alloc);
     for number in 0..count {
@@ -91,7 +91,7 @@ fn push_change(changes: &mut Vec<Change>, number: u32) -> Result<(), Failed> {
     let Some(change) = quotation(u64::from(number)) else {
         return Err(Failed);
     };
-    // Moving a change takes a mention of the types in it: the prover has to have seen them.
+    // The prover has to see the types of a change before the change moves, so the code mentions them.
     let _seen: Option<SideQuote> = None;
     match changes.push(change) {
         Ok(()) => Ok(()),
@@ -99,10 +99,10 @@ fn push_change(changes: &mut Vec<Change>, number: u32) -> Result<(), Failed> {
     }
 }
 
-/// What an order for 950 shares fills and costs after so many changes, and whether it was confirmed.
+/// The shares that an order for 950 fills and its cost after that many changes, and whether it was confirmed.
 fn tell_sweep(alloc: Global, setup: &Setup, sym: Sym, changes: u32) -> Result<String, Failed> {
     let mut board = Boards::new(alloc, setup.roster()).map_err(|_| Failed)?;
-    // The prover has to have met this type before a change is applied.
+    // The prover has to see this type before a change is applied.
     let _met: Option<SideQuote> = None;
     for number in 0..changes {
         let change = quotation(u64::from(number)).ok_or(Failed)?;
@@ -121,7 +121,7 @@ fn order_of(sym: Sym) -> Option<Order> {
     Order::new(OrderSide::Buy, sym, shares, limit, false, PartSet::none())
 }
 
-/// How many changes each feed sent and how many were taken, and the version that the desk was settled on.
+/// How many changes each feed sent, how many were taken, and the version that the desk was settled on.
 fn tell_threads<R: Threads + Wait + Sync>(
     rt: &R,
     alloc: Global,
@@ -135,8 +135,8 @@ fn tell_threads<R: Threads + Wait + Sync>(
     format!(in alloc; "{:?} {} {settled}", delivered.sent, delivered.taken).map_err(|_| Failed)
 }
 
-/// How many changes were appended where they belong, how many the tape has, the version and the shares that a desk was
-/// shown, and whether no change was left out.
+/// How many changes were appended at their places, how many the tape has, the version and the shares that a desk saw, and
+/// whether no change was left out.
 fn tell_again<R: Wait>(
     rt: &R,
     alloc: Global,

@@ -13,7 +13,7 @@ use std::sync::atomic::{AtomicBool, Ordering};
 use std::thread;
 use std::thread::Threads;
 
-/// Runs a lane of a capacity, with so many changes from each of so many threads. Reports how many each sent and how many
+/// Runs a lane of a capacity, with that many changes from each of that many threads. Reports how many each sent and how many
 /// were taken.
 pub(crate) fn measure<R: AllocGlobal + Threads + Wait + Sync>(
     rt: &R,
@@ -34,7 +34,7 @@ pub(crate) fn measure<R: AllocGlobal + Threads + Wait + Sync>(
     }
 }
 
-/// Sends so many changes from each sender of a new lane, each in a thread of its own, and takes them meanwhile.
+/// Sends that many changes from each sender of a new lane, each in a thread of its own, and takes them meanwhile.
 fn run<R: Threads + Wait + Sync>(
     rt: &R,
     senders: Vec<Sender>,
@@ -71,7 +71,7 @@ fn run<R: Threads + Wait + Sync>(
     }
 }
 
-/// Sends a change so many times from each sender, each in a thread of its own. `None` if there was no memory.
+/// Sends a change that many times from each sender, each in a thread of its own. `None` if out of memory.
 fn send_from_each<R: Threads + Wait + Sync>(
     rt: &R,
     senders: Vec<Sender>,
@@ -97,7 +97,7 @@ fn send_from_each<R: Threads + Wait + Sync>(
     }
 }
 
-/// Sends a change so many times.
+/// Sends a change that many times.
 pub(crate) fn send_all<R: Wait>(rt: &R, mut sender: Sender, change: &Change, changes: u32) -> Sender
     requires { sender.sent ≡ [] }
     ensures lane { result.lane ≡ sender.lane }
@@ -121,7 +121,7 @@ fn take_all<R: Wait>(rt: &R, mut taker: Taker, ended: &AtomicBool) -> Taker
         if has_ended {
             break;
         }
-        // What was sent before the end is still taken.
+        // Changes sent before the end are still taken.
         has_ended = ended.load(Ordering::SeqCst);
         thread::yield_now();
     }

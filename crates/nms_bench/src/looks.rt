@@ -23,7 +23,7 @@ const BATCHES_TO_FILL: u32 = 50;
 
 const BATCH: u32 = 64;
 
-/// A desk, and how many rows its looks showed where they belong.
+/// A desk, and how many of its looks' rows were right.
 #[derive(Drop)]
 struct Seat {
     desk: Desk,
@@ -32,8 +32,7 @@ struct Seat {
     _apart: [u64; 16],
 }
 
-/// Makes so many looks by each desk, each in a thread of its own, at a row of each side. Reports how many rows stood
-/// where they belong.
+/// Makes that many looks by each desk, each in a thread of its own, at a row of each side. Reports how many rows were right.
 pub(crate) fn measure<R: AllocGlobal + Threads + Wait + Clock + Sync>(
     rt: &R,
     desks: u8,
@@ -45,7 +44,7 @@ pub(crate) fn measure<R: AllocGlobal + Threads + Wait + Clock + Sync>(
     run(rt, alloc, &setup, looks)
 }
 
-/// A setup of that board and so many desks.
+/// A setup of that board and that many desks.
 pub(crate) fn setup_text(alloc: Global, desks: u8) -> Result<String, AllocError> {
     let mut text = format!(in alloc; "tape_limit = 10000000\nqueue = 2\ndesks = {desks}\n")?;
     for place in 0..PARTICIPANTS {
@@ -124,7 +123,7 @@ fn look_beside<R: Threads + Wait + Clock + Sync>(
     );
 }
 
-/// Makes so many looks, at one symbol after another and a row of each side.
+/// Makes that many looks, at one symbol after another and a row of each side.
 fn look_often(seat: &mut Seat, looks: u32) {
     for look in 0..looks {
         let Some(sym) = Sym::new((u64::from(look) % SYMBOLS) as u16) else {
@@ -140,7 +139,7 @@ fn look_often(seat: &mut Seat, looks: u32) {
     }
 }
 
-/// 1 where the row of that number on a side is that of the participant at the place.
+/// 1 if the row of that number on a side is that of the participant at the place.
 fn rows_at(view: &View, side: Side, place: u64) -> u64 {
     match view.rows(side).get(place as usize) {
         Some(row) if u64::from(row.part.get()) == place => 1,

@@ -1,7 +1,7 @@
-//! Measures the lane and the looks, and makes the calls of `docs/CALLING.md`. Each line of standard input is a run:
-//! `lane CAPACITY SENDERS CHANGES` through a lane of that capacity with so many changes from each of so many threads, or
-//! `looks DESKS LOOKS` with so many looks by each of so many desks, or `machine`, `sweep`, `threads` or `again` with the
-//! place of a symbol and a number of changes.
+//! Measures the lane and the looks, and makes the calls of `docs/CALLING.md`. Each line of standard input is a run. `lane
+//! CAPACITY SENDERS CHANGES` runs a lane of that capacity with that many changes from each of that many threads. `looks DESKS
+//! LOOKS` makes that many looks by each of that many desks. `machine`, `sweep`, `threads` and `again` take the place of a
+//! symbol and a number of changes.
 #![tactic(auto)]
 
 mod callers;
@@ -31,7 +31,7 @@ fn main(rt: HostRuntime) -> ExitCode {
     }
 }
 
-/// Makes each run and writes its line with what came of it.
+/// Makes each run and writes its line with the result.
 fn run_all<R: AllocGlobal + Threads + Wait + Clock + Sync, W: Write>(
     rt: &R,
     input: &[u8],
@@ -47,8 +47,8 @@ fn run_all<R: AllocGlobal + Threads + Wait + Clock + Sync, W: Write>(
     Ok(())
 }
 
-/// Makes the run of a line, and reports what came of it: how many changes each thread sent and how many were taken, or how
-/// many rows the looks showed where they belong, or what a call came to.
+/// Makes the run of a line, and reports the result: how many changes each thread sent and how many were taken, how many rows of
+/// the looks were right, or the result of a call.
 fn told_of<R: AllocGlobal + Threads + Wait + Clock + Sync>(
     rt: &R,
     line: &str,
@@ -66,7 +66,7 @@ fn told_of<R: AllocGlobal + Threads + Wait + Clock + Sync>(
     }
 }
 
-/// Looks from so many desks, and reports how many rows stood where they belong.
+/// Looks from that many desks, and reports how many rows were right.
 fn run_looks<R: AllocGlobal + Threads + Wait + Clock + Sync>(
     rt: &R,
     desks: u16,
@@ -77,7 +77,7 @@ fn run_looks<R: AllocGlobal + Threads + Wait + Clock + Sync>(
     format!(in rt.alloc(); "{rows}").map_err(|_| Failed)
 }
 
-/// Runs a lane of a capacity, with senders and changes as the rest of a line says, and reports what came over.
+/// Runs a lane of a capacity, with senders and changes as the rest of a line says, and reports the counts.
 fn run_lane<R: AllocGlobal + Threads + Wait + Sync>(
     rt: &R,
     capacity: &str,

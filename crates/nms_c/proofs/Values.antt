@@ -80,7 +80,7 @@ module _ (R Z : RattleType) (L : Laws Z) (g : Ghosts Z.Denot) where
           ),
         ) $ fjoin t $ s)
 
--- the handle that C keeps: the same two fields, where the pointer's type says less
+-- the handle that C keeps: the same two fields, with a plainer type for the pointer
 
 abbrev pub K-row : RattleType
 K-row = kept.the_row

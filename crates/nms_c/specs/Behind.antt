@@ -2,7 +2,7 @@
 use Rattle.std.specs.Prelude.{Option, Some, None}
 use Rattle.nms_calls.specs.Opened.{Opened}
 
--- something stands there, and a fact holds of it
+-- the cell is not empty, and a fact holds of its value
 abbrev pub Behind : Option Opened → (Opened → Type 0) → Type 0
 Behind None holds = ⊥
 Behind (Some opened) holds = holds opened

@@ -1,5 +1,5 @@
-//! The static library that C, C++, Rust and Python link: `include/nms.h` declares its functions. Each takes what stands
-//! of a handle, makes one call of `nms_calls`, and puts it back.
+//! The static library that C, C++, Rust and Python link: `include/nms.h` declares its functions. Each takes a handle's board
+//! out, makes one call of `nms_calls`, and puts the board back.
 #![tactic(auto)]
 
 mod changing;

@@ -27,7 +27,7 @@ fn out_of(board: NmsBoard, alloc: Global) -> (NmsBoard, Box<OpenBoard>)
     (NmsBoard::shut(alloc), kept)
 }
 
-/// Takes the board of an open handle, which is closed meanwhile. `None` leaves a closed one as it was.
+/// Takes the board of an open handle, which stays closed until the board is back. `None` leaves a closed handle as it was.
 #[inline(always)]
 pub(crate) fn take(alloc: Global, board: &mut NmsBoard) -> Option<Box<OpenBoard>>
     ensures { MatchOption result ((board.old.mark ≢ open_mark) × (board.new ≡ board.old))
@@ -39,7 +39,7 @@ pub(crate) fn take(alloc: Global, board: &mut NmsBoard) -> Option<Box<OpenBoard>
     Some(replace_with(board, alloc, out_of))
 }
 
-/// Puts it back.
+/// Puts the board back.
 #[inline(always)]
 pub(crate) fn give(board: &mut NmsBoard, kept: Box<OpenBoard>)
     ensures { (board.new.mark ≡ open_mark) × (board.new.value ≡ Some kept.value) }

@@ -1,4 +1,4 @@
--- What holds of each place of a list of changes holds of each of them.
+-- What holds at each place of a list of changes holds for each change.
 use Rattle.std.proofs.Common.{◌≡◌, ◌<◌, ◌+◌, ℕ, suc, true, All, List, [], ◌∷◌, IfSome, Ok, length, slice_get, subst, inl, inr, arith}
 use Rattle.std.proofs.lemmas.Bool.{cases_lt}
 use Rattle.std.proofs.lemmas.List.Elements.{All-cons, All-head, All-nil, All-tail}

@@ -1,4 +1,4 @@
--- What is left by a change, and what a plan's numbers are of.
+-- The board that a change leaves, and the plan that a plan's numbers say.
 use Rattle.std.proofs.Common.{◌≡◌, ◌∙◌, ◌<◌, ℕ, None, Some, fold, take, get_or, length, refl, Bool, true, List, Result, Ok, sym, ap}
 use Rattle.std.proofs.Common.{subst, if◌then◌else◌}
 use Rattle.std.proofs.lemmas.Bool.{lt-ltb}
@@ -27,7 +27,7 @@ use Rattle.nms_calls.specs.declared.change_numbers.NmsChange.{NmsChange}
 use Rattle.nms_calls.specs.declared.order_numbers.NmsOrder.{NmsOrder}
 use Rattle.nms_calls.specs.declared.plan_numbers.NmsPlan.{NmsPlan}
 
--- where there is room for the change that numbers say, it is what is left
+-- if there is room for the change that numbers say, the change is what is left
 pub applied-left : (opened : Opened) (n : NmsChange) (change : Change) (board : Board) → change_said (sizes_on opened) n ≡ Ok change
     → opened.board.applied < opened.settings.tape_limit → board ≡ after opened.board change
     → record { settings = opened.settings; board = board } ≡ apply_left opened n
@@ -37,7 +37,7 @@ applied-left opened n change board said room is =
     let roomy : has_room opened ≡ true = lt-ltb opened.board.applied opened.settings.tape_limit room in
     ap made is ∙ sym (ap (left_on opened) said ∙ ap chosen roomy)
 
--- numbers of a plan that is accepted for the order that numbers say are those of the best plan
+-- if the order's plan is accepted, its numbers are those of the best plan
 pub best-when : (opened : Opened) (n : NmsOrder) (order : Terms) (fees : Charges) (made : Planned) (plan : Plan) (cuts : List Cut) (out :
     NmsPlan)
     → order_said (sizes_on opened) n ≡ Ok order → fees ≡ opened.settings.fees → plan ≡ made.plan → cuts ≡ made.cuts
@@ -57,7 +57,7 @@ best-when opened n order fees made plan cuts out said of_fees of_plan of_cuts nu
     } in
     subst (λ (r : Result Terms CallFault). IfOk r (λ order. IsBestPlan opened.board opened.settings.fees order out)) (sym said) best
 
--- at a refusal the rest of many changes alters nothing
+-- after a refusal the rest of many changes alters nothing
 pub stopped-at : (opened now : Opened) (changes : List NmsChange) (i taken : ℕ) (d : NmsChange) (found : CallFault) → i < length changes
     → record { opened = now; applied = taken; fault = None } ≡ fold next (from_start opened) (take i changes)
     → apply_fault now (get_or changes i d) ≡ Some found

@@ -5,7 +5,7 @@ use Rattle.std.proofs.lemmas.Int.{ints}
 use Rattle.std.specs.Int.{int_div_euclid, int_rem_euclid}
 use Rattle.nms_calls.specs.PlanNumbers.{cost_said}
 
--- where the first places have what they are to have and the next is written, one more has it
+-- if the first places are as they should be and the next one is written, then one more is
 pub filled-one_more : {X : Type 0} (xs : List X) (k : ℕ) (x : X) (f : ℕ → X) → k < length xs
     → ((i : ℕ) → i < k → slice_get xs i ≡ Some (f i)) → x ≡ f k
     → (i : ℕ) → i < k + 1 → slice_get (slice_set xs k x) i ≡ Some (f i)

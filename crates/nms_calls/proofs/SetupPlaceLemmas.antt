@@ -1,10 +1,10 @@
--- The first fault of least number, found from the last fault on.
+-- The first fault of least number, found from the last fault back to the first.
 use Rattle.std.proofs.Common.{◌≡◌, ◌<◌, ◌+◌, ◌-◌, ◌∙◌, ℕ, suc, List, length, drop, Option, Some, slice_index_or, ap, sym, arith}
 use Rattle.std.proofs.Math.Seq.{drop-cons}
 use Rattle.nms_setup_places.specs.declared.finding.Finding.{Finding}
 use Rattle.nms_calls.specs.SetupPlaces.{least, lesser}
 
--- with the fault before those that were looked at
+-- with the fault before those already compared
 pub least-one_more : (found : List Finding) (later : ℕ) (first : Option Finding) (one d : Finding)
     → later < length found → first ≡ least (drop (length found - later) found)
     → one ≡ lesser (slice_index_or found (length found - 1 - later) d) first

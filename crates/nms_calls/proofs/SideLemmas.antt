@@ -28,7 +28,7 @@ wide-with_row out k row wide = record {
   flags = length-set out.is_protected k row.is_protected ∙ wide.flags;
 }
 
--- one more place has the row that it is to have
+-- one more place has the row that it should have
 pub rows-one_more : (out : NmsRows) (k : ℕ) (row : NmsRow) (f : ℕ → NmsRow) → AreWide out → k < 32
     → ((i : ℕ) → i < k → IsRowAt out i (f i)) → row ≡ f k
     → (i : ℕ) → i < k + 1 → IsRowAt (with_row out k row) i (f i)
@@ -48,7 +48,7 @@ rows-one_more out k row f wide within before is i below =
           h).is_protected) (ap (λ (r : NmsRow). r.is_protected) is) i below;
     }
 
--- no more rows stand on a side than there are participants
+-- a side has at most as many rows as there are participants
 
 pub length-cons_option : {X : Type 0} (o : Option X) (xs : List X) → length (cons_option o xs) ≤ length xs + 1
 length-cons_option None xs = omega arith

@@ -51,8 +51,8 @@ abbrev pub lot_said : Sizes → NmsChange → Result Change CallFault
 lot_said sizes n =
     if nat_le 1 n.lot && nat_le n.lot MOST_LOT then of_sym sizes n.sym (change.Lot n.sym n.lot) else Err fault.Range
 
--- the change that numbers say on a roster of those sizes, or the fault of least code: a number out of range, then the
--- participant, then the symbol
+-- the change that numbers say on a roster of those sizes, or the fault of least code: a number out of range comes first, then
+-- the participant, then the symbol
 abbrev pub change_said : Sizes → NmsChange → Result Change CallFault
 change_said sizes n =
     if n.kind == 0

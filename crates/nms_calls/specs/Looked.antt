@@ -18,7 +18,7 @@ use Rattle.nms_calls.specs.declared.call_fault.CallFault.TheVariants as fault
 abbrev pub market_side_said : ℕ → Option Side
 market_side_said n = if n == 0 then Some Bid else (if n == 1 then Some Offer else None)
 
--- the side of a symbol that numbers say: the side is looked at first
+-- the side of a symbol that numbers say: the side is checked first
 abbrev pub side_looked_at : Opened → ℕ → Option Side → Result Side CallFault
 side_looked_at opened sym None = Err fault.Range
 side_looked_at opened sym (Some side) = if nat_lt sym (length opened.settings.roster.syms) then Ok side else Err fault.NoSymbol
@@ -35,7 +35,7 @@ ranked_on opened sym place (Ok side) = row_there (ranked_at side (rows_held open
 abbrev pub ranked_said : Opened → ℕ → ℕ → ℕ → Result Row CallFault
 ranked_said opened sym side place = ranked_on opened sym place (side_looked_at opened sym (market_side_said side))
 
--- what a share costs at a participant, for an order's side and a price: the participant is looked at last
+-- what a share costs at a participant, for an order's side and a price: the participant is checked last
 abbrev pub cost_at : Opened → ℕ → ℕ → Option OrderSide → Result ℤ CallFault
 cost_at opened part price None = Err fault.Range
 cost_at opened part price (Some side) =
@@ -47,7 +47,7 @@ cost_at opened part price (Some side) =
 abbrev pub cost_on : Opened → ℕ → ℕ → ℕ → Result ℤ CallFault
 cost_on opened part side price = cost_at opened part price (side_said side)
 
--- why a price in 1/1,000,000 dollar is not looked at in a symbol: the symbol is looked at last
+-- why a call with a price in 1/1,000,000 dollar for a symbol is refused: the symbol is checked last
 abbrev pub through_fault : Opened → ℕ → ℕ → Option CallFault
 through_fault opened sym millionths =
     if nat_le 1 millionths && nat_le millionths MOST_MILLIONTHS then sym_fault opened sym else Some fault.Range

@@ -35,7 +35,7 @@ pub record Opened : Type 0 where
 abbrev pub IsOfRoster : Opened → Type 0
 IsOfRoster opened = opened.board.sizes ≡ sizes_of opened.settings.roster
 
--- why a text is no setup: its fault of least number, and one that is not UTF-8 is no TOML document
+-- why a text is no setup: its fault of least number; a text that is not UTF-8 is no TOML document
 abbrev pub IsRefused : List ℕ → SetupFault → Type 0
 IsRefused text fault = (reading text ≡ Err fault) ⊎ ((fault ≡ setup.NotToml) × (¬ (IsUtf8 text)))
 
@@ -61,7 +61,7 @@ sym_fault opened sym = if nat_lt sym (length opened.settings.roster.syms) then N
 abbrev pub has_room : Opened → Bool
 has_room opened = nat_lt opened.board.applied opened.settings.tape_limit
 
--- why a change is refused that numbers say: the tape is looked at last
+-- why a change is refused that numbers say: the room on the tape is checked last
 abbrev pub room_fault : Opened → Result Change CallFault → Option CallFault
 room_fault opened (Err found) = Some found
 room_fault opened (Ok change) = if has_room opened then None else Some fault.Full
@@ -80,14 +80,14 @@ left_on opened (Ok change) = if has_room opened then with_change opened change e
 abbrev pub apply_left : Opened → NmsChange → Opened
 apply_left opened n = left_on opened (change_said (sizes_on opened) n)
 
--- the board stands for one change more than before, the one that the numbers say
+-- the board has one change more than before, the one that the numbers say
 abbrev pub Grew : NmsChange → Opened → Opened → Type 0
 Grew n old new =
     (tape : Tape) → StandsFor old.board tape → IfOk (change_said (sizes_on old) n) (λ change. StandsFor new.board (tape ++ change ∷ []))
 
 -- ---- many changes
 
--- how far a call came with many changes: what stands there, how many were applied, and why one was refused
+-- how far a call came with many changes: the board then, how many were applied, and why one was refused
 pub record Progress : Type 0 where
   pub opened : Opened
   pub applied : ℕ
@@ -132,7 +132,7 @@ abbrev pub with_order : Terms → Result Planned CallFault → Result (Terms × 
 with_order order (Err found) = Err found
 with_order order (Ok made) = Ok (order, made)
 
--- the plan that numbers say for the order that numbers say: the order is looked at first
+-- the plan that numbers say for the order that numbers say: the order is checked first
 abbrev pub made_for : Opened → NmsPlan → Result Terms CallFault → Result (Terms × Planned) CallFault
 made_for opened plan (Err found) = Err found
 made_for opened plan (Ok order) = with_order order (plan_said (length opened.settings.roster.parts) order plan)
@@ -140,7 +140,7 @@ made_for opened plan (Ok order) = with_order order (plan_said (length opened.set
 abbrev pub made_said : Opened → NmsOrder → NmsPlan → Result (Terms × Planned) CallFault
 made_said opened order plan = made_for opened plan (order_said (sizes_on opened) order)
 
--- what is found of it
+-- the finding about it
 abbrev pub found_of : Opened → Result (Terms × Planned) CallFault → Result (Option Doubt) CallFault
 found_of opened (Err found) = Err found
 found_of opened (Ok made) = Ok (doubt_on opened made.0 made.1)
@@ -157,7 +157,7 @@ doubted (Ok (Some doubt)) = Some fault.Doubted
 abbrev pub confirm_fault : Opened → NmsOrder → NmsPlan → Option CallFault
 confirm_fault opened order plan = doubted (finding opened order plan)
 
--- what is written of a finding, over what stood there
+-- what a finding writes over what stood there
 abbrev pub doubt_written : NmsDoubt → Result (Option Doubt) CallFault → NmsDoubt
 doubt_written out (Err found) = out
 doubt_written out (Ok None) = no_doubt

@@ -44,7 +44,7 @@ terms_said sizes n (Some side) (Some manual) =
     })
     else Err fault.Range
 
--- the order that numbers say on a roster of those sizes, or the fault of least code: a number out of range, then the
--- participants, then the symbol
+-- the order that numbers say on a roster of those sizes, or the fault of least code: a number out of range comes first, then
+-- the participants, then the symbol
 abbrev pub order_said : Sizes → NmsOrder → Result Terms CallFault
 order_said sizes n = terms_said sizes n (side_said n.side) (flag_said n.manual)

@@ -62,8 +62,8 @@ said_by order n = record {
   cuts = map cut_said (cuts_of n);
 }
 
--- what numbers say for an order on a roster of so many participants, or the fault of least code: a number out of range,
--- then a participant
+-- what numbers say for an order on a roster of that many participants, or the fault of least code: a number out of range comes
+-- first, then a participant
 abbrev pub plan_said : ℕ → Terms → NmsPlan → Result Planned CallFault
 plan_said parts order n =
     if is_in_range n

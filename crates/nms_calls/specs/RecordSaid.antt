@@ -51,7 +51,7 @@ abbrev pub change_of_reading : Result Line LineFault → Result Change CallFault
 change_of_reading (Err found) = Err (fault.Line found)
 change_of_reading (Ok line) = change_of_line line
 
--- the change that a record says, as in a file of changes, or why it is refused; one of too many bytes is out of range
+-- the change that a record says, as in a file of changes, or why it is refused; a record of too many bytes is out of range
 abbrev pub record_said : Listing → List ℕ → Result Change CallFault
 record_said roster text =
     if nat_le (length text) MOST_RECORD then change_of_reading (reading roster from.Changes (fields_in text)) else Err fault.Range
@@ -100,8 +100,8 @@ pub record IsRead (roster : Listing) (records : List Record) (order : NmsOrder) 
   pub order_of : order ≡ order_numbers plan.order
   pub numbers : AreNumbersOf plan certificate out
 
--- what came of reading a plan from a text: at no fault its numbers, else why it is none, and nothing written. A text of too many
--- bytes is out of range, and so is a marginal that the numbers have no room for
+-- the result of reading a plan from a text: its numbers if there is no fault, else the fault, and nothing written. A text of
+-- too many bytes is out of range, and so is a marginal that does not fit the numbers
 pub record PlanRead (roster : Listing) (text : List ℕ) (told : Option CallFault) (old_order order : NmsOrder) (old out : NmsPlan) : Type
     0 where
   pub read : told ≡ None → (records : List Record) → AreAllRecords (Some text) records → IsRead roster records order out

@@ -1,4 +1,4 @@
--- Where a text is no setup, and why, as numbers. This product's own rule.
+-- Why a text is no setup, and the place, as numbers. This product's own rule.
 use Rattle.std.specs.Prelude.{◌≡◌, ◌≤◌, ◌⊎◌, ℕ, nat_lt, length, List, [], ◌∷◌, Option, Some, None, if◌then◌else◌}
 use Rattle.std.specs.Str.{IsUtf8}
 use Rattle.toml.specs.Data.{Members}
@@ -19,7 +19,7 @@ abbrev pub lesser : Finding → Option Finding → Finding
 lesser found None = found
 lesser found (Some later) = if nat_lt (setup_code later.fault) (setup_code found.fault) then later else found
 
--- of the faults of least number the first
+-- the first of the faults with the least number
 abbrev pub least : List Finding → Option Finding
 least [] = None
 least (found ∷ later) = Some (lesser found (least later))
@@ -51,7 +51,7 @@ key_number key.Fee = 10
 key_number key.Rate = 11
 key_number key.Lot = 12
 
--- the number of what is wrong there: a key or its value, a key that is unknown, a name that stands earlier, no table
+-- the number of what is wrong there: a key or its value, an unknown key, a name that an earlier element has, no table
 abbrev pub spot_number : Spot → ℕ
 spot_number (spot.Key known) = key_number known
 spot_number spot.OtherKeys = 13
@@ -93,7 +93,7 @@ no_document start end = record { code = 1; table = 0; spot = 0; spare = 0; eleme
 abbrev pub StopsIn : List ℕ → NmsPlace → Type 0
 StopsIn text out = (start : ℕ) × (end : ℕ) × (start ≤ end) × (end ≤ length text) × (out ≡ no_document start end)
 
--- the text is not UTF-8, or no document, with a place that lies in it
+-- the text is not UTF-8, or is no document and the place lies in it
 abbrev pub IsNoDocument : List ℕ → NmsPlace → Type 0
 IsNoDocument text out = ((¬ (IsUtf8 text)) ⊎ (parse_document text ≡ None)) × StopsIn text out
 

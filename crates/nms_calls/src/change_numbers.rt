@@ -2,17 +2,17 @@
 ghost use Rattle.std.specs.Prelude.{◌≡◌};
 ghost use Rattle.nms_calls.specs.ChangeNumbers.{no_change};
 
-/// A change of the board. The fields that its kind does not use are not looked at.
+/// A change of the board. The fields that its kind does not use are ignored.
 #[repr(C)]
 #[derive(Clone, Copy)]
 pub struct NmsChange {
     /// The best bid in 1/10,000 dollar; 0 with 0 shares for none.
     pub bid_price: u64,
-    /// The best offer, likewise.
+    /// The best offer, as `bid_price`.
     pub offer_price: u64,
     /// The shares of the bid, 1 to 999,999,999; 0 with price 0 for none.
     pub bid_shares: u32,
-    /// The shares of the offer, likewise.
+    /// The shares of the offer, as `bid_shares`.
     pub offer_shares: u32,
     /// The symbol's place.
     pub sym: u16,
@@ -24,12 +24,12 @@ pub struct NmsChange {
     pub kind: u8,
     /// 0 automated, 1 manual, 2 halted.
     pub state: u8,
-    /// Not looked at.
+    /// Ignored.
     pub spare: u8,
 }
 
 impl NmsChange {
-    /// The numbers that stand for no change.
+    /// The numbers for no change.
     pub(crate) fn none() -> Self
         ensures { result ≡ no_change }
     {

@@ -8,7 +8,7 @@ use crate::change_numbers::NmsChange;
 use nms_quote::{Change, Part, QState, Roster, SideQuote, Sym};
 use nms_units::{Lot, Price, Shares};
 
-/// The change that numbers say on a roster, or the fault of least code.
+/// The change that numbers give on a roster, or the fault of least code.
 pub(crate) fn change_of(roster: &Roster, numbers: &NmsChange) -> Result<Change, CallFault>
     ensures change { result ≡ change_said (sizes_of roster.now) numbers.now }
     ensures held { IfOk result (λ change. holds (sizes_of roster.now) change ≡ true) }
@@ -88,7 +88,7 @@ fn state_of(number: u8) -> Option<QState>
     }
 }
 
-/// One side: no quotation if both numbers are 0. `None` where they say no side.
+/// One side: no quotation if both numbers are 0. `None` if they form no side.
 fn side_of(price: u64, shares: u32) -> Option<Option<SideQuote>>
     ensures { result ≡ side_said price shares }
 {

@@ -18,7 +18,7 @@ pub fn put_version(out: &mut [u8], bytes: &mut usize) -> Result<(), CallFault>
     put_text("0.2.0".as_bytes(), out, bytes)
 }
 
-/// Writes what a code says. `NoRow` where no call answers it.
+/// Writes what a code says. `NoRow` if no call answers it.
 pub fn put_code(code: u32, out: &mut [u8], bytes: &mut usize) -> Result<(), CallFault>
     ensures answer { result_err result ≡ code_fault (code_text code) out.old }
     ensures written { OnOk result (IfSome (code_text code) (λ text. IsWritten text out.old out.new bytes.new)) }

@@ -1,8 +1,8 @@
-//! The calls of the library that other languages link: numbers in, numbers out, and a code for each refusal. It knows
-//! no pointer.
+//! The calls of the library that other languages link: numbers in, numbers out, and a code for each refusal. This crate handles
+//! no pointers.
 #![tactic(auto)]
 
-/// The most that a price in 1/1,000,000 dollar may be: 9,999,999.999999 dollars.
+/// The highest price in 1/1,000,000 dollar: 9,999,999.999999 dollars.
 pub const MOST_MILLIONTHS: u64 = 9_999_999_999_999;
 /// The most bytes that the text of one record may have.
 pub const MOST_RECORD: usize = 255;

@@ -37,9 +37,9 @@ pub struct OpenBoard {
     pub(crate) setup: Setup,
     pub(crate) board: Boards,
     planner: Planner,
-    /// The fields of the record that is read. A field is of at least one byte of the text, a comma or the end.
+    /// The fields of the record being read. Each field takes at least one byte of the text, a comma or the end.
     pub(crate) row: ByteRecord,
-    /// The text of the plan that is written.
+    /// The text of the plan being written.
     pub(crate) text: Vec<u8>,
 }
 
@@ -56,8 +56,8 @@ impl Model for OpenBoard {
 impl OpenBoard {
     ghost use Rattle.nms_calls.specs.Opened.{Grew, IsNew, IsRefused, apply_fault, apply_left, confirm_fault, doubt_written, finding, left_on, order_fault, room_fault, sizes_on, sym_fault};
 
-    /// A board with nothing on it, of the setup that a text is. A text that is not UTF-8 is no TOML document. `NoMemory`
-    /// may come in place of any other answer.
+    /// Opens an empty board from the text of a setup. A text that is not UTF-8 is no TOML document. `NoMemory` may replace any
+    /// other answer.
     pub fn new(alloc: Global, text: &[u8]) -> Result<Self, SetupFault>
         ensures new { IfOk result (IsNew text.now) }
         ensures refused { IfErr result (λ fault. fault ≢ SetupFault.NoMemory → IsRefused text.now fault) }
@@ -84,7 +84,7 @@ impl OpenBoard {
         })
     }
 
-    /// Applies the change that numbers say.
+    /// Applies the change given by its numbers.
     #[inline(always)]
     pub fn apply(&mut self, numbers: &NmsChange) -> Result<(), CallFault>
         ensures answer { result_err result ≡ apply_fault self.old numbers.now }
@@ -93,7 +93,7 @@ impl OpenBoard {
         ensures stands { OnOk result (Grew numbers.now self.old self.new) }
     {
         let change = change_of(self.setup.roster(), numbers)?;
-        // Moving a change takes a mention of the types in it: the prover has to have seen them.
+        // The prover has to see the types of a change before the change moves, so the code mentions them.
         let _seen: (Option<SideQuote>, Option<Lot>) = (None, None);
         self.apply_change(change)
     }
@@ -110,7 +110,7 @@ impl OpenBoard {
         if self.board.applied() >= self.setup.tape_limit() {
             return Err(CallFault::Full);
         }
-        // Moving a change takes a mention of the types in it: the prover has to have seen them.
+        // The prover has to see the types of a change before the change moves, so the code mentions them.
         let _seen: (Option<SideQuote>, Option<Lot>) = (None, None);
         self.board.apply(change);
         Ok(())
@@ -124,7 +124,7 @@ impl OpenBoard {
         ensures unwritten { OnErr result (out.new ≡ out.old) }
     {
         let sym = sym_of(self.setup.roster(), place)?;
-        // Each row is written as soon as it is there, so that the two need not be kept side by side.
+        // Each row is written at once, so that the two need not be kept side by side.
         let bid = best_on(&self.board, Side::Bid, sym);
         out.bid = NmsRow::of(&bid);
         let offer = best_on(&self.board, Side::Offer, sym);
@@ -135,7 +135,7 @@ impl OpenBoard {
         Ok(())
     }
 
-    /// Plans the order that numbers say, and writes the plan with its certificate.
+    /// Plans the order that numbers give, and writes the plan with its certificate.
     pub fn plan(&mut self, numbers: &NmsOrder, out: &mut NmsPlan) -> Result<(), CallFault>
         ensures answer { result_err result ≡ order_fault self.old numbers.now }
         ensures best { OnOk result (IfOk (order_said (sizes_on self.old) numbers.now) (λ order. IsBestPlan self.old.board self.old.settings.fees order out.new)) }
@@ -151,8 +151,7 @@ impl OpenBoard {
         Ok(())
     }
 
-    /// Confirms that the plan that numbers say is the best lawful one for the order that numbers say, and writes the doubt
-    /// where it is not.
+    /// Confirms that a plan, given by its numbers, is the best lawful one for an order, and writes the doubt if it is not.
     pub fn confirm(
         &self,
         numbers: &NmsOrder,

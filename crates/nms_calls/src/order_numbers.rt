@@ -14,8 +14,8 @@ pub struct NmsOrder {
     pub sym: u16,
     /// 0 buys, 1 sells.
     pub side: u8,
-    /// 1 where manual quotations may be traded with, else 0.
+    /// 1 if manual quotations may be traded with, else 0.
     pub manual: u8,
-    /// Not looked at.
+    /// Ignored.
     pub spare: u32,
 }

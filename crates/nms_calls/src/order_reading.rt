@@ -9,7 +9,7 @@ use crate::order_numbers::NmsOrder;
 use nms_quote::{Order, OrderSide, PartSet, Roster};
 use nms_units::{Price, Shares};
 
-/// The order that numbers say on a roster, or the fault of least code.
+/// The order that numbers give on a roster, or the fault of least code.
 pub(crate) fn order_of(roster: &Roster, numbers: &NmsOrder) -> Result<Order, CallFault>
     ensures order { result ≡ order_said (sizes_of roster.now) numbers.now }
     ensures there { IfOk result (λ order. order.sym < length roster.now.syms) }
@@ -37,7 +37,7 @@ pub(crate) fn order_of(roster: &Roster, numbers: &NmsOrder) -> Result<Order, Cal
     })
 }
 
-/// The participants of the roster that the binary digits of a number say.
+/// The participants of the roster whose bits are set in a number.
 fn set_of(roster: &Roster, digits: u32) -> Result<PartSet, CallFault>
     ensures { result ≡ (if nat_lt digits (2 ^ length roster.now.parts) then Ok digits else Err CallFault.NoParticipant) }
 {

@@ -38,7 +38,7 @@ pub struct NmsPlan {
     pub version: u64,
     /// The cost is `cost_high` * 2^64 + `cost_low` nanodollars, fees included.
     pub cost_low: u64,
-    /// Negative where more is received than paid.
+    /// Negative if more is received than paid.
     pub cost_high: i64,
     /// The shares of all legs.
     pub filled: u32,
@@ -50,7 +50,7 @@ pub struct NmsPlan {
     pub spare: u32,
     /// The legs; the places from their number on are 0.
     pub leg: [NmsLeg; 32],
-    /// The cuts, likewise.
+    /// The cuts; after them 0.
     pub cut: [NmsCut; 32],
 }
 

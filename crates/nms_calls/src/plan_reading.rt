@@ -10,7 +10,7 @@ use arrayvec::ArrayVec;
 use nms_quote::{Certificate, Cut, CutKind, Leg, Order, Part, Plan, Roster};
 use nms_units::{Money, Price, Shares};
 
-/// The plan for an order, with its certificate, that numbers say on a roster, or the fault of least code.
+/// The plan for an order with its certificate, given by numbers on a roster, or the fault of least code.
 pub(crate) fn plan_of(
     roster: &Roster,
     order: &Order,
@@ -79,7 +79,7 @@ fn is_cut(cut: &NmsCut) -> bool
     Price::new(cut.price).is_some() && cut.kind <= 2
 }
 
-/// The legs that numbers say, of so many participants.
+/// The legs that numbers give, of that many participants.
 fn legs_of(parts: usize, numbers: &[NmsLeg]) -> ArrayVec<Leg, 32>
     requires parts { parts ≤ 32 }
     requires few { length numbers.now ≤ 32 }
@@ -94,13 +94,13 @@ fn legs_of(parts: usize, numbers: &[NmsLeg]) -> ArrayVec<Leg, 32>
     legs
 }
 
-/// The cuts that numbers say.
+/// The cuts given by their numbers.
 fn cuts_of(numbers: &[NmsCut]) -> Certificate
     requires few { length numbers.now ≤ 32 }
     requires range { list_all is_cut numbers.now ≡ true }
     ensures { result.items ≡ map cut_said numbers.now }
 {
-    // Pushing a cut takes a mention of the type in it: the prover has to have seen it.
+    // The prover has to see the type of a cut before a cut is pushed, so the code mentions it.
     let _seen: Option<CutKind> = None;
     let mut cuts = ArrayVec::new_in(());
     for cut in numbers {
@@ -109,7 +109,7 @@ fn cuts_of(numbers: &[NmsCut]) -> Certificate
     cuts
 }
 
-/// The leg that numbers say, of so many participants.
+/// The leg that numbers give, of that many participants.
 fn leg_of(parts: usize, leg: &NmsLeg) -> Leg
     requires parts { parts ≤ 32 }
     requires range { is_leg leg.now ≡ true }
@@ -123,7 +123,7 @@ fn leg_of(parts: usize, leg: &NmsLeg) -> Leg
     }
 }
 
-/// The cut that numbers say.
+/// The cut given by its numbers.
 fn cut_of(cut: &NmsCut) -> Cut
     requires { is_cut cut.now ≡ true }
     ensures { result ≡ cut_said cut.now }

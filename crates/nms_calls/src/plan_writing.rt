@@ -33,13 +33,13 @@ fn put_legs(legs: &[Leg], places: &mut [NmsLeg; 32])
     for place in 0..count {
         places[place] = leg_numbers(&legs[place]);
     }
-    // The free places in a loop of their own: it becomes one fill of memory.
+    // The free places get a loop of their own: it becomes one fill of memory.
     for place in count..32 {
         places[place] = NmsLeg::NONE;
     }
 }
 
-/// Writes cuts likewise.
+/// Writes cuts, as `put_legs`.
 fn put_cuts(cuts: &[Cut], places: &mut [NmsCut; 32])
     requires { All (λ cut. IsInRange cut.kind) cuts.now }
     ensures { AreCuts places.new cuts.now }

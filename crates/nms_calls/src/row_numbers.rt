@@ -5,7 +5,7 @@ ghost use Rattle.nms_calls.specs.RowNumbers.{market_number, no_row, row_numbers,
 use nms_board::Row;
 use nms_nbbo::Market;
 
-/// A quotation. Of size 0 it stands for none, and all its numbers are 0.
+/// A quotation. Size 0 means none, and then all its numbers are 0.
 #[repr(C)]
 #[derive(Clone, Copy)]
 pub struct NmsRow {
@@ -85,7 +85,7 @@ pub struct NmsThrough {
     pub version: u64,
     /// How many bids there are. The places from there on are rows of size 0.
     pub bids: u32,
-    /// How many offers there are, likewise.
+    /// How many offers there are; as `bids`.
     pub offers: u32,
     /// The bids above the price.
     pub bid: [NmsRow; 32],

@@ -1,4 +1,4 @@
-//! Where a text is no setup, and why: `specs/SetupPlaces`.
+//! Why a text is no setup, and the place of the fault: `specs/SetupPlaces`.
 ghost use Rattle.std.specs.Prelude.{◌≡◌, IfErr, OnErr, OnOk};
 ghost use Rattle.nms_calls.specs.SetupPlaces.{IsPlaceOf, element_of, key_number, least, lesser, no_document, no_place, place_of, placed, spot_number, table_number, twin_of};
 
@@ -8,7 +8,7 @@ use nms_setup_places::{Examined, Finding, KnownKey, SetupTable, Spot, examine};
 use std::alloc::Global;
 use std::str;
 
-/// Where a text is no setup, and why. All 0 if it is one.
+/// Why a text is no setup, and where. All 0 if it is one.
 #[repr(C)]
 #[derive(Clone, Copy)]
 pub struct NmsPlace {
@@ -31,8 +31,8 @@ pub struct NmsPlace {
     pub end: u64,
 }
 
-/// Writes where a text is no setup, and why: of its faults of least number the first. A text that is not UTF-8 is no
-/// document from its first byte to its last. It takes memory and gives it back; `NoMemory` if there is too little.
+/// Writes why a text is no setup, and where: the first fault of least number. A text that is not UTF-8 is no document from its
+/// first byte to its last. Takes memory and gives it back; `NoMemory` if there is too little.
 pub fn put_setup_place(alloc: Global, text: &[u8], out: &mut NmsPlace) -> Result<(), CallFault>
     ensures placed { OnOk result (IsPlaceOf text.now out.new) }
     ensures refused { IfErr result (λ fault. fault ≡ CallFault.Setup SetupFault.NoMemory) }
@@ -55,7 +55,7 @@ pub fn put_setup_place(alloc: Global, text: &[u8], out: &mut NmsPlace) -> Result
     }
 }
 
-/// Of the faults of least number the first.
+/// The first of the faults with the least number.
 fn least(found: &[Finding]) -> Option<Finding>
     ensures { result ≡ least found.now }
 {

@@ -72,7 +72,7 @@ impl OpenBoard {
         Ok(())
     }
 
-    /// Writes the opening changes of a symbol: a new board of the same setup that takes them shows alike for the symbol.
+    /// Writes the opening changes of a symbol. They bring a new board of the same setup to the symbol's rows.
     pub fn opening(&self, sym: u16, out: &mut NmsOpening) -> Result<(), CallFault>
         ensures answer { result_err result ≡ sym_fault self.now sym }
         ensures opening { OnOk result (IsOpening (sizes_on self.now) self.now.board sym out.new) }

@@ -15,7 +15,7 @@ pub(crate) fn put_side(board: &Boards, side: Side, sym: Sym, out: &mut NmsRows)
     requires { sym < length board.now.sizes.lots }
     ensures { AreRanked side (rows_held board.now sym side) out.new }
 {
-    // The prover has to see that there are at most 32 participants, so that no more rows stand there.
+    // The prover has to see that there are at most 32 participants, so that a side has at most 32 rows.
     let _parts = board.parts();
     let mut count = 0;
     for place in 0..32 {

@@ -30,15 +30,15 @@ use nms_units::Lot;
 use std::alloc::{AllocError, Global};
 
 impl OpenBoard {
-    /// Applies the change that one record says, as in a file of changes, without its end of line. A record of more than
-    /// `MOST_RECORD` bytes is out of range.
+    /// Applies the change that one record says, as in a file of changes, without its end of line. A record over `MOST_RECORD`
+    /// bytes is out of range.
     pub fn apply_record(&mut self, text: &[u8]) -> Result<(), CallFault>
         ensures answer { result ≢ Err (CallFault.Setup SetupFault.NoMemory) → result_err result ≡ record_fault self.old text.now }
         ensures left { OnOk result (self.new ≡ record_left self.old text.now) }
         ensures unchanged { OnErr result (self.new ≡ self.old) }
     {
         let change = self.change_in(text)?;
-        // Moving a change takes a mention of the types in it: the prover has to have seen them.
+        // The prover has to see the types of a change before the change moves, so the code mentions them.
         let _seen: (Option<SideQuote>, Option<Lot>) = (None, None);
         self.apply_change(change)
     }
@@ -61,7 +61,7 @@ impl OpenBoard {
         }
     }
 
-    /// Writes the plan for an order that numbers say as text, with a closing zero.
+    /// Writes the plan for an order, given by numbers, as text with a closing zero.
     pub fn plan_text(
         &mut self,
         order: &NmsOrder,
@@ -84,8 +84,7 @@ impl OpenBoard {
         put_text(self.text.as_slice(), out, bytes)
     }
 
-    /// Reads a plan with its order and its certificate from text. A text of more than `MOST_PLAN_TEXT` bytes is out of
-    /// range.
+    /// Reads a plan with its order and its certificate from text. A text over `MOST_PLAN_TEXT` bytes is out of range.
     pub fn read_plan(
         &mut self,
         alloc: Global,

@@ -1,4 +1,4 @@
--- What the ending of `check` says of the finding that was told.
+-- What the ending of `check` says about the finding that was reported.
 use Rattle.std.proofs.Common.{ℕ, ◌≡◌, ◌++◌, ◌∷◌, [], List, refl}
 use Rattle.std.specs.Prelude.{Option, Result, Ok, Err, IfOk, OnOk, codes}
 use Rattle.nms_quote.specs.Tape.{Tape}
@@ -18,7 +18,7 @@ use Rattle.nms_command.specs.declared.ending.Ending.{Ending}
 use Rattle.nms_command.specs.declared.ending.Ending.TheVariants as ending
 use Rattle.nms_command.specs.declared.command_fault.CommandFault.{CommandFault}
 
--- only a finding of nothing is told as done
+-- only a finding of nothing is reported as done
 best_of : (finding : Finding) (Best : Type 0) (old new : Option (List ℕ)) (ends : Ending) → OnOk finding Best → Tells finding old new ends
     → ends ≡ ending.Done → Best
 best_of (Ok done) Best old new ends best told is = best
@@ -26,7 +26,7 @@ best_of (Err fault.VersionBeyondTape) Best old new ends best told is = absurd (c
 best_of (Err (fault.Doubt why)) Best old new ends best told is = absurd (cc (told.0, is))
 best_of (Err fault.NoMemory) Best old new ends best told is = absurd told
 
--- a finding that was told
+-- a finding that was reported
 pub judged : (r : Result Ending CommandFault) (settings : Settings) (tape : Tape) (plan : Plan) (cuts : List Cut) (finding : Finding)
     (old new : Option (List ℕ))
     → IsFinding settings tape plan cuts finding → OnOk finding (IsBest settings tape plan) → IfOk r (Tells finding old new)
@@ -35,7 +35,7 @@ judged (Ok ends) settings tape plan cuts finding old new found best told =
     record { finding = finding; found = found; told = told; best = best_of finding (IsBest settings tape plan) old new ends best told }
 judged (Err why) settings tape plan cuts finding old new found best told = tt
 
--- a doubt that is no breach is told by its own code
+-- a doubt that is no breach is reported by its own code
 pub other_line : (why : Doubt) → ((breach : Breach) → why ≡ doubt.Breach breach → ⊥)
     → codes "DOUBT," ++ (doubt_codes.code_of why ++ 10 ∷ []) ≡ record_text (doubt_record why)
 other_line (doubt.Breach breach) other = absurd (other breach refl)

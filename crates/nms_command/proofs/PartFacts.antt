@@ -1,4 +1,4 @@
--- What was written of a text that is written in pieces, or of which a first part was.
+-- What was written of a text that is written in pieces, or of a text that was written in part.
 use Rattle.std.proofs.Common.{ℕ, ◌≡◌, ◌++◌, List, Option, ap, subst, ◌∙◌, append_assoc}
 use Rattle.std.specs.Prelude.{Err, Ok, OnErr, Result}
 use Rattle.std.specs.Io.KnownBytes.{Appends}
@@ -20,7 +20,7 @@ same_all old new text same is written = subst (Appends old new) is written
 pub same_part : (old new : Option (List ℕ)) (text same : List ℕ) → text ≡ same → AppendsPart old new text → AppendsPart old new same
 same_part old new text same is cut = subst (AppendsPart old new) is cut
 
--- what holds holds at a failure
+-- what holds always holds at a failure
 pub at_failure : {X E P : Type 0} (result : Result X E) → P → OnErr result P
 at_failure (Ok x) p = tt
 at_failure (Err e) p = p

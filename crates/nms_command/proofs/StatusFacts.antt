@@ -115,7 +115,7 @@ fault_status (command.Plan fault) = plan_status fault
 fault_status (command.PlanText fault) = plan_text_status fault
 fault_status command.NoAudit = five
 
--- a request's ending is known by its status
+-- the status of a request shows how it ended
 pub done_by : (ends : Ending) → status_of_ending ends ≡ 0 → ends ≡ ending.Done
 done_by ending.Done is = refl
 done_by ending.NotConfirmed is = absurd (omega arith)

@@ -20,7 +20,7 @@ use Rattle.nms_file_answers.specs.declared.audit_fault.AuditFault.TheVariants as
 use Rattle.nms_command.specs.declared.ending.Ending.{Ending}
 use Rattle.nms_command.specs.declared.ending.Ending.TheVariants as ending
 
--- what an audit found of a plan: nothing that is doubtful, or a fault
+-- the finding of an audit on a plan: no doubt, or a fault
 abbrev pub Finding : Type 0
 Finding = Result (Unit {0}) AuditFault
 
@@ -42,8 +42,8 @@ Tells (Err fault.VersionBeyondTape) old new ends = (ends ≡ ending.NotConfirmed
 Tells (Err (fault.Doubt why)) old new ends = (ends ≡ ending.NotConfirmed) × Appends old new (record_text (doubt_record why))
 Tells (Err fault.NoMemory) old new ends = ⊥
 
--- a plan was judged by its cuts on its own version of a tape, and the line of what was found was written, and nothing
--- else. It ends as done only if the plan is lawful there, no lawful one fills more, and none that fills as much costs less
+-- a plan was judged by its cuts on its own version of a tape, and the line of the finding was written, and nothing else. It
+-- ends as done only if the plan is lawful there, no lawful one fills more, and none that fills as much costs less
 pub record Judges (settings : Settings) (tape : Tape) (plan : Plan) (cuts : List Cut) (old new : Option (List ℕ)) (ends : Ending) : Type 0
   where
     pub finding : Finding
@@ -64,6 +64,6 @@ JudgesText settings tape text old new ends = (plan : Plan) × (cuts : List Cut) 
 abbrev pub JudgesOnFile : Settings → Option (List ℕ) → List ℕ → Option (List ℕ) → Option (List ℕ) → Ending → Type 0
 JudgesOnFile settings bytes text old new ends = (tape : Tape) × IsFileTape settings bytes tape × JudgesText settings tape text old new ends
 
--- the same of two files, whatever they hold
+-- as above for two files, whatever they hold
 abbrev pub JudgesFiles : Settings → Option (List ℕ) → Option (List ℕ) → Ending → Type 0
 JudgesFiles settings old new ends = (bytes : Option (List ℕ)) × (text : List ℕ) × JudgesOnFile settings bytes text old new ends

@@ -1,5 +1,5 @@
--- What a request of any subcommand but `live` wrote when it was served, and how it ended. No contract says what a file
--- holds: so there are bytes of which it is true. This product's own rule.
+-- What a request of any subcommand but `live` wrote when it was served, and how it ended. No contract says what a file holds,
+-- so these say that some bytes exist for which it is true. This product's own rule.
 use Rattle.std.specs.Prelude.{ℕ, ◌≡◌, List, Option, Some, Ok}
 use Rattle.nms_quote.specs.Roster.{place_in}
 use Rattle.nms_quote.specs.Terms.{Terms}
@@ -38,7 +38,7 @@ Plans settings asked old new = (bytes : Option (List ℕ)) × (order : Terms) ×
 abbrev pub Scripts : Settings → Option (List ℕ) → Option (List ℕ) → Option (List ℕ) → Type 0
 Scripts settings input old new = (counts : Counts) × Answers settings input old new counts
 
--- what was asked for under a setup was done. Of `check` it says whether the plan is confirmed. A live run is not served here
+-- the request under a setup was done. For `check` it says whether the plan is confirmed. A live run is not served here
 abbrev pub Serves : Sub → Settings → Asked → Option (List ℕ) → Option (List ℕ) → Option (List ℕ) → Ending → Type 0
 Serves sub.Script settings asked input old new ends = (ends ≡ ending.Done) × Scripts settings input old new
 Serves sub.Report settings asked input old new ends = (ends ≡ ending.Done) × Reports settings asked.own old new

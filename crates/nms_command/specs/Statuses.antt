@@ -30,7 +30,7 @@ status_of (fault.Plan own) = answer_faults.status_of_plan own
 status_of (fault.PlanText own) = plan_faults.status_of own
 status_of fault.NoAudit = 5
 
--- what the line on standard error names
+-- the code that the line on standard error names
 abbrev pub code_of : CommandFault → List ℕ
 code_of (fault.Words own) = codes "G2"
 code_of fault.Usage = codes "usage"

@@ -110,7 +110,7 @@ fn tell_finding<W: Write>(
     }
 }
 
-/// Reports the code of a doubt: of a breach its own code after it.
+/// Reports the code of a doubt; for a breach its own code follows.
 fn tell_doubt<W: Write>(answers: &mut W, doubt: Doubt) -> Result<Ending, CommandFault>
     ensures { IfOk result (λ ends. (ends ≡ Ending.NotConfirmed) × Appends (W.contents answers.old) (W.contents answers.new) (record_text (doubt_record doubt))) }
 {

@@ -9,8 +9,7 @@ use nms_lines::PlanTextFault;
 use nms_text::ScriptFault;
 use nms_words::WordsFault;
 
-/// Why a request was not served. Nothing prints it but by its code, so it has no `Debug`, which would cost seconds of
-/// each build.
+/// Why a request was not served. Only its code is printed, so it has no `Debug`, which would cost seconds of each build.
 #[derive(Drop)]
 pub enum CommandFault {
     /// The parser refused the words.
@@ -55,7 +54,7 @@ impl CommandFault {
         }
     }
 
-    /// What the line on standard error names.
+    /// The code for the line on standard error.
     pub fn code(&self) -> &'static str
         ensures { result.now ≡ code_of self.now }
     {

@@ -1,11 +1,11 @@
-//! How a request ends that was served.
+//! How a served request ends.
 ghost use Rattle.std.specs.Prelude.{◌≡◌};
 ghost use Rattle.nms_command.specs.Statuses.{status_of_ending};
 
-/// How a request ends that was served.
+/// How a served request ends.
 #[derive(Clone, Copy, PartialEq, Eq)]
 pub enum Ending {
-    /// All that was asked for was done; of a plan, that it is confirmed.
+    /// All that was asked for was done; for a plan, it is confirmed.
     Done,
     /// A plan was judged and is not confirmed.
     NotConfirmed,

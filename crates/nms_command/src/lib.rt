@@ -1,4 +1,4 @@
-//! The quote board's command line but for live runs: words, files and streams in, answers and an ending out.
+//! The quote board's command line without live runs: words, files and streams in, answers and an ending out.
 #![tactic(auto)]
 
 mod check;

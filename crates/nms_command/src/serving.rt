@@ -1,4 +1,4 @@
-//! What is done for a request of any subcommand but `live` (specs/Served).
+//! The service of a request of any subcommand but `live` (specs/Served).
 ghost use Rattle.std.specs.Prelude.{◌≡◌, ◌≢◌, IfOk, OnOk, map};
 ghost use Rattle.std.specs.Io.KnownBytes.{Appends};
 ghost use Rattle.std.specs.String.{string_bytes};
@@ -66,7 +66,7 @@ pub fn setup_of<T: Files + AllocGlobal>(rt: &T, request: &Request) -> Result<Set
     }
 }
 
-/// The setup that a text says.
+/// The setup given by a text.
 fn read_text(alloc: Global, text: &str) -> Result<Setup, CommandFault>
     ensures { IfOk result (λ setup. IsSetup setup) }
 {

@@ -1,4 +1,4 @@
--- What is quoted best, read off a board that stands for a tape.
+-- What is quoted best, read from the board of a tape.
 use Rattle.std.proofs.Common.{◌≡◌, ℕ, ap, ◌∙◌}
 use Rattle.nms_quote.specs.Roster.{Sizes}
 use Rattle.nms_quote.specs.Tape.{Tape}

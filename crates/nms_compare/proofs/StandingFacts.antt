@@ -31,7 +31,7 @@ later_at keys k key later false is le more =
     ap (λ m. version_by (drop m (k ∷ keys)) later) one in
     rw (is, still_not k key later le is) (omega (arith, more, rest))
 
--- a later key: as many more as stand at the beginning of what is left
+-- a later key: as many more as come first in what is left
 pub version_later : (keys : List ℕ) (key later : ℕ) → key ≤ later
     → version_by keys later ≡ version_by keys key + version_by (drop (version_by keys key) keys) later
 version_later [] key later le = refl
@@ -42,7 +42,7 @@ found_at : (keys : List ℕ) (key place : ℕ) (is_within : Bool) → nat_lt (ve
 found_at keys key place true is found = cc
 found_at keys key place false is found = absurd (cc)
 
--- where the first later key stands
+-- the place of the first later key
 pub first_found : (keys : List ℕ) (key place : ℕ) → Some place ≡ position (λ k. nat_lt key k) keys → place ≡ version_by keys key
 first_found keys key place found = found_at keys key place (nat_lt (version_by keys key) (length keys)) refl found
 
@@ -51,7 +51,7 @@ none_at : (keys : List ℕ) (key : ℕ) (is_within : Bool) → nat_lt (version_b
 none_at keys key true is few none = absurd (cc)
 none_at keys key false is few none = grind (arith, nat_tests)
 
--- where none is later
+-- if none is later
 pub none_found : (keys : List ℕ) (key : ℕ) → None ≡ position (λ k. nat_lt key k) keys → length keys ≡ version_by keys key
 none_found keys key none =
     none_at keys key (nat_lt (version_by keys key) (length keys)) refl (count_within keys key) none

@@ -1,4 +1,4 @@
--- What is found of the rows of a vendor's file, and how often. This product's own rule.
+-- The findings on the rows of a vendor's file, and how often each came. This product's own rule.
 use Rattle.std.specs.Prelude.{ℕ, ◌+◌, Bool, true, false, List, fold, map, Result, Ok, Err}
 use Rattle.nms_quote.specs.Roster.{Listing, sizes_of}
 use Rattle.nms_quote.specs.Tape.{Tape, version}
@@ -17,11 +17,11 @@ use Rattle.nms_compare.specs.declared.finding.Finding.{Finding}
 use Rattle.nms_compare.specs.declared.finding.Finding.TheVariants as finding
 use Rattle.nms_compare.specs.declared.national.National.{National}
 
--- the version that stands at a national best
+-- the version at a national best
 abbrev pub version_at : Order → List ℕ → National → ℕ
 version_at order keys theirs = version_by keys (key_in order theirs.sym theirs.time)
 
--- a row: what is found of it on the version that stands at it, or why it says no national best
+-- a row: the finding on the version at its time, or why it has no national best
 abbrev pub found_of : Vendor → Listing → Tape → List ℕ → Record → Result Finding Cause
 found_of vendor roster tape keys row = do
   theirs ← national_of vendor.bids vendor.offers vendor.meanings roster row
@@ -62,7 +62,7 @@ count_finding counts finding.OtherSize = record counts { other_size = counts.oth
 count_finding counts finding.OtherVenue = record counts { other_venue = counts.other_venue + 1 }
 count_finding counts finding.NoCounterpart = record counts { no_counterpart = counts.no_counterpart + 1 }
 
--- one row more that says no national best
+-- one more row that has no national best
 abbrev pub count_cause : Counts → Bool → Counts
 count_cause counts true = record counts { skipped = counts.skipped + 1 }
 count_cause counts false = record counts { refused = counts.refused + 1 }

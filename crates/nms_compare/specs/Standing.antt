@@ -1,4 +1,4 @@
--- Which version stands at a row of a vendor's file. This product's own rule.
+-- The version at the time of a row of a vendor's file. This product's own rule.
 use Rattle.std.specs.Prelude.{ℕ, ◌≡◌, ◌+◌, ◌*◌, ◌≤◌, List, [], ◌∷◌, length, drop, take, slice_index}
 use Rattle.std.specs.Prelude.{Option, Some, None, nat_lt, if◌then◌else◌, ◌==◌, ◌&&◌}
 use Rattle.std.specs.List.{position_or_len}
@@ -11,8 +11,8 @@ use Rattle.nms_import.specs.declared.mapping.Order.{Order}
 use Rattle.nms_import.specs.declared.mapping.Order.TheVariants as order
 use Rattle.nms_compare.specs.declared.walk.Walk.{Walk}
 
--- where something stands in the order of a file: its time of day, HHMMSSnnnnnnnnn; in a file by symbol, the place of the
--- symbol and then the time
+-- the place of something in the order of a file: its time of day, HHMMSSnnnnnnnnn; in a file by symbol, the place of the symbol
+-- and then the time
 abbrev pub key_in : Order → (sym time : ℕ) → ℕ
 key_in order.Given sym time = time
 key_in order.Symbol sym time = sym * 1000000000000000 + time

@@ -23,13 +23,13 @@ pub enum CompareFault {
     /// B1: out of memory for the board.
     #[error("B1: out of memory for the board")]
     Board,
-    /// J1: the file of times has not one line of 15 digits and a line feed for each change.
+    /// J1: the file of times does not have one line of 15 digits and a line feed for each change.
     #[error("J1: the times are not those of the changes")]
     NotTheTimes,
-    /// J2: a change is before an earlier one, in the order that the mapping gives.
+    /// J2: a change is before an earlier one, in the order of the mapping.
     #[error("J2: the changes are not in the order of the mapping")]
     ChangesFall,
-    /// J3: a row is before an earlier one, in the order that the mapping gives.
+    /// J3: a row is before an earlier one, in the order of the mapping.
     #[error("J3: the rows are not in the order of the mapping")]
     RowsFall,
 }

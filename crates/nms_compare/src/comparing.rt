@@ -32,17 +32,17 @@ pub struct Vendor {
     pub bids: Columns,
     /// The columns, with the venue of the best offer as the participant.
     pub offers: Columns,
-    /// What the texts mean.
+    /// The meanings of texts.
     pub meanings: Meanings,
     /// The order of the rows, and of the changes.
     pub order: Order,
 }
 
-/// Compares the rows that a reader still has with the best bids and offers of a tape, each on the version that stands at it,
-/// and counts each by its finding. The first 100 that are not equal are shown.
+/// Compares the rows that a reader still has with the best bids and offers of a tape, each on the version at its time, and
+/// counts each by its finding. The first 100 that are not equal are shown.
 ///
-/// `RowsFall` comes if a row is before an earlier one, in the vendor's order. After an error a first part of what is shown
-/// was written. The writer is not flushed.
+/// `RowsFall` comes if a row is before an earlier one, in the vendor's order. An error leaves a first part of the rows shown.
+/// The writer is not flushed.
 pub fn compare_rows<R: Read, W: Write>(
     alloc: Global,
     vendor: &Vendor,
@@ -82,7 +82,7 @@ pub fn compare_rows<R: Read, W: Write>(
     Err(CompareFault::TooLong)
 }
 
-/// What is found of a row, on the version that stands at it.
+/// The finding on a row, on the version at its time.
 fn find_row<W: Write>(
     vendor: &Vendor,
     roster: &Roster,

@@ -70,7 +70,7 @@ impl Counts {
         }
     }
 
-    /// One row more that says no national best.
+    /// One row more that has no national best.
     fn count_cause(&mut self, cause: Cause)
         requires { rows_in self.old < 1000000000000 }
         ensures counted { self.new ≡ count_cause self.old (skips cause) }

@@ -1,4 +1,4 @@
-//! What is found of a vendor's national best beside ours: `specs/Finding`.
+//! The finding on a vendor's national best and ours: `specs/Finding`.
 ghost use Rattle.std.specs.Prelude.{◌≡◌, ◌==◌};
 ghost use Rattle.nms_compare.specs.Finding.{agrees, both_agree, finding_of, is_nothing};
 
@@ -6,7 +6,7 @@ use crate::national::{Best, National};
 use nms_board::Row;
 use nms_stream::Quoted;
 
-/// What is found of a row, on the version that stands at it.
+/// The finding on a row, on the version at its time.
 #[derive(Clone, Copy, Debug, PartialEq, Eq)]
 pub enum Finding {
     /// Prices, displayed sizes and venues are the same on both sides.
@@ -21,7 +21,7 @@ pub enum Finding {
     NoCounterpart,
 }
 
-/// What is found of a vendor's national best beside ours.
+/// The finding on a vendor's national best and ours.
 pub fn find_between(ours: &Quoted, theirs: &National) -> Finding
     ensures { result ≡ finding_of ours.now theirs.now }
 {

@@ -1,4 +1,4 @@
-//! Where changes and rows stand in the order of a file: `specs/Standing`.
+//! The places of changes and rows in the order of a file: `specs/Standing`.
 ghost use Rattle.std.specs.Prelude.{◌≡◌, ◌<◌, ◌≤◌, length, IfOk, IfSome, OnSome};
 ghost use Rattle.nms_quote.specs.declared.TheConstants.{MOST_SYMBOLS};
 ghost use Rattle.nms_compare.specs.Standing.{key_in, place_of, time_in};
@@ -14,7 +14,7 @@ pub(crate) const TIMES: u64 = 1_000_000_000_000_000;
 
 /// The keys of the changes of a file, whose times are the lines of a text: 15 digits each, and a line feed.
 ///
-/// `NotTheTimes` comes if the text has not one such line for each change, `ChangesFall` if a change is before an earlier
+/// `NotTheTimes` comes if the text does not have one such line for each change, `ChangesFall` if a change is before an earlier
 /// one.
 pub fn keys_of(
     alloc: Global,
@@ -48,7 +48,7 @@ pub fn keys_of(
     }
 }
 
-/// Where something of a symbol stands in the order of a file, at a time of at most 15 digits.
+/// The place of a symbol's item in the order of a file, at a time of at most 15 digits.
 pub fn key_of(order: Order, place: u16, time: u64) -> u64
     requires place { place < MOST_SYMBOLS }
     requires time { time < 1000000000000000 }

@@ -1,5 +1,5 @@
-//! A vendor's own national best bids and offers beside those of a tape: each row of the vendor has one finding, on the
-//! version that stands at it by time.
+//! A comparison of a vendor's own national best bids and offers with those of a tape: each row of the vendor has one finding,
+//! on the version at its time.
 #![tactic(auto)]
 
 mod compare_fault;

@@ -30,11 +30,11 @@ pub struct National {
     pub sym: Sym,
     /// The best bid, `None` if there is no bid.
     pub bid: Option<Best>,
-    /// The best offer, likewise.
+    /// The best offer, `None` if there is none.
     pub offer: Option<Best>,
 }
 
-/// The national best of a row, or the first cause why it says none. `scratch` is room that a caller keeps from row to row.
+/// The national best of a row, or the first cause why it has none. `scratch` is room that a caller keeps from row to row.
 pub fn read_national(
     bids: &Columns,
     offers: &Columns,
@@ -46,7 +46,7 @@ pub fn read_national(
     ensures national { IfOk result (λ outcome. outcome ≡ national_of bids.now offers.now meanings.now roster.now (fields_of row.now)) }
     ensures there { IfOk result (λ outcome. IfOk outcome (λ theirs. theirs.sym < length roster.now.syms)) }
 {
-    // Moving sides takes a mention of their type: the prover has to have seen it.
+    // The prover has to see the type of sides before they move, so the code mentions it.
     let _seen: Option<SideQuote> = None;
     let bid = match read_row(bids, meanings, roster, row, scratch)? {
         Ok(bid) => bid,

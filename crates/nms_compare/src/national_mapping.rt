@@ -34,7 +34,7 @@ pub fn read_national_mapping(alloc: Global, text: &str) -> Result<NationalMappin
     Ok(NationalMapping { bids, offers })
 }
 
-/// The mapping of one side: its participant is that of the column `own`, and the column `other` is not looked at.
+/// The mapping of one side: its participant is that of the column `own`, and the column `other` is ignored.
 fn side_mapping(
     alloc: Global,
     text: &str,
@@ -42,7 +42,7 @@ fn side_mapping(
     other: &'static str,
 ) -> Result<Mapping, MapFault> {
     let Ok(mut document) = toml::table_from_str(alloc, text) else {
-        // What is wrong with the text, `import` says.
+        // `import` reports what is wrong with the text.
         return read_mapping(alloc, text);
     };
     if let Some(column) = document.get_mut("column") {
@@ -100,8 +100,8 @@ impl NationalMapping {
         self.bids.order
     }
 
-    /// How the rows of a file are read whose first row is `names`, empty if it has no header. `NoColumn` is the first key
-    /// of the table `column` whose name the row lacks.
+    /// How the rows of a file are read whose first row is `names`, empty if it has no header. `NoColumn` is the first key of
+    /// the table `column` whose name is not in that row.
     pub fn vendor(self, alloc: Global, names: &ByteRecord) -> Result<Vendor, MapFault> {
         let bids = self.bids.columns(alloc, names)?;
         let offers = self.offers.columns(alloc, names)?;

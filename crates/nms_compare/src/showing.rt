@@ -33,7 +33,7 @@ impl<'a, W: Write> Shown<'a, W> {
         }
     }
 
-    /// Shows a row that says no national best, if the mapping does not skip it. The first 100 rows are shown.
+    /// Shows a row that has no national best, unless the mapping skips it. The first 100 rows are shown.
     pub(crate) fn show_cause(
         &mut self,
         row: &ByteRecord,
@@ -94,7 +94,7 @@ impl<'a, W: Write> Shown<'a, W> {
     }
 }
 
-/// Shows where a row stands, its version and its symbol, and what is found.
+/// Shows the line of a row, its version and its symbol, and the finding.
 fn show_head<'x, W: Write>(
     out: &mut W,
     file: &'x str,
@@ -187,7 +187,7 @@ fn items_of<'x>(
     }
 }
 
-/// The words of a finding; none of one that is not shown.
+/// The words of a finding; none for one that is not shown.
 fn word_of(finding: Finding) -> &'static str {
     match finding {
         Finding::Equal => "",
@@ -198,7 +198,7 @@ fn word_of(finding: Finding) -> &'static str {
     }
 }
 
-/// Why a row says no national best.
+/// Why a row has no national best.
 fn phrase_of(cause: Cause) -> &'static str {
     match cause {
         Cause::TooFewColumns => "fewer columns than the mapping names",

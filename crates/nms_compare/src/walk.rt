@@ -76,7 +76,7 @@ fn move_to(board: &mut Boards, changes: &[Change], version: usize)
     board.apply_all(later);
 }
 
-/// How many keys stand at the beginning that are no later than a key.
+/// How many of the first keys are no later than a key.
 fn count_not_later(keys: &[u64], key: u64) -> usize
     ensures count { result ≡ version_by keys.now key }
     ensures within { result ≤ length keys.now }
@@ -95,7 +95,7 @@ fn first_later(keys: &[u64], key: u64) -> Option<usize>
     keys.iter().position(|each| *each > key)
 }
 
-/// What is found of a national best on the version where the walk stands.
+/// The finding on a national best on the version of the walk.
 pub(crate) fn find_on(walk: &Walk, theirs: &National) -> Finding
     requires { theirs.now.sym < length walk.now.board.sizes.lots }
     ensures { (tape : Tape) (keys : List ℕ) → Walks tape keys walk.now

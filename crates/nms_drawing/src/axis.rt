@@ -3,7 +3,7 @@ use crate::clock::{Clock, SECOND, clock_of, nanoseconds_of, time_at};
 use crate::scale::step_of;
 use nms_times::Rising;
 
-/// The steps of seconds between ticks of clock time: the least is taken that goes into a range twelve times at most.
+/// The steps of seconds between ticks of clock time: the axis takes the least that goes into a range twelve times at most.
 const SECONDS: [u64; 15] = [
     1, 2, 5, 10, 15, 30, 60, 120, 300, 600, 900, 1800, 3600, 7200, 14400,
 ];
@@ -32,7 +32,7 @@ pub(crate) struct Axis<'a> {
     pub(crate) kind: Kind<'a>,
 }
 
-/// What stands at a tick.
+/// The label of a tick.
 #[derive(Clone, Copy)]
 pub(crate) enum Label {
     /// A version.
@@ -60,7 +60,7 @@ impl Axis<'_> {
         }
     }
 
-    /// The last place. Clock time goes on for a little after the last change, so that what stands then is seen.
+    /// The last place. Clock time goes on for a little after the last change, so that the view after it is seen.
     pub(crate) fn last(&self) -> u64 {
         let last = self.place(self.to);
         match &self.kind {
@@ -69,7 +69,7 @@ impl Axis<'_> {
         }
     }
 
-    /// What is counted at the left end.
+    /// The count at the left end.
     fn base(&self) -> u64 {
         match &self.kind {
             Kind::Versions => self.from,
@@ -97,7 +97,7 @@ impl Axis<'_> {
         (first, step)
     }
 
-    /// What stands at the tick of a place. `None` if there is no time, or it is of no day.
+    /// The label at the tick of a place. `None` if there is no time, or it is of no day.
     pub(crate) fn label(&self, place: u64, step: u64) -> Option<Label> {
         let counted = self.base().saturating_add(place);
         match &self.kind {

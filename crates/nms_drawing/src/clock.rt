@@ -53,7 +53,7 @@ pub(crate) fn nanoseconds_of(time: TimeOfDay) -> u64 {
     whole.saturating_mul(SECOND).saturating_add(digits % SECOND)
 }
 
-/// The time that is so many nanoseconds after midnight, if it is of the same day.
+/// The time that many nanoseconds after midnight, if it is of the same day.
 pub(crate) fn time_at(nanoseconds: u64) -> Option<TimeOfDay> {
     let seconds = nanoseconds / SECOND;
     let (hours, minutes) = (seconds / 3600, seconds / 60 % 60);

@@ -1,5 +1,5 @@
-//! The curves of the best bid and the best offer, and of their sizes: steps along the axis. The offer's is hollow, so that
-//! each is known from the other without colours, also if a column has many prices.
+//! The curves of the best bid and the best offer, and of their sizes: steps along the axis. The offer's is hollow, so that the
+//! two differ without colours, also if a column has many prices.
 use crate::day::{Day, Shown, Span};
 use crate::picture::put;
 use crate::scale::Scale;
@@ -79,8 +79,8 @@ fn turn<W: Write>(
     }
 }
 
-/// Writes what a side shows within a column with several values: up to the highest, down to the lowest, to the last one;
-/// and to the column's end if there is none then.
+/// Writes a side's values within a column that has several: up to the highest, down to the lowest, to the last one; and to the
+/// column's end if there is none then.
 fn write_within<W: Write>(
     span: &Span,
     scale: &Scale,

@@ -76,7 +76,7 @@ impl Column {
     }
 }
 
-/// Versions that stand side by side, all of them locked or all of them crossed.
+/// Adjacent versions, all of them locked or all of them crossed.
 #[derive(Clone, Copy)]
 pub(crate) struct Stretch {
     pub(crate) crossed: bool,
@@ -138,7 +138,7 @@ pub(crate) fn day_of(
     }
 }
 
-/// Adds what each version shows, those together between which nothing of the symbol changes.
+/// Adds what each version shows. Versions between which nothing of the symbol changes are added together.
 fn add_all(
     day: &mut Day,
     board: &mut Boards,
@@ -279,7 +279,7 @@ fn add_stretch(day: &mut Day, stretch: Stretch) -> Result<(), AllocError> {
     Ok(())
 }
 
-/// A stretch with the one before it, if it goes on with that.
+/// A stretch together with the one before it, if it continues that.
 fn joined_with(last: Stretch, next: Stretch) -> Stretch {
     let from = if last.crossed == next.crossed && last.to.checked_add(1) == Some(next.from) {
         last.from

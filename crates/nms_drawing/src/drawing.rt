@@ -20,7 +20,7 @@ use nms_times::Times;
 use std::alloc::{AllocError, Global};
 use std::io::{Read, Write};
 
-/// What of a day is drawn.
+/// Which part of a day is drawn.
 #[derive(Clone, Copy)]
 pub struct Frame<'a> {
     /// The first version that is drawn.
@@ -39,9 +39,9 @@ pub(crate) struct Subject<'a> {
     pub(crate) roster: &'a Roster,
     pub(crate) sym: Sym,
     pub(crate) axis: &'a Axis<'a>,
-    /// What becomes of the plan.
+    /// The state of the plan.
     pub(crate) drawn: Drawn,
-    /// The plan, and what is found of it.
+    /// The plan, and the finding on it.
     pub(crate) plan: Option<(&'a Plan, &'a Judged)>,
     /// The executions.
     pub(crate) marks: &'a [Mark],
@@ -50,7 +50,7 @@ pub(crate) struct Subject<'a> {
 }
 
 impl<'a> Subject<'a> {
-    /// The plan if it is drawn, and what is found of it.
+    /// The plan if it is drawn, and the finding on it.
     pub(crate) fn whole_plan(&self) -> Option<(&'a Plan, &'a Judged)> {
         if self.drawn == Drawn::Whole {
             self.plan
@@ -78,13 +78,13 @@ pub fn draw_changes<R: Read + Drop, W: Write>(
     }
 }
 
-/// Draws a symbol's best bid and best offer as one SVG, with their displayed sizes, the locked and crossed stretches, the
-/// plan of a text on its version with its verdict and the quotations that it passed over, and executions of that symbol. A plan
-/// on another symbol, or on a version that is not drawn, is named as such and not drawn.
+/// Draws a symbol's best bid and best offer as one SVG, with their displayed sizes, the locked and crossed stretches, and
+/// executions of that symbol. It also draws the plan of a text on its version with its verdict and the quotations that it
+/// passed over. A plan on another symbol, or on a version outside the picture, is named and not drawn.
 ///
 /// At most 1,500 columns are drawn, each with the first, the lowest, the highest and the last price of its versions: the
-/// picture says how many versions a column has. `VersionBeyondTape` if there are not the changes of the versions to be
-/// drawn, `Times` if the times are not as many, or fall between those versions. A fault leaves nothing written. It is not flushed.
+/// picture says how many versions a column has. `VersionBeyondTape` if the file has fewer changes than the versions to draw.
+/// `Times` if the times are not as many, or fall between those versions. A fault leaves nothing written. It is not flushed.
 pub fn draw_day<W: Write>(
     alloc: Global,
     setup: &Setup,
@@ -223,7 +223,7 @@ fn draw_on<W: Write>(
     Ok(Ending::Done)
 }
 
-/// What becomes of a plan.
+/// The state of a plan.
 fn drawn_of(plan: Option<(&Plan, Option<&Judged>)>, sym: Sym, axis: &Axis<'_>) -> Drawn {
     match plan {
         None => Drawn::Nothing,

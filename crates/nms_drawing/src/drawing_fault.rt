@@ -19,10 +19,10 @@ pub enum DrawingFault {
     /// A1: there are fewer changes than the version has. Nothing was written.
     #[error("A1: the version has more changes than there are")]
     VersionBeyondTape,
-    /// L11 or L12: the text of the plan is none, or memory ran out. Nothing was written.
+    /// L11 or L12: the text is no plan, or memory ran out. Nothing was written.
     #[error("{0}")]
     Plan(PlanTextFault),
-    /// H3: there are not as many times as changes. Nothing was written.
+    /// H3: the number of times is not that of the changes. Nothing was written.
     #[error("{0}")]
     Times(TimesFault),
     /// E2: the writer failed. A first part of the answer was written.
@@ -54,7 +54,7 @@ impl DrawingFault {
         self == DrawingFault::Plan(PlanTextFault::BadPlanText)
     }
 
-    /// The exit status of a program that it ends: 1 for a stream, 5 for memory, 6 for what was read.
+    /// The exit status of a program that it ends: 1 for a stream, 5 for memory, 6 for a refused input.
     pub fn status(self) -> u8 {
         match self {
             DrawingFault::Changes(fault) => fault.status(),

@@ -1,11 +1,11 @@
-//! Lines of a stream as JSON: a writer that takes the stream and gives each line on as an object. So the JSON says what
-//! the proved stream says, line by line.
+//! Lines of a stream as JSON: a writer that takes the stream and passes each line on as an object. So the JSON says what the
+//! proved stream says, line by line.
 use nms_show::{Item, ShowFault, write_object};
 use std::alloc::Global;
 use std::io::{Error, ErrorKind, Result, Write};
 use std::{mem, str};
 
-/// A writer of a stream whose lines are given on as objects. The header is left out.
+/// A writer of a stream whose lines are passed on as objects. The header is left out.
 #[derive(Drop)]
 pub(crate) struct JsonLines<'a, W> {
     alloc: Global,
@@ -28,7 +28,7 @@ impl<'a, W: Write> JsonLines<'a, W> {
         }
     }
 
-    /// Whether a write failed for lack of memory.
+    /// Whether a write failed because memory ran out.
     pub(crate) fn wants_memory(&self) -> bool {
         self.wants_memory
     }
@@ -54,7 +54,7 @@ impl<'a, W: Write> JsonLines<'a, W> {
         }
     }
 
-    /// Gives a line on as an object.
+    /// Passes a line on as an object.
     fn tell(&mut self, line: &[u8]) -> std::result::Result<(), ShowFault> {
         if self.is_behind_header {
             return write_fields(self.alloc, self.answers, line);

@@ -1,4 +1,4 @@
-//! What is found of a plan on its own version: its verdict, and the quotations that it passed over.
+//! The finding on a plan on its own version: its verdict, and the quotations that it passed over.
 ghost use Rattle.std.specs.Prelude.{◌≡◌, ◌≤◌, All, length, true};
 ghost use Rattle.nms_quote.specs.Roster.{holds, sizes_of};
 ghost use Rattle.nms_quote.specs.declared.TheConstants.{MOST_CHANGES};
@@ -24,18 +24,18 @@ pub(crate) struct Passed {
     pub(crate) given: u64,
 }
 
-/// What is found of a plan.
+/// The finding on a plan.
 #[derive(Drop)]
 pub(crate) struct Judged {
     /// Why it is doubted; `None` if it is confirmed.
     pub(crate) doubt: Option<Doubt>,
-    /// The leg of which the doubt speaks, counted from 1.
+    /// The leg that the doubt is about, counted from 1.
     pub(crate) leg: Option<(u64, Leg)>,
     /// The quotations that it trades through (17 CFR 242.611), by participant place.
     pub(crate) passed: Vec<Passed>,
 }
 
-/// Judges a plan on its own version of the changes, as `check` does. `None` if they have not that version.
+/// Judges a plan on its own version of the changes, as `check` does. `None` if the changes do not have that version.
 pub(crate) fn judge_plan(
     alloc: Global,
     setup: &Setup,
@@ -60,7 +60,7 @@ pub(crate) fn judge_plan(
     }
 }
 
-/// Judges a plan on what is seen.
+/// Judges a plan on a view.
 fn judged_on(
     alloc: Global,
     setup: &Setup,
@@ -98,7 +98,7 @@ fn passed_over(alloc: Global, view: &View, plan: &Plan) -> Result<Vec<Passed>, A
     Ok(passed)
 }
 
-/// The leg of which a doubt speaks: the first that is as it says.
+/// The leg that a doubt is about: the first that has the breach.
 fn leg_of(view: &View, plan: &Plan, doubt: &Doubt) -> Option<(u64, Leg)> {
     let Doubt::Breach(breach) = doubt else {
         return None;
@@ -111,7 +111,7 @@ fn leg_of(view: &View, plan: &Plan, doubt: &Doubt) -> Option<(u64, Leg)> {
     None
 }
 
-/// Whether a breach speaks of a leg.
+/// Whether a breach is about a leg.
 fn is_of_leg(view: &View, plan: &Plan, leg: &Leg, breach: &Breach) -> bool {
     let order = &plan.order;
     match breach {

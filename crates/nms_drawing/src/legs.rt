@@ -1,4 +1,4 @@
-//! A plan in a picture: its version's dotted line, on it the legs and the quotations that were passed over, each with a thin
+//! A plan in a picture: a dotted line at its version, on it the legs and the quotations that were passed over, each with a thin
 //! leader to its words at the right, and the limit as a dashed line.
 use crate::judged::{Judged, Passed};
 use crate::picture::put;
@@ -15,7 +15,7 @@ const APART: u64 = 24;
 const ASIDE: u64 = 40;
 /// The middle of the plot.
 const MIDDLE: u64 = 900;
-/// How far above a mark its words stand, if there is room: off the lines at its price.
+/// How far above a mark its words stand, if there is room: clear of the lines at its price.
 const ABOVE: u64 = 17;
 
 /// What is marked on a plan's line.
@@ -236,7 +236,7 @@ fn write_begun<W: Write>(style: &str, y: u64, x: u64, answers: &mut W) -> Result
     )
 }
 
-/// Writes a leg's words: its number, its shares, where it goes, its price.
+/// Writes a leg's words: its number, its shares, its target, its price.
 fn write_leg<W: Write>(
     roster: &Roster,
     number: u64,
@@ -262,7 +262,7 @@ fn write_leg<W: Write>(
     )
 }
 
-/// Writes the words of a quotation that was passed over: whose it is, its price, its size, what was sent there.
+/// Writes the words of a quotation that was passed over: its participant, its price, its size, the shares sent there.
 fn write_passed<W: Write>(
     roster: &Roster,
     passed: &Passed,
@@ -286,7 +286,7 @@ fn write_passed<W: Write>(
     )
 }
 
-/// Writes above a plan's line its verdict, what it does, and its version.
+/// Writes a plan's verdict, its action and its version above its line.
 fn write_order<W: Write>(
     plan: &Plan,
     judged: &Judged,

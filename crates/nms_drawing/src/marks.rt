@@ -1,5 +1,5 @@
 //! Executions in a picture: a cross for each that traded through, a small circle for each other one, at its version and its
-//! price; and counts, if many stand side by side.
+//! price; and counts, if many are close together.
 use crate::axis::Axis;
 use crate::picture::put;
 use crate::scale::{LEFT, Scale, TOP};
@@ -29,7 +29,7 @@ pub struct Mark {
     pub through: bool,
 }
 
-/// Executions side by side.
+/// Executions that are close together.
 #[derive(Clone, Copy)]
 struct Group {
     count: u64,

@@ -33,7 +33,7 @@ pub struct Scene {
     pub(crate) before: usize,
 }
 
-/// What is kept of a symbol while the changes go by.
+/// The state of a symbol while the changes go by.
 #[derive(Drop)]
 struct Kept {
     /// Whether an execution in it is drawn.
@@ -61,7 +61,7 @@ pub fn scenes_of(
     }
 }
 
-/// The same on a board that has taken no change.
+/// As `scenes_of`, on a board that has taken no change.
 fn all_scenes(
     alloc: Global,
     roster: &Roster,
@@ -110,7 +110,7 @@ fn by_version(alloc: Global, executions: &[(Sym, Mark)]) -> Result<Vec<(u64, usi
     Ok(order)
 }
 
-/// What is kept of each symbol at first.
+/// The first state of each symbol.
 fn kept_of(
     alloc: Global,
     roster: &Roster,
@@ -153,7 +153,7 @@ fn look_after(
     }
 }
 
-/// Looks at the symbol of a place, if it is wanted: the step is kept, and given to the scenes that wait for it.
+/// Looks at the symbol of a place, if an execution has it: the step is kept, and given to the scenes that wait for it.
 fn look(
     kept: &mut [Kept],
     scenes: &mut [Scene],

@@ -1,5 +1,5 @@
-//! A day as SVG: whole numbers throughout, black, white and grey alone. Names of a roster have capital letters, digits
-//! and the point alone, and all other words are the program's own, so nothing in it needs an escape.
+//! A day as SVG: whole numbers throughout, only black, white and grey. Names of a roster have only capital letters, digits and
+//! the point, and all other words are the program's own, so nothing in it needs an escape.
 use crate::axis::{Axis, Kind, Label};
 use crate::curve::write_curves;
 use crate::day::{Day, Shown};
@@ -46,7 +46,7 @@ const FRAME: &str =
 <text text-anchor=\"end\" font-size=\"18\" x=\"142\" y=\"669\">crossed</text>\
 <text text-anchor=\"end\" font-size=\"18\" x=\"142\" y=\"699\">locked</text>";
 
-/// How each market is drawn in its own strip: below what, and with which hatching.
+/// The markup of each market's strip: up to a column's place, and after its numbers with the hatching.
 const CROSSED: (&'static str, &'static str) = (
     "<rect y=\"651\" height=\"24\" x=\"",
     "\" fill=\"url(#crossed)\"/>",
@@ -121,7 +121,7 @@ fn write_strips<W: Write>(day: &Day, scale: &Scale, answers: &mut W) -> Result<(
     write_strip(day, scale, false, LOCKED, answers)
 }
 
-/// Hatches the columns with crossed versions, or with locked ones: those side by side as one.
+/// Hatches the columns with crossed versions, or with locked ones; adjacent ones as one.
 fn write_strip<W: Write>(
     day: &Day,
     scale: &Scale,
@@ -153,7 +153,7 @@ fn write_strip<W: Write>(
     }
 }
 
-/// Hatches columns side by side. A narrow one is made three wide, so that it is seen.
+/// Hatches adjacent columns. A narrow one is made three wide, so that it is seen.
 fn write_hatching<W: Write>(
     look: (&'static str, &'static str),
     scale: &Scale,

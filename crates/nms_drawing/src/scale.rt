@@ -1,4 +1,4 @@
-//! Where places, prices and sizes stand in a picture, and the ticks of its axes.
+//! The places of versions, prices and sizes in a picture, and the ticks of its axes.
 use crate::axis::Axis;
 use crate::day::{Day, Shown, Span};
 use crate::judged::Judged;
@@ -18,7 +18,7 @@ const SIZES_TOP: u64 = 730;
 const SIZES_HIGH: u64 = 120;
 
 pub(crate) const BOTTOM: u64 = 850;
-/// The steps between ticks: the least is taken that goes into a range twelve times at most.
+/// The steps between ticks: the axis takes the least that goes into a range twelve times at most.
 const STEPS: [u64; 3] = [1, 2, 5];
 /// The most ticks of an axis.
 pub(crate) const MOST_TICKS: u64 = 14;
@@ -149,7 +149,7 @@ impl Scale {
     }
 }
 
-/// A part of a length, of which the whole is another.
+/// A part of a length, given as a part of another whole.
 pub(crate) fn share(length: u64, part: u64, whole: u64) -> u64 {
     length.saturating_mul(part).checked_div(whole).unwrap_or(0)
 }

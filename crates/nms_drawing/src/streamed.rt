@@ -1,4 +1,4 @@
-//! The stream of a file in the form that is asked for.
+//! The stream of a file in the requested form.
 ghost use Rattle.std.specs.Prelude.{◌<◌, IfSome, length};
 
 use crate::drawing_fault::DrawingFault;
@@ -13,8 +13,8 @@ use nms_times::Times;
 use std::alloc::Global;
 use std::io::{Read, Write};
 
-/// Streams the changes of a file: as the proved stream writes it, or each of its lines as a JSON object with the names
-/// of the columns as keys, numbers as numbers and prices as texts, `null` if a side has none. With times each line has
+/// Streams the changes of a file: as the proved stream writes it, or each of its lines as a JSON object. An object has the
+/// names of the columns as keys, numbers as numbers and prices as texts, `null` if a side has none. With times each line has
 /// that of its version, last.
 pub fn stream_changes<R: Read + Drop, W: Write>(
     alloc: Global,
@@ -44,7 +44,7 @@ pub fn stream_changes<R: Read + Drop, W: Write>(
     }
 }
 
-/// The same with the time of each line's version.
+/// As above, with the time of each line's version.
 fn stream_timed<R: Read + Drop, W: Write>(
     alloc: Global,
     setup: &Setup,

@@ -1,4 +1,4 @@
-//! Lines of a stream with the times of their versions: a writer that takes the stream and gives each line on with its time.
+//! Lines of a stream with the times of their versions: a writer that takes the stream and passes each line on with its time.
 use crate::json_lines::{field_of, write_timed};
 use nms_show::{Form, ShowFault};
 use nms_times::Times;
@@ -6,10 +6,10 @@ use std::alloc::Global;
 use std::io::{Error, ErrorKind, Result, Write};
 use std::{mem, str};
 
-/// What the column of times is called.
+/// The name of the column of times.
 const HEAD: &[u8] = b",time\n";
 
-/// A writer of a stream whose lines are given on with their times: as they are, or as objects.
+/// A writer of a stream whose lines are passed on with their times: as they are, or as objects.
 #[derive(Drop)]
 pub(crate) struct TimedLines<'a, W> {
     alloc: Global,
@@ -62,7 +62,7 @@ impl<'a, W: Write> TimedLines<'a, W> {
         }
     }
 
-    /// Gives a line on.
+    /// Passes a line on.
     fn tell(&mut self, line: &[u8]) -> std::result::Result<(), ShowFault> {
         if !self.is_after_header {
             self.is_after_header = true;
@@ -86,7 +86,7 @@ impl<'a, W: Write> TimedLines<'a, W> {
         self.put(b"\n")
     }
 
-    /// Gives the header on; objects have none.
+    /// Passes the header on; objects have none.
     fn tell_header(&mut self, line: &[u8]) -> std::result::Result<(), ShowFault> {
         if self.form.is_json() {
             return Ok(());

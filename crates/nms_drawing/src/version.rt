@@ -1,4 +1,4 @@
-//! What is known at any version: the report of one symbol, or a table of all.
+//! The state at any version: the report of one symbol, or a table of all.
 ghost use Rattle.std.specs.Prelude.{◌≡◌, ◌<◌, ◌≤◌, All, IfOk, IfSome, length, true};
 ghost use Rattle.nms_quote.specs.Roster.{holds, sizes_of};
 ghost use Rattle.nms_quote.specs.declared.TheConstants.{MOST_CHANGES};
@@ -17,10 +17,10 @@ use nms_times::Times;
 use std::alloc::Global;
 use std::io::{Read, Write};
 
-/// Writes what is known at a version, the first so many changes of a file: of one symbol the report, or of all symbols
-/// a table of their best bids and offers. As JSON, an object for each row and pair, or for each symbol.
+/// Writes the state at a version, after that many first changes of a file: of one symbol the report, or of all symbols a table
+/// of their best bids and offers. As JSON, an object for each row and pair, or for each symbol.
 ///
-/// If the file has fewer changes it is `VersionBeyondTape`; where times are given, and not as many, `Times`. Then nothing is
+/// If the file has fewer changes, it is `VersionBeyondTape`; if times are given, and not as many, `Times`. Then nothing is
 /// written. It is not flushed.
 pub fn show_version<R: Read + Drop, W: Write>(
     alloc: Global,
@@ -42,7 +42,7 @@ pub fn show_version<R: Read + Drop, W: Write>(
     Ok(Ending::Done)
 }
 
-/// The board of a version, the first so many changes of a file.
+/// The board of a version, after that many first changes of a file.
 ///
 /// If the file has fewer changes it is `VersionBeyondTape`; if times are given, and not as many, `Times`.
 pub(crate) fn board_at<R: Read + Drop>(
@@ -257,7 +257,7 @@ fn show_best<W: Write>(
     if form.is_json() {
         return show_object(alloc, version, items, answers);
     }
-    // Columns at the end in which nothing stands would be written as spaces.
+    // Trailing empty columns would be written as spaces.
     let shown = match (quoted.bid, quoted.offer) {
         (_, Some(_)) => 8,
         (Some(_), None) => 5,
@@ -283,7 +283,7 @@ fn items_of<'a>(roster: &'a Roster, sym: Sym, quoted: &Quoted) -> [Item<'a>; 8] 
     ]
 }
 
-/// What stands in the table, as keys of an object.
+/// The facts of the table, as keys of an object.
 const KEYS: [&str; 8] = [
     "symbol",
     "market",

@@ -1,5 +1,5 @@
-//! What a picture shows in words, for those who can't see it and for those who can: its title, its numbers, what was left
-//! out, what was found of a plan, and which executions there are.
+//! The words of a picture, for those who can't see it and for those who can: its title, its numbers, what was left out, the
+//! finding on a plan, and the executions.
 use crate::axis::{Axis, Kind};
 use crate::clock::clock_of;
 use crate::day::{Day, NOTHING, Shown, Span};
@@ -28,7 +28,7 @@ const LEFT_OUT: &str =
 const CONFIRMED: &str =
     "The plan is confirmed: no lawful plan fills more, and none that fills as much costs less.";
 
-/// What became of a plan.
+/// The state of the plan.
 #[derive(Clone, Copy, PartialEq, Eq)]
 pub(crate) enum Drawn {
     /// There was none.
@@ -37,9 +37,9 @@ pub(crate) enum Drawn {
     Whole,
     /// It is not drawn: it is of another symbol.
     OtherSymbol,
-    /// It is not drawn: the day has not its version.
+    /// It is not drawn: the day does not have its version.
     LaterVersion,
-    /// It is not drawn: its version is not among those that are.
+    /// It is not drawn: the picture does not have its version.
     OtherVersion,
 }
 
@@ -64,7 +64,7 @@ pub(crate) fn write_title<W: Write>(
     write_named(subject, "<title id=\"title\">", "</title>", answers)
 }
 
-/// Writes the same as a heading that is seen.
+/// Writes the same as a visible heading.
 pub(crate) fn write_heading<W: Write>(
     subject: &Subject<'_>,
     answers: &mut W,
@@ -94,7 +94,7 @@ fn write_named<W: Write>(
     )
 }
 
-/// Writes in words what a day is, what was found of a plan that is drawn, and which executions traded through.
+/// Writes in words the day, the finding on a plan that is drawn, and which executions traded through.
 pub(crate) fn write_words<W: Write>(
     subject: &Subject<'_>,
     day: &Day,
@@ -116,7 +116,7 @@ pub(crate) fn write_words<W: Write>(
     put(answers, &[Item::Text("</desc>")])
 }
 
-/// Writes what became of a plan; if it is drawn, its legs, its verdict, and what it passed over.
+/// Writes the state of the plan; if it is drawn, its legs, its verdict, and what it passed over.
 fn write_drawn<W: Write>(subject: &Subject<'_>, answers: &mut W) -> Result<(), ShowFault> {
     let Some((plan, judged)) = subject.whole_plan() else {
         return put(answers, &[Item::Text(subject.drawn.sentence())]);
@@ -129,7 +129,7 @@ fn write_drawn<W: Write>(subject: &Subject<'_>, answers: &mut W) -> Result<(), S
     Ok(())
 }
 
-/// Writes below the picture how often it is locked and crossed, what was left out, what was found of a plan, and how many
+/// Writes below the picture how often it is locked and crossed, what was left out, the finding on a plan, and how many
 /// executions there are.
 pub(crate) fn write_notes<W: Write>(
     subject: &Subject<'_>,
@@ -205,7 +205,7 @@ fn write_range<W: Write>(side: Side, range: &Span, answers: &mut W) -> Result<()
     )
 }
 
-/// Writes what the axis counts, if that is not versions.
+/// Writes what the axis counts, if it does not count versions.
 fn write_axis<W: Write>(axis: &Axis<'_>, answers: &mut W) -> Result<(), ShowFault> {
     match &axis.kind {
         Kind::Versions => Ok(()),
@@ -363,7 +363,7 @@ fn items_of_leg<'a>(
     ]
 }
 
-/// Writes a plan's verdict: that it is confirmed, or what is doubtful.
+/// Writes a plan's verdict: that it is confirmed, or the doubt.
 fn write_verdict<W: Write>(
     roster: &Roster,
     plan: &Plan,
@@ -397,7 +397,7 @@ fn write_verdict<W: Write>(
     }
 }
 
-/// The code of the breach that a doubt is, and a space before it.
+/// The code of the breach of a doubt, with a space before it.
 fn breach_in(doubt: &Doubt) -> (&'static str, &'static str) {
     match doubt {
         Doubt::Breach(breach) => (" ", breach.code()),
@@ -415,7 +415,7 @@ fn is_through(doubt: &Doubt) -> bool {
     matches!(doubt, Doubt::Breach(Breach::TradedThrough { .. }))
 }
 
-/// Writes the first quotation that a doubted plan passed over, as `check` says it, and how many more there are.
+/// Writes the first quotation that a doubted plan passed over, as `check` prints it, and how many more there are.
 fn write_first<W: Write>(
     roster: &Roster,
     plan: &Plan,

@@ -41,7 +41,7 @@ fn order_in(alloc: Global, setup: &Setup, text: &str) -> Result<Order, Failed> {
     }
 }
 
-/// What the order's symbol shows after the changes.
+/// The view of the order's symbol after the changes.
 fn view_after(
     alloc: Global,
     setup: &Setup,
@@ -58,7 +58,7 @@ fn view_after(
     Ok(board.view(order.sym))
 }
 
-/// Adds the code of the breach of the plan of a text, or that it has none.
+/// Adds the code of the breach of a text's plan, or that it has none.
 fn tell_breach(
     alloc: Global,
     setup: &Setup,

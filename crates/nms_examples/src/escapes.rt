@@ -3,8 +3,8 @@
 use crate::Failed;
 use std::alloc::Global;
 
-/// The bytes that a text stands for: a backslash with two hexadecimal digits after it is one byte, and one at the
-/// end of a line leaves that end out.
+/// The bytes that a text encodes. A backslash with two hexadecimal digits after it is one byte; a backslash at the end of a
+/// line drops that line end.
 pub(crate) fn bytes_of(alloc: Global, text: &str) -> Result<Vec<u8>, Failed> {
     let mut bytes = Vec::new(alloc);
     let mut is_first = true;
@@ -22,7 +22,7 @@ pub(crate) fn bytes_of(alloc: Global, text: &str) -> Result<Vec<u8>, Failed> {
     Ok(bytes)
 }
 
-/// Adds the byte that stands after a backslash, and gives what follows.
+/// Adds the byte that a backslash begins, and gives what follows.
 fn add_escaped<'a>(bytes: &mut Vec<u8>, part: &'a str) -> Result<&'a str, Failed> {
     if let Some(rest) = part.strip_prefix('\n') {
         return Ok(rest);

@@ -1,4 +1,4 @@
-//! What one example gives.
+//! The answers of one example.
 
 use crate::Failed;
 use crate::breaches::give_breach;
@@ -16,8 +16,7 @@ use nms_scripts::{Counts, SETUP_K, run_script};
 use std::alloc::Global;
 use std::io::Write;
 
-/// Adds what an example gives, which is as its title's first word says; then the code of what ended it early, if
-/// anything did.
+/// Adds the answers of an example, whose kind is its title's first word; then the code of what ended it early, if anything did.
 pub(crate) fn give<T: AllocGlobal + Eprint>(
     rt: &T,
     setup: &Setup,
@@ -33,7 +32,7 @@ pub(crate) fn give<T: AllocGlobal + Eprint>(
     }
 }
 
-/// Adds what the bytes of a text give.
+/// Adds the answers to the bytes of a text.
 fn give_read(
     alloc: Global,
     setup: &Setup,
@@ -47,7 +46,7 @@ fn give_read(
     }
 }
 
-/// Adds what bytes give under a title.
+/// Adds the answers to bytes under a title.
 fn give_bytes(
     alloc: Global,
     setup: &Setup,
@@ -82,7 +81,7 @@ fn give_text(title: &str, given: &mut Vec<u8>) -> Result<(), Failed> {
     }
 }
 
-/// Adds the answers of a script and what they come to.
+/// Adds the answers of a script and how it ended.
 fn give_script(
     alloc: Global,
     setup: &Setup,
@@ -95,7 +94,7 @@ fn give_script(
     }
 }
 
-/// Adds what a script comes to.
+/// Adds how a script ended.
 fn tell_counts(given: &mut Vec<u8>, counts: Counts) -> Result<(), Failed> {
     for (count, word) in [
         (counts.records, " read, "),

@@ -11,7 +11,7 @@ use nms_quote::Feed;
 use nms_text::{ScriptFault, TextFault};
 use std::io::Write;
 
-/// Adds of each fault its code and its exit status, a line each.
+/// Adds each fault's code and its exit status, a line each.
 pub(crate) fn tell_exits(given: &mut Vec<u8>) -> Result<(), Failed> {
     tell_setup_exits(given)?;
     tell_change_exits(given)?;

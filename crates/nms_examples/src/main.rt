@@ -1,6 +1,6 @@
-//! Runs the examples that come on standard input and writes what each gives, or whether it gives what it says
-//! that it must; if one does not, the program fails at its end. The gate compares what it writes with `stdout`,
-//! byte for byte. `tests/README.md` has the form of the input, and `tests/bundle.sh` makes it.
+//! Runs the examples that come on standard input. It writes what each gives, or whether it gives what it says that it must; if
+//! one does not, the program fails at its end. The gate compares what it writes with `stdout`, byte for byte. `tests/README.md`
+//! has the form of the input, and `tests/bundle.sh` makes it.
 #![tactic(auto)]
 
 mod breaches;
@@ -115,7 +115,7 @@ where
     }
 }
 
-/// Writes what an example gives; or, where that is known, whether it is what it must give.
+/// Writes what an example gives; or, if that is known, whether it is what it must give.
 fn show_given<T, W>(
     rt: &T,
     setup: &Setup,
@@ -135,7 +135,7 @@ where
     }
 }
 
-/// Writes what was given, or whether it is what is wanted.
+/// Writes what was given, or whether it is the expected text.
 fn tell<W: Write>(given: &[u8], wanted: Option<&str>, answers: &mut W) -> Result<bool, Failed> {
     let given = str::from_utf8(given).map_err(|_| Failed)?;
     match wanted {

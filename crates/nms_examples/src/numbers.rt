@@ -6,7 +6,7 @@ use std::fmt::Display;
 use std::io::Write;
 use std::str;
 
-/// Adds of each line, which has what it is to be read as and then a text, the number and its text, or the fault.
+/// Adds the number and its text, or the fault, for each line. A line names the kind of number, and then has a text.
 pub(crate) fn give_numbers(input: &[u8], given: &mut Vec<u8>) -> Result<(), Failed> {
     let text = str::from_utf8(input).map_err(|_| Failed)?;
     for line in text.lines() {
@@ -16,7 +16,7 @@ pub(crate) fn give_numbers(input: &[u8], given: &mut Vec<u8>) -> Result<(), Fail
     Ok(())
 }
 
-/// Adds what is read of a text, as its kind says.
+/// Adds what a text reads as, by its kind.
 fn give_number(kind: &str, number: &[u8], given: &mut Vec<u8>) -> Result<(), Failed> {
     match kind {
         "price" => match Price::parse(number) {

@@ -1,4 +1,4 @@
-//! Plans as text, and what an audit says of them.
+//! Plans as text, and what an audit finds in them.
 
 use crate::Failed;
 use nms_cert::Doubt;
@@ -75,7 +75,7 @@ pub(crate) fn give_audit(
     }
 }
 
-/// Adds the code of a doubt: of a breach its own after it, and of a bound that fails the cut.
+/// Adds the code of a doubt: for a breach also the breach's code, for a failing bound the cut.
 fn tell_doubt(given: &mut Vec<u8>, doubt: Doubt) -> Result<(), Failed> {
     match doubt {
         Doubt::Breach(breach) => writeln!(given, "K1 {}", breach.code()).map_err(|_| Failed),

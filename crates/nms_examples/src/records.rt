@@ -1,4 +1,4 @@
-//! What records say in each place that reads.
+//! What records say, for each reader of records.
 
 use crate::Failed;
 use nms_fees::Setup;
@@ -10,7 +10,7 @@ use std::io::Write;
 /// The most records of an example.
 const MOST: usize = 1000;
 
-/// Adds what each record says in the place that the title names, or its fault, a line each.
+/// Adds what each record says to the reader that the title names, or its fault, a line each.
 pub(crate) fn give_lines(
     alloc: Global,
     setup: &Setup,
@@ -42,7 +42,7 @@ fn tell_lines(
     Err(Failed)
 }
 
-/// The place that reads under that name, which has two desks if it has any.
+/// The reader of that name; it has two desks if it has any.
 fn reading_named(place: &str) -> Option<Reading> {
     match place {
         "script" => Some(Reading::Script { desks: 2 }),

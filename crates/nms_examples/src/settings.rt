@@ -8,14 +8,14 @@ use std::alloc::Global;
 use std::io::Write;
 use std::str;
 
-/// The line after which stand the changes to a document, a line each: a piece of it, an arrow, and what stands
-/// in the place of the piece where it comes first.
+/// The line before the changes to a document, a line each: a piece of it, an arrow, and the text that replaces the first such
+/// piece.
 const CHANGES: &str = "-- changes\n";
 
-/// The line after which stand questions for a setup: a participant's place, the side and the price.
+/// The line before the questions for a setup: a participant's place, the side and the price.
 const COSTS: &str = "-- costs\n";
 
-/// Adds what a document is read as; or, where changes or questions stand after it, what each of these gives.
+/// Adds what a document reads as. If changes or questions follow it, adds what each of these gives.
 pub(crate) fn give_settings(
     alloc: Global,
     input: &[u8],
@@ -31,7 +31,7 @@ pub(crate) fn give_settings(
     }
 }
 
-/// Adds what a document is read as with each change made to it alone.
+/// Adds what a document reads as with each change made to it alone.
 fn give_changes(
     alloc: Global,
     document: &str,
@@ -44,7 +44,7 @@ fn give_changes(
     Ok(())
 }
 
-/// Adds what a document is read as with one change made to it.
+/// Adds what a document reads as with one change.
 fn give_changed(
     alloc: Global,
     document: &str,
@@ -72,7 +72,7 @@ fn tell_setup(setup: &Setup, given: &mut Vec<u8>) -> Result<(), Failed> {
     writeln!(given, "{tape} {queue} {desks} {parts} {syms}").map_err(|_| Failed)
 }
 
-/// Adds what a share costs by each question, under the setup of a document.
+/// Adds what a share costs for each question, under the setup of a document.
 fn give_costs(
     alloc: Global,
     document: &str,
@@ -85,7 +85,7 @@ fn give_costs(
     }
 }
 
-/// Adds what a share costs by each question.
+/// Adds what a share costs for each question.
 fn tell_costs(setup: &Setup, costs: &str, given: &mut Vec<u8>) -> Result<(), Failed> {
     for question in costs.lines() {
         tell_cost(setup, question, given)?;

@@ -9,7 +9,7 @@ use std::alloc::Global;
 use std::io::Write;
 use std::str;
 
-/// Adds what each step is answered, one a line, of a machine that starts empty.
+/// Adds the answer to each step, one a line, of a machine that starts empty.
 pub(crate) fn give_steps(
     alloc: Global,
     setup: &Setup,
@@ -52,12 +52,13 @@ fn offer_of(place: u8) -> Option<Change> {
     })
 }
 
-/// Makes the step that a word names, or takes all, and adds what it is answered. One that speaks of strangers fails.
+/// Makes the step that a word names, or takes all, and adds the answer. A step that names an unknown participant or symbol
+/// fails.
 fn give_step(flow: &mut Flow, word: &str, given: &mut Vec<u8>) -> Result<(), Failed> {
     if word == "all" {
         return writeln!(given, "{}", flow.take_all().code()).map_err(|_| Failed);
     }
-    // Moving a step takes a mention of the types in it: the prover has to have seen them.
+    // The prover has to see the types of a step before the step moves, so the code mentions them.
     let _seen: Option<SideQuote> = None;
     let step = step_named(word).ok_or(Failed)?;
     if let Step::Send(_, change) = &step

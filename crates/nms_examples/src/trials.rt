@@ -1,5 +1,5 @@
-//! What the text of an example can't hold: streams that fail in mid-run or count, and limits. A call that does not
-//! answer as it must fails its trial, which says what was answered on standard error.
+//! Cases that the text of an example can't hold: streams that fail in mid-run or count, and limits. If a call gives a wrong
+//! answer, its trial fails and prints the answer on standard error.
 mod limits;
 mod live_streams;
 mod plan_streams;
@@ -16,7 +16,7 @@ use std::fmt::Debug;
 use std::process::Termination;
 use std::test::Fail;
 
-/// Fails where two values are not one.
+/// Fails if two values differ.
 fn same<V: PartialEq + Debug + Drop>(one: V, other: V) -> Result<(), Fail> {
     if one == other {
         Ok(())
@@ -41,7 +41,7 @@ pub(crate) fn give_trials<T: AllocGlobal + Eprint>(
         _ => Err(Fail::new("no such trials")),
     };
     let passed = came_to.is_ok();
-    // It says on standard error what failed.
+    // It prints on standard error what failed.
     let _ = came_to.report(rt);
     if !passed {
         return Err(Failed);

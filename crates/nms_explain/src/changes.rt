@@ -16,7 +16,7 @@ use nms_show::{Ending, Form, Item};
 use std::alloc::Global;
 use std::io::{Read, Write};
 
-/// What is asked for.
+/// What the caller asks for.
 #[derive(Clone, Copy)]
 struct Asked<'a> {
     alloc: Global,
@@ -26,10 +26,10 @@ struct Asked<'a> {
     form: Form,
 }
 
-/// Reports each refused record of a script, and whether anything was published. It does nothing that the script asks for,
-/// so that what a full queue or a full tape would refuse is not told.
+/// Reports each refused record of a script, and whether it publishes anything. It runs nothing of the script, so it does not
+/// report what a full queue or a full tape would refuse.
 ///
-/// The answers are not flushed. At a fault what was reported before stands.
+/// The answers are not flushed. A fault leaves what was reported before.
 pub fn explain_script<R: Read + Drop, W: Write>(
     alloc: Global,
     setup: &Setup,
@@ -102,7 +102,7 @@ pub fn explain_feed<R: Read + Drop, W: Write>(
     Ok(ending_of(&tally))
 }
 
-/// How a file ends of which so many records were refused.
+/// How a file ends that has that many refused records.
 fn ending_of(tally: &Tally) -> Ending {
     if tally.refused > 0 {
         Ending::Refused
@@ -146,7 +146,7 @@ fn explain_source<R: Read + Drop, W: Write>(
     explain_records(asked, &mut reader, &mut row, answers)
 }
 
-/// The same of the records that a reader gives.
+/// As `explain_source`, for the records that a reader gives.
 fn explain_records<R: Read, W: Write>(
     asked: &Asked<'_>,
     reader: &mut Reader<RecordSource<R>>,
@@ -169,7 +169,7 @@ fn explain_records<R: Read, W: Write>(
     Ok(tally)
 }
 
-/// Reports a refused record, the one of that number.
+/// Reports a refused record by its number.
 fn tell_fault<R: Read, W: Write>(
     asked: &Asked<'_>,
     reader: &Reader<RecordSource<R>>,
@@ -183,7 +183,7 @@ fn tell_fault<R: Read, W: Write>(
     tell_refusal(asked.alloc, asked.form, &refusal, answers).map_err(ExplainFault::Show)
 }
 
-/// What is said of a refused record.
+/// The report on a refused record.
 fn refusal_of<'a>(
     asked: &Asked<'a>,
     record: RecordText<'a>,
@@ -244,7 +244,7 @@ pub(crate) fn quote_at(text: &[u8], line: u64) -> Option<Point> {
     Some(point_at(text, LineCount::at(line), at))
 }
 
-/// What was found where, and what is expected there.
+/// What stands at which place, and what is expected there.
 #[derive(Clone, Copy)]
 struct Finding<'a> {
     field: Option<FieldPlace>,
@@ -253,7 +253,7 @@ struct Finding<'a> {
     expected: &'a str,
 }
 
-/// What is said of a record with another number of fields than its kind.
+/// The finding on a record with another number of fields than its kind.
 fn count_of<'a>(row: &'a ByteRecord, text: &'a [u8]) -> Finding<'a> {
     Finding {
         field: None,
@@ -263,8 +263,8 @@ fn count_of<'a>(row: &'a ByteRecord, text: &'a [u8]) -> Finding<'a> {
     }
 }
 
-/// If a record has too many fields, or its end if it has too few: the quote that opens a field over a line end,
-/// the number that a comma parts, the comma that stands last, or else the fields after the last that there may be.
+/// Where a record has too many fields, or its end if it has too few: the quote that opens a field over a line end, the number
+/// that a comma parts, the last comma, or else the fields past the most allowed.
 fn surplus_span(row: &ByteRecord, text: &[u8]) -> Span {
     let end = text.len();
     if let Some(start) = open_quote(text) {
@@ -290,7 +290,7 @@ fn surplus_span(row: &ByteRecord, text: &[u8]) -> Span {
     Span { start, end }
 }
 
-/// What is said of a field.
+/// The finding on a field.
 fn field_of<'a>(
     asked: &Asked<'a>,
     text: &'a [u8],
@@ -318,7 +318,7 @@ fn field_of<'a>(
     }
 }
 
-/// Where the first name stands that is not on the roster, of those that a field joins.
+/// Where the first name that is not on the roster stands, among those that a field joins.
 fn unknown_span(text: &[u8], field: Span, names: &[u8], roster: &Roster) -> Span {
     match unknown_name(names, roster) {
         Some(nth) => name_span(text, field, nth),

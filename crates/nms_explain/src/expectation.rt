@@ -1,4 +1,4 @@
-//! What is expected where a record was refused.
+//! What is expected at the place of a refusal.
 use nms_lines::{Kind, LineFault, Reading};
 use nms_places::FieldName;
 use nms_quote::Feed;
@@ -20,7 +20,7 @@ pub(crate) fn expected_field(fault: LineFault, name: FieldName, from: Reading) -
     }
 }
 
-/// The kinds that come there.
+/// The kinds that the source allows.
 fn expected_kind(from: Reading) -> &'static str {
     match from {
         Reading::Script { .. } => "a kind of a script: Q, S, X, R, T, F, P, L, N, E or O",

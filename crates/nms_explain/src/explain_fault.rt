@@ -3,7 +3,7 @@ use nms_lines::RecordFault;
 use nms_show::ShowFault;
 use thiserror::Error;
 
-/// Why a file was not explained to its end. What was reported before stands.
+/// Why a file was not explained to its end. What was reported before stays.
 #[derive(Clone, Copy, Debug, PartialEq, Eq, Error)]
 pub enum ExplainFault {
     /// The file could not be read, or memory ran out: E1 or E4.

@@ -11,7 +11,7 @@ const ANSWER_WORDS: [&str; 8] = [
     "PUB", "TOLD", "BEST", "THRU", "ROW", "ERR", "TAPE", "ANSWER",
 ];
 
-/// What a refused record looks like instead, where it looks like something.
+/// What a refused record looks like instead, if it looks like something.
 pub(crate) fn hint_of(
     fault: LineFault,
     number: u64,
@@ -25,7 +25,7 @@ pub(crate) fn hint_of(
     }
 }
 
-/// What a record of no kind looks like, the first of a file more than any other.
+/// What a record of no kind looks like; more cases count for the first record of a file.
 pub(crate) fn hint_of_kind(number: u64, text: &[u8]) -> &'static str {
     if memchr(0, text).is_some() || text.starts_with(b"\xFF\xFE") || text.starts_with(b"\xFE\xFF") {
         return "this looks like UTF-16: save the file as ASCII or UTF-8";
@@ -131,7 +131,7 @@ fn has_more(row: &ByteRecord) -> bool {
     surplus(row) > 0
 }
 
-/// How many fields a record has more than its kind.
+/// How many fields too many a record has for its kind.
 fn surplus(row: &ByteRecord) -> usize {
     match kind_of(row) {
         Some(kind) => row.len().saturating_sub(Counts::of_kind(kind).most),
@@ -139,8 +139,8 @@ fn surplus(row: &ByteRecord) -> usize {
     }
 }
 
-/// How many fields stand before a number that a comma parts in two, as in `1,000.00`, where numbers parted like this are
-/// what the record has too many fields by.
+/// How many fields stand before a number that a comma parts in two, as in `1,000.00`, if such numbers account for all the
+/// fields that the record has too many.
 pub(crate) fn parted_number(row: &ByteRecord) -> Option<usize> {
     let mut first = None;
     let mut count: usize = 0;

@@ -1,4 +1,4 @@
-//! What is wrong with the records of a file, told to people: each refusal with its line and column, what was found and
+//! What is wrong with the records of a file, in a report for people: each refusal with its line and column, what was found and
 //! what is expected there, and what to do.
 #![tactic(auto)]
 

@@ -10,7 +10,7 @@ pub(crate) struct LineCount {
 }
 
 impl LineCount {
-    /// Before a byte of that line, which no carriage return stands before.
+    /// Before a byte of that line, with no carriage return just before it.
     pub(crate) fn at(line: u64) -> Self {
         LineCount {
             line,
@@ -27,7 +27,7 @@ impl LineCount {
         LineCount::at(self.line.saturating_add(feeds as u64))
     }
 
-    /// The same where carriage returns stand.
+    /// As `behind`, for a text with carriage returns.
     fn behind_returns(self, text: &[u8]) -> Self {
         let mut count = self;
         for byte in text {

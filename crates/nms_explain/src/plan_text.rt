@@ -15,10 +15,10 @@ use nms_show::{Ending, Form, Item, ShowFault};
 use std::alloc::Global;
 use std::io::{Read, Write};
 
-/// The code of a text that is no plan's.
+/// The code of a text that is not a plan's.
 const CODE: &str = "L11";
 
-/// What is asked for.
+/// What the caller asks for.
 #[derive(Clone, Copy)]
 struct Asked<'a> {
     alloc: Global,
@@ -27,7 +27,7 @@ struct Asked<'a> {
     form: Form,
 }
 
-/// What came of the records of a plan's text so far.
+/// The state after the records of a plan's text so far.
 #[derive(Clone, Copy)]
 struct Came {
     walk: PlanWalk,
@@ -35,10 +35,10 @@ struct Came {
     refused: u64,
 }
 
-/// Reports each record of a plan's text that does not say what a plan says where it stands: its own field, or that another
-/// record is due. The text is a plan's where nothing is reported.
+/// Reports each wrong record of a plan's text: the field that a plan can't have at that place, or that another record is due.
+/// If it reports nothing, the text is a plan's.
 ///
-/// The answers are not flushed. At a fault what was reported before stands.
+/// The answers are not flushed. A fault leaves what was reported before.
 pub fn explain_plan<W: Write>(
     alloc: Global,
     setup: &Setup,
@@ -89,7 +89,7 @@ fn explain_records<R: Read, W: Write>(
     Ok(came)
 }
 
-/// Reports a wrong record, the one of that number.
+/// Reports a wrong record by its number.
 fn tell_trouble<R: Read, W: Write>(
     asked: &Asked<'_>,
     reader: &Reader<RecordSource<R>>,
@@ -104,7 +104,7 @@ fn tell_trouble<R: Read, W: Write>(
     tell_refusal(asked.alloc, asked.form, &refusal, answers).map_err(ExplainFault::Show)
 }
 
-/// Reports which record is missing where the text ends, and how many there were.
+/// Reports which record is missing at the end of the text, and how many there were.
 fn tell_end<W: Write>(
     came: &Came,
     asked: &Asked<'_>,
@@ -132,7 +132,7 @@ fn tell_end<W: Write>(
     }
 }
 
-/// Which record is missing where the records of a plan's text end.
+/// Which record is missing at the end of a plan's records.
 fn missing_at(due: PlanDue) -> &'static str {
     match due {
         PlanDue::Plan => "PLAN",
@@ -142,7 +142,7 @@ fn missing_at(due: PlanDue) -> &'static str {
     }
 }
 
-/// What is said of a wrong record.
+/// The finding on a wrong record.
 fn refusal_of<'a>(
     asked: &Asked<'a>,
     record: RecordText<'a>,

@@ -1,6 +1,6 @@
 //! What is within quotes, as the reader of records sees it.
 
-/// Where a byte stands within quotes.
+/// Where a byte is, within quotes or not.
 #[derive(Clone, Copy)]
 pub(crate) enum Quoting {
     /// At the start of a field.
@@ -14,7 +14,7 @@ pub(crate) enum Quoting {
 }
 
 impl Quoting {
-    /// Where the next byte stands after this one.
+    /// The state of the next byte after this one.
     pub(crate) fn behind(self, byte: u8) -> Self {
         match (self, byte) {
             (Quoting::Start, b'"') | (Quoting::Behind, b'"') => Quoting::Within,

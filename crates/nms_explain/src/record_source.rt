@@ -1,7 +1,7 @@
-//! A source whose bytes are given on as they come, and which keeps those of the record that is read.
+//! A source that passes its bytes on as they come, and keeps those of the record being read.
 //!
-//! Whole records are kept, however long they are, so that what is said of one is said of what the reader of records read.
-//! What stands before the record that is read is forgotten.
+//! It keeps whole records, however long they are, so that a report shows the very text that the reader of records read. It
+//! forgets what stands before the record being read.
 ghost use Rattle.std.specs.Prelude.{◌≤◌, length};
 
 use crate::line_count::LineCount;
@@ -12,22 +12,22 @@ use std::cell::Cell;
 use std::io;
 use std::io::Read;
 
-/// What a text may begin with that is no part of its first record.
+/// What may begin a text without being part of its first record.
 const MARK: [u8; 3] = [0xEF, 0xBB, 0xBF];
 
-/// A source, and what was given on of the record that is read.
+/// A source, with the bytes passed on of the record being read.
 #[derive(Drop)]
 pub(crate) struct RecordSource<R> {
     source: R,
-    /// What was given on from the start of the record that was read when more was asked for.
+    /// The bytes passed on since the start of the record that was being read at the last request.
     kept: Vec<u8>,
-    /// How many bytes were given on before those, and the lines before them.
+    /// How many bytes were passed on before those, and the lines before them.
     passed: u64,
     lines: LineCount,
-    /// Where what was given on last begins among those that are kept, and the lines before it.
+    /// Where the bytes passed on last begin among the kept ones, and the lines before them.
     recent: usize,
     recent_lines: LineCount,
-    /// How many bytes were given on up to the end of the record before the one that is read: the reader's owner says so.
+    /// How many bytes were passed on up to the end of the previous record: the owner of the reader sets it.
     ended: Cell<u64>,
     is_out_of_memory: bool,
 }
@@ -44,7 +44,7 @@ pub(crate) fn open_source<R: Read>(alloc: Global, source: R) -> Reader<RecordSou
     open_records(alloc, RecordSource::new(alloc, source))
 }
 
-/// Reads the next record, as `read_next` of `nms_lines` does: for lack of memory for its text too it is `NoMemory`.
+/// Reads the next record, as `read_next` of `nms_lines` does. It is also `NoMemory` if the record's text does not fit.
 pub(crate) fn next_record<R: Read>(
     reader: &mut Reader<RecordSource<R>>,
     row: &mut ByteRecord,
@@ -79,19 +79,19 @@ impl<R> RecordSource<R> {
         }
     }
 
-    /// The text of the record that was read last: it had ended when so many bytes were given on.
+    /// The text of the record that was read last, given how many bytes were passed on by its end.
     fn record(&self, end: u64) -> RecordText<'_> {
         let (start, end) = (self.place_of(self.ended.get()), self.place_of(end));
         let text = self.kept.get(start..end).unwrap_or(&[]);
         trimmed(text, self.lines_at(start))
     }
 
-    /// Where the text ends, when all of it was read.
+    /// Where the text ends, once all of it was read.
     pub(crate) fn end(&self) -> Point {
         point_at(&self.kept, self.lines, self.kept.len())
     }
 
-    /// The place among the bytes that are kept of the one before which so many were given on.
+    /// The place among the kept bytes of the byte that follows that many passed on.
     fn place_of(&self, given: u64) -> usize {
         if given <= self.passed {
             0
@@ -100,7 +100,7 @@ impl<R> RecordSource<R> {
         }
     }
 
-    /// The lines before a place among the bytes that are kept.
+    /// The lines before a place among the kept bytes.
     fn lines_at(&self, place: usize) -> LineCount {
         if place < self.recent {
             self.lines.behind(self.bytes(0, place))
@@ -109,12 +109,12 @@ impl<R> RecordSource<R> {
         }
     }
 
-    /// What is kept from one place to another.
+    /// The kept bytes from one place to another.
     fn bytes(&self, from: usize, to: usize) -> &[u8] {
         self.kept.get(from..to).unwrap_or(&[])
     }
 
-    /// Forgets what stands before the record that is read, since more is asked for.
+    /// Forgets what stands before the record being read, because more is requested.
     fn forget(&mut self) {
         let start = self.start().min(self.kept.len());
         if start > 0 {
@@ -130,9 +130,9 @@ impl<R> RecordSource<R> {
         self.recent = self.kept.len();
     }
 
-    /// Where the record that is read begins among the bytes that are kept: after the record before it, and after the line
-    /// ends and the mark that are of no record. If the text's end ended the record before it, and no line end, that record
-    /// stays, so that what is kept begins at the start of a line.
+    /// Where the record being read begins among the kept bytes: after the record before it, and after the line ends and the
+    /// mark that belong to no record. If the end of the text ended the record before it, and no line end did, that record
+    /// stays. So the kept bytes begin at the start of a line.
     fn start(&self) -> usize {
         let (before, rest) = self
             .kept
@@ -158,7 +158,7 @@ impl<R: Read> Read for RecordSource<R> {
     }
 }
 
-/// How many bytes the line ends take that a text begins with.
+/// How many bytes the line ends at the start of a text take.
 fn blank_length(text: &[u8]) -> usize
     ensures { result ≤ length text.now }
 {

@@ -10,7 +10,7 @@ use std::io::Write;
 /// What stands before each line about a refusal.
 const INDENT: &str = "    ";
 
-/// A refused record, and what is said of it.
+/// A refused record, with the report about it.
 #[derive(Clone, Copy)]
 pub(crate) struct Refusal<'a> {
     /// The file, as the call named it.
@@ -21,7 +21,7 @@ pub(crate) struct Refusal<'a> {
     pub(crate) line: u64,
     /// Its text.
     pub(crate) text: &'a [u8],
-    /// What of it is wrong.
+    /// The part of it that is wrong.
     pub(crate) span: Span,
     /// The code of the refusal.
     pub(crate) code: &'a str,
@@ -166,7 +166,7 @@ fn tell_object<W: Write>(
     write_object(alloc, answers, &members_of(refusal, point))
 }
 
-/// What is said of a refusal.
+/// The finding of a refusal.
 fn members_of<'a>(refusal: &Refusal<'a>, point: Point) -> [(&'static str, Item<'a>); 15] {
     let mut members = [("", Item::Absent); 15];
     members[..8].copy_from_slice(&place_members(refusal, point));
@@ -192,7 +192,7 @@ fn place_members<'a>(refusal: &Refusal<'a>, point: Point) -> [(&'static str, Ite
     ]
 }
 
-/// What was found, and what is said of it.
+/// What was found, with its hint and remedy.
 fn finding_members<'a>(refusal: &Refusal<'a>) -> [(&'static str, Item<'a>); 7] {
     let (line, column) = match refusal.quote {
         Some(quote) => (Item::Number(quote.line), Item::Number(quote.column)),

@@ -1,6 +1,6 @@
 //! What to do about a refused record, in the words of the page on errors.
 
-/// What to do about a refusal of that code: one of the codes of a record, or of a plan's text. Of any other code nothing.
+/// What to do about a refusal of that code: one of the codes of a record, or of a plan's text. Empty for any other code.
 pub fn remedy_of(code: &str) -> &'static str {
     match code {
         "L1" =>
@@ -25,7 +25,7 @@ pub fn remedy_of(code: &str) -> &'static str {
     }
 }
 
-/// What to do about a refused record: as `remedy_of`, which speaks of a side to a record that has sides alone.
+/// What to do about a refused record: as `remedy_of`, which mentions a side only if the record has sides.
 pub(crate) fn remedy_in(code: &str, has_sides: bool) -> &'static str {
     match code {
         "L2" if !has_sides => "Count the commas.",

@@ -21,7 +21,7 @@ const FAULTS: [LineFault; 11] = [
     LineFault::BadLot,
 ];
 
-/// What came of the records so far.
+/// The counts of the records so far.
 #[derive(Clone, Copy)]
 pub(crate) struct Tally {
     /// How many there were.
@@ -44,7 +44,7 @@ impl Tally {
         }
     }
 
-    /// Counts a record that was taken.
+    /// Counts a record that is not refused.
     pub(crate) fn take(&mut self, line: &Line) {
         self.records = self.records.saturating_add(1);
         if matches!(*line, Line::TakeAll | Line::Publish) {

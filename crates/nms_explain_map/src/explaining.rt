@@ -12,13 +12,13 @@ use toml::Table;
 /// The most faults that are reported.
 const MOST_TOLD: u64 = 100;
 
-/// Prints why a mapping is refused: at most 100 of its faults, each with its line, table, key, value and what is expected;
-/// or that there is none. It ends with `SetupRefused` if there is a fault.
+/// Prints why a mapping is refused: at most 100 of its faults, each with its line, table, key, value and what is expected; or
+/// that there is none. It ends with `SetupRefused` if there is a fault.
 ///
-/// Each fault that was found is mended in a copy of the document, and the copy is read again for the next one. A text that
-/// is no TOML document has one fault, M1, at the place where the parser stopped.
+/// Each fault that was found is mended in a copy of the document, and the copy is read again for the next one. A text that is
+/// no TOML document has one fault, M1, at the place where the parser stopped.
 ///
-/// Errors: `WriteFault` if `answers` refuses, `NoMemory` if there is no memory. A first part of the text may have been written.
+/// Errors: `WriteFault` if `answers` refuses, `NoMemory` if out of memory. A first part of the text may have been written.
 pub fn explain_map<W: Write>(
     alloc: Global,
     file: &str,

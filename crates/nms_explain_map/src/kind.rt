@@ -17,12 +17,12 @@ pub(crate) enum Kind {
     Bests,
 }
 
-/// The columns that a mapping of national bests alone has.
+/// The columns that only a mapping of national bests has.
 pub(crate) const VENUES: [&'static str; 2] = ["bid_participant", "offer_participant"];
 
 impl Kind {
-    /// What a document is for: trades if it says so, or has their price and another kind than quotes; national bests if it
-    /// has one of their columns.
+    /// The kind of a document: trades if it says so, or has their price and another kind than quotes; national bests if it has
+    /// one of their columns.
     pub(crate) fn of(document: &Table) -> Kind {
         let column = members_of(document, "column");
         if is_of_trades(document) || has_other_kind(document) && has_any(column, &["price"]) {

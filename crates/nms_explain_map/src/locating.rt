@@ -1,8 +1,8 @@
 //! Where a key of a mapping stands in its text. A key in a table in braces, or one with points, is found at its table.
 use nms_explain_setup::{Marked, Nest, header_in, names_key, pair_in};
 
-/// Where a key stands in a table; the empty name is the top of the document. A table that is a key of the top is marked at
-/// its header.
+/// Where a key stands in a table; the empty name is the top of the document. For a table that is a key of the top, this is its
+/// header.
 pub(crate) fn locate_key<'a>(text: &'a [u8], table: &[u8], key: &[u8]) -> Option<Marked<'a>> {
     let mut reached = Reached::top(table);
     for line in text.split(|byte| *byte == b'\n') {
@@ -20,7 +20,7 @@ struct Reached {
     /// How many lines, and how many bytes, stand before it.
     lines: u64,
     bytes: usize,
-    /// What it lies in.
+    /// The nesting that it lies in.
     nest: Nest,
     /// Whether it is in the table.
     is_in: bool,

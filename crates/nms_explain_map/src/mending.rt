@@ -6,8 +6,8 @@ use nms_import::MapFault;
 use std::alloc::{AllocError, Global};
 use toml::{Table, Value};
 
-/// Mends a fault: a key that is not known becomes the one that was meant, or is removed. A value that is absent or not
-/// allowed becomes one that is always allowed, or is removed.
+/// Mends a fault: an unknown key becomes the one that was meant, or is removed. A value that is absent or not allowed becomes
+/// one that is always allowed, or is removed.
 pub(crate) fn mend(
     alloc: Global,
     kind: Kind,
@@ -39,7 +39,7 @@ pub(crate) fn mend(
     }
 }
 
-/// Gives the participant a column; of national bests, each side.
+/// Gives the participant a column; for national bests, each side.
 fn mend_participant(alloc: Global, kind: Kind, document: &mut Table) -> Result<(), AllocError> {
     match kind {
         Kind::Quotes | Kind::Trades => put(
@@ -84,7 +84,7 @@ fn taken(document: &mut Table, table: &str, key: &str) -> Option<Value> {
     document.get_mut(table)?.as_table_mut()?.remove(key)
 }
 
-/// Puts a value at a key of a table, which is made if it is absent.
+/// Puts a value at a key of a table. It makes the table if it is absent.
 fn put(
     alloc: Global,
     document: &mut Table,

@@ -6,10 +6,10 @@ use toml::Table;
 
 /// The longest key that is compared, in bytes.
 const LONGEST: usize = 32;
-/// The most edits by which a key is taken for another.
+/// The most edits by which a key may differ from another.
 const MOST_EDITS: usize = 2;
 
-/// The key that is nearest to one that is not known, if one is near that the table lacks.
+/// The key that is nearest to an unknown one, if one is near that the table does not have.
 pub(crate) fn nearest_known(
     alloc: Global,
     members: Option<&Table>,
@@ -37,7 +37,7 @@ fn has_key(members: Option<&Table>, key: &str) -> bool {
     }
 }
 
-/// The keys among what is expected, with commas between them.
+/// The keys among the expected words, with commas between them.
 fn known_in(expected: &'static str) -> &'static str {
     expected.strip_prefix("one of ").unwrap_or(expected)
 }

@@ -59,7 +59,7 @@ impl<'a> Place<'a> {
     }
 }
 
-/// A fault, and what is printed of it.
+/// A fault, with the facts that are printed.
 #[derive(Clone, Copy)]
 struct Refusal<'a> {
     /// The file, as the call named it.
@@ -72,9 +72,9 @@ struct Refusal<'a> {
     key: Option<&'a str>,
     /// What stands there.
     found: Item<'a>,
-    /// What should stand there; what the parser says, if the text is no document.
+    /// What should stand there; or the parser's message, if the text is no document.
     expected: &'a str,
-    /// The key that was meant, or one that stands in place of one that is absent.
+    /// The key that was meant, or one in the place of an absent one.
     meant: Option<&'a str>,
 }
 
@@ -152,7 +152,7 @@ pub(crate) fn tell_fault<'a, W: Write>(
     tell_refusal(told.alloc, told.form, &refusal, answers)
 }
 
-/// The line that stands for a table: its header, or the text's first.
+/// The line to report for a table: its header, or the text's first.
 fn marked_table<'a>(text: &'a [u8], table: &str) -> Marked<'a> {
     let header = if table.is_empty() {
         None

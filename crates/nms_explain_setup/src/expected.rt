@@ -29,7 +29,7 @@ pub(crate) fn expected_at(
     }
 }
 
-/// What a number counts, where its key does not say.
+/// What a number counts, if its key does not say.
 fn unit_of(key: KnownKey) -> &'static str {
     match key {
         KnownKey::Lot => "shares of a round lot, ",
@@ -66,7 +66,7 @@ fn name_expected(array: SetupArray) -> &'static str {
     }
 }
 
-/// The letter of the last of so many feeds.
+/// The letter of the last of that many feeds.
 fn letter_of(feeds: u8) -> &'static str {
     match feeds {
         0 | 1 => "A",

@@ -13,13 +13,13 @@ use std::io::Write;
 use std::str;
 use toml::Table;
 
-/// How many faults are reported one by one. The others are counted.
+/// How many faults are reported one by one. The others are only counted.
 const MOST_TOLD: usize = 100;
 
-/// Reports why a setup is refused: each of its faults with its line, table, key, value and bound; or that none is. It
-/// ends with `SetupRefused` if there is a fault.
+/// Reports why a setup is refused: each of its faults with its line, table, key, value and bound; or that it has none. It ends
+/// with `SetupRefused` if there is a fault.
 ///
-/// If the text is no TOML document its one fault is C1, at the place where the parser stopped.
+/// If the text is no TOML document, its one fault is C1, at the place where the parser stopped.
 pub fn explain_setup<W: Write>(
     alloc: Global,
     file: &str,
@@ -42,7 +42,7 @@ pub fn explain_setup<W: Write>(
     }
 }
 
-/// Reports it of a text that is UTF-8.
+/// Reports it for a text that is UTF-8.
 fn explain_text<W: Write>(
     told: Told<'_>,
     text: &str,
@@ -104,7 +104,7 @@ fn tell_document<W: Write>(
     }
 }
 
-/// Reports the faults that were found, and says what they come to.
+/// Reports the faults that were found, and their sum.
 fn tell_findings<W: Write>(
     told: Told<'_>,
     document: &Table,
@@ -130,7 +130,7 @@ fn tell_findings<W: Write>(
     Ok(summary)
 }
 
-/// Of two faults the one of lesser number.
+/// The one of two faults with the lesser number.
 fn lesser(least: Option<SetupFault>, fault: SetupFault) -> SetupFault {
     match least {
         Some(least) if least.code() <= fault.code() => least,

@@ -1,4 +1,4 @@
-//! The faults of a document, each as it is reported.
+//! The faults of a document, in the form of a report.
 use crate::expected::{expected_at, keys_expected};
 use crate::hints::value_hint;
 use crate::locating::{locate_key, locate_table, row_of};
@@ -16,7 +16,7 @@ use std::alloc::{AllocError, Global};
 use std::io::Write;
 use toml::{Table, Value};
 
-/// How many faults a finding stands for: each of the keys that may not stand in a table is one.
+/// How many faults a finding has: each key that may not stand in a table is one.
 pub(crate) fn faults_at(document: &Table, finding: &Finding) -> usize {
     match (finding.spot, members_of(document, finding.table)) {
         (Spot::OtherKeys, Some(members)) => members
@@ -27,7 +27,7 @@ pub(crate) fn faults_at(document: &Table, finding: &Finding) -> usize {
     }
 }
 
-/// Reports a finding, at most so many of its faults.
+/// Reports a finding, up to that many of its faults.
 pub(crate) fn tell_finding<W: Write>(
     told: Told<'_>,
     choices: Choices,
@@ -69,7 +69,7 @@ fn tell_key<W: Write>(
     }
 }
 
-/// Reports that a key is absent, and which one stands there that is like it.
+/// Reports that a key is absent, and which similar key the table has.
 fn tell_absent<'a, W: Write>(
     told: Told<'a>,
     document: &'a Table,
@@ -98,7 +98,7 @@ fn tell_absent<'a, W: Write>(
     tell_refusal(told.alloc, told.form, &refusal, answers)
 }
 
-/// The key that stands in the place of one that is absent.
+/// The key that the table has in place of an absent one.
 fn absent_hint(
     alloc: Global,
     table: SetupTable,
@@ -141,8 +141,8 @@ fn tell_value<'a, W: Write>(
     tell_refusal(told.alloc, told.form, &refusal, answers)
 }
 
-/// What stands at a key: how many tables, if it is their number that is refused; else the value as it is written, or
-/// what kind it is of where its line was not found.
+/// What stands at a key: how many tables, if their number is refused; else the value as it is written. If its line was not
+/// found, the kind of the value.
 fn found_at<'a>(at_key: Option<Marked<'a>>, fault: SetupFault, value: &'a Value) -> Item<'a> {
     if let Some(rows) = counted_at(fault, value) {
         return Item::Number(rows as u64);
@@ -154,7 +154,7 @@ fn found_at<'a>(at_key: Option<Marked<'a>>, fault: SetupFault, value: &'a Value)
     Item::Bytes(written)
 }
 
-/// How many tables there are, if it is their number that is refused.
+/// How many tables there are, if their number is refused.
 fn counted_at(fault: SetupFault, value: &Value) -> Option<usize> {
     match fault {
         SetupFault::OutOfRange | SetupFault::TooMany => Some(value.as_array()?.len()),
@@ -162,7 +162,7 @@ fn counted_at(fault: SetupFault, value: &Value) -> Option<usize> {
     }
 }
 
-/// Reports each key that may not stand in a table, at most so many.
+/// Reports each key that may not stand in a table, up to that many.
 fn tell_others<W: Write>(
     told: Told<'_>,
     document: &Table,
@@ -180,7 +180,7 @@ fn tell_others<W: Write>(
     Ok(())
 }
 
-/// Reports one key that may not stand in a table, with the one that is nearest to it.
+/// Reports one key that may not stand in a table, with the nearest known key.
 fn tell_other<'a, W: Write>(
     told: Told<'a>,
     document: &'a Table,
@@ -212,7 +212,7 @@ fn tell_other<'a, W: Write>(
     tell_refusal(told.alloc, told.form, &refusal, answers)
 }
 
-/// The known key that was meant by another.
+/// The known key that another key probably means.
 fn other_hint(
     alloc: Global,
     table: SetupTable,
@@ -283,7 +283,7 @@ fn tell_again<'a, W: Write>(
     tell_refusal(told.alloc, told.form, &refusal, answers)
 }
 
-/// The line that stands for a table: that where it begins, or that of its array's key, or the text's first.
+/// The line to report for a table: its first line, or that of its array's key, or the text's first.
 fn marked_table(text: &[u8], table: SetupTable) -> Marked<'_> {
     let first = mark_at(text, 0, 0);
     let Some((array, _)) = row_of(table) else {
@@ -296,7 +296,7 @@ fn marked_table(text: &[u8], table: SetupTable) -> Marked<'_> {
     locate_key(text, SetupTable::Top, key).unwrap_or(first)
 }
 
-/// The keys of a table of a document, if it is one.
+/// The keys at a place of a document, if that is a table.
 fn members_of(document: &Table, table: SetupTable) -> Option<&Table> {
     match table {
         SetupTable::Top => Some(document),

@@ -1,11 +1,10 @@
-//! What a text looks like that is no setup, and what was meant at a place that is refused.
+//! What a text looks like if it is no setup, and what a refused place probably means.
 use crate::toml_line::header_in;
 use nms_fees::SetupFault;
 use nms_setup_places::{Finding, KnownKey, Spot};
 use toml::Value;
 
-/// What a text looks like that is no TOML document, or what its refused line looks like; nothing where it looks like
-/// neither.
+/// What a text that is no TOML document looks like, or what its refused line looks like. Nothing if it looks like neither.
 pub(crate) fn text_hint(text: &[u8], line: &[u8], place: usize) -> &'static str {
     if is_utf16(text) {
         return "the file looks like UTF-16: save it as UTF-8";
@@ -34,7 +33,7 @@ fn begins_records(text: &[u8]) -> bool {
     kind > 0 && first.get(kind) == Some(&b',')
 }
 
-/// What was meant on a line at whose place the parser stopped.
+/// What a line probably means at the place where the parser stopped.
 fn line_hint(line: &[u8], place: usize) -> &'static str {
     if let Some((name, false)) = header_in(line) {
         if name == b"participant".as_slice() || name == b"symbol".as_slice() {
@@ -53,7 +52,7 @@ fn line_hint(line: &[u8], place: usize) -> &'static str {
     }
 }
 
-/// What was meant if a value is refused.
+/// What a refused value probably means.
 pub(crate) fn value_hint(finding: &Finding, value: &Value) -> &'static str {
     let Spot::Key(key) = finding.spot else {
         return "";
@@ -65,7 +64,7 @@ pub(crate) fn value_hint(finding: &Finding, value: &Value) -> &'static str {
     }
 }
 
-/// What was meant by a value of another kind.
+/// What a value of another kind probably means.
 fn kind_hint(key: KnownKey, value: &Value) -> &'static str {
     match (key, value) {
         (KnownKey::Participant, Value::Table(_)) => "write two brackets: [[participant]]",
@@ -79,7 +78,7 @@ fn kind_hint(key: KnownKey, value: &Value) -> &'static str {
     }
 }
 
-/// What was meant by a text in small letters, or with spaces round it.
+/// What a text in small letters, or with spaces round it, probably means.
 fn letters_hint(value: &Value) -> &'static str {
     let Some(text) = value.as_str() else {
         return "";

@@ -2,7 +2,7 @@
 use crate::nest::Nest;
 use crate::toml_line::{Pair, pair_in};
 
-/// How many bytes stand before the element of an array that has so many before it.
+/// How many bytes stand before an element of an array, given how many elements do.
 pub(crate) fn element_in(array: &[u8], place: usize) -> Option<usize> {
     let mut nest = Nest::outer();
     let mut before = 0usize;
@@ -49,7 +49,7 @@ pub(crate) fn key_in(table: &[u8], key: &[u8]) -> Option<(usize, Pair)> {
     None
 }
 
-/// Whether a key may begin after a byte of a table in braces, where one may begin at it or not.
+/// Whether a key may begin after a byte of a table in braces, given whether one may begin at it.
 fn keys_begin_behind(nest: Nest, byte: u8, may_begin: bool) -> bool {
     match byte {
         b'{' => nest.is_plain_at(0),
@@ -59,7 +59,7 @@ fn keys_begin_behind(nest: Nest, byte: u8, may_begin: bool) -> bool {
     }
 }
 
-/// A key with its value, where a text begins with that key.
+/// A key with its value, if a text begins with that key.
 fn pair_from(rest: &[u8], key: &[u8]) -> Option<Pair> {
     let line = rest.split(|byte| *byte == b'\n').next()?;
     pair_in(line, key).filter(|pair| pair.key == 0)

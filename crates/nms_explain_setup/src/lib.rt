@@ -1,4 +1,4 @@
-//! Why a setup is refused, told to people: each fault with its line, its table and its key, what was found and what is
+//! Why a setup is refused, in a report for people: each fault with its line, its table and its key, what was found and what is
 //! expected.
 #![tactic(auto)]
 

@@ -1,12 +1,12 @@
-//! Where a table and a key stand in a setup's text. What stands where TOML allows it and this does not look (a key
-//! with escapes, or below a header with points) is not found.
+//! Where a table and a key stand in a setup's text. This does not find all that TOML allows: not a key with escapes, nor one
+//! below a header with points.
 use crate::in_braces::{element_in, key_in};
 use crate::marked::{Marked, mark_at};
 use crate::nest::Nest;
 use crate::toml_line::{header_in, names_key, pair_in, value_in};
 use nms_setup_places::{SetupArray, SetupTable};
 
-/// Where a key stands in a table. A table that stands at a key of the top is marked at its header.
+/// Where a key stands in a table. For a table at a key of the top, this is its header.
 pub(crate) fn locate_key<'a>(text: &'a [u8], table: SetupTable, key: &[u8]) -> Option<Marked<'a>> {
     let mut reached = Reached::top();
     for line in text.split(|byte| *byte == b'\n') {
@@ -22,7 +22,7 @@ pub(crate) fn locate_key<'a>(text: &'a [u8], table: SetupTable, key: &[u8]) -> O
     Some(at.with(pair.moved(at.pair.start)))
 }
 
-/// Where a table begins: its header, or what stands for it in an array in brackets.
+/// Where a table begins: its header, or its element in an array in brackets.
 pub(crate) fn locate_table(text: &[u8], table: SetupTable) -> Option<Marked<'_>> {
     let mut reached = Reached::top();
     for line in text.split(|byte| *byte == b'\n') {
@@ -39,7 +39,7 @@ pub(crate) fn locate_table(text: &[u8], table: SetupTable) -> Option<Marked<'_>>
     Some(at.at(start, start.saturating_add(value_in(at.value()).len())))
 }
 
-/// Where an element begins of an array in brackets: how many bytes of the text stand before it.
+/// Where an element of an array in brackets begins: how many bytes of the text stand before it.
 fn locate_element(text: &[u8], array: SetupArray, place: usize) -> Option<usize> {
     let key = array.key().text().as_bytes();
     let mut reached = Reached::top();
@@ -53,7 +53,7 @@ fn locate_element(text: &[u8], array: SetupArray, place: usize) -> Option<usize>
     None
 }
 
-/// The array of which a table is an element, and how many stand before it.
+/// The array that a table is an element of, and how many elements stand before it.
 pub(crate) fn row_of(table: SetupTable) -> Option<(SetupArray, usize)> {
     match table {
         SetupTable::Top => None,
@@ -68,7 +68,7 @@ struct Reached {
     /// How many lines, and how many bytes, stand before it.
     lines: u64,
     bytes: usize,
-    /// What it lies in.
+    /// The nesting that it lies in.
     nest: Nest,
     /// The table in which it is, if that is one of a setup's.
     table: Option<SetupTable>,
@@ -95,7 +95,7 @@ impl Reached {
         Marked::of_line(line, self.bytes, self.lines.saturating_add(1))
     }
 
-    /// A key of a table, where this line has it.
+    /// A key of a table, if this line has it.
     fn key_of<'a>(self, line: &'a [u8], table: SetupTable, key: &[u8]) -> Option<Marked<'a>> {
         if !self.nest.is_outer() {
             return None;

@@ -10,7 +10,7 @@ pub struct Marked<'a> {
     pub before: usize,
     /// The line's number, from 1.
     pub number: u64,
-    /// The key and the value that are marked, by the bytes of the line: the same if that is no key with its value.
+    /// The marked key and value, by the bytes of the line: the same if that is no key with its value.
     pub pair: Pair,
 }
 
@@ -33,7 +33,7 @@ impl<'a> Marked<'a> {
         column
     }
 
-    /// The same, with nothing but the key marked.
+    /// The same line, with only the key marked.
     pub fn at_key(self) -> Marked<'a> {
         self.at(self.pair.key, self.pair.key_end)
     }
@@ -59,7 +59,7 @@ impl<'a> Marked<'a> {
         }
     }
 
-    /// The whole line, but for white space round it.
+    /// The whole line, without white space round it.
     pub fn whole(self) -> Marked<'a> {
         let indent = self
             .line

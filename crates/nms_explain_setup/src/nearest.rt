@@ -1,4 +1,4 @@
-//! The key that was meant.
+//! The known key that is nearest to another key.
 use nms_setup_places::{KnownKey, SetupTable};
 use std::alloc::{AllocError, Global};
 use strsim::osa_distance;
@@ -6,12 +6,12 @@ use toml::Table;
 
 /// The longest key that is compared, in bytes.
 const LONGEST: usize = 32;
-/// How many keys of a table are looked at for the one that was meant.
+/// How many keys of a table are compared.
 const MOST_COMPARED: usize = 100;
-/// The most edits by which a key is taken for another.
+/// The most edits by which a key may differ from another.
 const MOST_EDITS: usize = 2;
 
-/// The known key that is nearest to a key that is not known, if one is near; absent ones are preferred.
+/// The known key that is nearest to an unknown key, if one is near; absent ones are preferred.
 pub(crate) fn nearest_known(
     alloc: Global,
     table: SetupTable,
@@ -32,7 +32,7 @@ pub(crate) fn nearest_known(
     Ok(nearest)
 }
 
-/// The key of a table that is not known and nearest to one that is absent, if one is near.
+/// The unknown key of a table that is nearest to an absent one, if one is near.
 pub(crate) fn nearest_other<'a>(
     alloc: Global,
     table: SetupTable,

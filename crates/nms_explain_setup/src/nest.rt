@@ -20,7 +20,7 @@ pub struct Nest {
     within: Within,
     /// How many brackets and braces are open.
     depth: usize,
-    /// How many of the next bytes belong to what was read.
+    /// How many of the next bytes belong to what was just read.
     skipped: u8,
 }
 
@@ -44,7 +44,7 @@ impl Nest {
         self.within == Within::Comment
     }
 
-    /// Whether a byte here is TOML's own, with so many brackets and braces open.
+    /// Whether a byte here is TOML's own, with that many brackets and braces open.
     pub(crate) fn is_plain_at(self, depth: usize) -> bool {
         self.within == Within::Plain && self.skipped == 0 && self.depth == depth
     }

@@ -10,7 +10,7 @@ use std::io::Write;
 /// What stands before each line about a refusal.
 const INDENT: &str = "    ";
 
-/// A refusal of a setup, and what is said of it.
+/// A refusal of a setup, with the report about it.
 #[derive(Clone, Copy)]
 pub(crate) struct Refusal<'a> {
     /// The file, as the call named it.
@@ -28,9 +28,9 @@ pub(crate) struct Refusal<'a> {
     pub(crate) key: Option<&'a str>,
     /// What stands there, or how many tables do: nothing if the key is absent.
     pub(crate) found: Item<'a>,
-    /// What should stand there; what the parser says, where the text is no document.
+    /// What should stand there; or the parser's message, if the text is no document.
     pub(crate) expected: &'a str,
-    /// What was meant, or nothing.
+    /// What it probably means, or nothing.
     pub(crate) hint: &'a str,
 }
 
@@ -175,13 +175,13 @@ fn text_item(text: Option<&str>) -> Item<'_> {
     }
 }
 
-/// What a setup's faults come to.
+/// The sum of a setup's faults.
 #[derive(Clone, Copy)]
 pub(crate) struct Summary {
     /// How many there are, and how many of them were reported.
     pub(crate) faults: usize,
     pub(crate) told: usize,
-    /// The one of least number, by which the setup is refused.
+    /// The one with the least number, by which the setup is refused.
     pub(crate) least: Option<SetupFault>,
 }
 

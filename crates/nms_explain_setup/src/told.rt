@@ -1,8 +1,8 @@
-//! What every refusal of a text is reported with.
+//! What the report of each refusal needs.
 use nms_show::Form;
 use std::alloc::Global;
 
-/// What every refusal of a text is reported with.
+/// What the report of each refusal needs.
 #[derive(Clone, Copy)]
 pub(crate) struct Told<'a> {
     pub(crate) alloc: Global,

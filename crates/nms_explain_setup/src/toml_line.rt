@@ -31,7 +31,7 @@ pub struct Pair {
 }
 
 impl Pair {
-    /// The same, after so many more bytes.
+    /// The same, moved by that many bytes.
     pub fn moved(self, bytes: usize) -> Pair {
         Pair {
             key: self.key.saturating_add(bytes),
@@ -42,7 +42,7 @@ impl Pair {
     }
 }
 
-/// Where a key with its value stands in a line that begins with it. Of a key with points the line is taken.
+/// Where a key with its value stands in a line that begins with it. If the key has points, it is the whole line.
 pub fn pair_in(line: &[u8], key: &[u8]) -> Option<Pair> {
     let from_key = line.trim_ascii_start();
     let (found, rest) = key_at(from_key)?;
@@ -95,7 +95,7 @@ fn is_bare(byte: u8) -> bool {
     byte.is_ascii_alphanumeric() || byte == b'_' || byte == b'-'
 }
 
-/// The value that a text begins with: what stands before a comment, or before what closes it.
+/// The value that a text begins with: it ends before a comment, or before the bracket or brace that closes it.
 pub(crate) fn value_in(rest: &[u8]) -> &[u8] {
     let mut nest = Nest::outer();
     for place in 0..rest.len() {

@@ -1,4 +1,4 @@
-//! Text within a page: a writer that gives each byte on, and an escape for each that HTML would read as its own.
+//! Text within a page: a writer that passes each byte on, and an escape for each that HTML would read as its own.
 use std::io::{Result, Write};
 
 /// A writer of text within HTML.
@@ -36,7 +36,7 @@ impl<W: Write> Write for Escaped<'_, W> {
     }
 }
 
-/// What stands for a byte that HTML would read as its own.
+/// The escape of a byte that HTML would read as its own.
 fn escape_of(byte: u8) -> Option<&'static [u8]> {
     match byte {
         b'&' => Some(b"&amp;"),

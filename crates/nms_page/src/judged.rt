@@ -1,4 +1,4 @@
-//! Executions of a file, each with what is found of it.
+//! Executions of a file, each with its finding.
 ghost use Rattle.std.specs.Prelude.{◌≡◌, ◌≤◌, All, IfOk, length, true};
 ghost use Rattle.nms_quote.specs.Roster.{holds, sizes_of};
 ghost use Rattle.nms_quote.specs.declared.TheConstants.{MOST_CHANGES};
@@ -12,7 +12,7 @@ use nms_trades::{
 use std::alloc::Global;
 use std::io::Read;
 
-/// The records of a file of executions, and what is found of each execution, by its place.
+/// The records of a file of executions, and the finding on each execution, by its place.
 #[derive(Drop)]
 pub(crate) struct Judged {
     pub(crate) records: Records,

@@ -35,16 +35,16 @@ svg{width:100%;max-width:45em;height:auto}\n\
 @media print{body{max-width:none;margin:0;font-size:85%}pre{white-space:pre-wrap}}\n\
 </style>\n</head>\n<body>\n<h1>Executions that traded through a protected quotation</h1>";
 
-/// What the findings are.
+/// The meanings of findings.
 const ABOUT: &str =
     "<p>Each execution was judged on the version of the changes that its record names, or that was in force at its time (17 CFR 242.611(a)). \
 A protected bid above its price, or a protected offer below it, is traded through. An exception that is claimed is not checked.</p>";
 
-/// What is said of an execution that traded through on some versions of its window.
+/// The sentence on an execution that traded through on some versions of its window.
 const PERHAPS: &str =
     " PERHAPS: within the window of its time it traded through on some versions, and on others it did not.";
 
-/// What the pictures are.
+/// The meaning of the pictures.
 const PICTURES: &str =
     "<p>Each picture has a few changes of the symbol before the execution and after it, by version: the best bid as a \
 solid line, the best offer as a hollow one, the execution as a cross, each quotation that it traded through as a hollow mark.</p>";
@@ -294,7 +294,7 @@ fn write_one<P: Write>(
     Ok(())
 }
 
-/// Writes what was executed.
+/// Writes an execution's symbol, price and other facts.
 fn write_deal<P: Write>(
     roster: &Roster,
     execution: &Execution,

@@ -15,12 +15,12 @@ pub(crate) fn say<W: Write>(page: &mut W, items: &[Item<'_>]) -> Result<(), Show
     write_line(&mut text, Form::Text { colours: false }, items)
 }
 
-/// An amount of so many 1/1,000,000 dollar.
+/// An amount of that many 1/1,000,000 dollar.
 pub(crate) fn dollars_of<'a>(millionths: u64) -> Item<'a> {
     Item::Money(i128::from(millionths) * 1000)
 }
 
-/// What a cause is, in words.
+/// A cause in words.
 pub(crate) fn words_of(cause: Cause) -> &'static str {
     match cause {
         Cause::SelfHelp => "self-help was declared, 242.611(b)(1): claimed; its rows are left out",

@@ -20,13 +20,13 @@ found None true told fails = absurd (cc)
 found None false told fails = absurd (cc)
 found (Some x) b told fails = search rules
 
--- one name more that is listed
+-- one more name of the list
 pub listed_more : {A : Type 0} (v : A → Name) (roster : Listing) (seen : List A) (x : A) → All (IsListed roster) (map v seen)
     → IsListed roster (v x) → All (IsListed roster) (map v (seen ++ x ∷ []))
 listed_more v roster seen x was is =
     subst (All (IsListed roster)) (sym (map-append v seen (x ∷ [])))
     (All-append (IsListed roster) (map v seen) (v x ∷ []) was (All-cons (IsListed roster) (v x) [] is (All-nil (IsListed roster))))
 
--- there are at most as many names behind the first as there are bytes
+-- there are at most as many names after the first as there are bytes
 pub within : (p : ℕ → Bool) (text : List ℕ) (n : ℕ) → n < length (slice_split p text) → n ≤ length text
 within p text n below = omega (arith, below, length-slice_split p text, count_by-le-length p text)

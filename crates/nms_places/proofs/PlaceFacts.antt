@@ -65,14 +65,14 @@ placed_named roster from fields f at None known counted kinds has = absurd (not_
 placed_named roster from fields f at (Some kind) known counted kinds has =
     placed_by roster from fields f at kind (brings from kind) known counted (kinds kind refl) has
 
--- a fault of a field stands where it stands in a record of the kind
+-- a fault of a field has the same place as in a record of the kind
 pub placed : (roster : Listing) (from : Reading) (fields : Record) (f : LineFault) (at : FieldPlace)
     → (f ≡ fault.UnknownKind → ⊥) → (f ≡ fault.FieldCount → ⊥) → IsPlacedInKind roster from fields f at
     → has_fault roster from fields f ≡ true → first_wrong (looks_of roster from fields f) ≡ Some at
 placed roster from fields f at known counted kinds has =
     placed_named roster from fields f at (kind_named (field fields 0)) known counted kinds has
 
--- an unknown kind stands at the first field
+-- the place of an unknown kind is the first field
 unknown_at : (roster : Listing) (from : Reading) (fields : Record) (found : Option Kind)
     → record_has roster from fields found fault.UnknownKind ≡ true
     → first_wrong (record_looks roster from fields found fault.UnknownKind) ≡ Some (record { place = 0; name = name.Kind })

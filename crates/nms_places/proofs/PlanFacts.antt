@@ -1,4 +1,4 @@
--- A record of a plan's text is read exactly where nothing is wrong with it: field by field.
+-- A record of a plan's text is read exactly when nothing is wrong with it: field by field.
 use Rattle.std.proofs.Common.{◌≡◌, true, false, Bool, not, ◌&&◌, ◌||◌, ◌==◌, length, Option, Some, None, refl}
 use Rattle.std.proofs.Common.{if◌then◌else◌}
 use Rattle.std.specs.Prelude.{codes, is_none, is_some, option_map}
@@ -35,7 +35,7 @@ begun true true false first wrong rest both more = cc
 begun true true true first None rest both more = more
 begun true true true first (Some at) rest both more = more
 
--- a field that says something, and then what comes behind it
+-- a field that is right, and then the fields after it
 step : {A B : Type 0} (o : Option A) (f : A → Option B) (at : FieldPlace) (rest : Option FieldPlace)
     → ((x : A) → is_none rest ≡ is_some (f x)) → is_none (if is_none o then Some at else rest) ≡ is_some (o >>= f)
 step None f at rest more = refl
@@ -46,7 +46,7 @@ last : {A B : Type 0} (o : Option A) (f : A → B) (at : FieldPlace)
 last None f at = refl
 last (Some x) f at = refl
 
--- the names of a plan's record are read before what it fills and costs
+-- the names of a plan's record are read before the shares it fills and its cost
 last_three : {A B C D : Type 0} (names : Option A) (filled : Option B) (cost : Option C) (k : A → B → C → D) (p q r : FieldPlace)
     → is_none (if is_none filled then Some p else (if is_none cost then Some q else (if is_none names then Some r else None)))
     ≡ is_some (names >>= (λ a. filled >>= (λ b. cost >>= (λ d. Some (k a b d)))))

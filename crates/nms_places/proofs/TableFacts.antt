@@ -1,4 +1,4 @@
--- A fault holds of a record exactly where one of the fields that it looks at is wrong: kind by kind, fault by fault.
+-- A record has a fault exactly when one of the fields that the fault looks at is wrong: kind by kind, fault by fault.
 use Rattle.std.proofs.Common.{◌≡◌, true, false, Bool, not, ◌&&◌, ◌||◌, [], ◌∷◌, Option, Some, None, refl, sym, ◌∙◌, if◌then◌else◌}
 use Rattle.std.specs.Prelude.{is_none, is_some}
 use Rattle.nms_quote.specs.Roster.{Listing}
@@ -191,7 +191,7 @@ no_kind roster from fields kind.Best = refl
 no_kind roster from fields kind.Through = refl
 no_kind roster from fields kind.Sweep = refl
 
--- a record of a kind has a fault of a field where its kind has it
+-- a record of a kind has a fault of a field if its kind has it
 pub in_kind : (roster : Listing) (from : Reading) (fields : Record) (kind : Kind) (f : LineFault) → is_of_a_field f ≡ true
     → record_has roster from fields (Some kind) f ≡ kind_has roster from fields kind f
 in_kind roster from fields kind fault.UnknownKind field = no_kind roster from fields kind

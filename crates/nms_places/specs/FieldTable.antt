@@ -1,5 +1,5 @@
--- The table of faults, field by field: which fields of a record each fault speaks of, and whether it holds of them. That
--- a fault holds of a record exactly where it holds of one of these fields is a law. This product's own rule.
+-- The table of faults, field by field: which fields of a record each fault is about, and whether they have it. A law says that
+-- a record has a fault exactly when one of these fields has it. This product's own rule.
 use Rattle.std.specs.Prelude.{◌≡◌, ◌&&◌, not, Bool, true, false, List, [], ◌∷◌, Option, Some, None, is_none, is_some}
 use Rattle.nms_quote.specs.Roster.{Listing, place_in}
 use Rattle.nms_lines.specs.FaultTable.{has_fault, kind_has}
@@ -31,7 +31,7 @@ abbrev pub shares_looks : Record → List Look
 shares_looks fields =
     looked 5 name.BidShares (is_bad_shares (field fields 5)) ∷ looked 7 name.OfferShares (is_bad_shares (field fields 7)) ∷ []
 
--- half a side: the field that is empty beside the one that is not
+-- half a side: the field that is empty next to the one that is not
 abbrev pub half_looks : Record → List Look
 half_looks fields =
     looked 4 name.Bid (is_empty (field fields 4) && not (is_empty (field fields 5)))
@@ -39,7 +39,7 @@ half_looks fields =
     ∷ looked 6 name.Offer (is_empty (field fields 6) && not (is_empty (field fields 7)))
     ∷ looked 7 name.OfferShares (not (is_empty (field fields 6)) && is_empty (field fields 7)) ∷ []
 
--- a side that is none, or a flag that is none
+-- a side or a flag that is not of the form
 abbrev pub letter_looks : Record → List Look
 letter_looks fields = looked 2 name.Side (is_none (side_named (field fields 2))) ∷ looked 6 name.Flag (is_no_flag fields) ∷ []
 
@@ -69,7 +69,7 @@ withdraw_looks roster from fields fault.UnknownParticipant =
 withdraw_looks roster from fields fault.WrongFeed = looked 1 name.Participant (is_foreign_name roster from (field fields 1)) ∷ []
 withdraw_looks roster from fields _ = []
 
--- R,sym,lot, or R,sym,AVG,price. From another feed than the first it is the kind that does not belong there
+-- R,sym,lot, or R,sym,AVG,price. From another feed than the first the kind itself is the fault
 abbrev pub lot_looks : Listing → Reading → Record → LineFault → List Look
 lot_looks roster from fields fault.UnknownSymbol = looked 1 name.Symbol (is_none (place_in roster.syms (field fields 1))) ∷ []
 lot_looks roster from fields fault.BadState = looked 2 name.Average (is_no_average fields) ∷ []
@@ -120,7 +120,7 @@ kind_looks roster from fields kind.Best other = best_looks roster from fields ot
 kind_looks roster from fields kind.Through other = through_looks roster from fields other
 kind_looks roster from fields kind.Sweep other = sweep_looks roster from fields other
 
--- the fields of a record of a kind that its source brings, and of one of no such kind: the first, which names no kind
+-- the fields of a record of a kind that its source brings; for any other record the first field alone, which names no such kind
 abbrev pub record_looks : Listing → Reading → Record → Option Kind → LineFault → List Look
 record_looks roster from fields None fault.UnknownKind = looked 0 name.Kind true ∷ []
 record_looks roster from fields None _ = []
@@ -130,23 +130,23 @@ record_looks roster from fields (Some kind) other = kind_looks roster from field
 abbrev pub looks_of : Listing → Reading → Record → LineFault → List Look
 looks_of roster from fields other = record_looks roster from fields (kind_in from fields) other
 
--- of what a fault speaks that holds of a record: a wrong number of fields of no field, any other of the first that is wrong
+-- the place of a fault that a record has: no field for a wrong number of fields, else the first field that is wrong
 abbrev pub IsPlaceOf : Listing → Reading → Record → LineFault → Place → Type 0
 IsPlaceOf roster from fields other place.Count = other ≡ fault.FieldCount
 IsPlaceOf roster from fields other (place.Field at) = first_wrong (looks_of roster from fields other) ≡ Some at
 
--- the same, of a fault of the fields of a kind
+-- as above, for a fault of the fields of a kind
 abbrev pub IsPlacedInKind : Listing → Reading → Record → LineFault → FieldPlace → Type 0
 IsPlacedInKind roster from fields other at =
     (kind : Kind) → kind_named (field fields 0) ≡ Some kind → kind_has roster from fields kind other ≡ true
     → first_wrong (kind_looks roster from fields kind other) ≡ Some at
 
--- whether a fault speaks of fields: each but the wrong number of them
+-- whether a fault is about fields: each is but the wrong number of them
 abbrev pub is_of_a_field : LineFault → Bool
 is_of_a_field fault.FieldCount = false
 is_of_a_field _ = true
 
--- a fault holds of a record exactly where one of the fields that it looks at is wrong
+-- a record has a fault exactly when one of the fields that the fault looks at is wrong
 abbrev pub StandsAtItsFields : Type 0
 StandsAtItsFields = (roster : Listing) (from : Reading) (fields : Record) (other : LineFault) → is_of_a_field other ≡ true
     → is_some (first_wrong (looks_of roster from fields other)) ≡ has_fault roster from fields other

@@ -1,5 +1,5 @@
--- The records of a plan's text, field by field: the first field that does not say what a plan says. That a record is read
--- exactly where there is none is a law. This product's own rule.
+-- The records of a plan's text, field by field: the first field that a plan can't have. A law says that a record is read
+-- exactly when it has no such field. This product's own rule.
 use Rattle.std.specs.Prelude.{ℕ, ◌≡◌, ◌==◌, ◌||◌, not, Bool, List, [], ◌∷◌, codes, length, Option, Some, is_none, is_some}
 use Rattle.std.specs.Prelude.{option_map, if◌then◌else◌}
 use Rattle.nms_units.specs.Digits.{number_in}
@@ -18,7 +18,7 @@ use Rattle.nms_places.specs.declared.plan_walk.PlanDue.TheVariants as due
 use Rattle.nms_places.specs.declared.place.Place.{Place}
 use Rattle.nms_places.specs.declared.place.Place.TheVariants as place
 
--- the first that is wrong of a record that has to begin with a word and to have so many fields
+-- the first thing wrong with a record that has to begin with a word and to have that many fields
 abbrev pub plan_place : List ℕ → Bool → List Look → Record → Option Place
 plan_place word counted looks fields =
     if not (is_text word (field fields 0)) then Some (place.Field (record { place = 0; name = name.Kind }))
@@ -55,7 +55,7 @@ leg_place roster fields = plan_place (codes "LEG") (length fields == 4) (leg_loo
 abbrev pub is_said : List ℕ → Bool
 is_said text = is_text (codes "TOOMUCH") text || (is_text (codes "TOOLITTLE") text || is_text (codes "MARGINAL") text)
 
--- CUT,price,kind,value: the value is looked at by what the word asks for
+-- CUT,price,kind,value: the word decides how the value is judged
 abbrev pub cut_looks : Record → List Look
 cut_looks fields =
     looked 1 name.Price (is_none (above_zero (price_number (field fields 1))))
@@ -69,20 +69,20 @@ cut_place fields = plan_place (codes "CUT") (length fields == 4) (cut_looks fiel
 abbrev pub end_place : Record → Option Place
 end_place fields = plan_place (codes "END") (length fields == 1) [] fields
 
--- what is wrong with an end or a cut, by the words of these, else what is wrong with a record of another word
+-- what is wrong with an end or a cut if its word says so, else what is wrong with a record of another word
 abbrev pub later_place : Record → Option Place → Option Place
 later_place fields other =
     if is_text (codes "END") (field fields 0) then end_place fields
     else (if is_text (codes "CUT") (field fields 0) then cut_place fields else other)
 
--- what is wrong with a record, by what is due: behind the end nothing is
+-- what is wrong with a record, by what is due: after the end nothing is
 abbrev pub due_place : PlanDue → Listing → Record → Option Place
 due_place due.Plan roster fields = head_place roster fields
 due_place due.Leg roster fields = later_place fields (leg_place roster fields)
 due_place due.Cut roster fields = later_place fields (cut_place fields)
 due_place due.Nothing roster fields = Some (place.Field (record { place = 0; name = name.Kind }))
 
--- a record of a plan is read exactly where nothing is wrong with it
+-- a record of a plan is read exactly when nothing is wrong with it
 pub record ReadsWhereNothingIsWrong : Type 0 where
   pub head : (roster : Listing) (fields : Record) → is_none (head_place roster fields) ≡ is_some (head_in roster fields)
   pub leg : (roster : Listing) (fields : Record) → is_none (leg_place roster fields) ≡ is_some (leg_in roster fields)

@@ -74,7 +74,7 @@ pub(crate) fn withdraw_place(fault: LineFault) -> FieldPlace
     }
 }
 
-/// `R,sym,lot`, or `R,sym,AVG,price`. On the wrong feed it is the kind that does not belong there.
+/// `R,sym,lot`, or `R,sym,AVG,price`. On the wrong feed the kind itself is the fault.
 pub(crate) fn lot_place(fault: LineFault) -> FieldPlace
     ensures { (roster : Listing) (from : Source) (fields : Record) → lot_has roster from fields fault ≡ true
         → first_wrong (lot_looks roster from fields fault) ≡ Some result }

@@ -14,7 +14,7 @@ pub struct Counts {
 }
 
 impl Counts {
-    /// Those of a kind: each number from the fewest to the most is one, and no other.
+    /// The numbers of fields of a kind: every number from the fewest to the most, and no other.
     pub fn of_kind(kind: Kind) -> Self
         ensures { (n : ℕ) → is_count kind n ≡ (nat_le result.fewest n && nat_le n result.most) }
     {

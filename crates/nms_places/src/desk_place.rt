@@ -95,7 +95,7 @@ pub(crate) fn sweep_place(row: &ByteRecord, fault: LineFault) -> FieldPlace
     }
 }
 
-/// The side of an order where it is none, or else the flag.
+/// The side of an order if it is none, or else the flag.
 fn side_or_flag(row: &ByteRecord) -> FieldPlace
     ensures { (is_none (side_named (field (fields_of row.now) 2)) || is_no_flag (fields_of row.now)) ≡ true
         → first_wrong (letter_looks (fields_of row.now)) ≡ Some result }

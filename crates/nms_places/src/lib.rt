@@ -1,4 +1,4 @@
-//! Of which field of a record a fault speaks, and of which record and field of a plan's text.
+//! The field of a record that has a fault, and the record and field of a plan's text that has one.
 #![tactic(auto)]
 
 mod change_place;

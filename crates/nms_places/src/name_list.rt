@@ -1,12 +1,12 @@
-//! The name of a list that is not on the roster: `specs/Names`.
+//! The first name of a list that is not on the roster: `specs/Names`.
 ghost use Rattle.std.specs.Prelude.{◌≡◌, IfSome, All, None};
 ghost use Rattle.nms_lines.specs.Named.{joined_names};
 ghost use Rattle.nms_places.specs.Names.{IsFirstUnknown, IsListed};
 
 use nms_quote::Roster;
 
-/// How many names stand before the first that is not on the roster, of the names that a field joins by `+`. None where
-/// each is. An empty name, as behind a last `+`, is on no roster.
+/// How many names of a field, joined by `+`, stand before the first that is not on the roster. None if each is on it. An empty
+/// name, as after a last `+`, is on no roster.
 pub fn unknown_name(text: &[u8], roster: &Roster) -> Option<usize>
     ensures first { IfSome result (IsFirstUnknown roster.now (joined_names text.now)) }
     ensures none { result ≡ None → All (IsListed roster.now) (joined_names text.now) }
@@ -17,7 +17,7 @@ pub fn unknown_name(text: &[u8], roster: &Roster) -> Option<usize>
         if roster.find_part(name).is_none() {
             return Some(nth);
         }
-        // behind the first name each has a `+` before it
+        // after the first name each has a `+` before it
         if nth < most {
             nth += 1;
         }

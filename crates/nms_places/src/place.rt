@@ -13,7 +13,7 @@ pub struct FieldPlace {
 }
 
 impl FieldPlace {
-    /// The field of that name behind so many others.
+    /// The field of that name after that many others.
     pub(crate) fn at(place: usize, name: FieldName) -> Self
         ensures { result ≡ record { place = place; name = name } }
     {
@@ -21,7 +21,7 @@ impl FieldPlace {
     }
 }
 
-/// What a fault of a record speaks of.
+/// What a fault of a record is about.
 #[derive(Clone, Copy)]
 pub enum Place {
     /// The record as a whole: it has another number of fields than its kind.

@@ -14,10 +14,10 @@ use crate::place::{FieldPlace, Place};
 use crate::record_kind::kind_of;
 use nms_lines::{ByteRecord, Kind, LineFault};
 
-/// Of what a fault speaks that holds of a record, whatever the roster is and wherever the record comes from: the first
-/// field for which the fault's own row of the fault table holds, or the number of the fields.
+/// The place of a fault that a record has, for any roster and any source: the first field for which the fault's own row of the
+/// fault table holds, or the number of the fields.
 ///
-/// Of a fault that does not hold of the record it says nothing.
+/// If the record does not have the fault, this promises nothing.
 pub fn place_of(row: &ByteRecord, fault: LineFault) -> Place
     ensures { (roster : Listing) (from : Source) → has_fault roster from (fields_of row.now) fault ≡ true
         → IsPlaceOf roster from (fields_of row.now) fault result }
@@ -29,7 +29,7 @@ pub fn place_of(row: &ByteRecord, fault: LineFault) -> Place
     }
 }
 
-/// The field of a record that a fault of its kind speaks of.
+/// The field of a record that a fault of its kind is about.
 fn place_in_kind(row: &ByteRecord, fault: LineFault) -> FieldPlace
     ensures { (roster : Listing) (from : Source) → IsPlacedInKind roster from (fields_of row.now) fault result }
 {
@@ -39,7 +39,7 @@ fn place_in_kind(row: &ByteRecord, fault: LineFault) -> FieldPlace
     }
 }
 
-/// The field that a fault of a record of the kind speaks of.
+/// The field that a fault of a record of the kind is about.
 fn place_of_kind(row: &ByteRecord, kind: Kind, fault: LineFault) -> FieldPlace
     ensures { (roster : Listing) (from : Source) → kind_has roster from (fields_of row.now) kind fault ≡ true
         → first_wrong (kind_looks roster from (fields_of row.now) kind fault) ≡ Some result }

@@ -1,4 +1,4 @@
-//! Which field of a plan's record does not say what a plan says: `specs/PlanFields`.
+//! The field of a plan's record that a plan can't have: `specs/PlanFields`.
 ghost use Rattle.std.specs.Prelude.{◌≡◌, [], drop, is_none, is_some};
 ghost use Rattle.csv.specs.Records.{fields_of};
 ghost use Rattle.nms_lines.specs.Fields.{flag_named};
@@ -16,8 +16,8 @@ use nms_lines::{ByteRecord, price_of, read_names, side_of, some_shares_of};
 use nms_quote::Roster;
 use nms_units::{Money, Shares, parse_digits};
 
-/// What is wrong with the record of a plan: its first word, the number of its fields, or the first field that does not say
-/// what a plan says. None where it is read.
+/// What is wrong with the record of a plan: its first word, the number of its fields, or the first field that a plan can't
+/// have. None if it is read.
 pub fn head_place(row: &ByteRecord, roster: &Roster) -> Option<Place>
     ensures { result ≡ head_place roster.now (fields_of row.now) }
 {
@@ -69,7 +69,7 @@ pub fn end_place(row: &ByteRecord) -> Option<Place>
     None
 }
 
-/// The first field of a plan's record that does not say what a plan says.
+/// The first field of a plan's record that a plan can't have.
 fn head_field(row: &ByteRecord, roster: &Roster) -> Option<FieldPlace>
     ensures { result ≡ first_wrong (head_looks roster.now (fields_of row.now)) }
 {
@@ -91,7 +91,7 @@ fn head_field(row: &ByteRecord, roster: &Roster) -> Option<FieldPlace>
     later_field(row, roster)
 }
 
-/// The same, of the fields behind the first five.
+/// As `head_field`, of the fields after the first five.
 fn later_field(row: &ByteRecord, roster: &Roster) -> Option<FieldPlace>
     ensures { result ≡ first_wrong (drop 5 (head_looks roster.now (fields_of row.now))) }
 {
@@ -110,7 +110,7 @@ fn later_field(row: &ByteRecord, roster: &Roster) -> Option<FieldPlace>
     None
 }
 
-/// The first field of a leg's record that does not say what a leg says.
+/// The first field of a leg's record that a leg can't have.
 fn leg_field(row: &ByteRecord, roster: &Roster) -> Option<FieldPlace>
     ensures { result ≡ first_wrong (leg_looks roster.now (fields_of row.now)) }
 {
@@ -126,7 +126,7 @@ fn leg_field(row: &ByteRecord, roster: &Roster) -> Option<FieldPlace>
     None
 }
 
-/// The first field of a cut's record that does not say what a cut says.
+/// The first field of a cut's record that a cut can't have.
 fn cut_field(row: &ByteRecord) -> Option<FieldPlace>
     ensures { result ≡ first_wrong (cut_looks (fields_of row.now)) }
 {
@@ -142,7 +142,7 @@ fn cut_field(row: &ByteRecord) -> Option<FieldPlace>
     None
 }
 
-/// The first field, where its word is another.
+/// The first field, if its word is another.
 fn first_word() -> Place
     ensures { result ≡ Place.Field (record { place = 0; name = FieldName.Kind }) }
 {
@@ -166,21 +166,21 @@ fn is_flag(text: &[u8]) -> bool
     }
 }
 
-/// Whether a tenth field names somebody who is not on the roster.
+/// Whether a tenth field names a participant who is not on the roster.
 fn has_no_name(row: &ByteRecord, roster: &Roster) -> bool
     ensures { result ≡ is_none (named_at 9 roster.now (fields_of row.now)) }
 {
     row.len() == 10 && read_names(text_at(row, 9), roster).is_none()
 }
 
-/// Whether a field is a word that a cut says.
+/// Whether a field is a word for a cut.
 fn is_said(text: &[u8]) -> bool
     ensures { result ≡ is_said text.now }
 {
     is_word(text, b"TOOMUCH") || (is_word(text, b"TOOLITTLE") || is_word(text, b"MARGINAL"))
 }
 
-/// Whether the value of a cut is not what its word asks for.
+/// Whether the value of a cut does not fit its word.
 fn is_no_value(word: &[u8], value: &[u8]) -> bool
     ensures { result ≡ is_none (kind_in word.now value.now) }
 {
@@ -210,7 +210,7 @@ fn is_word(text: &[u8], word: &[u8]) -> bool
     text == word
 }
 
-/// Whether nothing stands in a field.
+/// Whether a field is empty.
 fn is_blank(text: &[u8]) -> bool
     ensures { result ≡ is_text [] text.now }
 {

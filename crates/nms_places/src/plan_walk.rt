@@ -1,4 +1,4 @@
-//! A walk over the records of a plan's text: which of them is due, and what is wrong with the one that came
+//! A walk over the records of a plan's text: which record is due, and what is wrong with the one that came
 //! (`specs/PlanFields`).
 ghost use Rattle.std.specs.Prelude.{◌≡◌, Some, None};
 ghost use Rattle.csv.specs.Records.{fields_of};
@@ -14,7 +14,7 @@ use nms_quote::Roster;
 /// How many legs a plan has at most, and how many cuts.
 const MOST: u8 = 32;
 
-/// What a plan's text has to go on with.
+/// Which records of a plan's text may come next.
 #[derive(Clone, Copy)]
 pub enum PlanDue {
     /// The record of the plan.
@@ -30,7 +30,7 @@ pub enum PlanDue {
 /// What is wrong with a record of a plan's text.
 #[derive(Clone, Copy)]
 pub enum PlanTrouble {
-    /// It is none of those that are due, or one of its fields does not say what a plan says.
+    /// It is not due, or a plan can't have one of its fields.
     Wrong(Place),
     /// It is the 33rd leg, or the 33rd cut.
     TooMany,
@@ -41,7 +41,7 @@ pub enum PlanTrouble {
 pub struct PlanWalk {
     /// What is due.
     pub due: PlanDue,
-    /// How many legs came, or cuts where cuts are due, at most 33.
+    /// How many legs came, or cuts if cuts are due, at most 33.
     pub count: u8,
 }
 
@@ -56,7 +56,7 @@ impl PlanWalk {
         }
     }
 
-    /// What is wrong with the next record. The walk goes on behind it, as its first word says.
+    /// What is wrong with the next record. The walk then goes on after it, by its first word.
     pub fn next(&mut self, row: &ByteRecord, roster: &Roster) -> Option<PlanTrouble>
         ensures wrong { (at : Place) → result ≡ Some (PlanTrouble.Wrong at)
             → due_place self.old.due roster.now (fields_of row.now) ≡ Some at }
@@ -71,7 +71,7 @@ impl PlanWalk {
         }
     }
 
-    /// What is due behind a record.
+    /// What is due after a record.
     fn go_on(&mut self, row: &ByteRecord) {
         let next = due_behind(self.due, text_at(row, 0));
         if next == PlanDue::Cut && self.due != PlanDue::Cut || next == PlanDue::Nothing {
@@ -84,7 +84,7 @@ impl PlanWalk {
     }
 }
 
-/// What is due behind a record that begins with a word.
+/// What is due after a record that begins with a word.
 fn due_behind(due: PlanDue, word: &[u8]) -> PlanDue {
     match (due, word) {
         (PlanDue::Nothing, _) | (PlanDue::Leg | PlanDue::Cut, b"END") => PlanDue::Nothing,
@@ -93,7 +93,7 @@ fn due_behind(due: PlanDue, word: &[u8]) -> PlanDue {
     }
 }
 
-/// What is wrong with a record where that is due.
+/// What is wrong with a record if that is due.
 fn due_place(due: PlanDue, row: &ByteRecord, roster: &Roster) -> Option<Place>
     ensures { result ≡ due_place due roster.now (fields_of row.now) }
 {
@@ -105,7 +105,7 @@ fn due_place(due: PlanDue, row: &ByteRecord, roster: &Roster) -> Option<Place>
     }
 }
 
-/// What is wrong with an end or a cut by the words of these, else what is wrong with a record of another word.
+/// What is wrong with an end or a cut if its word says so, else what is wrong with a record of another word.
 fn later_place(row: &ByteRecord, other: Option<Place>) -> Option<Place>
     ensures { result ≡ later_place (fields_of row.now) other }
 {

@@ -6,7 +6,7 @@ ghost use Rattle.nms_lines.specs.Layout.{field, kind_named};
 use crate::record_field::text_at;
 use nms_lines::{ByteRecord, Kind, kind_named};
 
-/// The kind that a record's first field names, whatever its source may bring.
+/// The kind that a record's first field names, whatever kinds its source allows.
 pub fn kind_of(row: &ByteRecord) -> Option<Kind>
     ensures { result ≡ kind_named (field (fields_of row.now) 0) }
 {

@@ -5,9 +5,9 @@ use std::io::Write;
 
 /// The most bytes that are kept back.
 const ROOM: usize = 65_536;
-/// Whole lines are written out once there are this many bytes.
+/// Whole lines are written out once there are that many bytes.
 const ENOUGH: usize = 49_152;
-/// Takes away the line on which the terminal shows progress.
+/// Removes the line of progress on the terminal.
 pub(crate) const ERASE: &str = "\r\x1b[K";
 
 /// Keeps what is written, and writes it out in pieces that end with a line, unless a line is very long.
@@ -19,7 +19,7 @@ pub(crate) struct Answers<W> {
 }
 
 impl<W: Write> Answers<W> {
-    /// Over a writer. If it `erases`, a piece takes the place of the line on which the same terminal shows progress.
+    /// Over a writer. If it `erases`, a piece replaces the line of progress on the same terminal.
     pub(crate) fn new(alloc: Global, writer: W, erases: bool) -> Result<Self, AllocError>
     where
         W: Drop,

@@ -47,7 +47,7 @@ pub(crate) fn version_of(request: &Request) -> Result<u64, Fault> {
     version_in(word_at(request, 0), About::Word(0))
 }
 
-/// The version that a word names, in digits alone: `parse` would take a plus before them too.
+/// The version that a word names, in digits only: `parse` would accept a plus before them too.
 pub(crate) fn version_in(word: &str, about: About) -> Result<u64, Fault> {
     let version = if word.bytes().all(|byte| byte.is_ascii_digit()) {
         word.parse::<u64>().ok()
@@ -67,7 +67,7 @@ pub(crate) fn feed_of(setup: &Setup, request: &Request) -> Result<Feed, Fault> {
     }
 }
 
-/// The same before a setup is known, so of the most feeds that one may have.
+/// As `feed_of`, before a setup is known, with the most feeds that one may have.
 pub(crate) fn letter_of(request: &Request) -> Result<Feed, Fault> {
     let letter = match &request.feed {
         Some(word) => word.as_str(),
@@ -81,7 +81,7 @@ fn no_feed() -> Fault {
     Fault::usage(About::Feed, "it is the letter of no feed of the setup")
 }
 
-/// How a request ends that has read a file: where the reading failed, the system's reason is reported.
+/// How a request that has read a file ends: if the reading failed, the system's reason is reported.
 pub(crate) fn ended<T: Clock + Eprint, R>(
     source: &mut Source<'_, T, R>,
     served: Result<Ending, Fault>,

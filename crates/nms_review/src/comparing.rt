@@ -1,4 +1,4 @@
-//! The subcommand `compare`: a vendor's own national bests beside those of a file of changes.
+//! The subcommand `compare`: compares a vendor's own national bests with those of a file of changes.
 ghost use Rattle.std.specs.Prelude.{◌≡◌, ◌≤◌, All, length, true};
 ghost use Rattle.nms_quote.specs.Roster.{holds, sizes_of};
 ghost use Rattle.nms_quote.specs.declared.TheConstants.{MOST_CHANGES};
@@ -25,7 +25,7 @@ use std::rt::Files;
 use std::str;
 use std::time::Clock;
 
-/// The place of the word of the changes, and of that of the vendor's file.
+/// The places of the word of the changes, and of that of the vendor's file.
 const CHANGES: usize = 0;
 
 const NATIONAL: usize = 1;
@@ -148,7 +148,7 @@ where
     ended(&mut source, ending)
 }
 
-/// The mapping that a text says.
+/// The mapping given by a text.
 fn mapping_of(alloc: Global, text: &[u8]) -> Result<NationalMapping, MapFault> {
     match str::from_utf8(text) {
         Ok(text) => read_national_mapping(alloc, text),

@@ -27,7 +27,7 @@ use std::time::Clock;
 /// The place of the first file's word: the mapping stands before it.
 const FILES: usize = 1;
 
-/// The files of the shard that is written, and what is kept from one of the vendor's files to the next.
+/// The files of the shard being written, and the state kept from one of the vendor's files to the next.
 #[derive(Drop)]
 struct CutJob<'a, F> {
     changes: Answers<F>,
@@ -128,7 +128,7 @@ where
     tell_counts(mapping.meanings.half, &job.tally, &job.notes, answers)
 }
 
-/// Cuts the rows of one file. Returns whether it has the columns that the mapping names; else that is reported.
+/// Cuts the rows of one file. Returns whether it has the columns that the mapping names; if not, that is reported.
 fn cut_file<'a, T>(
     rt: &T,
     screen: Screen,
@@ -285,7 +285,7 @@ fn tell_shards<W: Write>(shards: u64, openings: u64, answers: &mut W) -> Result<
     Ok(())
 }
 
-/// A new file of the name that `--out` gives, with the number of a shard and this end.
+/// A new file with the name that `--out` gives, the number of a shard and this end.
 fn create_in<T: AllocGlobal + Files>(
     rt: &T,
     request: &Request,

@@ -125,7 +125,7 @@ where
     both_ended(&mut changes, &mut executions, served)
 }
 
-/// What a fault of the library is about.
+/// The word that a fault of the library is about.
 fn about_of(request: &Request, code: &str) -> About {
     match code {
         "L11" => About::Plan,
@@ -191,7 +191,7 @@ fn span_of<T: AllocGlobal + Files>(
     }
 }
 
-/// The version that a word names: a number, or `@` and a time, which is found among the times that are given.
+/// The version that a word names: a number, or `@` and a time, which is found among the given times.
 fn version_given<T: AllocGlobal + Files>(
     rt: &T,
     request: &Request,

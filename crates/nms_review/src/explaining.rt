@@ -18,7 +18,7 @@ use std::time::Clock;
 /// The place of the file's word: the kind stands before it.
 const FILE: usize = 1;
 
-/// Says of a file what is refused in it, and where.
+/// Explains what is refused in a file, and where.
 pub(crate) fn serve_explain<T, W: Write>(
     rt: &T,
     screen: Screen,
@@ -40,7 +40,7 @@ where
     }
 }
 
-/// Says of a setup's file what is wrong in it.
+/// Explains what is wrong in a setup's file.
 fn serve_setup<T, W: Write>(
     rt: &T,
     screen: Screen,
@@ -58,7 +58,7 @@ where
     )
 }
 
-/// Says of a mapping's file what is wrong in it.
+/// Explains what is wrong in a mapping's file.
 fn serve_map<T, W: Write>(
     rt: &T,
     screen: Screen,
@@ -76,7 +76,7 @@ where
     })
 }
 
-/// Says of a file of records what is refused in it.
+/// Explains what is refused in a file of records.
 fn serve_kind<T, W: Write>(
     rt: &T,
     screen: Screen,
@@ -98,7 +98,7 @@ where
     ended(&mut source, served)
 }
 
-/// Says of a plan's text what is wrong in it.
+/// Explains what is wrong in a plan's text.
 fn serve_plan<T, W: Write>(
     rt: &T,
     screen: Screen,
@@ -122,7 +122,7 @@ where
     .map_err(|fault| Fault::of(fault.code(), fault.status(), About::Word(FILE)))
 }
 
-/// Says of records what is refused among them.
+/// Explains what is refused among records.
 fn serve_records<T, R, W: Write>(
     rt: &T,
     screen: Screen,

@@ -10,17 +10,17 @@ pub(crate) struct Fault {
     pub(crate) code: &'static str,
     /// The exit status.
     pub(crate) status: u8,
-    /// What it is about.
+    /// The word that it is about.
     pub(crate) about: About,
-    /// What the system says, where a file could not be read.
+    /// The system's reason, if a file could not be read.
     pub(crate) cause: Option<io::Error>,
-    /// What was expected in place of a word.
+    /// The form expected of a word.
     pub(crate) expected: &'static str,
     /// The line of a file that it is about, from 1.
     pub(crate) line: Option<u64>,
 }
 
-/// What a fault is about.
+/// The word that a fault is about.
 #[derive(Clone, Copy)]
 pub(crate) enum About {
     /// No word of the call.
@@ -52,9 +52,9 @@ pub(crate) enum About {
 }
 
 impl Fault {
-    /// A fault of the library, in what a word names.
+    /// A fault of the library, in the file that a word names.
     ///
-    /// Memory and the output are no matter of a file.
+    /// Faults of memory and of the output are not about a file.
     pub(crate) fn of(code: &'static str, status: u8, about: About) -> Self {
         let is_own = status == 5 || code == "E2" || code == "L13";
         Fault {

@@ -8,7 +8,7 @@ use std::os::unix::fs::MetadataExt;
 use std::rt::Files;
 use std::{fs, str};
 
-/// The subcommand's own word at a place, from 0. The parser sees that those it needs are there.
+/// The subcommand's own word at a place, from 0. The parser makes sure that the needed ones are there.
 pub(crate) fn word_at(request: &Request, place: usize) -> &str {
     match request.words.get(place) {
         Some(word) => word.as_str(),
@@ -25,7 +25,7 @@ pub(crate) fn open_word<T: Files>(
     fs::open(rt, word_at(request, place)).map_err(|error| Fault::unread(error, About::Word(place)))
 }
 
-/// A new file at a path. A file that the request reads is never overwritten, whatever name or link leads to it.
+/// A new file at a path. A file that the request reads is never overwritten, by any name or link that leads to it.
 pub(crate) fn create_file<T: Files>(
     rt: &T,
     request: &Request,
@@ -37,7 +37,7 @@ pub(crate) fn create_file<T: Files>(
     fs::create(rt, path).map_err(|_| Fault::of("E2", 1, About::Nothing))
 }
 
-/// The file that the request reads and that stands at a path, if there is one.
+/// The file at a path that the request reads, if there is one.
 fn input_at<T: Files>(rt: &T, request: &Request, path: &str) -> Option<About> {
     let own = identity_of(rt, path)?;
     for place in 0..request.words.len() {
@@ -94,7 +94,7 @@ pub(crate) fn setup_of<T: Files + AllocGlobal>(rt: &T, request: &Request) -> Res
     }
 }
 
-/// The setup that a text says.
+/// The setup given by a text.
 fn read_text(alloc: Global, text: &str) -> Result<Setup, Fault> {
     read_setup(alloc, text).map_err(|fault| Fault::of(fault.code(), fault.status(), About::Setup))
 }

@@ -1,4 +1,4 @@
-//! The subcommand `import`: a vendor's files are opened one after another, and what they make is written to three files.
+//! The subcommand `import`: opens a vendor's files one after another, and writes their changes to three files.
 use crate::answers::Answers;
 use crate::cutting::cut_files;
 use crate::fault::{About, Fault};
@@ -22,7 +22,7 @@ use std::time::Clock;
 /// The place of the first file's word: the mapping stands before it.
 const FILES: usize = 1;
 
-/// Makes changes of a vendor's files. What is written is whole also where a guard speaks.
+/// Makes changes of a vendor's files. The written files are whole also if a guard reports a doubt.
 pub(crate) fn serve_import<T, W: Write>(
     rt: &T,
     screen: Screen,
@@ -47,7 +47,7 @@ where
     }
 }
 
-/// The mapping that a text says.
+/// The mapping given by a text.
 fn mapping_of(alloc: Global, text: &[u8]) -> Result<Mapping, MapFault> {
     match str::from_utf8(text) {
         Ok(text) => read_mapping(alloc, text),
@@ -55,7 +55,7 @@ fn mapping_of(alloc: Global, text: &[u8]) -> Result<Mapping, MapFault> {
     }
 }
 
-/// The files that are written, and what is kept from one of the vendor's files to the next.
+/// The files being written, and the state kept from one of the vendor's files to the next.
 #[derive(Drop)]
 struct Job<'a, F> {
     changes: Answers<F>,
@@ -98,7 +98,7 @@ where
     finish(rt, setup, request, half, &mut job, answers)
 }
 
-/// Makes changes of one file. Returns whether it has the columns that the mapping names; else that is reported.
+/// Makes changes of one file. Returns whether it has the columns that the mapping names; if not, that is reported.
 fn import_file<'a, T>(
     rt: &T,
     screen: Screen,
@@ -148,7 +148,7 @@ where
     Ok(true)
 }
 
-/// Writes what is left, the symbols and the counts, and says what the import is doubted for.
+/// Writes the rest, the symbols and the counts, and reports the doubts about the import.
 fn finish<T, W: Write>(
     rt: &T,
     setup: &Setup,
@@ -169,7 +169,7 @@ where
     tell_counts(half, &job.tally, &job.notes, answers)
 }
 
-/// Reports the counts, and what the import is doubted for.
+/// Reports the counts, and the doubts about the import.
 pub(crate) fn tell_counts<W: Write>(
     half: Half,
     tally: &Tally,
@@ -186,7 +186,7 @@ pub(crate) fn tell_counts<W: Write>(
     }
 }
 
-/// A new file of the name that `--out` gives, with this end.
+/// A new file with the name that `--out` gives, and this end.
 pub(crate) fn create<T: AllocGlobal + Files>(
     rt: &T,
     request: &Request,

@@ -1,5 +1,5 @@
-//! The subcommand `import` of a mapping of trades: a vendor's files are opened one after another, and what they make is
-//! written to one file.
+//! The subcommand `import` with a mapping of trades: opens a vendor's files one after another, and writes their executions to
+//! one file.
 use crate::answers::Answers;
 use crate::fault::{About, Fault};
 use crate::files::{open_word, word_at};
@@ -23,7 +23,7 @@ use std::time::Clock;
 /// The place of the first file's word: the mapping stands before it.
 const FILES: usize = 1;
 
-/// Whether a text is a mapping of trades. One that cannot be read is none: as a mapping of quotes it is refused.
+/// Whether a text is a mapping of trades. A text that can't be read is not: it is refused as a mapping of quotes.
 pub(crate) fn is_trade_map(alloc: Global, text: &[u8]) -> bool {
     let Ok(text) = str::from_utf8(text) else {
         return false;
@@ -34,7 +34,7 @@ pub(crate) fn is_trade_map(alloc: Global, text: &[u8]) -> bool {
     }
 }
 
-/// The mapping of trades that a text says.
+/// The mapping of trades given by a text.
 fn trade_map_of(alloc: Global, text: &[u8]) -> Result<TradeMapping, MapFault> {
     match str::from_utf8(text) {
         Ok(text) => read_trade_mapping(alloc, text),
@@ -66,7 +66,7 @@ where
     }
 }
 
-/// The file that is written, and what is kept from one of the vendor's files to the next.
+/// The file being written, and the state kept from one of the vendor's files to the next.
 #[derive(Drop)]
 struct TradeJob<'a, F> {
     executions: Answers<F>,
@@ -102,7 +102,7 @@ where
     finish(&mut job, answers)
 }
 
-/// Makes executions of one file. Returns whether it has the columns that the mapping names; else that is reported.
+/// Makes executions of one file. Returns whether it has the columns that the mapping names; if not, that is reported.
 fn import_trade_file<'a, T>(
     rt: &T,
     screen: Screen,
@@ -149,7 +149,7 @@ where
     Ok(true)
 }
 
-/// Writes what is left and the counts, and says whether most rows were refused.
+/// Writes the rest and the counts, and returns whether most rows were refused.
 fn finish<F: Write, W: Write>(job: &mut TradeJob<'_, F>, answers: &mut W) -> Result<Ending, Fault> {
     flush(&mut job.executions)?;
     let Some(sums) = job.tally.sums() else {

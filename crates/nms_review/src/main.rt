@@ -34,7 +34,7 @@ use std::time::Clock;
 use std::{env, io};
 use telling::tell_fault;
 
-/// Printed if a word is not UTF-8, or if memory ran out for the words.
+/// Printed if a word is not UTF-8, or if out of memory for the words.
 const NO_TEXT: &str = "nms_review: usage: a word of the call is not UTF-8\n";
 
 const NO_MEMORY: &str = "nms_review: G2: memory ran out for the words\n";
@@ -89,7 +89,7 @@ where
     }
 }
 
-/// Serves a request, and writes out all that it answered, also if it could not be served to its end.
+/// Serves a request, and writes out all its answers, also if it could not be served to its end.
 fn serve_whole<T>(rt: &T, screen: Screen, request: &Request) -> Result<Ending, Fault>
 where
     T: AllocGlobal + Clock + Eprint + Files + Print,
@@ -113,8 +113,8 @@ fn tell_help<T: Print, E: Write>(rt: &T, help: &str, errors: &mut E) -> u8 {
     }
 }
 
-/// Prints why the parser refuses the words on standard error, and gives the status. It quotes words of the call: so each
-/// line is written as one of a file is, with escapes.
+/// Prints on standard error why the parser refuses the words, and gives the status. It quotes words of the call, so each line
+/// is written with escapes, as a line of a file is.
 fn tell_refusal<E: Write>(errors: &mut E, text: &str) -> u8 {
     let bytes = text.as_bytes();
     let lines = bytes.strip_suffix(b"\n").unwrap_or(bytes);
@@ -127,13 +127,13 @@ fn tell_refusal<E: Write>(errors: &mut E, text: &str) -> u8 {
     2
 }
 
-/// Prints a text on standard error, and gives the status. What standard error does not take changes no status.
+/// Prints a text on standard error, and gives the status. If standard error does not take it, the status stays.
 fn tell_early<E: Write>(errors: &mut E, text: &str, status: u8) -> u8 {
     let _ = errors.write_all(text.as_bytes());
     status
 }
 
-/// Words as they are lent; `None` if there is no memory.
+/// Words as they are lent; `None` if out of memory.
 fn words_of<'a>(alloc: Global, own: &'a [String]) -> Option<Vec<&'a str>> {
     let mut words = Vec::new(alloc);
     for word in own {

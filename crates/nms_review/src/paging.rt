@@ -1,4 +1,4 @@
-//! The option `--html` of `trades`: a page for the file, beside the answers.
+//! The option `--html` of `trades`: writes a page for the file, beside the answers.
 use crate::answers::Answers;
 use crate::call::form_of;
 use crate::fault::{About, Fault};
@@ -19,7 +19,7 @@ const CHANGES: usize = 0;
 
 const EXECUTIONS: usize = 1;
 
-/// Judges a file of executions, and writes the page that a path names. Both files are opened before it is made.
+/// Judges a file of executions, and writes the page at a path. Both files are opened before it is made.
 pub(crate) fn serve_page<T, W: Write>(
     rt: &T,
     screen: Screen,
@@ -70,7 +70,7 @@ where
 }
 
 /// A fault of executions on a page or a picture: it is about the file of the executions, about one of their times, or about
-/// another one.
+/// another file.
 pub(crate) fn page_fault(fault: PageFault, executions: About, other: About) -> Fault {
     match fault {
         PageFault::Trades(TradesFault::Times(fault)) => Fault::of_times(fault, About::Times),
@@ -80,7 +80,7 @@ pub(crate) fn page_fault(fault: PageFault, executions: About, other: About) -> F
     }
 }
 
-/// How a request ends that has read changes and executions: if the reading of one failed, the system's reason is reported.
+/// How a request that has read changes and executions ends: if the reading of one failed, the system's reason is reported.
 pub(crate) fn both_ended<T: Clock + Eprint, R>(
     changes: &mut Source<'_, T, R>,
     executions: &mut Source<'_, T, R>,

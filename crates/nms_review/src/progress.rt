@@ -4,12 +4,12 @@ use std::fmt;
 use std::fmt::Write;
 use std::time::{Clock, Duration};
 
-/// Nothing is shown of work that takes fewer milliseconds.
+/// No progress is shown for work of fewer milliseconds.
 const FIRST: u64 = 1000;
-/// How many milliseconds a line stands before the next.
+/// For how many milliseconds a line is shown before the next.
 const EACH: u64 = 250;
 
-/// How far a file has been read: bytes, of which it has so many, and ends of lines.
+/// How far a file has been read: the bytes read, of how many, and ends of lines.
 #[derive(Clone, Copy)]
 pub(crate) struct Progress {
     total: u64,
@@ -21,7 +21,7 @@ pub(crate) struct Progress {
 }
 
 impl Progress {
-    /// Of a file with so many bytes, none of which has been read.
+    /// For a file of that many bytes, none of which has been read.
     pub(crate) fn new(total: u64, began: Duration) -> Self {
         Progress {
             total,
@@ -33,7 +33,7 @@ impl Progress {
         }
     }
 
-    /// Counts what was read, and says whether it is time to show that.
+    /// Counts the bytes read, and returns whether to show that now.
     pub(crate) fn count<T: Clock>(&mut self, clock: &T, bytes: &[u8]) -> bool {
         let lines = bytes.iter().filter(|byte| **byte == b'\n').count();
         self.done = self.done.saturating_add(bytes.len() as u64);
@@ -41,7 +41,7 @@ impl Progress {
         self.is_due(clock)
     }
 
-    /// Whether it is time to show how far it is.
+    /// Whether to show the progress now.
     fn is_due<T: Clock>(&mut self, clock: &T) -> bool {
         let Ok(now) = clock.monotonic() else {
             return false;
@@ -54,7 +54,7 @@ impl Progress {
         true
     }
 
-    /// Milliseconds from where the reading began to where this is shown.
+    /// Milliseconds from the start of the reading until this is shown.
     fn passed(&self) -> u64 {
         let passed = self.shown.saturating_sub(self.began);
         u64::try_from(passed.as_millis()).unwrap_or(u64::MAX)
@@ -62,7 +62,7 @@ impl Progress {
 }
 
 impl fmt::Display for Progress {
-    /// The share of the file, lines a second, and the time left. Of a pipe no share is known.
+    /// The share of the file, lines a second, and the time left. For a pipe no share is known.
     fn fmt<W: fmt::Write>(&self, f: &mut fmt::Formatter<W>) -> fmt::Result {
         let passed = self.passed();
         let speed = part_of(self.lines, 1000, passed);

@@ -1,4 +1,4 @@
-//! What the process's two outputs are.
+//! The kinds of the process's two outputs.
 
 /// Which of the process's outputs are terminals.
 #[derive(Clone, Copy)]

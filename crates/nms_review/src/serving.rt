@@ -1,4 +1,4 @@
-//! What each subcommand does: its words are read, its files opened, and a library's call answers.
+//! The service of each subcommand: it reads the words, opens the files, and calls a library for the answer.
 use crate::call::{ended, form_of, has_word, no_sym, sym_at, version_of};
 use crate::comparing::serve_compare;
 use crate::drawing::serve_draw;
@@ -30,7 +30,7 @@ pub(crate) fn serve<T, W: Write>(
 where
     T: AllocGlobal + Clock + Eprint + Files,
 {
-    // What explains a setup needs none, nor do times.
+    // The explanation of a setup needs no setup, nor do times.
     if request.command == Sub::Explain {
         return serve_explain(rt, screen, request, answers);
     }
@@ -145,7 +145,7 @@ where
     ended(&mut source, served)
 }
 
-/// Writes a line where a best bid, a best offer or a market changes.
+/// Writes a line when a best bid, a best offer or a market changes.
 fn serve_stream<T, W: Write>(
     rt: &T,
     screen: Screen,
@@ -208,7 +208,7 @@ where
     ended(&mut source, served)
 }
 
-/// Says why a plan is as it is.
+/// Explains why a plan is as it is.
 fn serve_why<T, W: Write>(
     rt: &T,
     screen: Screen,
@@ -242,7 +242,7 @@ where
     ended(&mut source, served)
 }
 
-/// A fault of the library: one of them is about something else than the word at a place, where the file stands.
+/// A fault of the library: one of them is about another word than that of the file.
 fn fault_of(code: &'static str, status: u8, other: (&str, About), file: usize) -> Fault {
     let about = if code == other.0 {
         other.1

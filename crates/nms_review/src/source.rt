@@ -1,4 +1,4 @@
-//! A file that is read: how far it is, and why it could not be read.
+//! A file being read: how far it is, and why it could not be read.
 use crate::answers::ERASE;
 use crate::progress::Progress;
 use crate::screen::Screen;
@@ -7,7 +7,7 @@ use std::io;
 use std::io::Read;
 use std::time::Clock;
 
-/// A file that is read.
+/// A file being read.
 #[derive(Drop)]
 pub(crate) struct Source<'a, T, R> {
     rt: &'a T,
@@ -36,12 +36,12 @@ impl<'a, T: Clock + Eprint, R: Read + OpenFile> Source<'a, T, R> {
 }
 
 impl<T: Clock + Eprint, R> Source<'_, T, R> {
-    /// Why the file could not be read to its end, if that is so.
+    /// Why the file could not be read to its end, if so.
     pub(crate) fn failed(&self) -> Option<io::Error> {
         self.failed
     }
 
-    /// Takes the line away that shows progress.
+    /// Removes the line of progress.
     pub(crate) fn clear(&mut self) {
         if self.is_shown {
             let _ = self.rt.eprint(ERASE);
@@ -49,7 +49,7 @@ impl<T: Clock + Eprint, R> Source<'_, T, R> {
         }
     }
 
-    /// Counts what was read, and shows how far it is when it is time for that.
+    /// Counts the bytes read, and shows the progress if it is time.
     fn show(&mut self, bytes: &[u8]) {
         let Some(progress) = &mut self.progress else {
             return;

@@ -1,10 +1,10 @@
-//! What is reported of a request that was not served.
+//! The report on a request that was not served.
 use crate::fault::{About, Fault};
 use nms_review_words::{Request, Sub};
 use nms_show::{Form, Item, ShowFault, write_line};
 use std::io::{ErrorKind, Write};
 
-/// What each code says, of those that end a request. `explain` reports where a record stands.
+/// The sentence for each code that ends a request. `explain` reports the place of a record.
 static SENTENCES: [(&'static str, &'static str); 37] = [
     ("E1", "it could not be read"),
     ("E2", "the output could not be written"),
@@ -78,7 +78,7 @@ static SENTENCES: [(&'static str, &'static str); 37] = [
     ),
 ];
 
-/// What is said in other words of records and of memory.
+/// Other sentences for records and memory.
 const REFUSED: &str = "a record was refused";
 
 /// Reports a fault of a request, and gives the exit status.
@@ -114,7 +114,7 @@ fn write_fault<E: Write>(
     write_line(errors, Form::Text { colours: false }, &items)
 }
 
-/// Writes which call shows where, for a file that was refused.
+/// Writes which call shows the place, for a file that was refused.
 fn write_tip<E: Write>(fault: &Fault, request: &Request, errors: &mut E) -> Result<(), ShowFault> {
     let Some(kind) = kind_of(fault, request) else {
         return Ok(());
@@ -140,7 +140,7 @@ fn write_tip<E: Write>(fault: &Fault, request: &Request, errors: &mut E) -> Resu
 
 /// The kind of the file that was refused, as `explain` names it.
 fn kind_of(fault: &Fault, request: &Request) -> Option<&'static str> {
-    // Only records and setups have places that `explain` shows.
+    // `explain` shows places only for records and setups.
     if fault.status == 6 && !fault.code.starts_with('L') {
         return None;
     }
@@ -177,7 +177,7 @@ fn word_of(about: About, request: &Request) -> &str {
     }
 }
 
-/// What a fault says.
+/// The sentence for a fault.
 fn sentence_of(fault: &Fault) -> &'static str {
     if let Some(error) = fault.cause {
         return cause_of(error.kind());
@@ -189,7 +189,7 @@ fn sentence_of(fault: &Fault) -> &'static str {
     known.map_or(REFUSED, |known| known.1)
 }
 
-/// Why a file could not be read, as the system says it.
+/// The system's reason why a file could not be read.
 fn cause_of(kind: ErrorKind) -> &'static str {
     match kind {
         ErrorKind::NotFound => "there is no such file (`-` is a file's name here too)",

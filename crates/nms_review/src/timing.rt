@@ -1,4 +1,4 @@
-//! The subcommand `when`: versions that are found by their times, and the time of a version.
+//! The subcommand `when`: finds versions by their times, and the time of a version.
 use crate::call::{form_of, has_word, version_in, version_of};
 use crate::fault::{About, Fault};
 use crate::files::{read_file, word_at};
@@ -40,7 +40,7 @@ where
     }
 }
 
-/// Whether the words go together, and each is of its form: before any file is opened.
+/// Whether the words go together, and each has its form. This is tested before any file is opened.
 fn check_words(request: &Request) -> Result<(), Fault> {
     let has_times = request.words.len() > FIRST;
     let Some(version) = &request.version else {
@@ -81,7 +81,7 @@ fn no_time(about: About) -> Fault {
     )
 }
 
-/// The times of a text.
+/// The times given by a text.
 pub(crate) fn times_of(alloc: Global, text: &[u8], about: About) -> Result<Times, Fault> {
     read_times(alloc, text).map_err(|fault| Fault::of_times(fault, about))
 }
@@ -98,8 +98,8 @@ pub(crate) fn given_times<T: AllocGlobal + Files>(
     Ok(Some(times_of(rt.alloc(), &text, About::Times)?))
 }
 
-/// The version that the first word names: a number, or `@` and a time, which is found among the times that are given. With a
-/// file of symbols it is found for the symbol that the word at a place names.
+/// The version that the first word names: a number, or `@` and a time, which is found among the given times. With a file of
+/// symbols it is found for the symbol that the word at a place names.
 pub(crate) fn version_among<T: AllocGlobal + Files>(
     rt: &T,
     request: &Request,
@@ -130,7 +130,7 @@ fn symbol_of(request: &Request) -> &str {
     }
 }
 
-/// The times among which versions are found: all of them, or those of a symbol, if a file of symbols is named.
+/// The times in which versions are found: all of them, or those of a symbol, if a file of symbols is named.
 pub(crate) fn rising_of<'a, T: AllocGlobal + Files>(
     rt: &T,
     request: &Request,
@@ -157,7 +157,7 @@ pub(crate) fn rising_of<'a, T: AllocGlobal + Files>(
     found.map_err(|fault| Fault::of_times(fault, about))
 }
 
-/// Writes the version at each time that the words name, or before it.
+/// Writes the last version at or before each time that the words name.
 fn tell_versions<W: Write>(
     alloc: Global,
     request: &Request,

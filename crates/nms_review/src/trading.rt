@@ -128,7 +128,7 @@ pub(crate) fn given_symbols<T: AllocGlobal + Files>(
     }
 }
 
-/// How versions are found by times, if there are any.
+/// The means to find versions by times, if there are any.
 pub(crate) fn timing_of<'a>(
     times: Option<&'a Times>,
     symbols: Option<&'a [u8]>,

@@ -14,8 +14,7 @@ tip: give options behind the subcommand: nms_review stream CHANGES --setup FILE
 
 /// Reads the words that follow the program's name: a subcommand, its own words and its options.
 ///
-/// `Parser` has the parser's text, of a fault or of the help or the version that was asked for. `NoMemory` may come in
-/// place of any answer.
+/// `Parser` has the parser's text: a fault, or the help or the version that was asked for. `NoMemory` may replace any answer.
 pub fn read_words<'a>(alloc: Global, words: &'a [&'a str]) -> Result<Request, WordsFault> {
     match review_command(alloc)?.try_get_matches_from(words) {
         Ok(matches) => Ok(request_in(alloc, &matches)?),
@@ -106,7 +105,7 @@ fn own_words(
     Ok(words)
 }
 
-/// Whether what has this form is an option, and no word of the subcommand's own.
+/// Whether a word of this form is an option, and not one of the subcommand's own words.
 fn is_option_form(form: WordForm) -> bool {
     match form {
         WordForm::Needed

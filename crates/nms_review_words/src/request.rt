@@ -1,10 +1,10 @@
-//! What the words of the command line ask for.
+//! The request that the words of the command line make.
 use crate::subcommand::Sub;
 
-/// What the words of the command line ask for.
+/// The request that the words of the command line make.
 #[derive(Drop)]
 pub struct Request {
-    /// What is to be done.
+    /// The subcommand.
     pub command: Sub,
     /// The subcommand's own words, in order.
     pub words: Vec<String>,
@@ -16,7 +16,7 @@ pub struct Request {
     pub plan: Option<String>,
     /// The file that `--map` names.
     pub map: Option<String>,
-    /// The name that `--out` gives to the files that are written.
+    /// The name that `--out` gives to the written files.
     pub out: Option<String>,
     /// The file that `--times` names.
     pub times: Option<String>,

@@ -1,9 +1,9 @@
 //! The subcommands, with their own words and options.
 
-/// What the program can be asked to do, each a subcommand of the command line.
+/// A request to the program, each a subcommand of the command line.
 #[derive(Clone, Copy)]
 pub enum Sub {
-    /// Says of each refused record of a file where it went wrong. Its own words are `KIND` and `FILE`.
+    /// Reports the place of the fault in each refused record of a file. Its own words are `KIND` and `FILE`.
     Explain,
     /// Writes the changes that a script takes, as a file of changes. Its own word is `SCRIPT`.
     Tape,
@@ -11,12 +11,12 @@ pub enum Sub {
     At,
     /// Writes the opening changes of a version. Its own words are `VERSION` and `CHANGES`.
     Opening,
-    /// Writes a line where a best bid, a best offer or a market changes. Its own word is `CHANGES`, and `SYM` may stand
-    /// after it.
+    /// Writes a line when a best bid, a best offer or a market changes. Its own word is `CHANGES`, and `SYM` may stand after
+    /// it.
     Stream,
     /// Judges every plan in the output of a script or a live run. Its own words are `CHANGES` and `ANSWERS`.
     Check,
-    /// Says why a plan is as it is. Its own words are `CHANGES` and `PLAN`.
+    /// Explains why a plan is as it is. Its own words are `CHANGES` and `PLAN`.
     Why,
     /// Draws a symbol's day. Its own words are `CHANGES` and `SYM`.
     Draw,
@@ -57,7 +57,7 @@ pub(crate) struct Word {
     pub(crate) form: WordForm,
 }
 
-/// How a word stands in the command line.
+/// The form of a word in the command line.
 #[derive(Clone, Copy)]
 pub(crate) enum WordForm {
     /// A word of the subcommand's own that it needs.
@@ -70,11 +70,11 @@ pub(crate) enum WordForm {
     Optional,
     /// The last of its own words, which may be repeated, or left out.
     AnyNumber,
-    /// An option with a value, and what help calls the value.
+    /// An option with a value, and the name of the value in the help.
     Valued(&'static str),
-    /// The same, which it needs.
+    /// An option with a value that the subcommand needs.
     NeededValue(&'static str),
-    /// An option without one.
+    /// An option without a value.
     Flag,
 }
 
@@ -372,7 +372,7 @@ impl Sub {
         Sub::Compare,
     ];
 
-    /// The word that asks for it.
+    /// The word of the subcommand.
     pub(crate) fn name(self) -> &'static str {
         match self {
             Sub::Explain => "explain",

@@ -64,7 +64,7 @@ fn answer_request<R: Threads + Wait + Sync>(rt: &R, host: &HostRuntime, request:
     }
 }
 
-/// The words after the program's name. Those that are no UTF-8 name nothing.
+/// The words after the program's name. A word that is not UTF-8 names nothing.
 fn own_words(host: &HostRuntime) -> Result<Vec<String>, ProgramFault> {
     let all = env::args(host).map_err(|error| match error.kind() {
         ErrorKind::OutOfMemory => ProgramFault::Words(WordsFault::NoMemory),
@@ -79,7 +79,7 @@ fn own_words(host: &HostRuntime) -> Result<Vec<String>, ProgramFault> {
     Ok(words)
 }
 
-/// Words as they are lent; `None` if there is no memory.
+/// Words as they are lent; `None` if out of memory.
 fn words_of<'a>(alloc: Global, own: &'a [String]) -> Option<Vec<&'a str>> {
     let mut words = Vec::new(alloc);
     for word in own {

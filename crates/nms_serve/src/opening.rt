@@ -1,4 +1,4 @@
-//! A request served: its files are opened, the board is opened, and the run is run.
+//! The service of a request: its files are opened, the board is opened, and the run is made.
 use crate::program_fault::ProgramFault;
 use crate::tape_paths::TapePaths;
 use crate::telling::{tell_client, tell_feed, tell_tape};
@@ -48,7 +48,7 @@ pub(crate) fn serve_request<R: Threads + Wait + Sync>(
     serve_streams(&means, &doors, request.tape.as_str())
 }
 
-/// Opens the files, serves the streams, and reports what they came to.
+/// Opens the files, serves the streams, and reports their results.
 fn serve_streams<R: Threads + Wait + Sync>(
     means: &Means<'_, R>,
     doors: &Doors<'_>,
@@ -72,7 +72,7 @@ fn serve_streams<R: Threads + Wait + Sync>(
     }
 }
 
-/// Reports what each feed, each client and the tape came to.
+/// Reports the results of each feed, each client and the tape.
 fn tell_served(host: &HostRuntime, served: &Served) {
     for end in &served.feeds {
         tell_feed(host, end);
@@ -83,7 +83,7 @@ fn tell_served(host: &HostRuntime, served: &Served) {
     tell_tape(host, served.changes, served.publishings, served.epochs);
 }
 
-/// The exit status of a run that came to its end.
+/// The exit status of a run that ended without a fault.
 fn status_of(served: &Served) -> u8 {
     if served.feeds.iter().any(|end| end.counts.refused > 0) {
         6
@@ -92,7 +92,7 @@ fn status_of(served: &Served) -> u8 {
     }
 }
 
-/// Whether the feeds are those of the setup: each one of them, and no other. No two are the same.
+/// Whether the feeds are exactly those of the setup. No two are the same.
 fn are_all_feeds(setup: &Setup, feeds: &[FeedPath]) -> bool {
     feeds.len() == usize::from(setup.feeds()) && feeds.iter().all(|feed| feed.place < setup.feeds())
 }
@@ -130,7 +130,7 @@ fn streams_of<'a>(
     Ok(streams)
 }
 
-/// The fault if memory runs out.
+/// The fault of out of memory.
 fn no_memory() -> ProgramFault {
     ProgramFault::Serving(ServeFault::NoMemory)
 }

@@ -1,16 +1,16 @@
-//! Why the program ends with another status than 0 and 6.
+//! Why the program ends with a status other than 0 and 6.
 use nms_fees::SetupFault;
 use nms_serve_words::WordsFault;
 use nms_serving::ServeFault;
 use thiserror::Error;
 
-/// Why the program ends with another status than 0 and 6.
+/// Why the program ends with a status other than 0 and 6.
 #[derive(Debug, Drop, Error)]
 pub(crate) enum ProgramFault {
     /// The words are no request.
     #[error("{0}")]
     Words(WordsFault),
-    /// A word is no UTF-8.
+    /// A word is not UTF-8.
     #[error("usage: a word of the call is no UTF-8")]
     NoText,
     /// The paths are not those of the setup's feeds.
@@ -25,7 +25,7 @@ pub(crate) enum ProgramFault {
     /// The setup is refused.
     #[error("{0}")]
     Setup(SetupFault),
-    /// There is something in one of the tape's files already.
+    /// One of the tape's files is not empty.
     #[error("usage: there is something in the tape's file, or in FILE.published or FILE.1, already")]
     TapeThere,
     /// The tape of the setup has no room for epochs.

@@ -26,7 +26,7 @@ pub(crate) fn read_setup_of(host: &HostRuntime, request: &Request) -> Result<Set
     }
 }
 
-/// The setup that a text says.
+/// The setup given by a text.
 fn read_text(alloc: Global, text: &str) -> Result<Setup, ProgramFault> {
     match read_setup(alloc, text) {
         Ok(setup) => Ok(setup),

@@ -1,11 +1,11 @@
-//! What the program reports of itself.
+//! The program's reports about itself.
 use crate::program_fault::ProgramFault;
 use nms_serve_words::WordsFault;
 use nms_serving::{ClientEnd, FeedEnd, letter_of};
 use std::io;
 use std::io::Write;
 
-/// Reports a fault on standard error, and gives its exit status. What standard error does not take changes no status.
+/// Reports a fault on standard error, and gives its exit status. If standard error does not take it, the status stays.
 pub(crate) fn tell_fault(host: &HostRuntime, fault: &ProgramFault) -> u8 {
     let _ = match fault {
         ProgramFault::Words(WordsFault::Parser { text, .. }) => eprint!(host; "{text}"),
@@ -22,14 +22,14 @@ pub(crate) fn tell_help(host: &HostRuntime, help: &str) -> u8 {
     }
 }
 
-/// Reports what a feed came to.
+/// Reports the result of a feed.
 pub(crate) fn tell_feed(host: &HostRuntime, end: &FeedEnd) {
     let (records, refused) = (end.counts.records, end.counts.refused);
     let letter = letter_of(end.feed);
     let _ = eprintln!(host; "nms_serve: feed {letter}: {records} records, {refused} refused");
 }
 
-/// Reports what a client came to.
+/// Reports the result of a client.
 pub(crate) fn tell_client(host: &HostRuntime, end: &ClientEnd) {
     let number = end.number;
     let _ = match end.counts {
@@ -41,7 +41,7 @@ pub(crate) fn tell_client(host: &HostRuntime, end: &ClientEnd) {
     };
 }
 
-/// Reports what the tape came to. The first epoch has no number.
+/// Reports the result of the tape. The first epoch has no number.
 pub(crate) fn tell_tape(host: &HostRuntime, changes: u64, publishings: u64, epochs: u64) {
     let _ = if epochs == 0 {
         eprintln!(host; "nms_serve: {changes} changes, published {publishings} times")

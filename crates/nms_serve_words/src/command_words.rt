@@ -11,8 +11,8 @@ const MOST_SECONDS: u32 = 86_400;
 
 /// Reads the words that follow the program's name.
 ///
-/// `Parser` has the parser's text, of a fault or of the help or the version that was asked for. The other faults name what
-/// the parser does not see. `NoMemory` may come in place of any answer.
+/// `Parser` has the parser's text: a fault, or the help or the version that was asked for. The other faults are those that the
+/// parser does not see. `NoMemory` may replace any answer.
 pub fn read_words<'a>(alloc: Global, words: &'a [&'a str]) -> Result<Request, WordsFault> {
     match serve_command(alloc)?.try_get_matches_from(words) {
         Ok(matches) => request_in(alloc, &matches),
@@ -71,7 +71,7 @@ fn stale_in(matches: &ArgMatches<'_>) -> Result<Option<u32>, WordsFault> {
     }
 }
 
-/// The seconds that a value of `--stale` says: digits alone, a number from 1 to 86,400.
+/// The seconds of a value of `--stale`: only digits, a number from 1 to 86,400.
 fn seconds_of(value: &str) -> Option<u32> {
     if !value.bytes().all(|byte| byte.is_ascii_digit()) {
         return None;

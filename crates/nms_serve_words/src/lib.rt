@@ -1,4 +1,4 @@
-//! The words of the serving program's command line: what they ask for, or why they are refused.
+//! The words of the serving program's command line: the request that they make, or why they are refused.
 #![tactic(auto)]
 
 mod command_line;

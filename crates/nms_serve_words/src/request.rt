@@ -1,6 +1,6 @@
-//! What the words of the command line ask for.
+//! The request that the words of the command line make.
 
-/// What the words of the command line ask for.
+/// The request that the words of the command line make.
 #[derive(Drop)]
 pub struct Request {
     /// The file that `--setup` names.

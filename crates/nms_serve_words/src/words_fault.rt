@@ -5,7 +5,7 @@ use thiserror::Error;
 /// Why the words of the command line are no request.
 #[derive(Debug, Drop, Error)]
 pub enum WordsFault {
-    /// G1: the parser's text, of a fault or, if `help` holds, of the help or the version that was asked for.
+    /// G1: the parser's text: a fault or, if `help` holds, the help or the version that was asked for.
     #[error("{text}")]
     Parser { text: String, help: bool },
     /// G2: out of memory.
@@ -23,7 +23,7 @@ pub enum WordsFault {
     /// Two clients have the same input, or one path is written to twice: by two clients, or by a client and the tape.
     #[error("usage: a path is given to two clients, or to a client and --tape")]
     PathTwice,
-    /// The value of `--stale` is not a whole number from 1 to 86,400, in digits alone.
+    /// The value of `--stale` is not a whole number from 1 to 86,400, in digits only.
     #[error("usage: --stale takes whole seconds, from 1 to 86400")]
     StaleForm,
 }

@@ -1,4 +1,4 @@
--- What a keeper's tape, its board and its published version are to one another.
+-- How a keeper's tape, its board and its published version belong together.
 use Rattle.std.proofs.Common.{ℕ, ◌≡◌, ◌+◌, ◌<◌, ◌≤◌, ◌++◌, List, [], ◌∷◌, Option, Some, None, length, take, drop, fold}
 use Rattle.std.proofs.Common.{refl, sym, ap, subst, ◌∙◌, arith, length-append, append_assoc}
 use Rattle.std.proofs.lemmas.List.{append-nil, take_more}
@@ -14,7 +14,7 @@ use Rattle.nms_opening.specs.Opening.{Opens}
 use Rattle.nms_versions.specs.Published.{changes, committed}
 use Rattle.nms_versions.specs.Taped.{Taped, tape_of}
 
--- not more were published than were appended
+-- no more were published than were appended
 pub published_within : (taped : Taped) → length (changes taped.published) ≤ length (tape_of taped)
 published_within taped = omega (arith, length-append (changes taped.published) taped.pending)
 
@@ -67,7 +67,7 @@ pub as_long_published : (taped later : Taped)
     → changes later.published ≡ tape_of taped → length (tape_of later) ≡ length (tape_of taped)
 as_long_published taped later is whole = ap length (whole_tape taped later is whole)
 
--- of an empty tape nothing was published, and nothing waits
+-- an empty tape has nothing published, and nothing waits
 empty_parts : (one other : List Change) → one ++ other ≡ [] → (one ≡ []) × (other ≡ [])
 empty_parts [] other none = (refl, none)
 empty_parts (x ∷ one) other none = absurd (cc)
@@ -108,7 +108,7 @@ recorded_whole taped later more published roster before after none is counted wr
     ap (λ (n : ℕ). drop n (tape_of later)) zero ∙ taken_whole taped later more none is in
     subst (λ (l : List Change). Appends before after (changes_text roster l)) text written
 
--- a board that stands for the opening changes of another shows alike
+-- a board that has taken the opening changes of another shows the same
 opens_alike : (board next : Board) (taped : Taped) (sym_ : ℕ) → Opens board (tape_of taped) → taped.sizes ≡ board.sizes
     → next ≡ fold after (opening taped.sizes) (tape_of taped) → sym_ < length board.sizes.lots → ShowAlike board next sym_
 opens_alike board next taped sym_ opens sizes is within =

@@ -1,4 +1,4 @@
--- What a lane's senders and a tape's desks are when they were just opened.
+-- The state of a lane's senders and a tape's desks just after opening.
 use Rattle.std.proofs.Common.{ℕ, ◌≡◌, ◌<◌, List, [], ◌∷◌, length, map, ap, refl, arith}
 use Rattle.std.specs.Prelude.{slice_index_or, replicate, take}
 use Rattle.std.specs.List.{AllByRecursion}

@@ -1,4 +1,4 @@
--- What the parts of a run are made of, and what a guarded stream gives. This product's own rule.
+-- The parts of a run, and the bytes of a guarded stream. This product's own rule.
 use Rattle.std.specs.Prelude.{ℕ, ◌≡◌, ◌⊎◌, List, Option, Result, Ok}
 use Rattle.std.specs.Io.KnownBytes.{ReadConsumes}
 use Rattle.nms_serving.specs.declared.door.Door.{Door}

@@ -16,7 +16,7 @@ use std::sync::Wait;
 use std::thread::Threads;
 use std::{io, thread};
 
-/// Where a client's requests come from and its answers go to.
+/// The source of a client's requests, and the target of its answers.
 #[derive(Drop)]
 pub enum ClientStreams<'a> {
     /// Standard input and standard output.
@@ -30,7 +30,7 @@ pub enum ClientStreams<'a> {
     },
 }
 
-/// What a client's thread came to.
+/// The result of a client's thread.
 #[derive(Clone, Copy, Drop)]
 pub struct ClientEnd {
     /// The client's number, from 1.
@@ -90,8 +90,8 @@ fn answer_client<R: Threads + Wait + Sync, L: LaterDesks>(
     }
 }
 
-/// Opens a client's paths at the same time, so that the client may open them in any order. If one can't be opened the run
-/// ends at once, so that the other is waited for no longer.
+/// Opens a client's paths at the same time, so that the client may open them in any order. If one can't be opened, the run ends
+/// at once, so that the wait for the other ends too.
 fn open_both<R: Threads + Wait + Sync>(
     means: &Means<'_, R>,
     number: u8,
@@ -121,7 +121,7 @@ fn opened(run: &Run<'_>, outcome: io::Result<File>, stream: Stream) -> Result<Fi
     }
 }
 
-/// Answers the requests of a stream, once they are held no longer.
+/// Answers the requests of a stream, once they are no longer held.
 fn answer_from<R: Wait, S: Read + Drop, W: Write + Drop, L: LaterDesks>(
     means: &Means<'_, R>,
     number: u8,

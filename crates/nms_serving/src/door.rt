@@ -1,4 +1,4 @@
-//! Paths that threads open, read and write, and how a thread ends that waits at a FIFO.
+//! Paths that threads open, read and write, and how a thread that waits at a FIFO ends.
 ghost use Rattle.std.specs.Prelude.{◌≡◌};
 ghost use Rattle.nms_serving.specs.Streams.{path_of};
 
@@ -15,7 +15,7 @@ use std::{fs, io, thread};
 /// How long a thread that wakes another keeps a FIFO open, in seconds: the process ends before.
 const KEPT: u64 = 86_400;
 
-/// Which end of a FIFO a thread of the run has.
+/// The end of a FIFO that a thread of the run has.
 #[derive(Clone, Copy)]
 pub(crate) enum Side {
     /// It reads.
@@ -24,7 +24,7 @@ pub(crate) enum Side {
     Writes,
 }
 
-/// A path that a thread opens. To open a FIFO waits for its other end.
+/// A path that a thread opens. Opening a FIFO waits for its other end.
 #[derive(Drop)]
 pub struct Door<'a> {
     path: &'a str,
@@ -43,7 +43,7 @@ impl<'a> Door<'a> {
         self.open(files, run, OpenOptions::new().read(true))
     }
 
-    /// Opens the path to write behind what is there. A file that is missing is made.
+    /// Opens the path to append to its file. It makes a file that is missing.
     pub(crate) fn open_to_write(&self, files: &HostRuntime, run: &Run<'_>) -> io::Result<File> {
         self.open(files, run, OpenOptions::new().append(true).create(true))
     }
@@ -56,8 +56,8 @@ impl<'a> Door<'a> {
         how.open(files, self.path)
     }
 
-    /// Opens the FIFO to read it, and waits for no writer: it has one while this opens it, and none afterwards. The second
-    /// opening goes by the first, so both are of one FIFO, though the path may name another by then.
+    /// Opens the FIFO to read it, and waits for no writer: it has one during this call, and none afterwards. The second opening
+    /// goes by the first. So both are of one FIFO, though the path may name another by then.
     pub(crate) fn open_anew(
         &self,
         files: &HostRuntime,
@@ -71,7 +71,7 @@ impl<'a> Door<'a> {
         Door::new(path.as_str()).open_to_read(files, run)
     }
 
-    /// Whether there is another FIFO now than the one that was opened: that was removed, and one was made again.
+    /// Whether there is another FIFO now than the one that was opened: the old one was removed, and one was made again.
     pub(crate) fn is_renewed(&self, host: &HostRuntime, opened: &File) -> bool {
         let (Ok(now), Ok(then)) = (fs::metadata(host, self.path), opened.metadata()) else {
             return false;
@@ -84,8 +84,8 @@ impl<'a> Door<'a> {
         is_fifo(host, self.path)
     }
 
-    /// Wakes the thread of the run that waits here at a FIFO, if one does. Another thread does that, which is left behind
-    /// when the process ends: it opens both ends of the FIFO and gives it a line feed, or takes what is in it.
+    /// Wakes the thread of the run that waits here at a FIFO, if one does. Another thread does that, and the process ends
+    /// without waiting for it. It opens both ends of the FIFO, and writes a line feed or reads what is in it.
     pub(crate) fn wake<R: Threads>(&self, rt: &R, host: &HostRuntime, alloc: Global, side: Side) {
         if !self.is_fifo(host) {
             return;

@@ -1,4 +1,4 @@
-//! The epochs of a run: where a tape has as many changes as it may, the next one goes on.
+//! The epochs of a run: when a tape has as many changes as it may, the next one goes on.
 ghost use Rattle.std.specs.Prelude.{◌≡◌, ℕ, ◌*◌, ◌<◌, ◌≤◌, length, slice_index_or};
 ghost use Rattle.nms_quote.specs.Roster.{sizes_of};
 ghost use Rattle.nms_quote.specs.declared.TheConstants.{MOST_CHANGES};
@@ -18,22 +18,22 @@ use std::marker::PhantomData;
 use std::mem::replace;
 use std::sync::Wait;
 
-/// What opens the files of an epoch: that of its tape, and that of the lengths beside it.
+/// The opener of an epoch's files: that of its tape, and that of the lengths beside it.
 pub trait EpochFiles<X, Y> {
     /// Opens the files of an epoch, counted from 0. Each has to be empty.
     fn open(&self, epoch: u64) -> Result<(X, Y), ServeFault>;
 }
 
-/// What the next epoch begins with.
+/// The means to begin the next epoch.
 #[derive(Drop)]
 pub(crate) struct NextEpoch<'a, F, H: House> {
-    /// What opens its files.
+    /// The opener of its files.
     pub(crate) files: &'a F,
     /// Where the clients find their desks of it.
     pub(crate) slots: &'a [Slot<H>],
 }
 
-/// The epoch that a run stands in, and what the earlier ones came to. It is not `Drop`: end it by `end`.
+/// The epoch of a run now, and the sums of the earlier ones. It is not `Drop`: end it by `end`.
 pub(crate) struct Epochs<'a, H: House, X: Write, Y: Write> {
     keeper: Keeper<'a, X, Y>,
     /// The number of the epoch.
@@ -83,7 +83,7 @@ impl<'a, H: House, X: Write, Y: Write> Epochs<'a, H, X, Y> {
         self.epoch
     }
 
-    /// Publishes what is waiting.
+    /// Publishes the waiting changes.
     pub(crate) fn publish<R: Wait>(&mut self, rt: &R) -> Result<(), ServeFault> {
         if self.keeper.waiting() == 0 {
             return Ok(());
@@ -91,7 +91,7 @@ impl<'a, H: House, X: Write, Y: Write> Epochs<'a, H, X, Y> {
         self.keeper.publish(rt)
     }
 
-    /// Takes a change in. If the tape has as many as it may, the next epoch begins before.
+    /// Takes a change in. If the tape is full, the next epoch begins before.
     pub(crate) fn take_in<R: Wait, F: EpochFiles<X, Y>>(
         &mut self,
         means: &Means<'_, R>,
@@ -112,8 +112,8 @@ impl<'a, H: House, X: Write, Y: Write> Epochs<'a, H, X, Y> {
         self.keeper.take_in(means.rt, change)
     }
 
-    /// Publishes what is waiting, and begins the next epoch: its opening changes are published, then each client's desk of it
-    /// is laid in its slot, and then this one's publishing ends.
+    /// Publishes the waiting changes, and begins the next epoch. Its opening changes are published, then each client's desk of
+    /// it is laid in its slot, and then this one's publishing ends.
     fn begin_next<R: Wait, F: EpochFiles<X, Y>>(
         &mut self,
         means: &Means<'_, R>,

@@ -20,7 +20,7 @@ use std::time::Duration;
 /// How long a feed rests before it looks for the next writer of its FIFO, in milliseconds. This product's own rule.
 const REST: u64 = 10;
 
-/// What a feed's thread came to.
+/// The result of a feed's thread.
 #[derive(Clone, Copy, Drop)]
 pub struct FeedEnd {
     /// The feed.
@@ -47,9 +47,9 @@ pub(crate) fn feed_all<R: Wait>(
     FeedEnd { feed, counts }
 }
 
-/// Opens a feed's path, and sends the changes of its stream. A FIFO whose writer left is read on, if the run goes on so:
-/// this end stays open, so that no writer finds it closed. What a writer left without its line feed is refused before. A FIFO
-/// that was removed and made again is opened anew.
+/// Opens a feed's path, and sends the changes of its stream. If the run reads on, a FIFO whose writer left is read on: this end
+/// stays open, so that no writer finds it closed. A last record without its line feed is refused before. A FIFO that was
+/// removed and made again is opened anew.
 fn read_feed<R: Wait>(
     means: &Means<'_, R>,
     door: &Door<'_>,
@@ -66,7 +66,7 @@ fn read_feed<R: Wait>(
     let is_kept = run.ways.keep && door.is_fifo(means.host);
     let watcher = Watcher::new(means.host, run);
     for _ in 0..u64::MAX {
-        // Clients are looked at before the stream: what was written before they ended is still read.
+        // The clients are checked before the stream: changes written before they ended are still read.
         let is_last = !is_kept || run.is_closing();
         read_writer(means, &mut file, &watcher, counts, sender)?;
         if is_last {

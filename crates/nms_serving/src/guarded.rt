@@ -1,4 +1,4 @@
-//! Streams of a run, at which a thread ends when the run does.
+//! Streams of a run: when the run ends, a thread at one of them ends too.
 ghost use Rattle.std.specs.Prelude.{◌≡◌, None};
 ghost use Rattle.std.specs.Io.{ReadsAtMost};
 ghost use Rattle.std.specs.Io.KnownBytes.{ReadConsumes};
@@ -8,7 +8,7 @@ use crate::run::Run;
 use std::io;
 use std::io::{ErrorKind, Read, Write};
 
-/// A stream of a run. When a fault has ended the run, a reader is at its end, and a writer fails.
+/// A stream of a run. After a fault has ended the run, a reader is at its end, and a writer fails.
 #[derive(Drop)]
 pub struct Guarded<'a, F> {
     stream: F,
@@ -34,7 +34,7 @@ impl<F: Read> Read for Guarded<'_, F> {
             return Ok(0);
         }
         let read = self.stream.read(buf);
-        // What woke the thread is no part of the stream.
+        // The line feed that woke the thread is no part of the stream.
         if self.run.is_stopped() { Ok(0) } else { read }
     }
 }

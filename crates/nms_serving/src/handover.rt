@@ -1,4 +1,4 @@
-//! How clients come by their desks of later epochs: the taker lays each in its client's slot.
+//! How clients get their desks of later epochs: the taker lays each in its client's slot.
 ghost use Rattle.std.specs.Prelude.{◌≡◌, ◌<◌, IfSome};
 ghost use Rattle.nms_quote.specs.Roster.{sizes_of};
 
@@ -7,7 +7,7 @@ use std::marker::{Brand, PhantomData};
 use std::sync::atomic::{AtomicU64, Ordering};
 use std::sync::{Mutex, Wait};
 
-/// What all epochs of a run have. Each run picks its own; no value of it is made.
+/// The types that all epochs of a run share. Each run picks its own; no value of it is made.
 pub(crate) trait Sizing {
     ghost use Rattle.nms_quote.specs.Roster.{Sizes};
 
@@ -61,7 +61,7 @@ impl<B: Sizing> House for HouseDesk<B> {
     }
 }
 
-/// Where a client finds its desk of the latest epoch, once it has not gone over to it.
+/// Where a client finds its desk of the latest epoch, until it goes over to it.
 #[derive(Drop)]
 pub(crate) struct Slot<H: House> {
     /// The latest epoch whose desk was laid here; 0 if none was.
@@ -104,7 +104,7 @@ impl<H: House> Slot<H> {
     }
 }
 
-/// A client's slot, with what it takes to wait for its lock.
+/// A client's slot, with the means to wait for its lock.
 #[derive(Drop)]
 pub(crate) struct SlotOf<'a, R, H: House> {
     pub(crate) rt: &'a R,

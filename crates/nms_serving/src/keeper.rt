@@ -81,9 +81,9 @@ impl<'a, X: Write, Y: Write> Keeper<'a, X, Y> {
         }
     }
 
-    /// The keeper of the next epoch, over a tape that was just opened and its files: its tape begins with the opening changes
-    /// of this one's board, which are in its file and then published. So a look shows the same before and after. This one
-    /// stays as it is.
+    /// The keeper of the next epoch, over a tape that was just opened and its files. The new tape begins with the opening
+    /// changes of this board, which are written to its file and then published. So a look shows the same before and after. This
+    /// keeper stays as it is.
     pub(crate) fn next<R: Wait>(
         &self,
         alloc: Global,
@@ -156,7 +156,7 @@ impl<'a, X: Write, Y: Write> Keeper<'a, X, Y> {
         Ok(())
     }
 
-    /// Word of what is published, for a desk.
+    /// The message of what is published, for a desk.
     pub(crate) fn receipt(&mut self) -> Receipt
         ensures opening { result.opening ≡ self.old.publisher.opening }
         ensures same { self.new.publisher ≡ self.old.publisher }
@@ -223,7 +223,7 @@ impl<'a, X: Write, Y: Write> Keeper<'a, X, Y> {
         Ok(())
     }
 
-    /// Writes what is waiting to the tape's file, and the tape's length to the file beside it, and then publishes it. If
+    /// Writes the waiting changes to the tape's file, and the tape's length to the file beside it, and then publishes them. If
     /// either can't be written, nothing is published: so both writes have ended well before any desk sees the changes.
     #[tactic(auto, using(crate::proofs::KeeperFacts::stands_still, crate::proofs::KeeperFacts::as_long_published))]
     pub(crate) fn publish<R: Wait>(&mut self, rt: &R) -> Result<(), ServeFault>
@@ -246,7 +246,7 @@ impl<'a, X: Write, Y: Write> Keeper<'a, X, Y> {
         Ok(())
     }
 
-    /// Writes what is waiting to the tape's file, and the tape's length to the file beside it.
+    /// Writes the waiting changes to the tape's file, and the tape's length to the file beside it.
     fn record(&mut self) -> Result<(), ServeFault>
         ensures same { (self.new.publisher ≡ self.old.publisher) × (self.new.published ≡ self.old.published) × (self.new.publishings ≡ self.old.publishings) }
         ensures listed { OnOk result (Appends (Y.contents self.old.lengths) (Y.contents self.new.lengths) (length_line (length (tape_of self.old.publisher)))) }

@@ -1,4 +1,4 @@
-//! What is reported of a feed while it is read.
+//! The reports about a feed while it is read.
 use crate::silence::Notice;
 use crate::stream::letter_of;
 use nms_lines::LineFault;

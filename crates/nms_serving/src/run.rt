@@ -23,7 +23,7 @@ pub struct Ways {
     pub stale: Option<u32>,
 }
 
-/// What all threads of a run share: the setup, how many streams are left, what is known of each feed, the first fault,
+/// The state that all threads of a run share: the setup, how many streams are left, the state of each feed, the first fault,
 /// and the bell that wakes the taker. No proof rests on it.
 #[derive(Drop)]
 pub struct Run<'a> {
@@ -35,7 +35,7 @@ pub struct Run<'a> {
     clients: AtomicU64,
     /// How many feeds have begun, and have neither sent a change nor ended.
     unheard: AtomicU64,
-    /// What is known of each feed.
+    /// The state of each feed.
     pub(crate) voices: Voices,
     /// 0 while requests are held.
     gate: AtomicU64,
@@ -48,7 +48,7 @@ pub struct Run<'a> {
 }
 
 impl<'a> Run<'a> {
-    /// A run of which nothing has begun.
+    /// A run in which nothing has begun.
     pub fn new(setup: &'a Setup, ways: Ways) -> Self
         ensures { (result.setup.now ≡ setup.now) × (result.ways ≡ ways) }
     {
@@ -151,13 +151,13 @@ impl<'a> Run<'a> {
         self.gate.load(Ordering::SeqCst) == 0
     }
 
-    /// Holds requests no longer.
+    /// Stops holding requests.
     pub(crate) fn open_gate(&self) {
         self.gate.store(1, Ordering::SeqCst);
         self.gate.wake_all();
     }
 
-    /// Waits until requests are held no longer.
+    /// Waits until requests are no longer held.
     pub(crate) fn pass_gate<R: Wait>(&self, rt: &R) {
         for _ in rt.forever() {
             if !self.is_gate_shut() {
@@ -168,7 +168,7 @@ impl<'a> Run<'a> {
         unreachable!()
     }
 
-    /// The taker sleeps until the bell rings, or rang since the last sleep.
+    /// The taker sleeps until the bell rings, or returns at once if it rang since the last sleep.
     pub(crate) fn sleep<R: Wait>(&self, rt: &R) {
         self.bell.park(rt);
     }

@@ -9,8 +9,8 @@ use nms_lines::LineFault;
 use nms_quote::Feed;
 use std::fmt;
 
-/// Why a run ended early. All its threads have ended. What stands on the tape's file is whole batches, in order; only the
-/// last write to a stream that fails may have left a first part.
+/// Why a run ended early. All its threads have ended. The tape's file has whole batches, in order; only the last write to a
+/// stream that fails may have left a first part.
 #[derive(Clone, Copy, Debug, PartialEq, Eq)]
 pub enum ServeFault {
     /// E1: a stream could not be opened.
@@ -23,7 +23,7 @@ pub enum ServeFault {
     TooLong(Stream),
     /// E4: out of memory.
     NoMemory,
-    /// E5: a record of a feed was refused, and that was to end the run.
+    /// E5: a record of a feed was refused, and the run was to end then.
     Refused {
         /// The feed.
         feed: Feed,
@@ -34,11 +34,11 @@ pub enum ServeFault {
     },
     /// E6: no board was opened, or a thread could not be started.
     NotBegun,
-    /// E7: a change came when the tape had as many as it may, and no epoch could begin.
+    /// E7: a change came when the tape was full, and no epoch could begin.
     TapeFull,
-    /// E7: there were as many epochs as there may be (`MOST_EPOCHS`).
+    /// E7: there were as many epochs as allowed (`MOST_EPOCHS`).
     TooManyEpochs,
-    /// E2: there is something in the file of the next epoch's tape, or of its lengths, already.
+    /// E2: the file of the next epoch's tape, or of its lengths, is not empty.
     NotEmpty(Stream),
     /// E8: a client's look gave no reading. Clients are counted from 1.
     NoReading(u8),

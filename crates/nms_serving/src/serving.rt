@@ -25,7 +25,7 @@ use std::sync::Wait;
 use std::thread;
 use std::thread::{JoinHandle, Scope, Threads};
 
-/// What every thread of a run works with.
+/// The means of every thread of a run.
 #[derive(Drop)]
 pub struct Means<'a, R> {
     pub rt: &'a R,
@@ -34,7 +34,7 @@ pub struct Means<'a, R> {
     pub run: &'a Run<'a>,
 }
 
-/// The ends of a board that was opened: what its threads send, take and look by.
+/// The ends of a board that was opened: its threads send, take and look by them.
 #[derive(Drop)]
 pub(crate) struct Ends {
     /// A sender for each feed, in order.
@@ -45,7 +45,7 @@ pub(crate) struct Ends {
     desks: Vec<Desk>,
 }
 
-/// What the threads of a run came to.
+/// The results of a run's threads.
 #[derive(Drop)]
 pub struct Served {
     /// The feeds, in order.
@@ -60,13 +60,13 @@ pub struct Served {
     pub epochs: u64,
 }
 
-/// Opens a board, and serves feeds and clients, each in a thread of its own, until all of them have ended or a fault ends
-/// the run (`Run::fault`). What the feeds send is taken, written to the tape's file and published meanwhile. Where the tape
-/// has as many changes as it may, a new epoch goes on in files of its own. All threads have ended when it returns.
+/// Opens a board, and serves feeds and clients, each in a thread of its own, until all of them have ended or a fault ends the
+/// run (`Run::fault`). What the feeds send is taken, written to the tape's file and published meanwhile. If the tape has as
+/// many changes as it may, a new epoch goes on in files of its own. All threads have ended when it returns.
 ///
 /// There is a door for each feed of the setup, in order; clients beyond the desks of the setup are not served. `tape` and
-/// `lengths` are the files of the first epoch, `files` opens those of later ones. `NotBegun` if no board was opened. No other
-/// fault is returned: those of a run that began are `Run::fault`.
+/// `lengths` are the files of the first epoch, `files` opens those of later ones. `NotBegun` if no board was opened. It returns
+/// no other fault: those of a run that began are `Run::fault`.
 pub fn serve<R: Threads + Wait + Sync, X: Write + Drop, Y: Write + Drop, F: EpochFiles<X, Y>>(
     means: &Means<'_, R>,
     doors: &Doors<'_>,
@@ -175,7 +175,7 @@ fn serve_epochs<
     served
 }
 
-/// Starts a thread for each feed and each client, takes what the feeds send until all have ended, and hears them out.
+/// Starts a thread for each feed and each client, takes what the feeds send until all have ended, and collects their results.
 fn run_threads<
     's,
     E,
@@ -203,7 +203,7 @@ fn run_threads<
     } = ends;
     let mut feeds = Vec::new(means.alloc);
     let mut clients = Vec::new(means.alloc);
-    // All clients have begun before the first feed looks whether they have ended.
+    // All clients have begun before the first feed checks whether they have ended.
     start_clients(scope, means, doors.clients, next.slots, desks, &mut clients);
     start_feeds(scope, means, doors.feeds, senders, &mut feeds);
     start_watch(scope, means);
@@ -319,7 +319,7 @@ fn start_watch<'s, E, R: Wait + Sync>(scope: &'s Scope<'s, E>, means: &'s Means<
     }
 }
 
-/// Keeps the handle of a thread that was started. If it was not, or there is no memory for its handle, the run ends.
+/// Keeps the handle of a thread that was started. If it was not, or if out of memory for its handle, the run ends.
 fn keep<T: Drop>(run: &Run<'_>, started: Option<JoinHandle<T>>, handles: &mut Vec<JoinHandle<T>>) {
     match started {
         Some(handle) => if handles.push(handle).is_err() {
@@ -332,7 +332,7 @@ fn keep<T: Drop>(run: &Run<'_>, started: Option<JoinHandle<T>>, handles: &mut Ve
     }
 }
 
-/// What the threads came to, in order. One for which there is no memory is left out.
+/// The results of the threads, in order. A result for which there is no memory is left out.
 fn join_all<R: Threads, T: Drop>(means: &Means<'_, R>, handles: Vec<JoinHandle<T>>) -> Vec<T> {
     let mut ends = Vec::new(means.alloc);
     for handle in handles {

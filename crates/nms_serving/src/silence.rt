@@ -1,11 +1,11 @@
-//! When a feed is reported as silent, and when it is reported that it speaks again (specs/Silences).
+//! When a feed is reported as silent, and when it is reported that it sends again (specs/Silences).
 ghost use Rattle.std.specs.Prelude.{◌≡◌, ◌+◌, false, nat_le};
 ghost use Rattle.nms_serving.specs.Silences.{after_look, notice_of};
 
 /// What is reported of a feed.
 #[derive(Clone, Copy, Debug, PartialEq, Eq)]
 pub enum Notice {
-    /// No record came for as long as was asked.
+    /// No record came for as long as the limit.
     Silent,
     /// A record came after a silence that was reported.
     SpeaksAgain,
@@ -31,8 +31,7 @@ impl Silence {
         }
     }
 
-    /// Looks at the feed, and returns what is to be reported, if anything: a silence once, when it has lasted `most`
-    /// milliseconds, and its end.
+    /// Looks at the feed, and returns the report, if any: a silence once, when it has lasted `most` milliseconds, and its end.
     pub(crate) fn look(&mut self, now: u64, has_spoken: bool, most: u64) -> Option<Notice>
         ensures notice { result ≡ notice_of self.old now has_spoken most }
         ensures after { self.new ≡ after_look self.old now has_spoken most }

@@ -22,8 +22,8 @@ pub struct Doors<'a> {
 }
 
 /// Takes the changes that the feeds send, and publishes them after each 64 and when none is waiting, until all feeds and
-/// clients have ended. Requests that are held go on once the first change of each feed is published. After a fault it takes
-/// them for nothing, so that no feed waits for room.
+/// clients have ended. Held requests go on once the first change of each feed is published. After a fault it takes changes and
+/// drops them, so that no feed waits for room.
 pub(crate) fn take_all<
     R: Threads + Wait + Sync,
     X: Write + Drop,
@@ -42,7 +42,7 @@ pub(crate) fn take_all<
     let run = means.run;
     let mut are_woken = false;
     for _ in means.rt.forever() {
-        // The run is looked at before the lane: what a stream sent before its end is still found.
+        // The run is checked before the lane: what a stream sent before its end is still found.
         let is_over = run.is_over();
         if run.is_gate_shut() && run.have_feeds_begun() {
             take_waiting(means, next, epochs, taker);
@@ -102,7 +102,7 @@ fn take_one<R: Wait, X: Write + Drop, Y: Write + Drop, F: EpochFiles<X, Y>, H: H
     true
 }
 
-/// Publishes what is waiting, unless a fault has ended the run.
+/// Publishes the waiting changes, unless a fault has ended the run.
 fn publish<R: Wait, X: Write, Y: Write, H: House>(
     means: &Means<'_, R>,
     epochs: &mut Epochs<'_, H, X, Y>,

@@ -1,20 +1,20 @@
-//! What the threads of a run know of each feed.
+//! The state of each feed, as the threads of a run know it.
 use nms_quote::{Feed, MOST_FEEDS};
 use std::sync::atomic::{AtomicBool, Ordering};
 
-/// What the threads of a run know of one feed.
+/// The state of one feed, as the threads of a run know it.
 #[derive(Drop)]
 pub(crate) struct Voice {
     /// It has sent a change, or ended.
     has_begun: AtomicBool,
-    /// A record of it came since it was last listened to.
+    /// A record of it came since the last check.
     has_spoken: AtomicBool,
     /// It has ended.
     has_ended: AtomicBool,
 }
 
 impl Voice {
-    /// Of a feed that nothing is known of yet.
+    /// A feed without any record yet.
     pub(crate) fn new() -> Self {
         Voice {
             has_begun: AtomicBool::new(false),
@@ -51,7 +51,7 @@ impl Voice {
     }
 }
 
-/// What the threads of a run know of each feed.
+/// The states of all feeds, as the threads of a run know them.
 #[derive(Drop)]
 pub(crate) struct Voices {
     /// By the feed's place.
@@ -59,7 +59,7 @@ pub(crate) struct Voices {
 }
 
 impl Voices {
-    /// Of feeds that nothing is known of yet.
+    /// Feeds without any record yet.
     pub(crate) fn new() -> Self {
         Voices {
             each: [

@@ -1,4 +1,4 @@
-//! Who is told of what a feed does: the taker is woken, and refused records are reported.
+//! The watcher of a feed: it wakes the taker, and reports refused records.
 use crate::report::Refused;
 use crate::run::Run;
 use nms_feeds::FeedWatch;
@@ -10,8 +10,8 @@ use std::time::Clock;
 /// The most refused records of a feed that are reported in a second. This product's own rule.
 const MOST_REPORTS: u64 = 10;
 
-/// Wakes the taker for each change of a feed that was sent, notes that the feed speaks, and reports refused records on standard error, at most 10 in a
-/// second of the clock. No proof rests on it.
+/// Wakes the taker for each change of a feed that was sent, notes that the feed sends, and reports refused records on standard
+/// error, at most 10 in a second of the clock. No proof rests on it.
 #[derive(Drop)]
 pub(crate) struct Watcher<'a> {
     host: &'a HostRuntime,
@@ -22,7 +22,7 @@ pub(crate) struct Watcher<'a> {
 }
 
 impl<'a> Watcher<'a> {
-    /// Of a feed that sent nothing yet.
+    /// For a feed that sent nothing yet.
     pub(crate) fn new(host: &'a HostRuntime, run: &'a Run<'a>) -> Self {
         Watcher {
             host,
@@ -32,7 +32,7 @@ impl<'a> Watcher<'a> {
         }
     }
 
-    /// Whether a record more is reported in this second.
+    /// Whether one more record may be reported in this second.
     fn may_report(&self) -> bool {
         let Ok(now) = self.host.monotonic() else {
             return false;

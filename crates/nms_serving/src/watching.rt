@@ -11,7 +11,7 @@ const REST: u64 = 100;
 /// Milliseconds of a second.
 const SECOND: u64 = 1_000;
 
-/// Reports each feed of which no record came for a number of seconds, once a silence, and when it speaks again, until all
+/// Reports each feed from which no record came for a number of seconds, once a silence, and when it sends again, until all
 /// feeds and clients have ended. A feed that has ended is not silent.
 pub(crate) fn watch_feeds<R: Wait>(means: &Means<'_, R>, seconds: u32) {
     let run = means.run;
@@ -39,10 +39,10 @@ fn look_at_all<R>(means: &Means<'_, R>, seconds: u32, silences: &mut [Silence]) 
     }
 }
 
-/// Looks at a feed, and reports what there is to report.
+/// Looks at a feed, and writes the report, if any.
 fn look_at<R>(means: &Means<'_, R>, feed: Feed, seconds: u32, now: u64, silence: &mut Silence) {
     let voice = means.run.voices.of(feed);
-    // The end is looked at first: a record that came before it is still noticed.
+    // The end is checked first: a record that came before it is still noticed.
     let has_ended = voice.has_ended();
     let has_spoken = voice.listen();
     if has_ended && !has_spoken {

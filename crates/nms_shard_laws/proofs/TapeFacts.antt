@@ -1,5 +1,5 @@
--- Two tapes that say the same of a symbol of theirs show the same of it: contents, states and lots follow from what was said, and
--- what a change alters is the latest on both.
+-- If two tapes say the same about a symbol of theirs, they show the same for it. Contents, states and lots follow from what was
+-- said, and what a change alters is the latest on both.
 use Rattle.std.proofs.Common.{◌≡◌, ℕ, zero, suc, ◌+◌, ◌*◌, ◌<◌, ◌≤◌, ◌==◌, ◌&&◌, Bool, true, false, All, List, [], ◌∷◌, ◌++◌, length, map}
 use Rattle.std.proofs.Common.{Option, Some, None, option_map, slice_get, unwrap_or, if◌then◌else◌, nat_lt, fold, append_assoc}
 use Rattle.std.proofs.Common.{refl, sym, ap, ap₂, subst, ◌∙◌, inl, inr, arith, lt-ltb}
@@ -35,11 +35,11 @@ use Rattle.nms_shard_laws.specs.Shards.{IsCut, IsOfShard, of_symbol, said_of_sym
 
 -- ---- the relation
 
--- whether something stands on a side
+-- whether a side has a quotation
 abbrev stood : ℕ → ℕ → Side → Tape → Bool
 stood part symbol side tape = is_some (content_at part symbol side tape)
 
--- two tapes of rosters of their own are alike at a symbol of theirs
+-- two tapes, each of its own roster, are alike at a symbol of theirs
 record Alike (whole shard : Sizes) (one other : Tape) (sym own : ℕ) : Type 0 where
   lot : lot_listed whole one sym ≡ lot_listed shard other own
   content : (side : Side) (part : ℕ) → part < whole.parts → content_at part sym side one ≡ content_at part own side other
@@ -96,13 +96,13 @@ alike_first whole shard a b lot = record {
 
 -- ---- one more change
 
--- two changes say the same of a symbol each
+-- two changes say the same, each about its symbol
 record SaysSame (a b : ℕ) (change also : Change) : Type 0 where
   side : (part : ℕ) (side : Side) → said_of part a side change ≡ said_of part b side also
   state : (part : ℕ) → state_said part a change ≡ state_said part b also
   lot : lot_said a change ≡ lot_said b also
 
--- a change says nothing of a symbol
+-- a change says nothing about a symbol
 record SaysNothing (a : ℕ) (change : Change) : Type 0 where
   side : (part : ℕ) (side : Side) → said_of part a side change ≡ None
   state : (part : ℕ) → state_said part a change ≡ None
@@ -113,7 +113,7 @@ data Moved (before now n before' now' n' : ℕ) (stands : Bool) : Type 0 where
   neither : stands ≡ true → now ≡ before → now' ≡ before' → before ≤ n → before' ≤ n' → Moved before now n before' now' n' stands
   both : now ≡ n + 1 → now' ≡ n' + 1 → Moved before now n before' now' n' stands
 
--- two tests of order that hold together are one
+-- two tests of order that hold together are the same
 lt_same : (a b c d : ℕ) → (a < b → c < d) → (b ≤ a → d ≤ c) → nat_lt a b ≡ nat_lt c d
 lt_same a b c d below above =
     elim (cases_lt a b) [
@@ -180,7 +180,7 @@ state_stays part a side (Withdraw p) content state state' before something = by_
     by_test false puts = before puts
 state_stays part a side (Lot s lot) content state state' before something = before something
 
--- both tapes go on with what says the same
+-- both tapes go on with changes that say the same
 alike_more : (whole shard : Sizes) (one other : Tape) (a b : ℕ) (change also : Change) → SaysSame a b change also
     → Alike whole shard one other a b → Alike whole shard (one ++ change ∷ []) (other ++ also ∷ []) a b
 alike_more whole shard one other a b change also same alike =
@@ -217,7 +217,7 @@ alike_more whole shard one other a b change also same alike =
           (moves side part in_parts something) (moves along second second_in second_something);
     }
 
--- a tape goes on with what says nothing of the symbol
+-- a tape goes on with a change that says nothing about the symbol
 record IsKept (a : ℕ) (tape : Tape) (change : Change) (side : Side) (part : ℕ) : Type 0 where
   content : content_at part a side (tape ++ change ∷ []) ≡ content_at part a side tape
   receipt : receipt_of part a side (tape ++ change ∷ []) ≡ receipt_of part a side tape
@@ -259,7 +259,7 @@ alike_aside whole shard one other a b change nothing alike =
     as_was None = refl
     as_was (Some lot) = refl
 
--- ---- what a change says of a symbol under place 0
+-- ---- what a change says about a symbol under place 0
 
 chosen : {X : Type 0} (here : Bool) (x y : X) → (if here then Some x else None) ≡ Some y → (here ≡ true) × (x ≡ y)
 chosen true x y is = (refl, cc)
@@ -334,7 +334,7 @@ said_nothing a (Lot s lot) is =
 
 -- ---- whole tapes
 
--- one change, whatever it says of the symbol, and then the rest
+-- one change, whatever it says about the symbol, and then the rest
 said_by : (whole shard : Sizes) (done short : Tape) (change : Change) (rest : Tape) (a : ℕ)
     → ((d s : Tape) → Alike whole shard d s a 0 → Alike whole shard (d ++ rest) (s ++ of_symbol a rest) a 0)
     → Alike whole shard done short a 0 → (said : Option Change) → said_of_symbol a change ≡ said
@@ -348,7 +348,7 @@ said_by whole shard done short change rest a further alike (Some own) is =
     (further (done ++ change ∷ []) (short ++ own ∷ [])
     (alike_more whole shard done short a 0 change own (said_same a change own is) alike)))
 
--- a tape is alike to what it says of the symbol, from wherever the two are alike
+-- a tape is alike to what it says about the symbol, from any point at which the two are alike
 alike_said : (whole shard : Sizes) (done short : Tape) (rest : Tape) (a : ℕ) → Alike whole shard done short a 0
     → Alike whole shard (done ++ rest) (short ++ of_symbol a rest) a 0
 alike_said whole shard done short [] a alike =
@@ -358,7 +358,7 @@ alike_said whole shard done short (change ∷ rest) a alike =
     said_by whole shard done short change rest a (λ d s so_far. alike_said whole shard d s rest a so_far) alike
     (said_of_symbol a change) refl
 
--- the sizes of a roster with the symbol alone, if it is listed
+-- the sizes of a roster with only that symbol, if it is listed
 abbrev alone : Sizes → ℕ → Sizes
 alone whole a = record { parts = whole.parts; lots = cons_option (slice_get whole.lots a) [] }
 
@@ -398,7 +398,7 @@ filter_map_same f g low zero same = refl
 filter_map_same f g low (suc n) same =
     rw (same low (omega arith) (omega arith), filter_map_same f g (low + 1) n (λ k from below. same k (omega arith) (omega arith))) refl
 
--- a board of the symbol alone that holds what the tape says
+-- a board with only that symbol, which holds what the tape says
 abbrev board_at : Sizes → Tape → ℕ → Board
 board_at sizes tape a = record {
   sizes = record { parts = sizes.parts; lots = lot_at sizes tape a ∷ [] };
@@ -570,7 +570,7 @@ stands_fold board tape (change ∷ changes) stands held room =
     below : board.applied < 10000000 → nat_lt board.applied 10000000 ≡ true
     below within = lt-ltb board.applied 10000000 within
 
--- a new board stands for no changes, and has nothing of a symbol
+-- a new board has taken no changes, and has nothing of a symbol
 stands_first : (sizes : Sizes) → sizes.parts ≤ 32 → StandsFor (opening sizes) []
 unfolding before_equal_end
 stands_first sizes narrow = record {

@@ -1,4 +1,4 @@
--- Worked examples: two participants N and P, two symbols of a whole day, and a shard that has the second symbol alone. The
+-- Worked examples: two participants N and P, two symbols of a whole day, and a shard that has only the second symbol. The
 -- right-hand side gives by hand what is said and shown.
 use Rattle.std.specs.Prelude.{ℕ, ◌≡◌, true, [], ◌∷◌, ◌++◌, Option, Some, None}
 use Rattle.nms_quote.specs.Content.{Content}
@@ -18,7 +18,7 @@ two = record { parts = 2; lots = 100 ∷ 40 ∷ [] }
 abbrev pub one : Sizes
 one = record { parts = 2; lots = 40 ∷ [] }
 
--- so many shares at a price in 1/10,000 dollar
+-- that many shares at a price in 1/10,000 dollar
 abbrev pub at : ℕ → ℕ → Option Content
 at price shares = Some (record { price = price; shares = shares })
 

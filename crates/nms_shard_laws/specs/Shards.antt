@@ -1,4 +1,4 @@
--- What a tape says of one symbol, and what a side of that symbol shows. This product's own rule.
+-- What a tape says about one symbol, and what a side of that symbol shows. This product's own rule.
 use Rattle.std.specs.Prelude.{ℕ, ◌≡◌, ◌==◌, List, [], ◌∷◌, map, Option, Some, None, if◌then◌else◌, slice_get}
 use Rattle.std.specs.List.{filter_map}
 use Rattle.nms_quote.specs.Roster.{Sizes}
@@ -13,7 +13,7 @@ use Rattle.nms_board.specs.declared.row.Row.{Row}
 use Rattle.nms_opening.specs.Alike.{unnumbered}
 use Rattle.nms_opening.specs.Opening.{OpensSymbol}
 
--- what a change says of a symbol, which has place 0 then; a withdrawal is of every symbol
+-- what a change says about a symbol, which has place 0 then; a withdrawal is of every symbol
 abbrev pub said_of_symbol : ℕ → Change → Option Change
 said_of_symbol sym (change.Quote p s state bid offer) = if s == sym then Some (change.Quote p 0 state bid offer) else None
 said_of_symbol sym (change.State p s state) = if s == sym then Some (change.State p 0 state) else None
@@ -33,7 +33,7 @@ pub record IsOfShard (whole shard : Sizes) (sym own : ℕ) : Type 0 where
   pub parts : whole.parts ≡ shard.parts
   pub lot : slice_get whole.lots sym ≡ slice_get shard.lots own
 
--- a board of the symbol alone, which holds what a tape says of it
+-- a board with only that symbol, which holds what a tape says about it
 pub record HoldsSymbol (board : Board) (whole : Sizes) (tape : Tape) (sym : ℕ) : Type 0 where
   pub lot : ℕ
   pub listed : slice_get whole.lots sym ≡ Some lot

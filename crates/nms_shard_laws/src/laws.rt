@@ -10,10 +10,10 @@ ghost use Rattle.nms_shard_laws.specs.Shards.{IsCut, IsOfShard, of_symbol, shows
 
 use nms_opening::alike_boards_show_the_same;
 
-/// A shard shows of a symbol the rows that the whole day shows, in the same rank order, with the same protection. The premise is
-/// that its tape says of the symbol what the day's tape says of it; its receipts are other numbers.
+/// A shard shows for a symbol the rows that the whole day shows, in the same rank order, with the same protection. The premise
+/// is that its tape says the same about the symbol as the day's tape; its receipts are other numbers.
 ///
-/// `boards` says the same of the boards that the program keeps.
+/// `boards` says the same about the boards that the program keeps.
 pub fn a_shard_shows_what_the_whole_shows()
     ensures tapes { (whole shard : Sizes) (day part : Tape) (sym own : ℕ) → IsOfShard whole shard sym own
         → of_symbol sym day ≡ of_symbol own part
@@ -26,8 +26,8 @@ pub fn a_shard_shows_what_the_whole_shows()
     alike_boards_show_the_same();
 }
 
-/// So does a shard that begins with a symbol's opening changes. It goes on with the symbol's changes after the cut, and shows what
-/// the whole day shows after each of them.
+/// So does a shard that begins with a symbol's opening changes. It goes on with the symbol's changes after the cut, and shows
+/// what the whole day shows after each of them.
 pub fn a_cut_shows_what_the_whole_shows()
     ensures { (whole shard : Sizes) (before later opened after : Tape) (sym own : ℕ) → IsCut whole shard before opened sym own
         → of_symbol sym later ≡ of_symbol own after
@@ -36,7 +36,7 @@ pub fn a_cut_shows_what_the_whole_shows()
     alike_boards_show_the_same();
 }
 
-/// The definitions give what the worked examples say.
+/// The definitions give the results of the worked examples.
 pub fn worked_examples()
     ensures { ExamplesHold }
 {}

@@ -1,4 +1,4 @@
-//! What holds of a symbol across shards: laws on the tapes of a whole day and of its shards.
+//! Laws on a symbol across shards: on the tapes of a whole day and of its shards.
 #![tactic(auto)]
 
 mod laws;

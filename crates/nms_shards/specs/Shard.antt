@@ -24,7 +24,7 @@ abbrev pub waiting : Bool → ℕ
 waiting true = 1
 waiting false = 0
 
--- the same after an import
+-- how many rows wait after an import
 abbrev pub waiting_after : Shard → ℕ
 waiting_after shard.GoesOn = 0
 waiting_after shard.Full = 1

@@ -1,8 +1,8 @@
-//! The symbols that have begun, whatever the shard.
+//! The symbols that have begun, in any shard.
 use indexmap::IndexMap;
 use std::alloc::Global;
 
-/// The symbols that have begun, in order. They are all that grows with a market.
+/// The symbols that have begun, in order. Nothing else grows with a market.
 #[derive(Drop)]
 pub(crate) struct Begun {
     names: IndexMap<String, u64>,

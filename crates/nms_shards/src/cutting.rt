@@ -1,4 +1,4 @@
-//! What is kept from row to row while a market's rows are cut: the symbol at hand, and the shard that is written.
+//! The state kept from row to row while a market's rows are cut: the current symbol, and the shard being written.
 ghost use Rattle.std.specs.Prelude.{◌≡◌, ◌<◌, ◌≤◌, ◌+◌, ◌/◌, IfOk, IsTrue, OnOk, length, true};
 ghost use Rattle.nms_quote.specs.Roster.{sizes_of};
 ghost use Rattle.nms_quote.specs.declared.TheConstants.{MOST_SYMBOLS};
@@ -35,7 +35,7 @@ pub struct Listed {
 /// What a row of a market says.
 #[derive(Clone, Copy)]
 pub(crate) enum Said {
-    /// One more change of the symbol at hand.
+    /// One more change of the current symbol.
     More(Entry),
     /// The first change of another symbol.
     Begins(Entry),
@@ -45,7 +45,7 @@ pub(crate) enum Said {
     Nothing(Cause),
 }
 
-/// What is kept from row to row.
+/// The state kept from row to row.
 #[derive(Drop)]
 pub struct Cutting {
     alloc: Global,
@@ -81,7 +81,7 @@ impl Model for Cutting {
 }
 
 impl Cutting {
-    /// Before the first row. The setup lends participants, feeds, fees and round lots, and the limit of changes.
+    /// Before the first row. The setup gives participants, feeds, fees and round lots, and the limit of changes.
     pub fn new(alloc: Global, lent: &Setup) -> Result<Cutting, ImportFault>
         requires room { LEAST_LIMIT ≤ lent.now.tape_limit }
         ensures filled { IfOk result (λ cutting. cutting ≡ record { changes = 0; limit = lent.now.tape_limit; symbols = 0 }) }
@@ -121,7 +121,7 @@ impl Cutting {
         ensures changes { self.now.changes ≤ self.now.limit }
         ensures symbols { self.now.symbols ≤ MOST_SYMBOLS }
     {
-        // A field that is read brings in what holds of each cutting.
+        // Reading a field gives the prover the facts that hold of each cutting.
         let _count = self.count;
     }
 
@@ -130,7 +130,7 @@ impl Cutting {
         self.opened
     }
 
-    /// The roster of the symbol at hand.
+    /// The roster of the current symbol.
     pub(crate) fn own(&self) -> &Roster {
         &self.own
     }
@@ -174,7 +174,7 @@ impl Cutting {
         Ok(begins(entry))
     }
 
-    /// Whether the shard has room for one more change of the symbol at hand.
+    /// Whether the shard has room for one more change of the current symbol.
     pub(crate) fn has_room(&self, change: &Change) -> bool
         ensures { IsTrue result → self.now.changes < self.now.limit }
     {
@@ -188,7 +188,7 @@ impl Cutting {
         self.listed.len() < usize::from(MOST_SYMBOLS) && self.count < self.limit / 2
     }
 
-    /// Says whether the next shard goes on with the symbol at hand.
+    /// Sets whether the next shard goes on with the current symbol.
     pub(crate) fn split(&mut self, splits: bool)
         ensures stays { self.new ≡ self.old }
     {
@@ -214,7 +214,7 @@ impl Cutting {
         }
     }
 
-    /// Counts a change of the symbol at hand, made by the row of a number.
+    /// Counts a change of the current symbol, made by the row of a number.
     pub(crate) fn count(&mut self, number: u64, entry: &Entry)
         requires room { self.old.changes < self.old.limit }
         ensures changes { self.new.changes ≡ self.old.changes + 1 }
@@ -273,7 +273,7 @@ fn new_board(alloc: Global, roster: &Roster) -> Result<Boards, ImportFault>
     }
 }
 
-/// A board that shows the same, whose own changes are the opening ones.
+/// A board that shows the same, and has taken only the opening changes.
 fn reopen(alloc: Global, roster: &Roster, board: &Boards) -> Result<Boards, ImportFault>
     requires roster { board.now.sizes ≡ sizes_of roster.now }
     requires listed { 0 < length board.now.sizes.lots }
@@ -292,7 +292,7 @@ fn first_sym() -> Sym
     Sym::new(0).unwrap()
 }
 
-/// What a row of the symbol at hand says.
+/// What a row of the current symbol says.
 fn more_of(entry: Result<Entry, Cause>) -> Said {
     match entry {
         Ok(entry) => Said::More(entry),

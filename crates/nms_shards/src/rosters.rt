@@ -18,7 +18,7 @@ pub(crate) fn bare_roster(alloc: Global, lent: &Roster) -> Result<Roster, Import
     }
 }
 
-/// The same with one symbol.
+/// As `bare_roster`, with one symbol.
 pub(crate) fn own_roster(alloc: Global, lent: &Roster, name: &[u8]) -> Result<Roster, ImportFault> {
     let Ok(mut roster) = Roster::new(alloc) else {
         return Err(ImportFault::NoMemory);

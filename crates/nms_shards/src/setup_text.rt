@@ -27,8 +27,8 @@ pub fn write_listed<W: Write>(out: &mut W, cutting: &Cutting) -> Result<(), Impo
     Ok(())
 }
 
-/// Writes the setup of the shard: the lent one with the shard's symbols in place of its own. A comment before it says how many
-/// opening changes the shard begins with.
+/// Writes the setup of the shard: the given one with the shard's symbols in place of its own. A comment at its start says how
+/// many opening changes the shard begins with.
 pub fn write_setup<W: Write>(
     out: &mut W,
     setup: &Setup,
@@ -46,7 +46,7 @@ pub fn write_setup<W: Write>(
     write_symbols(out, cutting)
 }
 
-/// Writes the keys that stand before the tables.
+/// Writes the keys before the tables.
 fn write_settings<W: Write>(out: &mut W, setup: &Setup) -> Result<(), ImportFault> {
     for (key, number) in [
         ("tape_limit = ", setup.tape_limit()),
@@ -60,7 +60,7 @@ fn write_settings<W: Write>(out: &mut W, setup: &Setup) -> Result<(), ImportFaul
     Ok(())
 }
 
-/// The year of the rule that has the caps, as a setup names it.
+/// The year of the rule with the caps, as a setup names it.
 fn year_of(caps: Caps) -> u64 {
     match caps {
         Caps::Of2005 => 2005,
@@ -89,7 +89,7 @@ fn write_participant<W: Write>(out: &mut W, setup: &Setup, part: Part) -> Result
     amount_line(out, "rate = ", fee_at(setup, part, 1))
 }
 
-/// The fee of a participant for a share at a price in 1/10,000 dollar, in nanodollars: at one dollar that is the key `fee` of
+/// The fee of a participant for a share at a price in 1/10,000 dollar, in nanodollars. At one dollar that is the key `fee` of
 /// its table, at 1/10,000 dollar the key `rate`.
 fn fee_at(setup: &Setup, part: Part, price: u64) -> i128
     requires there { 0 < price }

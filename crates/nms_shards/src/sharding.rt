@@ -23,14 +23,14 @@ use std::io::{Read, Write};
 pub enum Shard {
     /// The file has no more rows. The shard goes on with the next file.
     GoesOn,
-    /// The shard is full. The row at hand waits for the next one.
+    /// The shard is full. The current row waits for the next one.
     Full,
 }
 
-/// Imports the rows that a reader still has until the shard is full. With `waits` the row at hand comes first. The changes of
-/// those that make one are written with their times, in order, and every outcome is counted.
+/// Imports the rows that a reader still has until the shard is full. With `waits` the current row comes first. Changes are
+/// written with their times, in order, and every outcome is counted.
 ///
-/// After an error a first part of both texts was written. The writers are not flushed.
+/// An error leaves a first part of both texts written. The writers are not flushed.
 pub fn import_shard<R: Read, C: Write, T: Write, E: Write>(
     columns: &Columns,
     meanings: &Meanings,
@@ -84,7 +84,7 @@ pub fn import_shard<R: Read, C: Write, T: Write, E: Write>(
     Err(ImportFault::TooLong)
 }
 
-/// Reads the next row, unless one is at hand. Returns whether there is one.
+/// Reads the next row, unless one waits. Returns whether there is one.
 fn fetch_row<R: Read>(
     at_hand: bool,
     reader: &mut Reader<R>,
@@ -103,7 +103,7 @@ fn fetch_row<R: Read>(
     next_row(reader, row)
 }
 
-/// Imports the row at hand, which has this number. Returns whether the shard took it.
+/// Imports the current row, which has this number. Returns whether the shard took it.
 fn import_row<C: Write, T: Write, E: Write>(
     columns: &Columns,
     meanings: &Meanings,
@@ -162,7 +162,7 @@ fn import_row<C: Write, T: Write, E: Write>(
     }
 }
 
-/// Writes what a row makes of the symbol at hand, and counts it.
+/// Writes the change that a row makes for the current symbol, and counts it.
 fn import_entry<C: Write, T: Write, E: Write>(
     columns: &Columns,
     numbers: bool,

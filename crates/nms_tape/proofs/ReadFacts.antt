@@ -50,7 +50,7 @@ last_there : (xs : List Change) (x : Change) → slice_get (xs ++ x ∷ []) (len
 last_there [] x = refl
 last_there (y ∷ xs) x = last_there xs x
 
--- what stands behind the changes noted so far
+-- what comes after the changes noted so far
 abbrev Behind : List Change → List Change → Type 0
 Behind sent all = sent ++ option_to_list (slice_get all (length sent)) ≡ all
 
@@ -89,7 +89,7 @@ notes state moved events first sent before after is (inr (marked, one, untaken))
           ∙ ap (λ cs. cs ++ marked.change ∷ []) (sym is));
     }
 
--- what is noted of a machine's changes behind those noted before
+-- the machine's changes noted after those noted before
 abbrev pub IsNoted : State → List Change → List Change → Type 0
 IsNoted machine sent noted = (at : Standing) → StandsAt machine at → at.published ≤ length sent
     → noted ≡ sent ++ option_to_list (slice_get (changes_in at.sent) (length sent))

@@ -9,7 +9,7 @@ use Rattle.nms_flow.specs.Flow.{State, IsAfter, room_of, room_under}
 use Rattle.nms_flow.specs.Run.{Event, changes_in, sent_by}
 use Rattle.nms_scripts.specs.Script.{AnswersFrom}
 
--- so many records were answered, and these are the changes that were sent
+-- that many records were answered, and these are the changes that were sent
 pub record HasSent (settings : Settings) (machine : State) (sent : List Change) (done : ℕ) : Type 0 where
   pub records : List Record
   pub events : List Event
@@ -20,7 +20,7 @@ pub record HasSent (settings : Settings) (machine : State) (sent : List Change) 
   pub counted : length records ≡ done
   pub changes : sent ≡ changes_in (sent_by events)
 
--- those are the records that were read, and the reader stands behind them
+-- those are the records that were read, and the reader stands after them
 pub record HasRead {R : Type 0} (remaining : R → Option (List ℕ)) (settings : Settings) (bytes : Option (List ℕ)) (reader : Reader R)
     (machine : State) (sent : List Change) (done : ℕ) : Type 0 where
   pub so_far : HasSent settings machine sent done

@@ -1,5 +1,4 @@
-//! The changes that a script takes: `specs/Taken`. The records are served as a script's are, and what they would be told
-//! is dropped.
+//! The changes that a script takes: `specs/Taken`. The records are served as a script's are, and the answers are dropped.
 ghost use Rattle.std.specs.Prelude.{◌≡◌, ◌≢◌, ℕ, ◌+◌, ◌≤◌, ◌++◌, List, [], Option, length, option_to_list, slice_get, true, false, Ok, Err, IfOk, OnOk};
 ghost use Rattle.nms_quote.specs.Tape.{Tape};
 ghost use Rattle.nms_lines.specs.Records.{ReadsFrom};
@@ -28,8 +27,8 @@ struct Taking {
     answer: Vec<u8>,
 }
 
-/// The changes that a script takes, in order: its tape at its end, published or not. Refused records are passed over, as
-/// in the script.
+/// The changes that a script takes, in order: its tape at its end, published or not. Refused records are skipped, as in the
+/// script.
 ///
 /// `ReadFault`, `TooLong` (more than 10,000,000 records) and `NoMemory` leave nothing. There is no other fault.
 pub fn taken_by_script<R: Read + Drop>(
@@ -91,7 +90,7 @@ fn read_all<R: Read>(
     unreachable!()
 }
 
-/// Reads and serves the record behind the first `done`. Returns whether there was one.
+/// Reads and serves the record after the first `done`. Returns whether there was one.
 fn advance<R: Read>(
     taking: &mut Taking,
     setup: &Setup,
@@ -131,12 +130,12 @@ fn advance<R: Read>(
     Ok(true)
 }
 
-/// Appends the change that was sent behind those noted so far, if there is one.
+/// Appends the change that was sent after those noted so far, if there is one.
 fn note_sent(flow: &Flow, sent: &mut Vec<Change>) -> Result<(), AllocError>
     ensures { (at : Standing) → StandsAt flow.now at → at.published ≤ length sent.old.items →
         OnOk result (sent.new.items ≡ sent.old.items ++ option_to_list (slice_get (changes_in at.sent) (length sent.old.items))) }
 {
-    // Moving a change takes a mention of the types in it: the prover has to have seen them.
+    // The prover has to see the types of a change before the change moves, so the code mentions them.
     let _seen: Option<SideQuote> = None;
     if let Some(change) = flow.sent_at(sent.len() as u64) {
         sent.push(change)?;

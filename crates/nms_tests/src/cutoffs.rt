@@ -23,8 +23,7 @@ fn offer(sym: Sym, place: u8, state: QState, price: u64, shares: u32) -> Option<
     })
 }
 
-/// A price in 1/10,000 dollar, how many shares must be swept there, what they cost in nanodollars, and how many the
-/// pool has.
+/// A price in 1/10,000 dollar, how many shares must be swept there, what they cost in nanodollars, and how many the pool has.
 type Told = (u64, u64, i128, u64);
 
 /// What a cutoff reports.
@@ -56,8 +55,8 @@ fn compare<R: Abort>(rt: &R, view: &View, fees: &FeeBook, due: &[Option<Told>]) 
     Some(())
 }
 
-/// N's manual offer is in the pool at each price and is never swept. P's protected one is in the pool at its own
-/// price, and is swept with its fee at the worse one. After the last price there is none, and so it stays.
+/// N's manual offer is in the pool at each price and is never swept. P's protected one is in the pool at its own price, and is
+/// swept with its fee at the worse one. After the last price there is no more, and it stays so.
 #[test]
 fn a_protected_row_is_swept_with_its_fee_at_the_next_price(rt: HostRuntime) -> Result<(), Fail> {
     let setup = read_setup(rt.alloc(), SETUP_K)?;

@@ -1,4 +1,4 @@
-//! Tests of what no clause says: that the calls succeed and come back, and a run of two threads.
+//! Tests of what no clause says: that the calls succeed and return, and a run of two threads.
 ghost use Rattle.std.specs.Prelude.{◌≡◌, ◌≤◌, ◌+◌, ◌∷◌, [], length, IfErr, IfOk, IfSome};
 ghost use Rattle.std.specs.List.{AllByRecursion};
 ghost use Rattle.nms_quote.specs.declared.feed.Feed.TheVariants as feed;
@@ -21,7 +21,7 @@ use std::test::Fail;
 use std::thread;
 use std::thread::{Promise, Threads};
 
-/// A bid of so many shares by the participant at a place: the number distinguishes it from its other ones.
+/// A bid of that many shares by the participant at a place: the number distinguishes it from its other ones.
 fn bid_of(place: u8, shares: u32) -> Option<Change> {
     let bid = SideQuote::new(Price::new(100_000)?, Shares::new(shares)?);
     Some(Change::Quote {
@@ -41,7 +41,7 @@ fn told_by(change: &Change) -> Option<(u8, u32)> {
     }
 }
 
-/// Takes once, and compares what comes.
+/// Takes once, and compares the change.
 fn take_one<R: Wait + Abort>(rt: &R, taker: &mut Taker, wanted: Option<Change>)
     ensures { (taker.new.lane ≡ taker.old.lane) × (taker.new.senders ≡ taker.old.senders) }
 {
@@ -77,7 +77,7 @@ fn open_two(alloc: Global, capacity: usize) -> Option<(Sender, Sender, Taker)>
     Some((a, b, taker))
 }
 
-/// Closes a lane of two senders. All ends come back where not all was taken, and none where memory ran out.
+/// Closes a lane of two senders. All ends come back if not all was taken, and none if memory ran out.
 fn close_two(
     alloc: Global,
     a: Sender,
@@ -174,7 +174,7 @@ fn fill<R: Wait>(rt: &R, sender: &mut Sender, change: &Change) -> u32
     2000
 }
 
-/// How many changes a lane takes that was opened for so many.
+/// How many changes a lane takes that was opened for that many.
 fn room<R: Wait>(rt: &R, alloc: Global, capacity: usize) -> Option<u32> {
     if !(LEAST_CAPACITY..=MOST_CAPACITY).contains(&capacity) {
         return None;
@@ -260,7 +260,7 @@ fn eight_feeds_send_through_one_lane(rt: HostRuntime) -> Result<(), Fail> {
     Ok(())
 }
 
-/// What comes back from a thread is the same end of the same lane.
+/// A thread gives back the same end of the same lane.
 #[derive(Drop)]
 struct SameEnd(Snapshot<Sender>);
 
@@ -282,7 +282,7 @@ fn send_1000<R: Wait>(rt: &R, mut sender: Sender, place: u8) -> Sender
     sender
 }
 
-/// Takes bids until there were so many. Each participant's come in the order of their shares.
+/// Takes bids until there were that many. Each participant's come in the order of their shares.
 fn take_all<R: Wait + Abort>(rt: &R, mut taker: Taker, count: u32) -> Taker
     ensures lane { result.lane ≡ taker.lane }
     ensures senders { result.senders ≡ taker.senders }
@@ -306,7 +306,7 @@ fn take_all<R: Wait + Abort>(rt: &R, mut taker: Taker, count: u32) -> Taker
     taker
 }
 
-/// Of two participants the shares of the last bids after one more, if that is the next one of its participant.
+/// The shares of the last bids of two participants after one more, if that is the next one of its participant.
 fn follows(last: (u32, u32), told: Option<(u8, u32)>) -> Option<(u32, u32)> {
     let (a, b) = last;
     match told? {

@@ -1,4 +1,4 @@
-//! Live runs, each over words: a setup's text, the texts of its feeds, and a table of orders.
+//! Live runs over words: a setup's text, the texts of its feeds, and a table of orders.
 ghost use Rattle.std.specs.Prelude.{◌≡◌, ◌<◌, All, IfSome};
 
 mod chance;
@@ -31,7 +31,7 @@ pub(crate) struct Wanted {
     pub(crate) manual: bool,
 }
 
-/// A setup of N and P on feed A, Y and Z on feed B, ABC and PNY in lots of 100, with such limits.
+/// A setup of N and P on feed A, Y and Z on feed B, ABC and PNY in lots of 100, with the given limits.
 pub(crate) fn setup_text(alloc: Global, limit: u32, queue: u32, desks: u32) -> Option<String> {
     format!(in alloc;
         "tape_limit = {limit}\nqueue = {queue}\ndesks = {desks}\n{}",
@@ -71,7 +71,7 @@ lot = 100
 "#
 }
 
-/// The order that the numbers say.
+/// The order of these numbers.
 pub(crate) fn order_of(wanted: &Wanted) -> Option<Order> {
     let side = if wanted.buys {
         OrderSide::Buy
@@ -90,7 +90,7 @@ pub(crate) fn order_of(wanted: &Wanted) -> Option<Order> {
     )
 }
 
-/// Adds an order, where its desk is one of so many.
+/// Adds an order, if its desk is one of that many.
 fn add_order(orders: &mut Vec<DeskOrder>, desks: u8, wanted: &Wanted) -> Option<()>
     requires { All (λ order. order.desk < desks) orders.old.items }
     ensures { All (λ order. order.desk < desks) orders.new.items }
@@ -103,7 +103,7 @@ fn add_order(orders: &mut Vec<DeskOrder>, desks: u8, wanted: &Wanted) -> Option<
     Some(())
 }
 
-/// The orders of a table, each of one of so many desks.
+/// The orders of a table, each of one of that many desks.
 fn orders_of(alloc: Global, desks: u8, table: &[Wanted]) -> Option<Vec<DeskOrder>>
     ensures { IfSome result (λ orders. All (λ order. order.desk < desks) orders.items) }
 {
@@ -123,7 +123,7 @@ fn texts_of(alloc: Global, feeds: &[&[u8]]) -> Option<Vec<Vec<u8>>> {
     Some(texts)
 }
 
-/// A run of these orders; `None` if there is no memory for what the feeds send, or the setup has not so many.
+/// A run of these orders; `None` if out of memory for the feeds' texts, or if the setup has another number of feeds.
 fn run_orders<R: Threads + Wait + Sync, G: Gate>(
     rt: &R,
     alloc: Global,
@@ -171,8 +171,7 @@ pub(crate) fn run<R: Threads + Wait + Sync, G: Gate>(
     }
 }
 
-/// A run that is tried again where it could not be opened, up to 100 times: a reader's place may be wanting without
-/// a cause.
+/// A run, tried again up to 100 times if it could not be opened: the place of a reader may be missing without a cause.
 fn run_under<R: Threads + Wait + Sync, G: Gate>(
     rt: &R,
     alloc: Global,

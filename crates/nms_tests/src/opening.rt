@@ -1,5 +1,5 @@
-//! The opening changes of random boards: a new board that takes them reports the same rows in the same rank order, at once
-//! and after each of 50 more changes that both take.
+//! The opening changes of random boards. A new board that takes them shows the same rows in the same rank order, at once and
+//! after each of 50 more changes that both take.
 ghost use Rattle.std.specs.Prelude.{◌≡◌};
 ghost use Rattle.nms_quote.specs.Roster.{sizes_of};
 
@@ -15,7 +15,7 @@ use std::alloc::Global;
 /// How many boards are tried.
 const BOARDS: u64 = 5_000;
 
-/// What came of the boards: what is wrong, the seed of the board, and the least of its changes after which it is.
+/// The result of the boards: what is wrong, the seed of the board, and the least number of changes after which it is.
 type Came = (&'static str, u64, Vec<Change>);
 
 /// 5,000 boards of 2 to 32 participants and one to four symbols, with halts, sizes below a lot, new lots, withdrawals, and
@@ -40,7 +40,7 @@ fn reopened_in_all(alloc: Global) -> Option<(u64, u64)> {
     }
 }
 
-/// The same of a roster that has yet to be filled.
+/// As above, for a roster that has yet to be filled.
 fn reopened_under(alloc: Global, roster: &mut Roster) -> Option<(u64, u64)> {
     let _seen: (Option<SideQuote>, Option<Lot>) = (None, None);
     fill(roster, 2, 1)?;
@@ -51,7 +51,7 @@ fn reopened_under(alloc: Global, roster: &mut Roster) -> Option<(u64, u64)> {
     }
 }
 
-/// The same of a board after one change.
+/// As above, for a board after one change.
 fn reopened_after(
     alloc: Global,
     roster: &Roster,
@@ -134,7 +134,7 @@ fn push_changes(
     seed: u64,
     count: u32,
 ) -> Option<()> {
-    // Holding a change takes a mention of the types in it: the prover has to have seen them.
+    // The prover has to see the types of a change before it is held, so the code mentions them.
     let _seen: (Option<SideQuote>, Option<Lot>) = (None, None);
     for _ in 0..count {
         let (change, _) = next_change(chance, crowd, is_calm(seed))?;
@@ -148,7 +148,7 @@ fn is_calm(seed: u64) -> bool {
     seed % 4 == 0
 }
 
-/// What is wrong with a board after so many of its changes, or nothing.
+/// What is wrong with a board after that many of its changes, or nothing.
 fn try_board(alloc: Global, seed: u64, count: u32) -> Option<&'static str> {
     match Roster::new(alloc) {
         Ok(mut roster) => try_roster(alloc, &mut roster, seed, count),
@@ -156,7 +156,7 @@ fn try_board(alloc: Global, seed: u64, count: u32) -> Option<&'static str> {
     }
 }
 
-/// The same, if the crowd has yet to come on the roster.
+/// As above, if the crowd has yet to come on the roster.
 fn try_roster(alloc: Global, roster: &mut Roster, seed: u64, count: u32) -> Option<&'static str> {
     let mut chance = Chance { state: seed };
     let crowd = drawn_crowd(&mut chance);
@@ -170,7 +170,7 @@ fn try_roster(alloc: Global, roster: &mut Roster, seed: u64, count: u32) -> Opti
     }
 }
 
-/// Applies so many changes.
+/// Applies that many changes.
 fn run(board: &mut Boards, chance: &mut Chance, crowd: Crowd, seed: u64, count: u32) -> Option<()> {
     let _seen: (Option<SideQuote>, Option<Lot>) = (None, None);
     for _ in 0..count {

@@ -31,7 +31,7 @@ struct Wanted {
     self_help: PartSet,
 }
 
-/// The order for what is asked on a view.
+/// The order for a request on a view.
 fn order_for(sym: Sym, wanted: &Wanted) -> Option<Order>
     ensures { IfSome result (λ order. order.sym ≡ sym) }
 {
@@ -46,7 +46,7 @@ fn order_for(sym: Sym, wanted: &Wanted) -> Option<Order>
     )
 }
 
-/// Whether a plan and its certificate are those of another planner.
+/// Whether a plan and its certificate equal those of another planner.
 fn is_same(plan: &Plan, cuts: &Certificate, other: &Plan, other_cuts: &Certificate) -> bool {
     plan.version == other.version
         && plan.order == other.order
@@ -152,7 +152,7 @@ fn plan_each(
     (right, "")
 }
 
-/// The same on each board of three quotations.
+/// As above, on each board of three quotations.
 fn plan_all(
     boards: &mut Boards,
     fees: &FeeBook,
@@ -194,7 +194,7 @@ fn plan_small(alloc: Global) -> Option<(u32, &'static str)> {
     }
 }
 
-/// The same under a setup.
+/// As above, under a setup.
 fn plan_small_under(alloc: Global, setup: &Setup) -> Option<(u32, &'static str)> {
     match Boards::new(alloc, setup.roster()) {
         Ok(mut boards) => plan_both_sides(&mut boards, setup),
@@ -202,7 +202,7 @@ fn plan_small_under(alloc: Global, setup: &Setup) -> Option<(u32, &'static str)>
     }
 }
 
-/// The same on a board, for orders that name nobody and for those that name P, of both sides.
+/// As above, on a board, for orders that name nobody and for those that name P, of both sides.
 fn plan_both_sides(boards: &mut Boards, setup: &Setup) -> Option<(u32, &'static str)> {
     let sym = setup.roster().find_sym(b"ABC")?;
     let p = setup.roster().find_part(b"P")?;
@@ -309,8 +309,8 @@ fn try_board(
     finding(&boards.view(sym), fees, &wanted)
 }
 
-/// Tries so many boards, those of ABC and of PNY in turn: how many plans were right, and what is wrong with the first
-/// that is not.
+/// Tries that many boards, those of ABC and of PNY in turn: how many plans were right, and what is wrong with the first that is
+/// not.
 fn try_boards(boards: &mut Boards, fees: &FeeBook, number: u32) -> (u32, &'static str) {
     let mut chance = Chance { state: 600 };
     for right in 0..number {
@@ -336,7 +336,7 @@ fn plan_drawn(alloc: Global) -> Option<(u32, &'static str)> {
     }
 }
 
-/// The same under a setup.
+/// As above, under a setup.
 fn plan_drawn_under(alloc: Global, setup: &Setup) -> Option<(u32, &'static str)> {
     match Boards::new(alloc, setup.roster()) {
         Ok(mut boards) => Some(try_boards(&mut boards, setup.fees(), RANDOM_PLANS)),
@@ -352,7 +352,7 @@ type ToldLeg = (u8, u64, u32);
 /// A cut: the price in 1/10,000 dollar, and its marginal in nanodollars, if it has one.
 type ToldCut = (u64, Option<i128>);
 
-/// Whether a plan has just those legs.
+/// Whether a plan has exactly those legs.
 fn has_legs(plan: &Plan, legs: &[ToldLeg]) -> bool {
     let mut at = 0usize;
     for &(place, price, shares) in legs {
@@ -367,7 +367,7 @@ fn has_legs(plan: &Plan, legs: &[ToldLeg]) -> bool {
     plan.legs.len() == legs.len()
 }
 
-/// Whether a certificate has just those cuts.
+/// Whether a certificate has exactly those cuts.
 fn has_cuts(certificate: &Certificate, cuts: &[ToldCut]) -> bool {
     let mut at = 0usize;
     for &(price, wanted) in cuts {
@@ -386,7 +386,7 @@ fn has_cuts(certificate: &Certificate, cuts: &[ToldCut]) -> bool {
     certificate.len() == cuts.len()
 }
 
-/// Whether both planners buy so, with those legs and cuts.
+/// Whether both planners buy with those legs and cuts.
 fn buys_so(
     view: &View,
     fees: &FeeBook,
@@ -432,7 +432,7 @@ symbol = [{ name = "ABC", lot = 100 }]
 "#
 }
 
-/// Whether both planners buy so, where the four participants offer these.
+/// Whether both planners buy so, if the four participants offer these.
 fn buys_on(
     alloc: Global,
     offers: &[Quoted],
@@ -446,7 +446,7 @@ fn buys_on(
     }
 }
 
-/// The same under a setup.
+/// As above, under a setup.
 fn buys_under(
     alloc: Global,
     setup: &Setup,
@@ -461,7 +461,7 @@ fn buys_under(
     }
 }
 
-/// The same on an empty board.
+/// As above, on an empty board.
 fn buys_from(
     boards: &mut Boards,
     fees: &FeeBook,
@@ -475,9 +475,8 @@ fn buys_from(
     buys_so(&boards.view(sym), fees, shares, legs, cuts)
 }
 
-/// P's 200 shares cost 2,000.04 at 10.0000, and so do at 10.0002 the 100 of N, which has to be swept there, with 100
-/// of Y: the better price is chosen. A share costs 0.0003 more than the price at N and Z, 0.0002 more at P, 0.0001 less
-/// at Y.
+/// P's 200 shares cost 2,000.04 at 10.0000. At 10.0002, N's 100, which have to be swept there, cost the same with 100 of Y's:
+/// the better price is chosen. A share costs 0.0003 more than the price at N and Z, 0.0002 more at P, 0.0001 less at Y.
 #[test]
 fn of_two_prices_that_cost_alike_the_better_is_chosen(rt: HostRuntime) {
     let offers = [
@@ -505,8 +504,8 @@ fn of_equal_costs_at_a_price_the_lower_place_is_first(rt: HostRuntime) {
     same(&rt, told, Some(true));
 }
 
-/// A share costs 10.0003 at Z and at P. Z's price is the better one, so that Z is filled first, though P's place is
-/// lower. At 10.0000 alone there is too little.
+/// A share costs 10.0003 at Z and at P. Z's price is the better one, so Z is filled first, though P's place is lower. At
+/// 10.0000 alone there is too little.
 #[test]
 fn of_equal_costs_at_two_prices_the_better_price_is_first(rt: HostRuntime) {
     let none = offered(QState::Automated, 100_000, 0);

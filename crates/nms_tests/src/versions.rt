@@ -198,8 +198,8 @@ fn place_of(word: &str) -> u8 {
     }
 }
 
-/// What the step that a word names is answered: a participant's letter appends its offer, desk 0 is told of the
-/// published version, a desk looks, a lot is a new round lot.
+/// The answer to the step that a word names. A participant's letter appends its offer, desk 0 is informed of the published
+/// version, a desk looks, a lot is a new round lot.
 fn go<R: Wait + Abort>(
     rt: &R,
     alloc: Global,
@@ -422,8 +422,8 @@ fn sees_worked(desk: &mut Desk) -> bool
     }
 }
 
-/// Desk 0 is told of version 3, desk 1 of nothing. Both see it whole, and desk 0 still does with two changes more
-/// that are not published; it settles on no receipt of version 0, and on a second one of version 3.
+/// Desk 0 is informed of version 3, desk 1 of nothing. Both see it whole, and desk 0 still does with two changes more that are
+/// not published. It settles on no receipt of version 0, and on a second one of version 3.
 #[test]
 fn a_desk_settles_on_what_it_saw_and_was_told_of(rt: HostRuntime) -> Result<(), Fail> {
     let (mut publisher, mut one, mut other) = open_on(rt.alloc(), &rt, SETUP_K)?;
@@ -450,8 +450,8 @@ fn a_desk_settles_on_what_it_saw_and_was_told_of(rt: HostRuntime) -> Result<(), 
     settle_twice(&rt, publisher, one, early, last)
 }
 
-/// Appends an offer to a tape of so many changes. A refused one leaves the tape and what is shown, and is appended
-/// once there is memory.
+/// Appends an offer to a tape of that many changes. A refused one leaves the tape and the view, and is appended once there is
+/// memory.
 fn append_again<R: Abort>(rt: &R, publisher: &mut Publisher, desk: &mut Desk, count: u64) {
     let mut told = append(rt, publisher, 0);
     if told == "V3" {
@@ -462,8 +462,8 @@ fn append_again<R: Abort>(rt: &R, publisher: &mut Publisher, desk: &mut Desk, co
     same(rt, (count, told), (count, "ok"));
 }
 
-/// Run with each allocation refused in turn (`rt try --test --fail-alloc N`): the opening ends the test by V1, and
-/// a refused change leaves the tape and what is shown, and is appended once there is memory.
+/// Run with each allocation refused in turn (`rt try --test --fail-alloc N`): the opening ends the test by V1. A refused change
+/// leaves the tape and the view, and is appended once there is memory.
 #[test]
 fn want_of_memory_leaves_the_tape_as_it_was(rt: HostRuntime) -> Result<(), Fail> {
     let (mut publisher, mut desk, _other) = open_on(rt.alloc(), &rt, SETUP_K)?;
@@ -481,7 +481,7 @@ fn append_70<R: Abort>(rt: &R, publisher: &mut Publisher, desk: &mut Desk) {
     }
 }
 
-/// Looks at ABC so many times, and reports whether each look showed something and the versions never fell.
+/// Looks at ABC that many times, and reports whether each look showed something and the versions never fell.
 fn never_falls(desk: &mut Desk, looks: u32) -> bool {
     let mut last = 0;
     for _ in 0..looks {
@@ -493,7 +493,7 @@ fn never_falls(desk: &mut Desk, looks: u32) -> bool {
     true
 }
 
-/// Publishes so many times a change.
+/// Publishes a change that many times.
 fn publish_often<R: Wait + Abort>(rt: &R, publisher: &mut Publisher, times: u32)
     ensures { publisher.new.opening ≡ publisher.old.opening }
 {
@@ -517,7 +517,7 @@ fn run_two<R: Threads + Wait + Abort + Sync>(
     looked
 }
 
-/// The same beside two desks, each in a thread of its own.
+/// As above, beside two desks, each in a thread of its own.
 fn run_three<R: Threads + Wait + Abort + Sync>(
     rt: &R,
     publisher: &mut Publisher,

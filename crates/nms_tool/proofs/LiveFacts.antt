@@ -1,4 +1,4 @@
--- A live run that was made, and what was written of it.
+-- A live run that was made, and its written result.
 use Rattle.std.proofs.Common.{ℕ, ◌≡◌, List, length}
 use Rattle.std.specs.Prelude.{Option, Result, Ok, Err, IfOk}
 use Rattle.nms_quote.specs.declared.desk_order.DeskOrder.{DeskOrder}

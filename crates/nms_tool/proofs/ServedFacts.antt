@@ -15,7 +15,7 @@ use Rattle.nms_command.specs.declared.ending.Ending.TheVariants as ending
 use Rattle.nms_tool.specs.declared.tool_fault.ToolFault.{ToolFault}
 use Rattle.nms_command.proofs.Offered.{done_by, judged_by}
 
--- what was served of any subcommand but `live` was done
+-- a served request of any subcommand but `live` was done
 pub done_apart : {X : Type 0} (r : Result Ending X) (command : Sub) (settings : Settings) (asked : Asked)
     (input old new : Option (List ℕ))
     → IfOk r (Serves command settings asked input old new) → IfOk r (Does command settings asked input old new)

@@ -1,5 +1,5 @@
--- What the words ask for was done: a request of any subcommand, or help. No contract says what a file holds: so there are
--- bytes of which it is true. This product's own rule.
+-- What the words ask for was done: a request of any subcommand, or help. No contract says what a file holds, so these say that
+-- some bytes exist for which it is true. This product's own rule.
 use Rattle.std.specs.Prelude.{ℕ, ◌≡◌, ◌⊎◌, Bool, true, false, List, [], Option, Some, length}
 use Rattle.std.specs.String.{string_bytes}
 use Rattle.std.specs.Io.KnownBytes.{Appends}
@@ -19,11 +19,11 @@ use Rattle.nms_command.specs.Served.{IsSetup, Serves}
 use Rattle.nms_command.specs.declared.ending.Ending.{Ending}
 use Rattle.nms_command.specs.declared.ending.Ending.TheVariants as ending
 
--- what a live run came to was written, and nothing else: the length of its tape, and its closing answers
+-- the result of a live run was written, and nothing else: the length of its tape, and its closing answers
 abbrev pub WritesRun : Settings → Live → Option (List ℕ) → Option (List ℕ) → Type 0
 WritesRun settings live old new = Appends old new (text_of (live_records settings.roster (length live.tape.items) live.closing.items))
 
--- a live run of feeds' texts with the orders of a file came to what was written
+-- a live run of feeds' texts with the orders of a file gave the result that was written
 pub record Runs (settings : Settings) (old new : Option (List ℕ)) : Type 0 where
   pub texts : List (List ℕ)
   pub file : Option (List ℕ)
@@ -34,7 +34,7 @@ pub record Runs (settings : Settings) (old new : Option (List ℕ)) : Type 0 whe
   pub came : IsLive settings texts orders live
   pub written : WritesRun settings live old new
 
--- what was asked for under a setup was done
+-- the request under a setup was done
 abbrev pub Does : Sub → Settings → Asked → Option (List ℕ) → Option (List ℕ) → Option (List ℕ) → Ending → Type 0
 Does sub.Script settings asked input old new ends = Serves sub.Script settings asked input old new ends
 Does sub.Report settings asked input old new ends = Serves sub.Report settings asked input old new ends

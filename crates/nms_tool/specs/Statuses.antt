@@ -20,7 +20,7 @@ status_of (tool.Orders fault) = file_faults.status_of_orders fault
 status_of (tool.Live fault) = live_faults.status_of fault
 status_of (tool.LiveText fault) = text_faults.status_of_text fault
 
--- what the line on standard error names
+-- the code that the line on standard error names
 abbrev pub code_of : ToolFault → List ℕ
 code_of (tool.Command fault) = command_faults.code_of fault
 code_of (tool.Feed fault) = file_faults.code_of_feed fault
@@ -28,7 +28,7 @@ code_of (tool.Orders fault) = file_faults.code_of_orders fault
 code_of (tool.Live fault) = live_faults.code_of fault
 code_of (tool.LiveText fault) = text_faults.code_of_text fault
 
--- what is written of it on standard error: the parser's own text, or one line with the code
+-- what is written about it on standard error: the parser's own text, or one line with the code
 abbrev pub fault_text : ToolFault → List ℕ
 fault_text (tool.Command (command.Words (words.Parser text help))) = string_bytes text
 fault_text fault = codes "nms_tool: " ++ (code_of fault ++ 10 ∷ [])

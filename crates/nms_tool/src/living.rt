@@ -63,7 +63,7 @@ fn read_feed<T: Files + AllocGlobal>(rt: &T, path: &str) -> Result<Vec<u8>, Tool
     }
 }
 
-/// Runs the feeds with the orders of a file, and writes what the run came to.
+/// Runs the feeds with the orders of a file, and writes the result of the run.
 fn serve_feeds<T: AllocGlobal + Threads + Wait + Sync, R: Read + Drop, W: Write>(
     rt: &T,
     setup: &Setup,
@@ -84,7 +84,7 @@ fn serve_feeds<T: AllocGlobal + Threads + Wait + Sync, R: Read + Drop, W: Write>
     }
 }
 
-/// Writes what a live run came to.
+/// Writes the result of a live run.
 fn tell_run<W: Write>(
     alloc: Global,
     setup: &Setup,

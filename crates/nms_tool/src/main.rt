@@ -52,7 +52,7 @@ fn words_of<'a>(alloc: Global, own: &'a [String]) -> Result<Vec<&'a str>, ToolFa
     Ok(words)
 }
 
-/// The words after the program's name. Those that are no UTF-8 name nothing.
+/// The words after the program's name. A word that is not UTF-8 names nothing.
 fn own_words<T: AllocGlobal + Env>(rt: &T) -> Result<Vec<String>, ToolFault> {
     let all = env::args(rt).map_err(|error| match error.kind() {
         ErrorKind::OutOfMemory => no_memory(),

@@ -1,4 +1,4 @@
-//! What the program does with its words, its streams and its files (specs/Served).
+//! The program's use of its words, its streams and its files (specs/Served).
 ghost use Rattle.std.specs.Prelude.{◌≡◌, ◌≢◌, ◌⊎◌, ◌<◌, IfOk, OnErr, OnOk, map};
 ghost use Rattle.std.specs.Io.KnownBytes.{Appends};
 ghost use Rattle.nms_words.specs.CommandLine.{shown};
@@ -22,9 +22,9 @@ use std::thread::Threads;
 
 /// Does what the words ask for, with the script on `input`, and gives the exit status.
 ///
-/// Answers and help go to `answers`; the text of a parser's fault, or one line `nms_tool: CODE`, to
-/// `errors`. Status 0 says that what the words ask for was done, of a plan that it is confirmed, and 4 that a plan was
-/// judged and is not confirmed.
+/// Answers and help go to `answers`; the text of a parser's fault, or one line `nms_tool: CODE`, to `errors`. Status 0 says
+/// that the words' request was done; for a plan, that it is confirmed. Status 4 says that a plan was judged and is not
+/// confirmed.
 pub fn run_tool<T, R: Read + Drop, W: Write, E: Write>(
     rt: &T,
     words: &[&str],
@@ -46,8 +46,8 @@ where
     }
 }
 
-/// Reports a fault, and gives its exit status. What standard error does not take changes no status; what it takes is a
-/// first part of the parser's text, or of the one line with the code, and nothing else.
+/// Reports a fault, and gives its exit status. If standard error takes less than the whole, the status stays. What it takes is
+/// a first part of the parser's text, or of the one line with the code, and nothing else.
 pub fn tell_fault<E: Write>(fault: &ToolFault, errors: &mut E) -> u8
     ensures status { result ≡ status_of fault.now }
     ensures told { AppendsPart (E.contents errors.old) (E.contents errors.new) (fault_text fault.now) }
@@ -56,7 +56,7 @@ pub fn tell_fault<E: Write>(fault: &ToolFault, errors: &mut E) -> u8
     fault.status()
 }
 
-/// Writes what is reported of a fault: the parser's text, or one line with the code.
+/// Writes the report of a fault: the parser's text, or one line with the code.
 fn write_fault<E: Write>(fault: &ToolFault, errors: &mut E) -> io::Result<()>
     ensures written { OnOk result (Appends (E.contents errors.old) (E.contents errors.new) (fault_text fault.now)) }
     ensures part { OnErr result (AppendsPart (E.contents errors.old) (E.contents errors.new) (fault_text fault.now)) }

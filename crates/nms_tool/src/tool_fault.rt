@@ -1,4 +1,4 @@
-//! Why the program ends with another status than 0: the code that it reports, and the status.
+//! Why the program ends with a status other than 0: the code that it reports, and the status.
 ghost use Rattle.std.specs.Prelude.{◌≡◌};
 ghost use Rattle.nms_tool.specs.Statuses.{code_of, status_of};
 
@@ -7,18 +7,18 @@ use nms_files::{FeedFault, OrdersFault};
 use nms_live::LiveFault;
 use nms_text::TextFault;
 
-/// Why the program ends with another status than 0.
+/// Why the program ends with a status other than 0.
 #[derive(Drop)]
 pub enum ToolFault {
     /// The words, the setup, or a subcommand other than `live` failed.
     Command(CommandFault),
-    /// A file of a feed was not read: it has more than 1,000,000,000 bytes, say.
+    /// A file of a feed was not read: it may have more than 1,000,000,000 bytes.
     Feed(FeedFault),
     /// A file of orders was refused.
     Orders(OrdersFault),
     /// A live run gave nothing.
     Live(LiveFault),
-    /// What a live run came to was not written.
+    /// The result of a live run was not written.
     LiveText(TextFault),
 }
 
@@ -48,7 +48,7 @@ impl ToolFault {
         }
     }
 
-    /// What the line on standard error names.
+    /// The code for the line on standard error.
     pub fn code(&self) -> &'static str
         ensures { result.now ≡ code_of self.now }
     {

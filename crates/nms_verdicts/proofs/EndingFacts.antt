@@ -17,7 +17,7 @@ ends_so settings tape plan cuts verdict.Confirmed is = is
 ends_so settings tape plan cuts (verdict.Beyond changes) is = inl is.0
 ends_so settings tape plan cuts (verdict.Doubted doubt place) is = inr (is.0, (doubt, is.1.0))
 
--- the same of what equals that ending
+-- as above, for a value equal to that ending
 pub ends_by : (settings : Settings) (tape : Tape) (plan : Plan) (cuts : List Cut) (judged : Verdict) (ended : Ending)
     → ended ≡ ending_of judged → IsVerdict settings tape plan cuts judged → EndsBy settings tape plan cuts ended
 ends_by settings tape plan cuts judged ended e is =

@@ -1,4 +1,4 @@
--- How a request ends that asks why a plan is, or is not, the best lawful one: by what an audit finds of the plan that a text
+-- How a request for why a plan is, or is not, the best lawful one ends. It ends by what an audit finds of the plan that a text
 -- says, on its own version of the changes that a file says. This product's own rule.
 use Rattle.std.specs.Prelude.{◌≡◌, ◌<◌, ◌≤◌, ◌⊎◌, ℕ, List, length, Option, Some, None}
 use Rattle.nms_quote.specs.Tape.{Tape}

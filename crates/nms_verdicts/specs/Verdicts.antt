@@ -1,5 +1,5 @@
--- What a verdict says of a plan: just what an audit finds on the plan's own version of the changes, for its own order, and
--- where a doubt stands. This product's own rule.
+-- What a verdict says of a plan: exactly what an audit finds on the plan's own version of the changes, for its own order, and
+-- the place of the doubt. This product's own rule.
 use Rattle.std.specs.Prelude.{◌≡◌, ◌<◌, ◌≤◌, List, length, Some, None}
 use Rattle.nms_quote.specs.Roster.{Sizes}
 use Rattle.nms_quote.specs.Tape.{Tape, version}
@@ -15,7 +15,7 @@ use Rattle.nms_plan_places.specs.DoubtPlaces.{IsDoubtPlace}
 use Rattle.nms_verdicts.specs.declared.verdict.Verdict.{Verdict}
 use Rattle.nms_verdicts.specs.declared.verdict.Verdict.TheVariants as verdict
 
--- on what is seen: no doubt holds, or that doubt is the first that does, and stands there
+-- on a view: no doubt holds, or that doubt is the first that does, at that place
 abbrev pub IsVerdictOn : Seen → Charges → Plan → List Cut → Verdict → Type 0
 IsVerdictOn seen fees plan cuts verdict.Confirmed = doubt_of seen plan.order fees plan cuts ≡ None
 IsVerdictOn seen fees plan cuts (verdict.Beyond changes) = ⊥
@@ -28,7 +28,7 @@ IsVerdict settings tape plan cuts (verdict.Beyond changes) = (length tape < plan
 IsVerdict settings tape plan cuts judged =
     (plan.version ≤ length tape) × IsVerdictOn (seen_by settings tape plan) settings.fees plan cuts judged
 
--- a board of a roster's sizes that stands after some of the changes
+-- a board of a roster's sizes after some of the changes
 pub record IsAt (sizes : Sizes) (tape : Tape) (board : Board) : Type 0 where
   pub same : board.sizes ≡ sizes
   pub within : board.applied ≤ length tape

@@ -37,7 +37,7 @@ static HEADINGS: [Heading; 14] = [
     Heading("expected", "expected", 20, true),
 ];
 
-/// The same with the time of each plan's version.
+/// As `HEADINGS`, with the time of each plan's version.
 static TIMED_HEADINGS: [Heading; 15] = [
     Heading("plan", "plan", 6, true),
     Heading("line", "line", 8, true),
@@ -64,7 +64,7 @@ fn headings_of(times: Option<&Times>) -> &'static [Heading] {
     }
 }
 
-/// What came of a plan.
+/// The outcome for a plan.
 #[derive(Clone, Copy)]
 enum Outcome {
     Confirmed,
@@ -72,7 +72,7 @@ enum Outcome {
     Unreadable,
 }
 
-/// How many plans there were of each outcome.
+/// How many plans had each outcome.
 #[derive(Clone, Copy, Default)]
 struct Counts {
     confirmed: u64,
@@ -80,15 +80,15 @@ struct Counts {
     unreadable: u64,
 }
 
-/// Judges every plan in the answers of a script or of a live run, each on its own version of the changes, and writes a table
-/// of verdicts and a line of totals, or an object a plan as JSON: by version, those of one version as they stand, and last
-/// those that can't be read.
+/// Judges every plan in the answers of a script or of a live run, each on its own version of the changes. Writes a table of
+/// verdicts and a line of totals, or an object a plan as JSON. The order is by version, those of one version as they stand, and
+/// last those that can't be read.
 ///
 /// With times, which must be as many as the changes, each plan has that of its version.
 ///
-/// The changes are read whole, and go over the board once; the answers are searched for records `PLAN` to `END`, and all else
-/// there is passed over. Text where a plan should stand is reported as L11. `Doubted` if a plan is doubted, else
-/// `Refused` if one can't be read, else `Done`. Nothing is flushed.
+/// The changes are read whole, and go over the board once. It searches the answers for records `PLAN` to `END`, and skips all
+/// else. Text in the place of a plan is reported as L11. `Doubted` if a plan is doubted, else `Refused` if one can't be read,
+/// else `Done`. Nothing is flushed.
 pub fn check_answers<R: Read + Drop, W: Write>(
     alloc: Global,
     setup: &Setup,
@@ -197,7 +197,7 @@ fn counted(counts: Counts, outcome: Outcome) -> Counts {
     counts
 }
 
-/// How a request ends that judged so many plans.
+/// How a request ends that judged that many plans.
 fn ending_of(counts: Counts) -> Ending {
     if counts.doubted > 0 {
         Ending::Doubted
@@ -281,7 +281,7 @@ fn check_plan<W: Write>(
     }
 }
 
-/// Writes what the table is, and its head.
+/// Writes the title of the table, and its head.
 fn write_head<W: Write>(
     answers: &mut W,
     form: Form,

@@ -15,7 +15,7 @@ use std::io::Write;
 /// The most that a marginal may be, in nanodollars, and the least with a minus.
 const MOST_MARGINAL: i128 = 1_000_000_000_000_000_000;
 
-/// Reports what each cut says, where so many shares can be filled.
+/// Reports what each cut says, if that many shares can be filled.
 pub(crate) fn tell_cuts<W: Write>(
     alloc: Global,
     answers: &mut W,
@@ -36,8 +36,8 @@ pub(crate) fn tell_cuts<W: Write>(
     Ok(())
 }
 
-/// Reports what one cut says of the rows that its price reaches: those that the order may trade with, and at a price beyond the
-/// limit also the protected ones at better prices, which would have to be swept there.
+/// Reports what one cut says of the rows that the order may trade with at its price. Beyond the limit it also counts the
+/// protected ones at better prices, which would have to be swept there.
 fn tell_reached<W: Write>(
     alloc: Global,
     answers: &mut W,
@@ -118,8 +118,8 @@ fn tell_cut<W: Write>(
     )
 }
 
-/// The least that a plan with this worst price costs by a cut's marginal: where it has one in its range, and no more must be
-/// swept than can be filled.
+/// The least that a plan with this worst price costs by a cut's marginal: if it has one in its range, and at most as many
+/// shares must be swept as can be filled.
 fn bound_of(rows: &[UsableRow], most: u64, cutoff: Rank, kind: CutKind) -> Option<Money>
     requires rows { length rows.now ≤ MOST_ROWS }
     requires most { most ≤ MOST_SHARES }
@@ -144,7 +144,7 @@ fn bound_item(bound: Option<Money>) -> Item<'static> {
     }
 }
 
-/// What a cut's kind is called.
+/// The name of a cut's kind.
 fn kind_of(kind: CutKind) -> Item<'static> {
     match kind {
         CutKind::TooMuch => Item::Text("TOOMUCH"),

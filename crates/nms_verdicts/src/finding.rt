@@ -1,11 +1,11 @@
-//! What was found where a doubt stands, what was expected, and the words for it.
+//! What was found at the place of a doubt, what was expected, and the words for it.
 use crate::names::name_of;
 use crate::verdict::Verdict;
 use nms_plan_places::{BreachPlace, CutPlace, CutSums, DoubtPlace, LegPlace, PassedOver};
 use nms_quote::{CutKind, Order, Plan, Roster};
 use nms_show::Item;
 
-/// Where a doubt stands, what was found there, what was expected, and the lines that say it.
+/// The place of a doubt, what was found there, what was expected, and the lines that say it.
 #[derive(Clone, Copy)]
 pub(crate) struct Finding<'a> {
     /// The line that names the leg or the cut.
@@ -43,7 +43,7 @@ pub(crate) fn finding_of<'a>(verdict: &Verdict, roster: &'a Roster, plan: &Plan)
     }
 }
 
-/// What is found where a doubt stands.
+/// What is found at the place of a doubt.
 fn of_doubt<'a>(place: &DoubtPlace, roster: &'a Roster, order: &Order) -> Finding<'a> {
     match place {
         DoubtPlace::Breach(place) => of_breach(place, roster, order),
@@ -91,7 +91,7 @@ fn of_doubt<'a>(place: &DoubtPlace, roster: &'a Roster, order: &Order) -> Findin
     }
 }
 
-/// What is found of a cut that says what the sums at its price deny.
+/// What is found of a cut that contradicts the sums at its price.
 fn of_kind(cut: &CutPlace, sums: &CutSums) -> Finding<'static> {
     let (words, shares) = match cut.cut.kind {
         CutKind::TooMuch => (
@@ -110,7 +110,7 @@ fn of_kind(cut: &CutPlace, sums: &CutSums) -> Finding<'static> {
     of_cut(cut, words, Item::Number(shares), Item::Number(sums.most))
 }
 
-/// What is found where a breach stands.
+/// What is found at the place of a breach.
 fn of_breach<'a>(place: &BreachPlace, roster: &'a Roster, order: &Order) -> Finding<'a> {
     match place {
         BreachPlace::OtherVersion { found, expected } => of_plan(

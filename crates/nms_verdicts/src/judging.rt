@@ -12,7 +12,7 @@ use nms_plan_places::doubt_place;
 use nms_quote::{Certificate, Change, Plan, Roster};
 use std::alloc::Global;
 
-/// Judges a plan on the version that it names, as `audit` of `nms_file_answers` does, and says where its doubt stands.
+/// Judges a plan on the version that it names, as `audit` of `nms_file_answers` does, and returns the place of its doubt.
 ///
 /// The board is moved forward to that version; if it is past it, a new one is made.
 pub(crate) fn judge(
@@ -81,7 +81,7 @@ fn reopen(
     ensures at { IsAt (sizes_of roster.now) changes.now board.new }
     ensures behind { OnOk result (board.new.applied ≤ version) }
 {
-    // The clauses alone speak of the changes.
+    // Only the clauses mention the changes.
     let _ = changes;
     if board.applied() <= version {
         return Ok(());
@@ -95,14 +95,14 @@ fn reopen(
     }
 }
 
-/// Judges a plan on what is seen.
+/// Judges a plan on a view.
 fn judge_on(fees: &FeeBook, view: &View, plan: &Plan, certificate: &Certificate) -> Verdict
     ensures { IsVerdictOn view.now fees.now plan.now certificate.now.items result }
 {
     match confirm(view, &plan.order, fees, plan, certificate) {
         Ok(()) => Verdict::Confirmed,
         Err(doubt) => {
-            // Copied before it is passed on: the borrow checker takes a value that was passed as moved.
+            // Copied before it is passed on: the borrow checker treats a passed value as moved.
             let told = doubt;
             let place = doubt_place(view, &plan.order, plan, fees, certificate, doubt);
             Verdict::Doubted { doubt: told, place }

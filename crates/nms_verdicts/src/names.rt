@@ -21,7 +21,7 @@ pub(crate) fn symbol_of(roster: &Roster, sym: Sym) -> Item<'_> {
     }
 }
 
-/// What an order does.
+/// The word for an order's side.
 pub(crate) fn verb_of(side: OrderSide) -> Item<'static> {
     match side {
         OrderSide::Buy => Item::Text("buy"),
@@ -29,7 +29,7 @@ pub(crate) fn verb_of(side: OrderSide) -> Item<'static> {
     }
 }
 
-/// What an order trades with.
+/// The words for what an order trades with.
 pub(crate) fn quotation_of(side: OrderSide) -> Item<'static> {
     match side {
         OrderSide::Buy => Item::Text("offer"),

@@ -6,7 +6,7 @@ use nms_lines::{ByteRecord, open_records, read_next, read_plan};
 use nms_quote::Roster;
 use std::alloc::{AllocError, Global};
 
-/// What a line of answers is.
+/// What kind a line of answers is.
 #[derive(Clone, Copy)]
 enum Kind {
     /// It begins a plan.
@@ -21,7 +21,7 @@ enum Kind {
     Other,
 }
 
-/// The text of a plan, or what stands where one should.
+/// The text of a plan, or the text in the place of one.
 #[derive(Clone, Copy)]
 pub(crate) struct Piece<'a> {
     /// Its bytes, from the record that begins it to the one that ends it.
@@ -30,11 +30,11 @@ pub(crate) struct Piece<'a> {
     pub(crate) plan: u64,
     /// Its first line, counted from 1.
     pub(crate) line: u64,
-    /// The version that it names; if it can't be read, more than any.
+    /// The version that it names; if it can't be read, a number above all versions.
     pub(crate) version: u64,
 }
 
-/// Where a piece begins that has not ended.
+/// The beginning of a piece that has not ended.
 #[derive(Clone, Copy)]
 struct Begun<'a> {
     /// The text from there on.
@@ -45,8 +45,8 @@ struct Begun<'a> {
     line: u64,
 }
 
-/// The pieces of a text of answers, by version, those of one version as they stand. A record of a plan that stands without
-/// the one that begins it gives a piece too, so that no plan is passed over.
+/// The pieces of a text of answers, by version, those of one version as they stand. A record of a plan without the record that
+/// begins a plan gives a piece too, so that no plan is missed.
 pub(crate) fn pieces_of<'a>(
     alloc: Global,
     roster: &Roster,
@@ -91,7 +91,7 @@ fn push_pieces<'a>(
     push_piece(pieces, alloc, roster, begun)
 }
 
-/// The piece that has begun, with a line more; one begins at a record of a plan.
+/// The piece that has begun, with one more line; a piece begins at a record of a plan.
 fn begun_with<'a>(
     begun: Option<Begun<'a>>,
     kind: Kind,
@@ -139,7 +139,7 @@ fn push_piece<'a>(
     Ok(())
 }
 
-/// How many bytes the first line of a text takes, its end among them.
+/// How many bytes the first line of a text takes, with its end.
 fn line_length(text: &[u8]) -> usize
     requires { 0 < length text.now }
     ensures some { 0 < result }
@@ -152,8 +152,8 @@ fn line_length(text: &[u8]) -> usize
     }
 }
 
-/// What a line is, by its first field, which may stand in quotes: then it is what the reader of records reads of the line.
-/// A record of a plan takes one line, since no field of one may have a line end.
+/// What a line is, by its first field. That may stand in quotes: then it is what the reader of records reads of the line. A
+/// record of a plan takes one line, since none of its fields may have a line end.
 fn kind_of(alloc: Global, line: &[u8]) -> Result<Kind, AllocError> {
     if line.first() == Some(&b'"') {
         return kind_of_quoted(alloc, line);
@@ -166,18 +166,18 @@ fn kind_of(alloc: Global, line: &[u8]) -> Result<Kind, AllocError> {
     Ok(kind_of_word(first))
 }
 
-/// What a line is that begins with a quote.
+/// What a line is if it begins with a quote.
 fn kind_of_quoted(alloc: Global, line: &[u8]) -> Result<Kind, AllocError> {
     let mut reader = open_records(alloc, line);
     let mut row = ByteRecord::new(alloc);
     match read_next(&mut reader, &mut row) {
         Ok(_) => Ok(kind_of_word(row.get(0).unwrap_or(&[]).trim_ascii_end())),
-        // Bytes that are there can be read, so memory ran out.
+        // The bytes are there to read, so memory ran out.
         Err(_) => Err(AllocError),
     }
 }
 
-/// What a line is that begins with a word.
+/// What a line is if it begins with a word.
 fn kind_of_word(word: &[u8]) -> Kind {
     match word {
         b"PLAN" => Kind::Plan,

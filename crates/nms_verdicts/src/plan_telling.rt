@@ -23,7 +23,7 @@ pub(crate) struct PlanNumber<'a> {
     pub(crate) times: Option<&'a Times>,
 }
 
-/// Reports a plan and its verdict: as a row under headings with what is doubtful, or without headings as sentences.
+/// Reports a plan and its verdict: as a row under headings with the doubt, or without headings as sentences.
 pub(crate) fn tell_plan<W: Write>(
     alloc: Global,
     answers: &mut W,
@@ -48,7 +48,7 @@ pub(crate) fn tell_plan<W: Write>(
     tell_passed(alloc, answers, form, roster, number, plan, verdict)
 }
 
-/// The same, but for the quotations that are traded through, where these are named under self-help.
+/// As `tell_plan`, but without the quotations that are traded through, and with the names and the time given.
 fn tell_named<W: Write>(
     alloc: Global,
     answers: &mut W,
@@ -81,7 +81,7 @@ fn tell_named<W: Write>(
     } else {
         &all[5..]
     };
-    // Without times there is no key of one.
+    // Without times there is no key for one.
     let known = if number.times.is_some() { 26 } else { 25 };
     tell(
         alloc,
@@ -113,7 +113,7 @@ fn time_item(digits: &[u8]) -> Item<'_> {
     }
 }
 
-/// What is reported of a plan and its verdict.
+/// The facts reported on a plan and its verdict.
 fn facts_of<'a>(
     roster: &'a Roster,
     number: PlanNumber<'a>,
@@ -163,7 +163,7 @@ fn word_of(verdict: &Verdict) -> Item<'static> {
     }
 }
 
-/// The sentences on a plan's order, on what it fills, and its verdict.
+/// The sentences on a plan's order, on the shares it fills, and its verdict.
 fn sentences_of(plan: &Plan, verdict: &Verdict) -> [&'static str; 4] {
     [
         if plan.order.manual {

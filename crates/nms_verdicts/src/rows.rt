@@ -91,7 +91,7 @@ fn sent_to(legs: &[Leg], part: Part) -> u64 {
     sent
 }
 
-/// What a plan that sends so many shares to a quotation does with it, in a word or two.
+/// What a plan that sends that many shares to a quotation does with it, in a word or two.
 fn note_of(plan: &Plan, row: &Row, sent: u64) -> &'static str {
     if !is_usable(&plan.order, row) {
         return why_unusable(plan, row);

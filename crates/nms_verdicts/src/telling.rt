@@ -6,11 +6,11 @@ use std::io::Write;
 /// The most columns that a table has.
 const MOST_COLUMNS: usize = 16;
 
-/// The most texts and values that a line is made of.
+/// The most texts and values of a line.
 const MOST_ITEMS: usize = 24;
 
-/// A column: what is written above it, the key of the fact that stands in it, how many characters it takes at least, and
-/// whether it stands at the column's right end.
+/// A column: its heading, the key of the fact in it, its least number of characters, and whether the fact stands at the
+/// column's right end.
 #[derive(Clone, Copy)]
 pub(crate) struct Heading(
     pub(crate) &'static str,
@@ -40,7 +40,7 @@ pub(crate) fn tell<'a, W: Write>(
     Ok(())
 }
 
-/// Writes the head of a table; of objects there is none.
+/// Writes the head of a table; objects have none.
 pub(crate) fn tell_head<W: Write>(
     answers: &mut W,
     form: Form,
@@ -52,7 +52,7 @@ pub(crate) fn tell_head<W: Write>(
     tell_row(answers, form, headings, &[])
 }
 
-/// Writes the facts that stand under headings; without facts their titles. After the last one the line ends.
+/// Writes the facts under headings; without facts their titles. After the last one the line ends.
 fn tell_row<W: Write>(
     answers: &mut W,
     form: Form,
@@ -80,7 +80,7 @@ fn tell_row<W: Write>(
     write_row(answers, form, columns.get(..used).unwrap_or(&columns))
 }
 
-/// The fact that stands under a heading; without facts its title.
+/// The fact under a heading; without facts its title.
 fn column_of<'a>(heading: Heading, facts: &[(&str, Item<'a>)]) -> Column<'a> {
     let Heading(title, key, width, right) = heading;
     let item = if !facts.is_empty() {
@@ -93,8 +93,8 @@ fn column_of<'a>(heading: Heading, facts: &[(&str, Item<'a>)]) -> Column<'a> {
     Column { item, width, right }
 }
 
-/// Writes a line of words, in which the value of a fact stands for its key between two bars. Of no words, and among objects,
-/// nothing is written.
+/// Writes a line of words. The value of a fact replaces its key between two bars. If there are no words, or among objects, it
+/// writes nothing.
 pub(crate) fn tell_line<'a, W: Write>(
     answers: &mut W,
     form: Form,

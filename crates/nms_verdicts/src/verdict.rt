@@ -1,4 +1,4 @@
-//! What comes of judging a plan.
+//! The result of judging a plan.
 ghost use Rattle.std.specs.Prelude.{◌≡◌};
 ghost use Rattle.nms_verdicts.specs.Explained.{ending_of};
 
@@ -6,12 +6,12 @@ use nms_cert::Doubt;
 use nms_plan_places::DoubtPlace;
 use nms_show::Ending;
 
-/// What comes of judging a plan.
+/// The result of judging a plan.
 #[derive(Drop)]
 pub(crate) enum Verdict {
     /// It is lawful, no lawful plan fills more, and none that fills as much costs less.
     Confirmed,
-    /// A1: its version has more changes than there are.
+    /// A1: its version has more changes than the file.
     Beyond {
         /// How many changes there are.
         changes: u64,
@@ -51,7 +51,7 @@ impl Verdict {
         matches!(self, Verdict::Confirmed)
     }
 
-    /// How a request ends that asked for it: done if it is confirmed, else doubted.
+    /// How a request for it ends: done if it is confirmed, else doubted.
     pub(crate) fn ending(&self) -> Ending
         ensures { result ≡ ending_of self.now }
     {

@@ -12,14 +12,14 @@ pub enum VerdictFault {
     /// The file of changes is no tape. Nothing was written.
     #[error("{0}")]
     Changes(ChangesFault),
-    /// H3: there are not as many times as changes. Nothing was written.
+    /// H3: the number of times is not that of the changes. Nothing was written.
     #[error("{0}")]
     Times(TimesFault),
-    /// B1: no memory for a board. What was written before stands.
+    /// B1: no memory for a board. What was written before stays.
     #[error("{0}")]
     Board(BoardFault),
-    /// L11 or L12: the text is that of no plan, or there was no memory to read it. Of many plans, one that can't be
-    /// read is reported as such and is no fault.
+    /// L11 or L12: the text is no plan, or there was no memory to read it. Among many plans, one that can't be read is reported
+    /// as such and is no fault.
     #[error("{0}")]
     Plan(PlanTextFault),
     /// E2 or E4: the output could not be written, or memory ran out. A first part of it may have been written.

@@ -22,9 +22,9 @@ use nms_times::Times;
 use std::alloc::Global;
 use std::io::{Read, Write};
 
-/// Says why the plan of a text is, or is not, the best lawful one on its version of the changes. It shows what is doubtful first;
-/// then the quotations in rank order with what a share costs and what is sent there; how many shares can be filled; and
-/// each cut's bound beside the plan's cost.
+/// Explains why the plan of a text is, or is not, the best lawful one on its version of the changes. It shows the doubt first,
+/// then the quotations in rank order with what a share costs and what is sent there. Then it shows how many shares can be
+/// filled, and each cut's bound beside the plan's cost.
 ///
 /// `Doubted` if the plan is doubted, else `Done`. A text that is no plan is a fault. With times, which must be as many as the
 /// changes, it shows that of the plan's version too. Nothing is flushed.
@@ -51,7 +51,7 @@ pub fn explain_why<R: Read + Drop, W: Write>(
     }
 }
 
-/// Says it of the plan of a text.
+/// Explains the plan of a text.
 fn explain_text<W: Write>(
     alloc: Global,
     setup: &Setup,
@@ -82,7 +82,7 @@ fn explain_text<W: Write>(
     }
 }
 
-/// Says it of a plan.
+/// Explains a plan.
 fn explain_plan<W: Write>(
     alloc: Global,
     setup: &Setup,
@@ -125,7 +125,7 @@ fn explain_plan<W: Write>(
     }
 }
 
-/// Reports a plan and its verdict, and where its version is one of the changes of what is seen there.
+/// Reports a plan and its verdict, and the view of its version if the changes have it.
 fn tell_judged<W: Write>(
     alloc: Global,
     setup: &Setup,
@@ -169,7 +169,7 @@ fn tell_judged<W: Write>(
     }
 }
 
-/// Reports the quotations, of what can be filled, of each cut, and what follows of a plan that is confirmed.
+/// Reports the quotations, the shares that can be filled, each cut, and what follows for a plan that is confirmed.
 fn tell_seen<W: Write>(
     alloc: Global,
     setup: &Setup,

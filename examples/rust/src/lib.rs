@@ -102,13 +102,13 @@ impl Plan {
 /// A board. It can go to another thread, and serves one call at a time: every method takes `&mut self`.
 pub struct Board(Box<raw::Board>);
 
-// The library keeps no state beside the board, and lets it change threads where a move, a lock or a join orders them.
+// The library keeps no state besides the board, and lets it change threads if a move, a lock or a join orders them.
 unsafe impl Send for Board {}
 
 impl Board {
     /// Opens a board from the text of a setup. Only this call takes memory of the library.
     pub fn open(setup: &str) -> Result<Board, Error> {
-        // The declarations of this crate fit one layout alone.
+        // The declarations of this crate fit only one layout.
         assert_eq!(unsafe { raw::nms_abi() }, raw::ABI, "libnms.a is of another version than this crate");
         let mut board = Box::new(raw::Board { mark: 0, at: null_mut() });
         // A boxed handle keeps its place as long as the board lives.

@@ -1,4 +1,4 @@
-//! Appending where memory may be wanting: a change that found none is appended once more, and nothing was lost between.
+//! Appending when memory may run out: a change that found none is appended once more, and nothing was lost between.
 ghost use Rattle.std.specs.Prelude.{◌≡◌, true};
 ghost use Rattle.nms_quote.specs.Roster.{holds};
 
@@ -25,20 +25,20 @@ name = "ABC"
 lot = 100
 "#;
 
-/// What came of it.
+/// The result.
 #[derive(Clone, Copy, Debug, PartialEq, Eq)]
 pub(crate) struct Appended {
-    /// How many of the changes stand on the tape where they belong.
+    /// How many of the changes stand at their places on the tape.
     pub(crate) in_place: usize,
     /// How many changes the tape has.
     pub(crate) tape: usize,
-    /// The version that a desk was shown at last, and how many shares it showed.
+    /// The last version that a desk saw, and how many shares it saw there.
     pub(crate) shown: (u64, u32),
-    /// Whether each change was appended, the first time or the second, and a refusal left all as it was.
+    /// Whether each change was appended, the first time or the second, and each refusal left all as it was.
     pub(crate) is_whole: bool,
 }
 
-/// Appends so many changes and publishes them, half of them at once.
+/// Appends that many changes and publishes them, half of them at once.
 pub(crate) fn append_all<R: Wait>(
     rt: &R,
     alloc: Global,
@@ -63,7 +63,7 @@ pub(crate) fn append_all<R: Wait>(
     })
 }
 
-/// Appends each change, and publishes after the half of them and after all.
+/// Appends each change, and publishes after half of them and after all.
 fn append_each<R: Wait>(rt: &R, publisher: &mut Publisher, count: u32) -> bool {
     let mut is_whole = true;
     for number in 0..count {
@@ -96,8 +96,8 @@ fn append_again(publisher: &mut Publisher, number: u32) -> bool {
     }
 }
 
-/// Appends a change of the roster. If there is no memory for it, the tape and what is published have to be as they
-/// were, and the same change is appended once more.
+/// Appends a change of the roster. If out of memory, the tape and what is published have to be as they were, and the same
+/// change is appended once more.
 fn append_held(publisher: &mut Publisher, change: &Change) -> bool
     requires { holds publisher.old.sizes change.now ≡ true }
 {

@@ -1,4 +1,4 @@
-//! A plan of an intermarket sweep order, and its check by who does not trust the planner.
+//! A plan of an intermarket sweep order, and its check by a caller who does not trust the planner.
 ghost use Rattle.std.specs.Prelude.{IsOk};
 
 use nms_board::Boards;

@@ -14,7 +14,7 @@ use std::sync::Wait;
 use std::thread;
 use std::thread::Threads;
 
-/// What a run came to: what went through the lane, and the version that the desk was settled on.
+/// The result of a run: what went through the lane, and the version that the desk was settled on.
 #[derive(Debug, Drop)]
 pub(crate) struct Came {
     pub(crate) delivered: Delivered,

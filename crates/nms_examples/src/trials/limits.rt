@@ -3,7 +3,7 @@ use super::same;
 use nms_units::{Lot, Money, Price, Shares};
 use std::test::Fail;
 
-/// The least and the most are made, and nothing beyond them.
+/// The least and the most can be made, and nothing beyond them.
 pub(super) fn numbers_have_their_limits() -> Result<(), Fail> {
     for (number, is_price) in [
         (0, false),
@@ -31,7 +31,7 @@ pub(super) fn whole_lots_are_displayed() -> Result<(), Fail> {
     Ok(())
 }
 
-/// What is printed is read as itself: the two laws are calls that do nothing.
+/// What is printed reads back as itself: the two laws are calls that do nothing.
 pub(super) fn the_laws_of_texts_are_called() {
     Price::reads_what_it_prints();
     Money::reads_what_it_prints();

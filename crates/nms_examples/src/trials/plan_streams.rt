@@ -1,4 +1,4 @@
-//! Plans on streams that fail or count. What is read and written again stands in `examples/`.
+//! Plans on streams that fail or count. Plans that are read and written again stand in `examples/`.
 use super::same;
 use super::streams::Pipe;
 use nms_fees::Setup;
@@ -22,8 +22,8 @@ pub(super) fn a_failed_write_of_a_plan_is_told<T: AllocGlobal>(
     Ok(())
 }
 
-/// The code of what ends a plan on no changes where so many writes and flushes go well, `""` for none, and how many
-/// bytes are written by then.
+/// The code of what ends a plan on no changes if that many writes and flushes succeed, `""` for none, and how many bytes are
+/// written by then.
 fn planned(
     alloc: Global,
     setup: &Setup,

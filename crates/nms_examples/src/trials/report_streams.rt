@@ -7,8 +7,8 @@ use std::alloc::Global;
 use std::cell::Cell;
 use std::test::Fail;
 
-/// The code of what ends a report where so many writes and flushes go well, `""` for none, and how many bytes
-/// are written by then.
+/// The code of what ends a report if that many writes and flushes succeed, `""` for none, and how many bytes are written by
+/// then.
 fn reported(
     alloc: Global,
     setup: &Setup,

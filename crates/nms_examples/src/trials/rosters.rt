@@ -10,13 +10,13 @@ fn participant_added(roster: &mut Roster, name: &str) -> Result<u8, RosterFault>
     Ok(roster.add_participant(name.as_bytes(), Feed::A)?.get())
 }
 
-/// Adds a participant under its place as a number, which is the place that it gets.
+/// Adds a participant named by the number of its place, which is the place that it gets.
 fn add_participant_of(alloc: Global, roster: &mut Roster, place: u8) -> Result<(), Fail> {
     let name = format!(in alloc; "{place}")?;
     same(participant_added(roster, name.as_str()), Ok(place))
 }
 
-/// Adds N and 31 more, and compares what is answered before and after them. A board of this roster is empty.
+/// Adds N and 31 more, and compares the answers before and after. A board of this roster is empty.
 fn try_participants(alloc: Global, roster: &mut Roster) -> Result<(), Fail> {
     for (name, told) in [
         ("ABCDE", Err(RosterFault::BadName)),
@@ -53,7 +53,7 @@ fn symbol_added(roster: &mut Roster, name: &str) -> Option<Result<u16, RosterFau
     }
 }
 
-/// Adds a symbol under its place as a number, which is the place that it gets.
+/// Adds a symbol named by the number of its place, which is the place that it gets.
 fn add_symbol_of(alloc: Global, roster: &mut Roster, place: u16) -> Result<(), Fail> {
     let name = format!(in alloc; "{place}")?;
     same(symbol_added(roster, name.as_str()), Some(Ok(place)))

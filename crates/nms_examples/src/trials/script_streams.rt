@@ -26,7 +26,7 @@ fn records() -> &'static [(&'static str, usize)] {
     &RECORDS
 }
 
-/// Begins a record, or ends, if the answers to all before are out and no more. Else the read fails.
+/// Begins a record, or ends, if exactly the answers to all records before are out. Else the read fails.
 #[derive(Drop)]
 struct Asker<'a> {
     rest: &'static [u8],
@@ -52,8 +52,8 @@ impl<'a> Read for Asker<'a> {
     }
 }
 
-/// How many records are read by a reader that asks for their answers, and of 9 writes and flushes how many are
-/// left, and how many bytes are out.
+/// How many records a reader reads if it asks for their answers, how many of 9 writes and flushes are left, and how many bytes
+/// are out.
 fn asked(alloc: Global, setup: &Setup) -> Result<(u64, usize, usize, usize), Fail> {
     let out = &Cell::new(0);
     let asker = Asker {
@@ -76,7 +76,7 @@ pub(super) fn each_answer_is_one_write_and_out_before_the_next_read<T: AllocGlob
     Ok(())
 }
 
-/// What ends a script where so many writes and flushes go well, and how many bytes are written by then.
+/// What ends a script if that many writes and flushes succeed, and how many bytes are written by then.
 fn ended(
     alloc: Global,
     setup: &Setup,
@@ -120,7 +120,7 @@ pub(super) fn a_failed_write_or_flush_ends_the_script<T: AllocGlobal>(
     setup: &Setup,
 ) -> Result<(), Fail> {
     let broken = Some(ScriptFault::WriteFault);
-    // Nothing is reported of the first record, so nothing is written. Each other one is answered in 6 bytes.
+    // The first record has no answer, so nothing is written. The answer to each other one has 6 bytes.
     for (writes, flushes, fault, written) in [
         (0, 9, broken, 0),
         (1, 9, broken, 6),
@@ -143,7 +143,7 @@ pub(super) fn a_failed_write_or_flush_ends_the_script<T: AllocGlobal>(
     Ok(())
 }
 
-/// The worked script: three offers and their publishing, and after it an order.
+/// The worked script: three offers, their publishing, and then an order.
 fn worked(fails: bool) -> Source<'static> {
     Source {
         text: b"Q,N,ABC,A,,,10.00,300\nQ,P,ABC,A,,,10.00,500\nQ,Y,ABC,A,,,10.01,200\nF\n",

@@ -1,4 +1,4 @@
-//! Many short runs drawn at random, each judged by a plain slow program.
+//! Many short random runs, each judged by a plain slow program.
 use super::drawn::{Sent, drawn_feeds, part_name};
 use super::judge::finding;
 use super::{Wanted, run};
@@ -30,7 +30,7 @@ fn drawn_orders(alloc: Global, chance: &mut Chance, desks: u32) -> Option<Vec<Wa
     Some(table)
 }
 
-/// Lets a desk's looks wait until so many changes were sent, more for each look, or all.
+/// Lets a desk's looks wait until that many changes were sent, more for each look, or all.
 #[derive(Drop)]
 struct Paced {
     sent: AtomicU64,
@@ -39,7 +39,7 @@ struct Paced {
 }
 
 impl Paced {
-    /// Waits for so many changes, and reports whether they were sent.
+    /// Waits for that many changes, and reports whether they were sent.
     fn has_sent(&self, count: u64) -> bool {
         for _ in 0..1000u32 {
             if count <= self.sent.load(Ordering::SeqCst) {
@@ -124,7 +124,7 @@ fn drawn_limits(chance: &mut Chance) -> Limits {
     }
 }
 
-/// A setup of such limits, with two participants on each feed.
+/// A setup of these limits, with two participants on each feed.
 pub(crate) fn setup_of(alloc: Global, limits: Limits) -> Option<String> {
     let Limits {
         tape,
@@ -155,7 +155,7 @@ fn add_participant(alloc: Global, text: &mut String, part: u8) -> Option<()> {
     text.push_str(entry.as_str()).ok()
 }
 
-/// What is wrong with what a run came to, or nothing.
+/// What is wrong with the result of a run, or nothing.
 fn judged(
     alloc: Global,
     setup: &str,
@@ -174,7 +174,7 @@ fn judged(
     }
 }
 
-/// Draws a run and makes it: what is wrong with what it came to, or nothing.
+/// Draws a run and makes it: what is wrong with its result, or nothing.
 fn try_run<R: Threads + Wait + Sync>(
     rt: &R,
     alloc: Global,
@@ -198,7 +198,7 @@ fn try_feeds<R: Threads + Wait + Sync>(
     try_orders(rt, alloc, limits, sent, &table, pace)
 }
 
-/// Makes the run over the text of such a setup.
+/// Makes the run over the text of a setup of these limits.
 fn try_orders<R: Threads + Wait + Sync>(
     rt: &R,
     alloc: Global,
@@ -221,7 +221,7 @@ fn texts_of<'s>(alloc: Global, sent: &'s [Sent]) -> Option<Vec<&'s [u8]>> {
     Some(texts)
 }
 
-/// Makes the run over a setup's text: what is wrong with what it came to, where this fault has to end it.
+/// Makes the run over a setup's text: what is wrong with its result, if this fault has to end it.
 fn try_under<R: Threads + Wait + Sync>(
     rt: &R,
     alloc: Global,
@@ -241,7 +241,7 @@ fn try_under<R: Threads + Wait + Sync>(
     Some(judged(alloc, setup, sent, table, &came_to, due))
 }
 
-/// 200 runs of one to eight feeds: what each came to is what a plain slow program finds.
+/// 200 runs of one to eight feeds: the result of each equals that of a plain slow program.
 #[test]
 fn runs_drawn_by_chance_come_to_what_their_feeds_say(rt: HostRuntime) {
     let mut chance = Chance { state: 611 };

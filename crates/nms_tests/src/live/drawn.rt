@@ -1,11 +1,11 @@
-//! What feeds send, drawn at random: their texts, and what these say.
+//! Random texts of feeds, and the changes that they say.
 use crate::chance::Chance;
 use nms_lines::LineFault;
 use nms_quote::{Change, Feed, Part, QState, SideQuote, Sym};
 use nms_units::{Lot, Price, Shares};
 use std::alloc::Global;
 
-/// A record in numbers: of each side the cents over 10 dollars, below 10, and the shares; of a new round lot its place
+/// A record in numbers. For each side: the cents over 10 dollars, below 10, and the shares; for a new round lot: its place
 /// among those that are drawn.
 #[derive(Clone, Copy)]
 struct Record {
@@ -18,14 +18,14 @@ struct Record {
     lot: u32,
 }
 
-/// Cents and shares of a side; of 0 shares there is no quotation.
+/// Cents and shares of a side; with 0 shares there is no quotation.
 fn drawn_side(chance: &mut Chance) -> (u32, u32) {
     let cents = chance.draw() % 10;
     let shares = (chance.draw() % 4).wrapping_mul(150);
     (cents, shares)
 }
 
-/// A record of a feed: of one of its two participants, or a new round lot, which feed A alone brings.
+/// A record of a feed: of one of its two participants, or a new round lot, which only feed A brings.
 fn drawn_record(chance: &mut Chance, feed: Feed) -> Record {
     let first = feed.place().wrapping_mul(2);
     let kinds = if feed == Feed::A { 18 } else { 16 };
@@ -144,8 +144,7 @@ fn record_text(alloc: Global, record: &Record) -> Option<String> {
     }
 }
 
-/// A record that is refused: what stands before the participant, whether it is of the feed, what stands after, and
-/// the fault.
+/// A record that is refused: the text before the participant, whether it is of the feed, the text after, and the fault.
 fn refused(number: u32) -> (&'static str, bool, &'static str, LineFault) {
     match number {
         0 => ("T,", true, "", LineFault::UnknownKind),
@@ -180,7 +179,7 @@ fn refused_lot(number: u32, feed: Feed) -> (&'static str, LineFault) {
     }
 }
 
-/// A participant of the feed, or else of the one before it, where feed A stands after feed B.
+/// A participant of the feed, or of the one before it; for feed A that is feed B.
 fn named(feed: Feed, is_own: bool) -> &'static str {
     let place = match (is_own, feed) {
         (true, _) => feed.place(),
@@ -202,7 +201,7 @@ fn refused_text(alloc: Global, number: u32, feed: Feed) -> Option<(String, LineF
     Some((text, fault))
 }
 
-/// What a feed's text is, the changes that it says up to the first record that is refused, and why that one is.
+/// A feed's text, the changes that it says up to the first record that is refused, and why that one is.
 #[derive(Drop)]
 pub(crate) struct Sent {
     pub(crate) text: Vec<u8>,
@@ -227,7 +226,7 @@ fn add_record(alloc: Global, chance: &mut Chance, feed: Feed, sent: &mut Sent) -
     let line = record_text(alloc, &record)?;
     add_line(&mut sent.text, line.as_str(), chance.draw() % 8)?;
     if sent.fault.is_none() {
-        // Moving a change takes a mention of the types in it: the prover has to have seen them.
+        // The prover has to see the types of a change before the change moves, so the code mentions them.
         let _seen: (Option<SideQuote>, Option<Lot>) = (None, None);
         let change = change_of(&record)?;
         sent.changes.push(change).ok()?;
@@ -235,7 +234,7 @@ fn add_record(alloc: Global, chance: &mut Chance, feed: Feed, sent: &mut Sent) -
     Some(())
 }
 
-/// Adds a record that is refused. If there is one feed alone, none is of another.
+/// Adds a record that is refused. If there is only one feed, no record is of another.
 fn add_refused(
     alloc: Global,
     chance: &mut Chance,
@@ -267,7 +266,7 @@ fn drawn_count(chance: &mut Chance) -> u32 {
     }
 }
 
-/// What a feed sends. A third of the feeds have refused records, and of many feeds fewer.
+/// What a feed sends. A third of the feeds have refused records, and fewer do if there are many feeds.
 fn drawn_feed(alloc: Global, chance: &mut Chance, feed: Feed, feeds: u8) -> Option<Sent> {
     let mut sent = Sent {
         text: Vec::new(alloc),
@@ -290,7 +289,7 @@ fn drawn_feed(alloc: Global, chance: &mut Chance, feed: Feed, feeds: u8) -> Opti
     Some(sent)
 }
 
-/// What each of so many feeds sends.
+/// What each of that many feeds sends.
 pub(crate) fn drawn_feeds(alloc: Global, chance: &mut Chance, feeds: u8) -> Option<Vec<Sent>> {
     let mut all = Vec::new(alloc);
     for place in 0..feeds {

@@ -1,4 +1,4 @@
-//! Runs of another number of feeds than two.
+//! Runs with more or fewer feeds than two.
 use super::chance::{Limits, setup_of};
 use super::worked::{compare_closing, feed_a, feed_b, first_told, has_four, never_falls, order};
 use super::{Wanted, run};
@@ -58,7 +58,7 @@ fn three_feeds_come_to_one_tape(rt: HostRuntime) -> Result<(), Fail> {
     Ok(())
 }
 
-/// Compares what three feeds came to.
+/// Compares the result of three feeds.
 fn compare_three<R: Abort>(rt: &R, alloc: Global, live: &Live) {
     let tape = live.tape.as_slice();
     same(rt, tape.len(), 4);
@@ -78,7 +78,7 @@ fn one_feed_is_the_tape(rt: HostRuntime) -> Result<(), Fail> {
     Ok(())
 }
 
-/// Compares what one feed came to.
+/// Compares the result of one feed.
 fn compare_one<R: Abort>(rt: &R, alloc: Global, live: &Live) {
     let tape = live.tape.as_slice();
     for part in 0..4u8 {
@@ -99,14 +99,14 @@ fn eight_feeds_of_which_six_send_nothing(rt: HostRuntime) -> Result<(), Fail> {
     Ok(())
 }
 
-/// Compares what eight feeds came to.
+/// Compares the result of eight feeds.
 fn compare_eight<R: Abort>(rt: &R, alloc: Global, live: &Live) {
     same(rt, has_four(&live.tape, &live.published), true);
     same(rt, first_told(&live.closing), Some((0, 0, 4, 600)));
     compare_closing(rt, alloc, &live.closing);
 }
 
-/// The fault of a run of eight feeds, of which some send a record that is refused.
+/// The fault of a run of eight feeds, some of which send a record that is refused.
 fn fault_of<R: Threads + Wait + Sync>(
     rt: &R,
     alloc: Global,
@@ -134,7 +134,7 @@ fn of_the_feeds_that_are_refused_the_first_is_named(rt: HostRuntime) {
     }
 }
 
-/// The text of a feed of so many changes of one participant.
+/// The text of a feed of that many changes of one participant.
 fn changes_of(alloc: Global, part: &str, count: u32) -> Option<Vec<u8>> {
     let mut text = Vec::new(alloc);
     for number in 0..count {
@@ -145,7 +145,7 @@ fn changes_of(alloc: Global, part: &str, count: u32) -> Option<Vec<u8>> {
     Some(text)
 }
 
-/// Lets no feed go on before what it sent last was published: so each change is published alone, or nearly so.
+/// Lets no feed go on before its last change was published: so each change is published alone, or nearly so.
 #[derive(Drop)]
 struct Stepped {
     published: std::sync::atomic::AtomicU64,
@@ -179,7 +179,7 @@ fn orders_of_all(alloc: Global) -> Option<Vec<Wanted>> {
     Some(table)
 }
 
-/// A run of eight feeds and 16 desks, in which each feed sends so many changes.
+/// A run of eight feeds and 16 desks, in which each feed sends that many changes.
 fn run_all<R: Threads + Wait + Sync>(rt: &R, alloc: Global, each: u32) -> Option<Live> {
     let limits = Limits {
         tape: 100_000,
@@ -204,7 +204,7 @@ fn run_all<R: Threads + Wait + Sync>(rt: &R, alloc: Global, each: u32) -> Option
     run(rt, alloc, setup.as_str(), &feeds, &table, &gate)?.ok()
 }
 
-/// Compares a run of eight feeds and 16 desks with what is due.
+/// Compares a run of eight feeds and 16 desks with the expected result.
 fn compare_all<R: Abort>(rt: &R, live: &Live, each: u32) {
     same(
         rt,

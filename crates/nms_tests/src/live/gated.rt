@@ -1,4 +1,4 @@
-//! What a gate is asked and told: each send, look and publishing of the run once, and told after it.
+//! The calls to a gate: before each send, look and publishing of the run once, and after it.
 use super::worked::{FIVE, first_told, order};
 use super::{Wanted, run, setup_text};
 use crate::same::same;
@@ -12,7 +12,7 @@ use std::test::Fail;
 use std::thread;
 use std::thread::Threads;
 
-/// Counts the looks that it is asked for and told of.
+/// Counts the calls before and after looks.
 #[derive(Drop)]
 struct Counting {
     asked: AtomicU64,
@@ -62,7 +62,7 @@ fn closing_looks_do_not_pass_the_gate(rt: HostRuntime) -> Result<(), Fail> {
     Ok(())
 }
 
-/// Compares how many answers there are, and how many looks the gate was asked for and told of.
+/// Compares how many answers there are, and how many calls came before and after looks.
 fn compare_counts<R: Abort>(rt: &R, gate: &Counting, live: &Live) {
     same(rt, (live.answers.len(), live.closing.len()), (3, 3));
     let asked = gate.asked.load(Ordering::SeqCst);
@@ -70,8 +70,8 @@ fn compare_counts<R: Abort>(rt: &R, gate: &Counting, live: &Live) {
     same(rt, (asked, told), (3, 3));
 }
 
-/// Is told of a send, a publishing and a look, and lets none of them go on before the next one was made: that one
-/// finds what was told of made.
+/// After a send, a publishing and a look it holds the thread until the next one of them was made. So that one finds the one
+/// before it made.
 #[derive(Drop)]
 struct Relay {
     published_first: AtomicBool,
@@ -80,7 +80,7 @@ struct Relay {
     gave_up: AtomicBool,
 }
 
-/// A gate that nobody was at.
+/// A gate that no thread has reached.
 fn make_relay() -> Relay {
     Relay {
         published_first: AtomicBool::new(false),

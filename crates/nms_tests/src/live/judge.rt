@@ -1,4 +1,4 @@
-//! A plain slow program that judges what a live run came to. It is given what the feeds sent and what was asked for.
+//! A plain slow program that judges the result of a live run. Its input is what the feeds sent and the orders.
 use super::drawn::Sent;
 use super::plain_look::are_shown;
 use super::{Wanted, order_of};
@@ -41,11 +41,11 @@ fn is_merge(tape: &[Change], sent: &[Sent]) -> bool {
     all == tape.len()
 }
 
-/// The most changes that are appended between two publishings: the rule's own number, and not the program's.
+/// The most changes that are appended between two publishings: the number of the rule, not of the program.
 const MOST_BETWEEN: u64 = 64;
 
-/// Whether each publishing shows more than the one before it, up to 64 changes, and the last one all so many. The
-/// last one alone may show nothing new.
+/// Whether each publishing shows up to 64 changes more than the one before it, and the last one shows all of them. Only the
+/// last one may show nothing new.
 fn rises_to(published: &[u64], all: u64) -> bool {
     let Some((end, before)) = published.split_last() else {
         return false;
@@ -124,7 +124,7 @@ fn are_all_on(answers: &[Answer], all: u64) -> bool {
     true
 }
 
-/// Applies the first changes of a tape, so many.
+/// Applies that many changes of a tape, from the first.
 fn apply_first(boards: &mut Boards, tape: &[Change], count: u64) {
     for (change, _) in tape.iter().zip(0..count) {
         if boards.takes(change) {
@@ -142,8 +142,8 @@ fn is_confirmed_on(mut boards: Boards, fees: &FeeBook, tape: &[Change], answer: 
     confirm(&view, &plan.order, fees, plan, &answer.certificate).is_ok()
 }
 
-/// Whether the checker confirms an answer, over a board of its own, and its legs take what a plain look at each change
-/// before shows.
+/// Whether the checker confirms an answer on a board of its own, and a plain look at each earlier change shows what the
+/// answer's legs take.
 fn is_confirmed(alloc: Global, setup: &Setup, tape: &[Change], answer: &Answer) -> bool {
     match Boards::new(alloc, setup.roster()) {
         Ok(boards) => {
@@ -195,7 +195,7 @@ fn answer_finding(
     }
 }
 
-/// What is wrong with a run over a setup's text, or nothing, where the feeds sent these changes.
+/// What is wrong with a run over a setup's text, or nothing, if the feeds sent these changes.
 pub(crate) fn finding(
     alloc: Global,
     setup: &str,

@@ -1,4 +1,4 @@
-//! Round lots that change while desks look, by what was worked out by hand.
+//! Round lots that change while desks look, by values worked out by hand.
 use super::worked::{order, told};
 use super::{Wanted, run};
 use crate::same::same;
@@ -41,12 +41,12 @@ impl Gate for Turns {
     }
 }
 
-/// N offers 290 shares and P offers 250 at the same price. Under a lot of 100 both show 200, and N was first; under one
-/// of 40 N shows 280 and P 240; under one of 300 neither shows; under one of 10, by an average, both show all.
+/// N offers 290 shares and P offers 250 at the same price. Under a lot of 100 both show 200, and N was first; under one of 40 N
+/// shows 280 and P 240; under one of 300 neither shows; under one of 10, by an average, both show all.
 const FEED: &[u8] =
     b"Q,N,ABC,A,,,10.00,290\nQ,P,ABC,A,,,10.00,250\nR,ABC,40\nR,ABC,300\nR,PNY,1\nR,ABC,AVG,10000.0000\n";
 
-/// What a run over that feed came to, with an order for each of its changes.
+/// The result of a run over that feed, with an order for each of its changes.
 fn run_lots<R: Threads + Wait + Sync>(rt: &R, alloc: Global) -> Option<Live> {
     let gate = Turns {
         looked: AtomicU64::new(0),
@@ -72,7 +72,7 @@ fn taken(answer: &Answer) -> (u32, u32) {
     (shares_to(legs, 0), shares_to(legs, 1))
 }
 
-/// Compares what each look showed with what is due after so many changes, and the closing answers with the last of it.
+/// Compares each look with the expected view after that many changes, and the closing answers with the last of them.
 fn compare_lots<R: Abort>(rt: &R, live: &Live) {
     let due = [(200, 0), (200, 200), (280, 240), (0, 0), (0, 0), (290, 250)];
     let mut version = 0u64;

@@ -1,4 +1,4 @@
-//! That the feeds and a desk work at the same time, each on what is published by then.
+//! The feeds and a desk work at the same time, each on what is published by then.
 use super::run;
 use super::worked::{compare_closing, feed_a, feed_b, has_four, order, told};
 use crate::same::same;
@@ -50,7 +50,7 @@ impl Overlap {
         is_set(&self.feed_a.there) && is_set(&self.feed_b.there) && is_set(&self.desk.there)
     }
 
-    /// Waits for the others, and reports whether they came. Once it gave up it reports so at once.
+    /// Waits for the others, and reports whether they came. Once it has given up, it reports that at once.
     fn meets(&self, here: &Meeting) -> bool {
         if is_set(&here.gave_up) {
             return false;
@@ -98,7 +98,7 @@ impl Gate for Overlap {
     }
 }
 
-/// A gate that nobody was at.
+/// A gate that no thread has reached.
 fn make_gate() -> Overlap {
     Overlap {
         feed_a: make_meeting(),
@@ -116,7 +116,7 @@ fn missed(meeting: &Meeting) -> bool {
     !is_set(&meeting.there) || is_set(&meeting.gave_up)
 }
 
-/// Whether the answers say this, and there are no more.
+/// Whether the answers are these, and there are no more.
 fn are_told(answers: &[Answer], wanted: [(u8, usize, u64, u32); 2]) -> bool {
     let [first, second] = wanted;
     match answers {
@@ -125,7 +125,7 @@ fn are_told(answers: &[Answer], wanted: [(u8, usize, u64, u32); 2]) -> bool {
     }
 }
 
-/// Compares who came to the gate, and what the run came to.
+/// Compares who came to the gate, and the result of the run.
 fn compare_overlap<R: Abort>(rt: &R, alloc: Global, gate: &Overlap, live: &Live) {
     let missed = (
         missed(&gate.feed_a),

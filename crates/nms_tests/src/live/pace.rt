@@ -9,7 +9,7 @@ use std::sync::atomic::{AtomicBool, Ordering};
 use std::test::Fail;
 use std::thread::Threads;
 
-/// Holds the taker at its first publishing, with one change taken, until feed A has sent so many more.
+/// Holds the taker at its first publishing, with one change taken, until feed A has sent that many more.
 #[derive(Drop)]
 struct Held {
     more: u64,
@@ -17,7 +17,7 @@ struct Held {
     is_sent: AtomicBool,
 }
 
-/// A gate that nobody was at.
+/// A gate that no thread has reached.
 fn make_held(more: u64) -> Held {
     Held {
         more,
@@ -48,7 +48,7 @@ impl Gate for Held {
     }
 }
 
-/// So many changes of one participant.
+/// That many changes of one participant.
 fn changes(alloc: Global, count: u64) -> Option<Vec<u8>> {
     let mut text = Vec::new(alloc);
     for _ in 0..count {
@@ -58,8 +58,8 @@ fn changes(alloc: Global, count: u64) -> Option<Vec<u8>> {
     Some(text)
 }
 
-/// What is published where feed A sends one change and so many more, all of these while the taker is held, through a
-/// lane of so many.
+/// The publishings if feed A sends one change and then more, all of these while the taker is held, through a lane of that
+/// capacity.
 fn published<R: Threads + Wait + Sync>(
     rt: &R,
     alloc: Global,
@@ -70,7 +70,7 @@ fn published<R: Threads + Wait + Sync>(
     published_under(rt, alloc, setup.as_str(), more)
 }
 
-/// The same over a setup's text.
+/// As above, over a setup's text.
 fn published_under<R: Threads + Wait + Sync>(
     rt: &R,
     alloc: Global,
@@ -91,7 +91,7 @@ fn the_taker_publishes_behind_64_changes_and_where_the_lane_is_empty(
     rt: HostRuntime,
 ) -> Result<(), Fail> {
     let lengths = published(&rt, rt.alloc(), 1024, 200).ok_or("a run")?;
-    // The first change alone; 64 at a time of those that lay in the lane; the 8 that were left; the end.
+    // The first change alone; 64 at a time of those in the lane; the 8 that were left; the end.
     let due = [1u64, 65, 129, 193, 201, 201];
     same(&rt, lengths.as_slice(), due.as_slice());
     Ok(())

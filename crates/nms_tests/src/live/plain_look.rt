@@ -1,8 +1,8 @@
-//! What a plain slow look at each change of a tape shows of a participant's side: no board stands here.
+//! A plain slow look at a participant's side after each change of a tape, without a board.
 use nms_quote::{Change, Leg, Order, OrderSide, Part, Plan, QState, SideQuote};
 
-/// What is known of a participant's side of a symbol: the symbol's lot, the state, and the price and shares of the side,
-/// of which 0 are no quotation.
+/// The state of a participant's side of a symbol: the symbol's lot, the state, and the price and shares of the side, both 0 for
+/// no quotation.
 #[derive(Drop)]
 struct Known {
     lot: u16,
@@ -19,7 +19,7 @@ fn content_of(quote: &Option<SideQuote>) -> (u64, u32) {
     }
 }
 
-/// Takes one change in, where it speaks of the participant or the symbol: of the side that an order takes from.
+/// Takes one change in, if it is about the participant or the symbol, for the side that an order takes from.
 fn follow(side: &mut Known, change: &Change, order: &Order, who: Part) {
     match *change {
         Change::Quote {
@@ -49,7 +49,7 @@ fn follow(side: &mut Known, change: &Change, order: &Order, who: Part) {
     }
 }
 
-/// Whether a leg takes no more than whole lots of what its participant quotes after so many changes, at its price.
+/// Whether a leg takes only whole lots of what its participant quotes after that many changes, at its price.
 fn is_shown(tape: &[Change], count: u64, order: &Order, leg: &Leg) -> bool {
     let mut side = Known {
         lot: 100,
@@ -65,7 +65,7 @@ fn is_shown(tape: &[Change], count: u64, order: &Order, leg: &Leg) -> bool {
     !side.is_halted && leg.price.get() == side.price && leg.shares.get() <= displayed
 }
 
-/// Whether each leg of a plan takes what is shown. The setups of all runs open with lots of 100.
+/// Whether each leg of a plan takes shown shares. The setups of all runs open with lots of 100.
 pub(crate) fn are_shown(tape: &[Change], plan: &Plan) -> bool {
     for leg in plan.legs.as_slice() {
         if !is_shown(tape, plan.version, &plan.order, leg) {

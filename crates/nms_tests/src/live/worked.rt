@@ -1,4 +1,4 @@
-//! Runs of a few changes, by what was worked out by hand.
+//! Runs of a few changes, by values worked out by hand.
 use super::{Wanted, run, setup_text};
 use crate::same::same;
 use nms_fees::read_setup;
@@ -89,7 +89,7 @@ pub(crate) fn says_closing(alloc: Global, answer: &Answer) -> Option<bool> {
     }
 }
 
-/// The same by the names of a roster.
+/// As above, by the names of a roster.
 fn says_under(alloc: Global, roster: &Roster, answer: &Answer) -> Option<bool> {
     match read_plan(alloc, CLOSING, roster) {
         Ok((plan, certificate)) => Some(is_answered(answer, &plan, &certificate)),
@@ -102,12 +102,12 @@ fn is_answered(answer: &Answer, plan: &Plan, certificate: &Certificate) -> bool 
     is_plan(&answer.plan, plan) && answer.certificate.as_slice() == certificate.as_slice()
 }
 
-/// Whether legs are the same, in one order.
+/// Whether legs are the same, in the same order.
 fn are_legs(one: &[Leg], other: &[Leg]) -> bool {
     one == other
 }
 
-/// Whether two plans are one.
+/// Whether two plans are the same.
 fn is_plan(one: &Plan, other: &Plan) -> bool {
     one.version == other.version
         && one.order == other.order
@@ -123,7 +123,7 @@ pub(crate) fn compare_closing<R: Abort>(rt: &R, alloc: Global, closing: &[Answer
     }
 }
 
-/// Compares what the worked run came to.
+/// Compares the result of the worked run.
 fn compare_worked<R: Abort>(rt: &R, alloc: Global, live: &Live) {
     same(rt, has_four(&live.tape, &live.published), true);
     same(rt, (live.answers.len(), live.closing.len()), (1, 1));
@@ -141,7 +141,7 @@ fn the_worked_run_answers_on_the_whole_tape(rt: HostRuntime) -> Result<(), Fail>
     Ok(())
 }
 
-/// The fault that ends a run over a setup of such limits, with the worked order.
+/// The fault that ends a run over a setup of these limits, with the worked order.
 fn fault<R: Threads + Wait + Sync, G: Gate>(
     rt: &R,
     alloc: Global,
@@ -213,7 +213,7 @@ fn five_changes_go_through_a_lane_of_2_and_not_on_a_tape_of_4(rt: HostRuntime) {
     same(&rt, told, Some(LiveFault::Append));
 }
 
-/// A gate that never opens at sends of feed A, at looks or at publishings, and else is open.
+/// A gate that never opens at sends of feed A, at looks or at publishings; else it is open.
 #[derive(Clone, Copy, Debug, PartialEq)]
 enum Shut {
     Send,

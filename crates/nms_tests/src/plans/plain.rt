@@ -1,8 +1,7 @@
-//! A plain slow planner, written from the rules: for each price at which an order could trade, the protected quotations
-//! at better prices in full, then the pool by what a share costs, then the better price, then the lower place; of the
-//! prices the one of least cost, of equals the best. Quotations of participants that the order names under self-help
-//! are as if they were not there. It keeps no sums and puts nothing in order: what comes before a row is counted anew
-//! for each.
+//! A plain slow planner, written from the rules. For each price at which an order could trade it takes the protected quotations
+//! at better prices in full. The rest comes from the pool by what a share costs, then the better price, then the lower place.
+//! Of the prices it takes the one of least cost, and the best of equals. Quotations of participants that the order names under
+//! self-help are as if they were not there. It keeps no sums and sorts nothing: for each row it counts anew what comes before.
 use arrayvec::ArrayVec;
 use nms_board::View;
 use nms_fees::FeeBook;
@@ -19,7 +18,7 @@ struct Offered {
     cost: i128,
 }
 
-/// The quotation that stands in a list's unused places.
+/// The quotation for a list's unused places.
 impl Default for Offered {
     fn default() -> Self {
         Offered {
@@ -49,8 +48,7 @@ impl Market {
         }
     }
 
-    /// Whether a row has to be swept before the order may trade at a price (17 CFR 242.600, "intermarket sweep
-    /// order").
+    /// Whether a row has to be swept before the order may trade at a price (17 CFR 242.600, "intermarket sweep order").
     fn is_swept(&self, row: &Offered, price: Price) -> bool {
         row.protected && self.is_better(row.price, price)
     }
@@ -188,7 +186,7 @@ impl Market {
         cuts
     }
 
-    /// The price of least cost, of equals the best.
+    /// The price of least cost, and the best of equals.
     fn chosen(&self, cuts: &Certificate) -> Option<Price> {
         let mut best: Option<Price> = None;
         for cut in cuts.as_slice() {

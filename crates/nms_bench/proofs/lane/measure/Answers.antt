@@ -1,4 +1,4 @@
--- `measure`: the ends of the lane that was opened are its senders, and nothing was sent by them, by `opened` and `opened_new`.
+-- `measure`: the ends of the lane that was opened are its senders, and they have sent nothing, by `opened` and `opened_new`.
 use Rattle.nms_bench.proofs.LaneLemmas.{opened, opened_new}
 use Rattle.nms_bench.proofs.lane.measure.Goals as goal
 

@@ -1,4 +1,4 @@
--- `least`: at each turn the fault before those that were looked at.
+-- `least`: each turn adds the fault before those already compared.
 use Rattle.std.proofs.Common.{arith}
 use Rattle.nms_calls.proofs.SetupPlaceLemmas.{least-one_more}
 use Rattle.nms_calls.proofs.setup_place.least.Goals as goal

@@ -1,4 +1,4 @@
--- `least`: the first fault of least number of those that were looked at, the last ones.
+-- `least`: the first fault of least number among those compared so far, the last ones.
 use Rattle.std.proofs.Common.{◌≡◌, ◌-◌, length, drop}
 use Rattle.nms_calls.specs.SetupPlaces.{least}
 use Rattle.nms_calls.proofs.setup_place.least.Given as goal

@@ -1,4 +1,4 @@
--- `put_side`: all 32 places are written, and no more rows stand on the side.
+-- `put_side`: all 32 places are written, and the side has no more rows.
 use Rattle.std.proofs.Common.{◌≤◌, length, arith}
 use Rattle.nms_board.specs.Ranking.{ranked_at}
 use Rattle.nms_board.specs.Shown.{rows_held}

@@ -29,7 +29,7 @@ returns-then-not-branch-clause-rows g c = λ config bytes seen reads.
     let end = c.in_ok-fetch_row.ensures.end config bytes (seen ++ had.0) had.1 (ap (λ (b : Bool). Ok b) is_none) in
     (had.0, end.0, omega (arith, had.2, end.1))
 
--- the row at hand waits
+-- the current row waits
 pub returns-then-not-is_taken-clause-rows : goal.returns-then-not-is_taken-clause-rows
 returns-then-not-is_taken-clause-rows g c = λ config bytes seen reads.
     let had = c.loop-done.invariant.3 config bytes seen reads in

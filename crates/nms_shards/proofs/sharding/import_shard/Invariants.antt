@@ -7,7 +7,7 @@ use Rattle.nms_import.specs.Rows.{RowsFrom}
 use Rattle.nms_shards.specs.Shard.{waiting}
 use Rattle.nms_shards.proofs.sharding.import_shard.Given as goal
 
--- the rows read so far were counted, but for the one at hand
+-- the rows read so far were counted, except the current one
 abbrev pub invariant-loop-done : goal.invariant-loop-done
 invariant-loop-done g l = (rows_in l.tally ≡ l.done)
     × (changes_in l.tally + l.fn.cutting.changes ≡ changes_in l.fn.tally + l.cutting.changes)

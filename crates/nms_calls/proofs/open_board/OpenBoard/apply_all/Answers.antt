@@ -5,7 +5,7 @@ use Rattle.nms_calls.specs.declared.change_numbers.NmsChange.{NmsChange}
 use Rattle.nms_calls.proofs.OpenedLemmas.{stopped-at}
 use Rattle.nms_calls.proofs.open_board.OpenBoard.apply_all.Goals as goal
 
--- the change that stands for one past the last
+-- the change used for one past the last
 abbrev none : NmsChange
 none = record {
   bid_price = 0;
