@@ -21,7 +21,7 @@ pub(crate) struct Came {
     pub(crate) settled: u64,
 }
 
-/// Sends a change so many times from each feed, publishes what comes, and looks at a symbol meanwhile.
+/// Sends a change a number of times from each feed, publishes what comes, and looks at a symbol meanwhile.
 pub(crate) fn run<R: Threads + Wait + Sync>(
     rt: &R,
     alloc: Global,
@@ -159,7 +159,7 @@ fn send_and_look<R: Threads + Wait + Sync>(
     (a, b, desk)
 }
 
-/// Takes so many changes and appends them. Publishes if the lane is empty, and at the end.
+/// Takes that many changes and appends them. Publishes if the lane is empty, and at the end.
 fn publish_all<R: Wait>(rt: &R, publisher: &mut Publisher, mut taker: Taker, changes: u64) -> Taker
     ensures opening { publisher.new.opening ≡ publisher.old.opening }
     ensures lane { (result.lane ≡ taker.lane) × (result.senders ≡ taker.senders) }
