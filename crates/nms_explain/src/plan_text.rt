@@ -4,9 +4,9 @@ use crate::explain_fault::ExplainFault;
 use crate::hints::hint_of_kind;
 use crate::record_source::{RecordSource, RecordText, next_record, open_source, record_of};
 use crate::refusal::{Refusal, tell_missing, tell_refusal};
-use crate::remedies::remedy_of;
 use crate::span::{Point, Span, span_of};
 use crate::tally::{tell_count, tell_counts};
+use nms_codes::Code;
 use nms_fees::Setup;
 use nms_lines::{ByteRecord, Reader};
 use nms_places::{FieldName, FieldPlace, Place, PlanDue, PlanTrouble, PlanWalk, text_at};
@@ -16,7 +16,7 @@ use std::alloc::Global;
 use std::io::{Read, Write};
 
 /// The code of a text that is no plan's.
-const CODE: &str = "L11";
+const CODE: Code = Code::L11;
 
 /// What is asked for.
 #[derive(Clone, Copy)]
@@ -172,7 +172,7 @@ fn refusal_of<'a>(
         found,
         expected,
         hint: hint_for(due, number, text),
-        remedy: remedy_of(CODE),
+        remedy: CODE.remedy(),
         quote: quote_at(text, line),
     }
 }

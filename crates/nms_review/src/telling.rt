@@ -1,92 +1,16 @@
 //! What is reported of a request that was not served.
 use crate::fault::{About, Fault};
+use nms_codes::{Code, Matter};
 use nms_review_words::{Request, Sub};
 use nms_show::{Form, Item, ShowFault, write_line};
 use std::io::{ErrorKind, Write};
-
-/// What each code says, of those that end a request. `explain` reports where a record stands.
-static SENTENCES: [(&'static str, &'static str); 37] = [
-    ("E1", "it could not be read"),
-    ("E2", "the output could not be written"),
-    ("E3", "it has more than 10,000,000 records"),
-    ("E4", "memory ran out"),
-    ("B1", "memory ran out for the board"),
-    ("A1", "the file has fewer changes than that version"),
-    ("A3", "memory ran out for the judgement"),
-    ("C1", "this setup is no TOML"),
-    ("C2", "a key is absent from this setup"),
-    ("C3", "this setup has a key that is not known"),
-    (
-        "C4",
-        "a name in this setup is not of its form, or stands twice",
-    ),
-    ("C5", "a value in this setup is not of its kind"),
-    ("C6", "a number in this setup is out of its range"),
-    ("C7", "a fee or a rate in this setup is over its cap"),
-    ("C8", "this setup has too many participants or symbols"),
-    ("C9", "memory ran out for the setup"),
-    ("F4", "it has more changes than the setup's tape_limit"),
-    ("G2", "memory ran out for the words"),
-    (
-        "I1",
-        "more than half of the rows were refused: is it the mapping of these files?",
-    ),
-    (
-        "I2",
-        "no row shows a round lot on either side: are the sizes lots, and not shares?",
-    ),
-    ("I3", "times fall, though the mapping says that they do not"),
-    ("J1", "it has not one time for each change"),
-    (
-        "J2",
-        "a change is before an earlier one, in the order that the mapping gives",
-    ),
-    (
-        "J3",
-        "a row is before an earlier one, in the order that the mapping gives",
-    ),
-    (
-        "L1",
-        "the first refused record is of no kind that is read there",
-    ),
-    (
-        "L2",
-        "the first refused record has not the number of fields of its kind",
-    ),
-    (
-        "L3",
-        "the first refused record names a participant that is not on the roster",
-    ),
-    (
-        "L4",
-        "the first refused record names a symbol that is not on the roster",
-    ),
-    ("L5", "the first refused record has a state that is none"),
-    ("L6", "the first refused record has a price that is none"),
-    ("L7", "the first refused record has shares that are none"),
-    ("L8", "the first refused record has half a side"),
-    ("L11", "it is not the text of one plan"),
-    ("H1", "a line is not the time of a change"),
-    (
-        "H2",
-        "a time is before the one above it; if the file is sorted by symbol, give --symbols",
-    ),
-    ("H3", "it has not as many lines as there are changes"),
-    (
-        "H4",
-        "a line is not a symbol with its first and its last version",
-    ),
-];
-
-/// What is said in other words of records and of memory.
-const REFUSED: &str = "a record was refused";
 
 /// Reports a fault of a request, and gives the exit status.
 pub(crate) fn tell_fault<E: Write>(fault: &Fault, request: &Request, errors: &mut E) -> u8 {
     if write_fault(fault, request, errors).is_ok() {
         let _ = write_tip(fault, request, errors);
     }
-    fault.status
+    fault.code.status()
 }
 
 /// Writes the line of a fault: the file or the word, the code, and a sentence.
@@ -105,7 +29,7 @@ fn write_fault<E: Write>(
         Item::Text("nms_review: "),
         Item::Bytes(name.as_bytes()),
         Item::Text(colon),
-        Item::Text(fault.code),
+        Item::Text(fault.code.text()),
         Item::Text(": "),
         Item::Text(sentence_of(fault)),
         Item::Text(line),
@@ -138,18 +62,30 @@ fn write_tip<E: Write>(fault: &Fault, request: &Request, errors: &mut E) -> Resu
     write_line(errors, Form::Text { colours: false }, &items)
 }
 
-/// The kind of the file that was refused, as `explain` names it.
+/// The kind of the file that was refused, as `explain` names it: only records and setups have places that it shows.
 fn kind_of(fault: &Fault, request: &Request) -> Option<&'static str> {
-    // Only records and setups have places that `explain` shows.
-    if fault.status == 6 && !fault.code.starts_with('L') {
+    if request.command == Sub::Explain {
         return None;
     }
-    match (fault.status, fault.about, request.command) {
-        (_, _, Sub::Explain) => None,
-        (3, _, _) => Some("setup"),
-        (6, About::Word(_), Sub::Tape) => Some("script"),
-        (6, About::Word(1), Sub::Why) | (6, About::Plan, _) => Some("plan"),
-        (6, About::Word(_), _) => Some("changes"),
+    match fault.code.matter() {
+        Matter::Setup => Some("setup"),
+        Matter::Record => kind_of_records(fault.about, request.command),
+        Matter::Content
+        | Matter::Mapping
+        | Matter::Words
+        | Matter::Input
+        | Matter::Output
+        | Matter::Memory
+        | Matter::Import => None,
+    }
+}
+
+/// The kind of a file of records that a call names, if it is one.
+fn kind_of_records(about: About, command: Sub) -> Option<&'static str> {
+    match (about, command) {
+        (About::Word(_), Sub::Tape) => Some("script"),
+        (About::Word(1), Sub::Why) | (About::Plan, _) => Some("plan"),
+        (About::Word(_), _) => Some("changes"),
         _ => None,
     }
 }
@@ -182,11 +118,10 @@ fn sentence_of(fault: &Fault) -> &'static str {
     if let Some(error) = fault.cause {
         return cause_of(error.kind());
     }
-    if fault.status == 2 {
+    if fault.code == Code::Usage {
         return fault.expected;
     }
-    let known = SENTENCES.iter().find(|known| known.0 == fault.code);
-    known.map_or(REFUSED, |known| known.1)
+    fault.code.sentence()
 }
 
 /// Why a file could not be read, as the system says it.
