@@ -1,6 +1,6 @@
 -- The codes that the reviewer's program prints: their texts, what each speaks of, and the exit status of a call that one of them
 -- ends. This product's own rule.
-use Rattle.std.specs.Prelude.{ℕ, ◌&&◌, List, [], ◌∷◌, Bool, true, codes}
+use Rattle.std.specs.Prelude.{ℕ, ◌≡◌, ◌&&◌, List, [], ◌∷◌, Bool, true, false, codes}
 use Rattle.std.specs.Int.{is_in_range}
 use Rattle.nms_show.specs.declared.show_fault.ShowFault.{ShowFault}
 use Rattle.nms_show.specs.declared.show_fault.ShowFault.TheVariants as show_fault
@@ -128,13 +128,28 @@ status_of_matter matter.Output = 1
 status_of_matter matter.Memory = 5
 status_of_matter matter.Import = 7
 
+-- a word of the call is to blame, or the file that it names: neither the output nor memory
+abbrev pub names_a_word : Matter → Bool
+names_a_word matter.Output = false
+names_a_word matter.Memory = false
+names_a_word _ = true
+
 abbrev pub status_of : Code → ℕ
 status_of code = status_of_matter (matter_of code)
+
+-- a code is printed so, and a call that ends by it has that status
+pub record IsToldAs (code : Code) (printed : List ℕ) (ending : ℕ) : Type 0 where
+  pub text : text_of code ≡ printed
+  pub status : status_of code ≡ ending
 
 -- why an answer was not printed
 abbrev pub code_of_show : ShowFault → List ℕ
 code_of_show show_fault.WriteFault = codes "E2"
 code_of_show show_fault.NoMemory = codes "E4"
+
+abbrev pub status_of_show : ShowFault → ℕ
+status_of_show show_fault.WriteFault = 1
+status_of_show show_fault.NoMemory = 5
 
 -- why times were not read
 abbrev pub code_of_times : TimesFault → List ℕ
@@ -143,6 +158,13 @@ code_of_times (times_fault.TimesFall line) = codes "H2"
 code_of_times times_fault.OtherLength = codes "H3"
 code_of_times (times_fault.NotSymbol line) = codes "H4"
 code_of_times times_fault.NoMemory = codes "E4"
+
+abbrev pub status_of_times : TimesFault → ℕ
+status_of_times (times_fault.NotTime line) = 6
+status_of_times (times_fault.TimesFall line) = 6
+status_of_times times_fault.OtherLength = 6
+status_of_times (times_fault.NotSymbol line) = 6
+status_of_times times_fault.NoMemory = 5
 
 -- printable ASCII, from the space to the tilde
 abbrev pub is_plain : List ℕ → Bool

@@ -4,8 +4,8 @@ ghost use Rattle.nms_codes.specs.Codes.{matter_of, status_of, text_of};
 
 use crate::matter::Matter;
 
-/// A code. Each is printed as it is named here, but for `E3Rows` and `Usage`.
-#[derive(Clone, Copy, Debug, PartialEq, Eq)]
+/// A code, by letter and number. Each is printed as it is named here, but for `E3Rows` and `Usage`.
+#[derive(Clone, Copy, Debug, PartialEq, Eq, PartialOrd, Ord)]
 pub enum Code {
     /// A1: there are fewer changes than a version has.
     A1,

@@ -1,12 +1,11 @@
 //! The code of each fault of the crates below. A new fault has none until it is named here.
-ghost use Rattle.std.specs.Prelude.{◌≡◌, codes};
-ghost use Rattle.nms_codes.specs.Codes.{code_of_show, code_of_times, status_of, text_of};
+ghost use Rattle.std.specs.Prelude.{codes};
+ghost use Rattle.nms_codes.specs.Codes.{IsToldAs, code_of_show, code_of_times, status_of_show, status_of_times};
 ghost use Rattle.nms_fees.specs.Faults as setup_faults;
 ghost use Rattle.nms_files.specs.Faults as file_faults;
 ghost use Rattle.nms_lines.specs.Faults as line_faults;
 ghost use Rattle.nms_lines.specs.PlanFaults as plan_faults;
 ghost use Rattle.nms_lines.specs.RecordFaults as record_faults;
-ghost use Rattle.nms_text.specs.Faults as text_faults;
 
 use crate::code::Code;
 use nms_board::BoardFault;
@@ -14,14 +13,12 @@ use nms_fees::SetupFault;
 use nms_files::ChangesFault;
 use nms_lines::{LineFault, PlanTextFault, RecordFault};
 use nms_show::ShowFault;
-use nms_text::ScriptFault;
 use nms_times::TimesFault;
 
 impl Code {
     /// Of a refused record.
     pub fn of_line(fault: LineFault) -> Code
-        ensures text { text_of result ≡ line_faults.code_of fault }
-        ensures status { status_of result ≡ record_faults.refused_status }
+        ensures { IsToldAs result (line_faults.code_of fault) record_faults.refused_status }
     {
         match fault {
             LineFault::UnknownKind => Code::L1,
@@ -40,8 +37,7 @@ impl Code {
 
     /// Of a file that was not read.
     pub fn of_record(fault: RecordFault) -> Code
-        ensures text { text_of result ≡ record_faults.code_of fault }
-        ensures status { status_of result ≡ record_faults.status_of fault }
+        ensures { IsToldAs result (record_faults.code_of fault) (record_faults.status_of fault) }
     {
         match fault {
             RecordFault::Failed => Code::E1,
@@ -51,8 +47,7 @@ impl Code {
 
     /// Of a file that is no tape.
     pub fn of_changes(fault: ChangesFault) -> Code
-        ensures text { text_of result ≡ file_faults.code_of_changes fault }
-        ensures status { status_of result ≡ file_faults.status_of_changes fault }
+        ensures { IsToldAs result (file_faults.code_of_changes fault) (file_faults.status_of_changes fault) }
     {
         match fault {
             ChangesFault::Record(fault) => Code::of_record(fault),
@@ -63,8 +58,7 @@ impl Code {
 
     /// Of the text of a plan.
     pub fn of_plan_text(fault: PlanTextFault) -> Code
-        ensures text { text_of result ≡ plan_faults.code_of fault }
-        ensures status { status_of result ≡ plan_faults.status_of fault }
+        ensures { IsToldAs result (plan_faults.code_of fault) (plan_faults.status_of fault) }
     {
         match fault {
             PlanTextFault::BadPlanText => Code::L11,
@@ -73,23 +67,9 @@ impl Code {
         }
     }
 
-    /// Of a script.
-    pub fn of_script(fault: ScriptFault) -> Code
-        ensures text { text_of result ≡ text_faults.code_of_script fault }
-        ensures status { status_of result ≡ text_faults.status_of_script fault }
-    {
-        match fault {
-            ScriptFault::ReadFault => Code::E1,
-            ScriptFault::WriteFault => Code::E2,
-            ScriptFault::TooLong => Code::E3,
-            ScriptFault::NoMemory => Code::E4,
-        }
-    }
-
     /// Of a setup.
     pub fn of_setup(fault: SetupFault) -> Code
-        ensures text { text_of result ≡ setup_faults.code_of fault }
-        ensures status { status_of result ≡ setup_faults.status_of fault }
+        ensures { IsToldAs result (setup_faults.code_of fault) (setup_faults.status_of fault) }
     {
         match fault {
             SetupFault::NotToml => Code::C1,
@@ -106,8 +86,7 @@ impl Code {
 
     /// Of a board that was not made.
     pub fn of_board(fault: BoardFault) -> Code
-        ensures text { text_of result ≡ codes "B1" }
-        ensures status { status_of result ≡ 5 }
+        ensures { IsToldAs result (codes "B1") 5 }
     {
         match fault {
             BoardFault::NoMemory => Code::B1,
@@ -116,7 +95,7 @@ impl Code {
 
     /// Of an answer that was not printed.
     pub fn of_show(fault: ShowFault) -> Code
-        ensures text { text_of result ≡ code_of_show fault }
+        ensures { IsToldAs result (code_of_show fault) (status_of_show fault) }
     {
         match fault {
             ShowFault::WriteFault => Code::E2,
@@ -126,7 +105,7 @@ impl Code {
 
     /// Of times, or of the file of symbols.
     pub fn of_times(fault: TimesFault) -> Code
-        ensures text { text_of result ≡ code_of_times fault }
+        ensures { IsToldAs result (code_of_times fault) (status_of_times fault) }
     {
         match fault {
             TimesFault::NotTime { .. } => Code::H1,

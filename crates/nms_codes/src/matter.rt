@@ -1,6 +1,6 @@
 //! What a code speaks of.
 ghost use Rattle.std.specs.Prelude.{◌≡◌};
-ghost use Rattle.nms_codes.specs.Codes.{status_of_matter};
+ghost use Rattle.nms_codes.specs.Codes.{names_a_word, status_of_matter};
 
 /// What a code speaks of.
 #[derive(Clone, Copy, Debug, PartialEq, Eq)]
@@ -41,7 +41,9 @@ impl Matter {
     }
 
     /// Whether a word of the call is to blame, or the file that it names.
-    pub fn is_of_a_word(self) -> bool {
+    pub fn is_of_a_word(self) -> bool
+        ensures { result ≡ names_a_word self }
+    {
         match self {
             Matter::Output | Matter::Memory => false,
             Matter::Record

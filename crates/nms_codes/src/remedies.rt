@@ -7,10 +7,10 @@ use crate::code::Code;
 impl Code {
     /// What to do about it.
     pub fn remedy(self) -> &'static str
-        ensures plain { is_plain result.now ≡ true }
+        ensures { is_plain result.now ≡ true }
     {
         match self {
-            Code::A1 => "Get the whole file.",
+            Code::A1 => "Get the whole file; later changes do no harm.",
             Code::B1 | Code::C9 | Code::E4 | Code::G2 | Code::L12 | Code::M6 =>
                 "give the process more memory",
             Code::C1 =>
@@ -27,7 +27,8 @@ impl Code {
             Code::C8 => "split the symbols over several runs",
             Code::E1 => "`cat FILES > /dev/null` names it.",
             Code::E2 | Code::L13 => "Its reader has gone, or a disk is full.",
-            Code::E3 => "Begin another script with what `nms_review opening` prints.",
+            Code::E3 =>
+                "Begin another script with what `nms_review opening` prints; split the run of a feed.",
             Code::E3Rows => "Split the files over several runs.",
             Code::F4 => "Set `tape_limit` higher, up to 10,000,000.",
             Code::H1 => "Is it `NAME.times`, whole?",
@@ -60,9 +61,9 @@ impl Code {
             Code::L14 =>
                 "Whole shares, at most 1,000, without separators. For an average closing price put `AVG` before it.",
             Code::M1 => "Mend this line.",
-            Code::M2 => "Write it.",
+            Code::M2 => "Write the key.",
             Code::M3 => "Is it misspelt?",
-            Code::M4 => "Choose another.",
+            Code::M4 => "Choose an allowed one.",
             Code::M5 => "Capitals count.",
             Code::Usage => "See `nms_review --help`.",
         }

@@ -7,7 +7,7 @@ use crate::code::Code;
 impl Code {
     /// What it says, in a sentence: of the word or the file that stands before it, if one does.
     pub fn sentence(self) -> &'static str
-        ensures plain { is_plain result.now ≡ true }
+        ensures { is_plain result.now ≡ true }
     {
         match self {
             Code::A1 => "the file has fewer changes than that version",

@@ -47,11 +47,6 @@ impl DrawingFault {
             DrawingFault::NoMemory => Code::E4,
         }
     }
-
-    /// Whether the plan's text was refused, and not the changes.
-    pub fn is_of_plan(self) -> bool {
-        self == DrawingFault::Plan(PlanTextFault::BadPlanText)
-    }
 }
 
 impl From<ShowFault> for DrawingFault {

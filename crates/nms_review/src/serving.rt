@@ -14,6 +14,7 @@ use nms_codes::Code;
 use nms_drawing::{show_version, stream_changes, write_opening};
 use nms_fees::Setup;
 use nms_review_words::{Request, Sub};
+use nms_scripts::ScriptFault;
 use nms_show::Ending;
 use nms_tape::write_tape;
 use nms_verdicts::{VerdictFault, check_answers, explain_why};
@@ -84,9 +85,19 @@ where
     let mut source = Source::new(rt, screen, file);
     let served = match write_tape(rt.alloc(), setup, &mut source, answers) {
         Ok(()) => Ok(Ending::Done),
-        Err(fault) => Err(Fault::of(Code::of_script(fault), About::Word(0))),
+        Err(fault) => Err(Fault::of(code_of_script(fault), About::Word(0))),
     };
     ended(&mut source, served)
+}
+
+/// The code of a script's fault.
+fn code_of_script(fault: ScriptFault) -> Code {
+    match fault {
+        ScriptFault::ReadFault => Code::E1,
+        ScriptFault::WriteFault => Code::E2,
+        ScriptFault::TooLong => Code::E3,
+        ScriptFault::NoMemory => Code::E4,
+    }
 }
 
 /// Shows a version.
