@@ -221,16 +221,26 @@ def check_codes():
 
 
 def check_remedies():
-    """The remedies that `explain` prints are those of ERRORS.md: each is part of the row of its code or of its fault."""
-    page, said = "docs/ERRORS.md", {}
+    """The remedies of `nms_codes` are those of ERRORS.md: each is part of the row of its code, or of the row which that names."""
+    page, said, out_of_memory = "docs/ERRORS.md", {}, set()
     for row in rows(prose("docs/ERRORS.md")):
-        for key in [row[CELLS][0], *SPAN.findall(row[CELLS][1])]:
-            said[key] = said.get(key, "") + re.sub(r"\[([^]]*)\]\([^)]*\)", r"\1", row[CELLS][-1])
-    records = re.findall(r'"([A-Z]\d+)"[^=]*=>\s*"([^"]+)"', read("crates/nms_explain/src/remedies.rt"))
-    setups = read("crates/nms_explain_setup/src/remedies.rt").split("fn remedy_of")[1]
-    for key, remedy in [*records, *re.findall(r'SetupFault::(\w+) =>\s*{?\s*"([^"]+)"', setups)]:
-        there = remedy.replace("`", "").lower() in said.get(key, "").replace("`", "").lower()
-        check(there or key == "NoMemory", page, f"{key}: `explain` prints: {remedy}")
+        code = row[CELLS][0]
+        said[code] = said.get(code, "") + re.sub(r"\[([^]]*)\]\([^)]*\)", r"\1", row[CELLS][-1])
+        out_of_memory |= {code} if "`NoMemory`" in row[CELLS][1] else set()
+    for arm, text in re.findall(r'((?:Code::\w+[\s|]*)+)=>\s*{?\s*"((?:[^"\\]|\\.)+)"', read("crates/nms_codes/src/remedies.rt")):
+        remedy = text.replace('\\"', '"').replace("`", "").lower()
+        for code in sorted(set(re.findall(r"Code::([A-Z]\d+)\b", arm)) - out_of_memory):
+            told = said.get(code, "")
+            told += said.get((re.findall(r"As ([A-Z]\d+)", told) or [""])[0], "")
+            check(remedy in told.replace("`", "").lower(), page, f"{code}: `nms_codes` has: {text}")
+
+
+def reviewed_statuses():
+    """The status of each code with which the reviewer's program ends a call, by the matter of the code."""
+    matters = re.findall(r"((?:Code::\w+[\s|]*)+)=>\s*Matter::(\w+)", read("crates/nms_codes/src/code.rt"))
+    ends = re.findall(r"((?:Matter::\w+[\s|]*)+)=>\s*(\d)", read("crates/nms_codes/src/matter.rt"))
+    status = {matter: it for arm, it in ends for matter in re.findall(r"Matter::(\w+)", arm)}
+    return {code: status[matter] for arm, matter in matters for code in re.findall(r"Code::([A-Z]\d+)\b", arm)}
 
 
 def codes_in(text):
@@ -247,8 +257,8 @@ def check_statuses():
     status = {code: it for code, it in re.findall(r"^([A-Z]\d+) (\d)$", exits, re.M) if code != "L9"}
     page = "docs/ERRORS.md"
     listed = {row["Status"]: codes_in(row["Codes"]) for row in rows(prose(page)) if "Codes" in row and "Status" in row}
-    for code, it in sorted(status.items()):
-        check(code in listed.get(it, ()), page, f"{code} is not listed under status {it}")
+    for code, it in sorted([*status.items(), *reviewed_statuses().items()]):
+        check(code in listed.get(it, ()) or code == "L9", page, f"{code} is not listed under status {it}")
     for it, codes in sorted(listed.items()):
         for code in sorted(codes):
             check(status.get(code, it) == it, page, f"{code} ends with {status.get(code)}, and not {it}")

@@ -1,5 +1,6 @@
 //! Why a comparison ended early.
 use nms_board::BoardFault;
+use nms_codes::Code;
 use nms_import::ImportFault;
 use nms_show::ShowFault;
 use std::alloc::AllocError;
@@ -36,28 +37,16 @@ pub enum CompareFault {
 
 impl CompareFault {
     /// Its code: `E1` to `E4`, `B1`, or `J1` to `J3`.
-    pub fn code(self) -> &'static str {
+    pub fn code(self) -> Code {
         match self {
-            CompareFault::ReadFault => "E1",
-            CompareFault::WriteFault => "E2",
-            CompareFault::TooLong => "E3",
-            CompareFault::NoMemory => "E4",
-            CompareFault::Board => "B1",
-            CompareFault::NotTheTimes => "J1",
-            CompareFault::ChangesFall => "J2",
-            CompareFault::RowsFall => "J3",
-        }
-    }
-
-    /// The exit status: 1 for a file, 5 for memory, 6 for times, an order or too many rows.
-    pub fn status(self) -> u8 {
-        match self {
-            CompareFault::ReadFault | CompareFault::WriteFault => 1,
-            CompareFault::NoMemory | CompareFault::Board => 5,
-            CompareFault::TooLong
-            | CompareFault::NotTheTimes
-            | CompareFault::ChangesFall
-            | CompareFault::RowsFall => 6,
+            CompareFault::ReadFault => Code::E1,
+            CompareFault::WriteFault => Code::E2,
+            CompareFault::TooLong => Code::E3Rows,
+            CompareFault::NoMemory => Code::E4,
+            CompareFault::Board => Code::B1,
+            CompareFault::NotTheTimes => Code::J1,
+            CompareFault::ChangesFall => Code::J2,
+            CompareFault::RowsFall => Code::J3,
         }
     }
 }

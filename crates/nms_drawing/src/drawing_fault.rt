@@ -1,5 +1,6 @@
 //! Why an answer was not written whole.
 use nms_board::BoardFault;
+use nms_codes::Code;
 use nms_files::ChangesFault;
 use nms_lines::PlanTextFault;
 use nms_show::ShowFault;
@@ -35,8 +36,9 @@ pub enum DrawingFault {
 
 impl DrawingFault {
     /// The code of the fault.
-    pub fn code(self) -> &'static str {
+    pub fn code(self) -> Code {
         match self {
+<<<<<<< HEAD
             DrawingFault::Changes(fault) => fault.code(),
             DrawingFault::Board(fault) => fault.code(),
             DrawingFault::VersionBeyondTape => "A1",
@@ -64,6 +66,15 @@ impl DrawingFault {
             | DrawingFault::NoMemory
             | DrawingFault::Plan(PlanTextFault::NoMemory) => 5,
             DrawingFault::WriteFault | DrawingFault::Plan(PlanTextFault::WriteFault) => 1,
+=======
+            DrawingFault::Changes(fault) => Code::of_changes(fault),
+            DrawingFault::Board(fault) => Code::of_board(fault),
+            DrawingFault::VersionBeyondTape => Code::A1,
+            DrawingFault::Plan(fault) => Code::of_plan_text(fault),
+            DrawingFault::Times(fault) => Code::of_times(fault),
+            DrawingFault::WriteFault => Code::E2,
+            DrawingFault::NoMemory => Code::E4,
+>>>>>>> a5bd3baf26bd25d266419d9d01d5b4e0c51fd0ed
         }
     }
 }

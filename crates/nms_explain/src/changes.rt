@@ -8,6 +8,7 @@ use crate::refusal::{Refusal, tell_refusal};
 use crate::remedies::remedy_in;
 use crate::span::{Point, Span, name_span, open_quote, point_at, span_of};
 use crate::tally::{Tally, tell_remark};
+use nms_codes::Code;
 use nms_fees::Setup;
 use nms_lines::{ByteRecord, Kind, LineFault, Reader, Reading, read_line};
 use nms_places::{Counts, FieldName, FieldPlace, Place, kind_of, place_of, text_at, unknown_name};
@@ -208,12 +209,12 @@ fn refusal_of<'a>(
         line,
         text,
         span: finding.span,
-        code: fault.code(),
+        code: Code::of_line(fault),
         field: finding.field,
         found: finding.found,
         expected: finding.expected,
         hint,
-        remedy: remedy_in(fault.code(), has_sides(kind_of(row))),
+        remedy: remedy_in(fault, has_sides(kind_of(row))),
         quote: quote_at(text, line),
     }
 }

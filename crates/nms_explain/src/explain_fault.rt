@@ -1,4 +1,5 @@
 //! Why a file was not explained to its end.
+use nms_codes::Code;
 use nms_lines::RecordFault;
 use nms_show::ShowFault;
 use thiserror::Error;
@@ -16,18 +17,10 @@ pub enum ExplainFault {
 
 impl ExplainFault {
     /// The code of the fault, `E1`, `E2` or `E4`.
-    pub fn code(self) -> &'static str {
+    pub fn code(self) -> Code {
         match self {
-            ExplainFault::Record(fault) => fault.code(),
-            ExplainFault::Show(fault) => fault.code(),
-        }
-    }
-
-    /// The exit status of a program that it ends: 1 for the file or the writer, 5 for memory.
-    pub fn status(self) -> u8 {
-        match self {
-            ExplainFault::Record(fault) => fault.status(),
-            ExplainFault::Show(fault) => fault.status(),
+            ExplainFault::Record(fault) => Code::of_record(fault),
+            ExplainFault::Show(fault) => Code::of_show(fault),
         }
     }
 }

@@ -18,4 +18,3 @@ mod tally;
 pub use changes::{explain_changes, explain_feed, explain_orders, explain_script};
 pub use explain_fault::ExplainFault;
 pub use plan_text::explain_plan;
-pub use remedies::remedy_of;

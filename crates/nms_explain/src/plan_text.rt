@@ -4,9 +4,9 @@ use crate::explain_fault::ExplainFault;
 use crate::hints::hint_of_kind;
 use crate::record_source::{RecordSource, RecordText, next_record, open_source, record_of};
 use crate::refusal::{Refusal, tell_missing, tell_refusal};
-use crate::remedies::remedy_of;
 use crate::span::{Point, Span, span_of};
 use crate::tally::{tell_count, tell_counts};
+use nms_codes::Code;
 use nms_fees::Setup;
 use nms_lines::{ByteRecord, Reader};
 use nms_places::{FieldName, FieldPlace, Place, PlanDue, PlanTrouble, PlanWalk, text_at};
@@ -15,8 +15,13 @@ use nms_show::{Ending, Form, Item, ShowFault};
 use std::alloc::Global;
 use std::io::{Read, Write};
 
+<<<<<<< HEAD
 /// The code of a text that is not a plan's.
 const CODE: &str = "L11";
+=======
+/// The code of a text that is no plan's.
+const CODE: Code = Code::L11;
+>>>>>>> a5bd3baf26bd25d266419d9d01d5b4e0c51fd0ed
 
 /// What the caller asks for.
 #[derive(Clone, Copy)]
@@ -172,7 +177,7 @@ fn refusal_of<'a>(
         found,
         expected,
         hint: hint_for(due, number, text),
-        remedy: remedy_of(CODE),
+        remedy: CODE.remedy(),
         quote: quote_at(text, line),
     }
 }

@@ -1,7 +1,7 @@
 //! One refusal, as it is reported.
 use crate::line_count::LineCount;
-use crate::remedies::remedy_of;
 use crate::span::{Point, Span, point_at};
+use nms_codes::Code;
 use nms_places::FieldPlace;
 use nms_show::{Form, Item, ShowFault, write_line, write_object, write_under};
 use std::alloc::Global;
@@ -24,7 +24,7 @@ pub(crate) struct Refusal<'a> {
     /// The part of it that is wrong.
     pub(crate) span: Span,
     /// The code of the refusal.
-    pub(crate) code: &'a str,
+    pub(crate) code: Code,
     /// The field that is wrong, if one is.
     pub(crate) field: Option<FieldPlace>,
     /// What stands there, or how many fields there are.
@@ -76,7 +76,7 @@ fn tell_place<W: Write>(
         Item::Text(":"),
         Item::Number(point.column),
         Item::Text(": "),
-        Item::Alarm(refusal.code),
+        Item::Alarm(refusal.code.text()),
         Item::Text(": record "),
         Item::Number(refusal.number),
         Item::Text(field),
@@ -186,7 +186,7 @@ fn place_members<'a>(refusal: &Refusal<'a>, point: Point) -> [(&'static str, Ite
         ("line", Item::Number(point.line)),
         ("column", Item::Number(point.column)),
         ("record", Item::Number(refusal.number)),
-        ("code", Item::Text(refusal.code)),
+        ("code", Item::Text(refusal.code.text())),
         ("field", number),
         ("field_name", name),
     ]
@@ -215,7 +215,7 @@ pub(crate) fn tell_missing<'a, W: Write>(
     form: Form,
     file: &'a str,
     end: Point,
-    code: &'a str,
+    code: Code,
     expected: &'a str,
     answers: &mut W,
 ) -> Result<(), ShowFault> {
@@ -228,9 +228,9 @@ pub(crate) fn tell_missing<'a, W: Write>(
                 ("file", Item::Bytes(file.as_bytes())),
                 ("line", Item::Number(end.line)),
                 ("column", Item::Number(end.column)),
-                ("code", Item::Text(code)),
+                ("code", Item::Text(code.text())),
                 ("expected", Item::Text(expected)),
-                ("remedy", Item::Text(remedy_of(code))),
+                ("remedy", Item::Text(code.remedy())),
             ],
         );
     }
@@ -241,12 +241,12 @@ pub(crate) fn tell_missing<'a, W: Write>(
         Item::Text(":"),
         Item::Number(end.column),
         Item::Text(": "),
-        Item::Alarm(code),
+        Item::Alarm(code.text()),
         Item::Text(": the text ends; expected "),
         Item::Text(expected),
     ];
     write_line(answers, form, &items)?;
-    tell_advice(form, remedy_of(code), answers)
+    tell_advice(form, code.remedy(), answers)
 }
 
 /// A text, or nothing if it is empty.

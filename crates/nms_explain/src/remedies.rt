@@ -1,5 +1,8 @@
-//! What to do about a refused record, in the words of the page on errors.
+//! What to do about a refused record.
+use nms_codes::Code;
+use nms_lines::LineFault;
 
+<<<<<<< HEAD
 /// What to do about a refusal of that code: one of the codes of a record, or of a plan's text. Empty for any other code.
 pub fn remedy_of(code: &str) -> &'static str {
     match code {
@@ -31,5 +34,13 @@ pub(crate) fn remedy_in(code: &str, has_sides: bool) -> &'static str {
         "L2" if !has_sides => "Count the commas.",
         "L6" if !has_sides => "No signs, no spaces, at most four decimals.",
         _ => remedy_of(code),
+=======
+/// What to do about a refused record: that of its code, which speaks of a side to a record that has sides alone.
+pub(crate) fn remedy_in(fault: LineFault, has_sides: bool) -> &'static str {
+    match (fault, has_sides) {
+        (LineFault::FieldCount, false) => "Count the commas.",
+        (LineFault::BadPrice, false) => "No signs, no spaces, at most four decimals.",
+        (fault, _) => Code::of_line(fault).remedy(),
+>>>>>>> a5bd3baf26bd25d266419d9d01d5b4e0c51fd0ed
     }
 }

@@ -1,13 +1,17 @@
 //! How many records were read, and how many were refused by each code.
 ghost use Rattle.std.specs.Prelude.{◌<◌};
 
+use nms_codes::Code;
 use nms_lines::{Line, LineFault};
 use nms_show::{Form, Item, ShowFault, write_line, write_object};
 use std::alloc::Global;
 use std::io::Write;
 
+/// How many faults a record may have. The place of each is below it, so that a new fault needs a greater one.
+const FAULT_COUNT: usize = 11;
+
 /// The faults of a record, in the order of their codes.
-const FAULTS: [LineFault; 11] = [
+const FAULTS: [LineFault; FAULT_COUNT] = [
     LineFault::UnknownKind,
     LineFault::FieldCount,
     LineFault::UnknownParticipant,
@@ -30,7 +34,7 @@ pub(crate) struct Tally {
     pub(crate) refused: u64,
     /// Whether one of them publishes.
     pub(crate) publishes: bool,
-    by_fault: [u64; 11],
+    by_fault: [u64; FAULT_COUNT],
 }
 
 impl Tally {
@@ -40,7 +44,7 @@ impl Tally {
             records: 0,
             refused: 0,
             publishes: false,
-            by_fault: [0; 11],
+            by_fault: [0; FAULT_COUNT],
         }
     }
 
@@ -77,7 +81,7 @@ impl Tally {
         for fault in FAULTS {
             let count = self.count(fault);
             if count > 0 {
-                tell_count(alloc, file, form, fault.code(), count, answers)?;
+                tell_count(alloc, file, form, Code::of_line(fault), count, answers)?;
             }
         }
         Ok(())
@@ -86,7 +90,7 @@ impl Tally {
 
 /// The place of a fault among the faults, from 0.
 fn place_of_fault(fault: LineFault) -> usize
-    ensures { result < 11 }
+    ensures { result < FAULT_COUNT }
 {
     match fault {
         LineFault::UnknownKind => 0,
@@ -139,7 +143,7 @@ pub(crate) fn tell_count<'a, W: Write>(
     alloc: Global,
     file: &'a str,
     form: Form,
-    code: &'a str,
+    code: Code,
     count: u64,
     answers: &mut W,
 ) -> Result<(), ShowFault> {
@@ -150,14 +154,14 @@ pub(crate) fn tell_count<'a, W: Write>(
             &[
                 ("what", Item::Text("count")),
                 ("file", Item::Bytes(file.as_bytes())),
-                ("code", Item::Text(code)),
+                ("code", Item::Text(code.text())),
                 ("records", Item::Number(count)),
             ],
         );
     }
     let items = [
         Item::Text("    "),
-        Item::Text(code),
+        Item::Text(code.text()),
         Item::Text(": "),
         Item::Number(count),
     ];

@@ -2,9 +2,10 @@
 use crate::findings::{faults_at, tell_finding};
 use crate::hints::text_hint;
 use crate::marked::mark_at;
-use crate::remedies::sentence_of;
+use crate::sentences::sentence_of;
 use crate::telling::{Refusal, Summary, tell_refusal, tell_summary};
 use crate::told::Told;
+use nms_codes::Code;
 use nms_fees::SetupFault;
 use nms_setup_places::{Examined, Finding, NoToml, choices_in, examine};
 use nms_show::{Ending, Form, Item, ShowFault};
@@ -133,7 +134,7 @@ fn tell_findings<W: Write>(
 /// The one of two faults with the lesser number.
 fn lesser(least: Option<SetupFault>, fault: SetupFault) -> SetupFault {
     match least {
-        Some(least) if least.code() <= fault.code() => least,
+        Some(least) if Code::of_setup(least) <= Code::of_setup(fault) => least,
         _ => fault,
     }
 }

@@ -4,7 +4,7 @@ use crate::hints::value_hint;
 use crate::locating::{locate_key, locate_table, row_of};
 use crate::marked::{Marked, mark_at};
 use crate::nearest::{nearest_known, nearest_other};
-use crate::remedies::sentence_of;
+use crate::sentences::sentence_of;
 use crate::telling::{Refusal, tell_refusal};
 use crate::told::Told;
 use nms_fees::SetupFault;

@@ -11,7 +11,7 @@ mod locating;
 mod marked;
 mod nearest;
 mod nest;
-mod remedies;
+mod sentences;
 mod telling;
 mod told;
 mod toml_line;

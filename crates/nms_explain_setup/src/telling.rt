@@ -1,6 +1,6 @@
 //! One refusal of a setup, as it is reported.
 use crate::marked::Marked;
-use crate::remedies::remedy_of;
+use nms_codes::Code;
 use nms_fees::SetupFault;
 use nms_setup_places::SetupTable;
 use nms_show::{Form, Item, ShowFault, write_line, write_object, write_under};
@@ -50,7 +50,7 @@ pub(crate) fn tell_refusal<W: Write>(
     let (start, end) = (marked.pair.start, marked.pair.end);
     write_under(answers, form, marked.line, start, end)?;
     tell_found(form, refusal, answers)?;
-    tell_advice(form, remedy_of(refusal.fault), answers)?;
+    tell_advice(form, Code::of_setup(refusal.fault).remedy(), answers)?;
     tell_advice(form, refusal.hint, answers)
 }
 
@@ -161,7 +161,7 @@ fn tell_object<W: Write>(
             ("text", Item::Bytes(refusal.marked.line)),
             ("found", refusal.found),
             ("expected", Item::Bytes(refusal.expected.as_bytes())),
-            ("remedy", Item::Text(remedy_of(refusal.fault))),
+            ("remedy", Item::Text(Code::of_setup(refusal.fault).remedy())),
             ("hint", hint),
         ],
     )

@@ -26,13 +26,4 @@ impl Guard {
             None
         }
     }
-
-    /// Its code, `I1` to `I3`.
-    pub fn code(self) -> &'static str {
-        match self {
-            Guard::MostRefused => "I1",
-            Guard::NoWholeLot => "I2",
-            Guard::TimesFall => "I3",
-        }
-    }
 }

@@ -19,27 +19,6 @@ pub enum ImportFault {
     NoMemory,
 }
 
-impl ImportFault {
-    /// Its code: `E1` to `E4`.
-    pub fn code(self) -> &'static str {
-        match self {
-            ImportFault::ReadFault => "E1",
-            ImportFault::WriteFault => "E2",
-            ImportFault::TooLong => "E3",
-            ImportFault::NoMemory => "E4",
-        }
-    }
-
-    /// The exit status: 1 for a file, 6 for too many rows, 5 for memory.
-    pub fn status(self) -> u8 {
-        match self {
-            ImportFault::ReadFault | ImportFault::WriteFault => 1,
-            ImportFault::TooLong => 6,
-            ImportFault::NoMemory => 5,
-        }
-    }
-}
-
 impl From<AllocError> for ImportFault {
     fn from(_error: AllocError) -> ImportFault {
         ImportFault::NoMemory

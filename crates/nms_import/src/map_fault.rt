@@ -60,18 +60,6 @@ impl MapFault {
         }
     }
 
-    /// The exit status: 3, as for a setup, or 5 for memory.
-    pub fn status(&self) -> u8 {
-        match self {
-            MapFault::NotToml { .. }
-            | MapFault::Missing { .. }
-            | MapFault::Unknown { .. }
-            | MapFault::BadValue { .. }
-            | MapFault::NoColumn { .. } => 3,
-            MapFault::NoMemory => 5,
-        }
-    }
-
     /// A table lacks a key.
     pub(crate) fn missing(
         table: &'static str,

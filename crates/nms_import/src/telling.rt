@@ -8,7 +8,7 @@ use crate::tally::{Sums, Tally};
 use csv::ByteRecord;
 use nms_lines::name_of_sym;
 use nms_quote::{Roster, Side};
-use nms_show::{Form, Item, write_line};
+use nms_show::{Form, Item, ShowFault, write_line};
 use std::io::Write;
 
 /// How many rows that make no change are shown, of all files together.
@@ -242,7 +242,7 @@ pub fn write_symbols<W: Write>(
 fn line<W: Write>(out: &mut W, items: &[Item<'_>]) -> Result<(), ImportFault> {
     match write_line(out, Form::Text { colours: false }, items) {
         Ok(()) => Ok(()),
-        Err(fault) if fault.status() == 5 => Err(ImportFault::NoMemory),
-        Err(_) => Err(ImportFault::WriteFault),
+        Err(ShowFault::NoMemory) => Err(ImportFault::NoMemory),
+        Err(ShowFault::WriteFault) => Err(ImportFault::WriteFault),
     }
 }

@@ -1,4 +1,5 @@
 //! Why executions were not drawn, or their page not written.
+use nms_codes::Code;
 use nms_drawing::DrawingFault;
 use nms_files::ChangesFault;
 use nms_show::ShowFault;
@@ -18,26 +19,10 @@ pub enum PageFault {
 
 impl PageFault {
     /// The code of the fault.
-    pub fn code(self) -> &'static str {
+    pub fn code(self) -> Code {
         match self {
             PageFault::Drawing(fault) => fault.code(),
             PageFault::Trades(fault) => fault.code(),
-        }
-    }
-
-    /// The exit status of a program that it ends.
-    pub fn status(self) -> u8 {
-        match self {
-            PageFault::Drawing(fault) => fault.status(),
-            PageFault::Trades(fault) => fault.status(),
-        }
-    }
-
-    /// Whether it is about the file of executions.
-    pub fn is_of_executions(self) -> bool {
-        match self {
-            PageFault::Drawing(_) => false,
-            PageFault::Trades(fault) => fault.is_of_executions(),
         }
     }
 }

@@ -5,6 +5,7 @@ use crate::fault::{About, Fault};
 use crate::files::word_at;
 use crate::screen::Screen;
 use crate::source::Source;
+use nms_codes::Code;
 use nms_fees::{Setup, feed_named};
 use nms_quote::{Feed, Sym};
 use nms_review_words::Request;
@@ -88,7 +89,10 @@ pub(crate) fn ended<T: Clock + Eprint, R>(
 ) -> Result<Ending, Fault> {
     source.clear();
     match (served, source.failed()) {
-        (Err(fault), Some(error)) if fault.code == "E1" => Err(Fault::unread(error, fault.about)),
+        (Err(fault), Some(error)) if fault.code == Code::E1 => Err(Fault::unread(
+            error,
+            fault.about,
+        )),
         (served, _) => served,
     }
 }

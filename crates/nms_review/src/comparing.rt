@@ -6,9 +6,10 @@ ghost use Rattle.nms_quote.specs.declared.TheConstants.{MOST_CHANGES};
 use crate::call::ended;
 use crate::fault::{About, Fault};
 use crate::files::{open_word, read_file, word_at};
-use crate::importing::tell_map_fault;
+use crate::importing::{fault_in as import_fault, tell_map_fault};
 use crate::screen::Screen;
 use crate::source::Source;
+use nms_codes::Code;
 use nms_compare::{
     CompareFault, NationalMapping, Shown, compare_rows, keys_of, read_national_mapping,
     write_counts,
@@ -58,7 +59,7 @@ where
         ),
         Err(fault) => ended(
             &mut source,
-            Err(Fault::of(fault.code(), fault.status(), About::Word(CHANGES))),
+            Err(Fault::of(Code::of_changes(fault), About::Word(CHANGES))),
         ),
     }
 }
@@ -113,11 +114,7 @@ where
     );
     let mut work = Work::new(alloc);
     if form.header {
-        next_row(&mut reader, &mut work.row).map_err(|fault| Fault::of(
-            fault.code(),
-            fault.status(),
-            About::Word(NATIONAL),
-        ))?;
+        next_row(&mut reader, &mut work.row).map_err(|fault| import_fault(fault, NATIONAL))?;
     }
     let vendor = match mapping.vendor(alloc, &work.row) {
         Ok(vendor) => vendor,
@@ -176,5 +173,5 @@ fn fault_in(fault: CompareFault) -> Fault {
         | CompareFault::Board
         | CompareFault::RowsFall => About::Word(NATIONAL),
     };
-    Fault::of(fault.code(), fault.status(), about)
+    Fault::of(fault.code(), about)
 }

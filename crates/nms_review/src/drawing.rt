@@ -7,7 +7,7 @@ use crate::screen::Screen;
 use crate::source::Source;
 use crate::timing::{given_times, rising_of};
 use crate::trading::{given_symbols, timing_of};
-use nms_drawing::{Frame, draw_changes};
+use nms_drawing::{DrawingFault, Frame, draw_changes};
 use nms_fees::Setup;
 use nms_page::draw_executions;
 use nms_quote::Sym;
@@ -76,11 +76,7 @@ where
     let file = open_word(rt, request, 0)?;
     let mut source = Source::new(rt, screen, file);
     let served = draw_changes(rt.alloc(), setup, &mut source, frame, sym, plan, answers).map_err(
-        |fault| Fault::of(
-            fault.code(),
-            fault.status(),
-            about_of(request, fault.code()),
-        ),
+        |fault| drawing_fault(fault, last_of(request), About::Word(0)),
     );
     ended(&mut source, served)
 }
@@ -121,10 +117,11 @@ where
         plan,
         answers,
     )
-    .map_err(|fault| page_fault(fault, About::Trades, about_of(request, fault.code())));
+    .map_err(|fault| page_fault(fault, About::Trades, last_of(request)));
     both_ended(&mut changes, &mut executions, served)
 }
 
+<<<<<<< HEAD
 /// The word that a fault of the library is about.
 fn about_of(request: &Request, code: &str) -> About {
     match code {
@@ -133,7 +130,29 @@ fn about_of(request: &Request, code: &str) -> About {
         "A1" if request.to.is_some() => About::To,
         "A1" => About::From,
         _ => About::Word(0),
+=======
+/// What names the last version that is drawn.
+fn last_of(request: &Request) -> About {
+    if request.to.is_some() {
+        About::To
+    } else {
+        About::From
+>>>>>>> a5bd3baf26bd25d266419d9d01d5b4e0c51fd0ed
     }
+}
+
+/// A fault of a drawing, in what names its version, or in the file of changes, the plan or the times.
+pub(crate) fn drawing_fault(fault: DrawingFault, version: About, changes: About) -> Fault {
+    let about = match fault {
+        DrawingFault::VersionBeyondTape => version,
+        DrawingFault::Plan(_) => About::Plan,
+        DrawingFault::Times(_) => About::Times,
+        DrawingFault::Changes(_)
+        | DrawingFault::Board(_)
+        | DrawingFault::WriteFault
+        | DrawingFault::NoMemory => changes,
+    };
+    Fault::of(fault.code(), about)
 }
 
 /// The versions that are drawn, and what the axis counts. With a file of symbols they are at most those of the symbol.

@@ -4,6 +4,7 @@ use crate::fault::{About, Fault};
 use crate::files::{open_word, read_file, setup_of, word_at};
 use crate::screen::Screen;
 use crate::source::Source;
+use nms_codes::Code;
 use nms_explain::{explain_changes, explain_feed, explain_orders, explain_plan, explain_script};
 use nms_explain_map::explain_map;
 use nms_explain_setup::explain_setup;
@@ -54,7 +55,7 @@ where
     let file = word_at(request, FILE);
     let text = read_file(rt, file, About::Word(FILE))?;
     explain_setup(rt.alloc(), file, &text, form_of(screen, request), answers).map_err(
-        |fault| Fault::of(fault.code(), fault.status(), About::Word(FILE)),
+        |fault| Fault::of(Code::of_show(fault), About::Word(FILE)),
     )
 }
 
@@ -72,7 +73,7 @@ where
     let file = word_at(request, FILE);
     let text = read_file(rt, file, About::Word(FILE))?;
     explain_map(rt.alloc(), file, &text, form_of(screen, request), answers).map_err(|fault| {
-        Fault::of(fault.code(), fault.status(), About::Word(FILE))
+        Fault::of(Code::of_show(fault), About::Word(FILE))
     })
 }
 
@@ -119,7 +120,7 @@ where
         form_of(screen, request),
         answers,
     )
-    .map_err(|fault| Fault::of(fault.code(), fault.status(), About::Word(FILE)))
+    .map_err(|fault| Fault::of(fault.code(), About::Word(FILE)))
 }
 
 /// Explains what is refused among records.
@@ -146,5 +147,5 @@ where
             explain_changes(alloc, setup, file, source, form, answers)
         }
     };
-    served.map_err(|fault| Fault::of(fault.code(), fault.status(), About::Word(FILE)))
+    served.map_err(|fault| Fault::of(fault.code(), About::Word(FILE)))
 }

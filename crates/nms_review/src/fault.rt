@@ -1,4 +1,5 @@
 //! Why a request was not served.
+use nms_codes::Code;
 use nms_show::ShowFault;
 use nms_times::TimesFault;
 use std::io;
@@ -7,10 +8,15 @@ use std::io;
 #[derive(Clone, Copy)]
 pub(crate) struct Fault {
     /// The code, or `usage`.
+<<<<<<< HEAD
     pub(crate) code: &'static str,
     /// The exit status.
     pub(crate) status: u8,
     /// The word that it is about.
+=======
+    pub(crate) code: Code,
+    /// What it is about.
+>>>>>>> a5bd3baf26bd25d266419d9d01d5b4e0c51fd0ed
     pub(crate) about: About,
     /// The system's reason, if a file could not be read.
     pub(crate) cause: Option<io::Error>,
@@ -54,13 +60,18 @@ pub(crate) enum About {
 impl Fault {
     /// A fault of the library, in the file that a word names.
     ///
+<<<<<<< HEAD
     /// Faults of memory and of the output are not about a file.
     pub(crate) fn of(code: &'static str, status: u8, about: About) -> Self {
         let is_own = status == 5 || code == "E2" || code == "L13";
+=======
+    /// Memory and the output are no matter of a file.
+    pub(crate) fn of(code: Code, about: About) -> Self {
+        let is_of_a_word = code.matter().is_of_a_word();
+>>>>>>> a5bd3baf26bd25d266419d9d01d5b4e0c51fd0ed
         Fault {
             code,
-            status,
-            about: if is_own { About::Nothing } else { about },
+            about: if is_of_a_word { about } else { About::Nothing },
             cause: None,
             expected: "",
             line: None,
@@ -71,18 +82,18 @@ impl Fault {
     pub(crate) fn of_times(fault: TimesFault, about: About) -> Self {
         Fault {
             line: fault.line(),
-            ..Fault::of(fault.code(), fault.status(), about)
+            ..Fault::of(Code::of_times(fault), about)
         }
     }
 
     /// E1: a file could not be read.
     pub(crate) fn unread(error: io::Error, about: About) -> Self {
         if error.kind() == io::ErrorKind::OutOfMemory {
-            return Fault::of("E4", 5, about);
+            return Fault::of(Code::E4, about);
         }
         Fault {
             cause: Some(error),
-            ..Fault::of("E1", 1, about)
+            ..Fault::of(Code::E1, about)
         }
     }
 
@@ -90,13 +101,13 @@ impl Fault {
     pub(crate) fn usage(about: About, expected: &'static str) -> Self {
         Fault {
             expected,
-            ..Fault::of("usage", 2, about)
+            ..Fault::of(Code::Usage, about)
         }
     }
 }
 
 impl From<ShowFault> for Fault {
     fn from(fault: ShowFault) -> Fault {
-        Fault::of(fault.code(), fault.status(), About::Nothing)
+        Fault::of(Code::of_show(fault), About::Nothing)
     }
 }

@@ -1,5 +1,6 @@
 //! Files of a call: opened, or read whole.
 use crate::fault::{About, Fault};
+use nms_codes::Code;
 use nms_fees::{Setup, read_setup};
 use nms_review_words::Request;
 use nms_scripts::SETUP_K;
@@ -34,7 +35,7 @@ pub(crate) fn create_file<T: Files>(
     if let Some(about) = input_at(rt, request, path) {
         return Err(Fault::usage(about, "it is read here, and would be overwritten"));
     }
-    fs::create(rt, path).map_err(|_| Fault::of("E2", 1, About::Nothing))
+    fs::create(rt, path).map_err(|_| Fault::of(Code::E2, About::Nothing))
 }
 
 /// The file at a path that the request reads, if there is one.
@@ -90,11 +91,11 @@ pub(crate) fn setup_of<T: Files + AllocGlobal>(rt: &T, request: &Request) -> Res
     let bytes = read_file(rt, file.as_str(), About::Setup)?;
     match str::from_utf8(&bytes) {
         Ok(text) => read_text(rt.alloc(), text),
-        Err(_) => Err(Fault::of("C1", 3, About::Setup)),
+        Err(_) => Err(Fault::of(Code::C1, About::Setup)),
     }
 }
 
 /// The setup given by a text.
 fn read_text(alloc: Global, text: &str) -> Result<Setup, Fault> {
-    read_setup(alloc, text).map_err(|fault| Fault::of(fault.code(), fault.status(), About::Setup))
+    read_setup(alloc, text).map_err(|fault| Fault::of(Code::of_setup(fault), About::Setup))
 }

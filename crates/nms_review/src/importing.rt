@@ -6,6 +6,7 @@ use crate::files::{create_file, open_word, read_file, word_at};
 use crate::importing_trades::{is_trade_map, serve_import_trades};
 use crate::screen::Screen;
 use crate::source::Source;
+use nms_codes::Code;
 use nms_fees::Setup;
 use nms_import::{
     Guard, Half, ImportFault, MapFault, Mapping, Notes, Tally, Told, Work, import_rows, next_row,
@@ -181,7 +182,7 @@ pub(crate) fn tell_counts<W: Write>(
     };
     write_tally(answers, half, tally, &sums).map_err(|fault| fault_in(fault, 0))?;
     match Guard::of(&sums, notes) {
-        Some(guard) => Err(Fault::of(guard.code(), 7, About::Nothing)),
+        Some(guard) => Err(Fault::of(code_of_guard(guard), About::Nothing)),
         None => Ok(Ending::Done),
     }
 }
@@ -226,49 +227,36 @@ where
     T: AllocGlobal + Eprint,
 {
     let mut text = Vec::new(rt.alloc());
-    let (sentence, table, key, expected) = match fault {
-        MapFault::NotToml { .. } => ("this mapping is no TOML", "", "", ""),
+    let code = code_of_map(fault);
+    let (line, table, key, expected) = match fault {
+        MapFault::NotToml { line } => (Item::Number(*line), "", "", ""),
         MapFault::Missing {
             table,
             key,
             expected,
-        } => ("a key is absent", *table, key.as_str(), *expected),
-        MapFault::Unknown {
-            table,
-            key,
-            expected,
-        } => ("a key that is not known", *table, key.as_str(), *expected),
-        MapFault::BadValue {
-            table,
-            key,
-            expected,
-        } => (
-            "a value that is not allowed",
-            *table,
-            key.as_str(),
-            *expected,
-        ),
-        MapFault::NoColumn { key, expected } => {
-            (
-                "the file has no such column",
-                "column",
-                key.as_str(),
-                *expected,
-            )
         }
-        MapFault::NoMemory => return Err(no_memory()),
-    };
-    let line = match fault {
-        MapFault::NotToml { line } => Item::Number(*line),
-        _ => Item::Absent,
+        | MapFault::Unknown {
+            table,
+            key,
+            expected,
+        }
+        | MapFault::BadValue {
+            table,
+            key,
+            expected,
+        } => (Item::Absent, *table, key.as_str(), *expected),
+        MapFault::NoColumn { key, expected } => {
+            (Item::Absent, "column", key.as_str(), *expected)
+        }
+        MapFault::NoMemory => return Err(Fault::of(code, About::Nothing)),
     };
     let items = [
         Item::Text("nms_review: "),
         Item::Bytes(file.as_bytes()),
         Item::Text(": "),
-        Item::Text(fault.code()),
+        Item::Text(code.text()),
         Item::Text(": "),
-        Item::Text(sentence),
+        Item::Text(code.sentence()),
         Item::Text(if key.is_empty() { ": line " } else { ": [" }),
         line,
         Item::Text(table),
@@ -288,13 +276,40 @@ where
 
 /// A fault of an import, in the file of a word.
 pub(crate) fn fault_in(fault: ImportFault, place: usize) -> Fault {
-    Fault::of(fault.code(), fault.status(), About::Word(place))
+    let code = match fault {
+        ImportFault::ReadFault => Code::E1,
+        ImportFault::WriteFault => Code::E2,
+        ImportFault::TooLong => Code::E3Rows,
+        ImportFault::NoMemory => Code::E4,
+    };
+    Fault::of(code, About::Word(place))
+}
+
+/// The code of what an import is doubted for.
+fn code_of_guard(guard: Guard) -> Code {
+    match guard {
+        Guard::MostRefused => Code::I1,
+        Guard::NoWholeLot => Code::I2,
+        Guard::TimesFall => Code::I3,
+    }
+}
+
+/// The code of what is wrong with a mapping.
+fn code_of_map(fault: &MapFault) -> Code {
+    match fault {
+        MapFault::NotToml { .. } => Code::M1,
+        MapFault::Missing { .. } => Code::M2,
+        MapFault::Unknown { .. } => Code::M3,
+        MapFault::BadValue { .. } => Code::M4,
+        MapFault::NoColumn { .. } => Code::M5,
+        MapFault::NoMemory => Code::M6,
+    }
 }
 
 pub(crate) fn no_memory() -> Fault {
-    Fault::of("E4", 5, About::Nothing)
+    Fault::of(Code::E4, About::Nothing)
 }
 
 fn unwritten() -> Fault {
-    Fault::of("E2", 1, About::Nothing)
+    Fault::of(Code::E2, About::Nothing)
 }

@@ -6,6 +6,7 @@ use crate::files::{open_word, word_at};
 use crate::importing::{create, fault_in, flush, tell_map_fault};
 use crate::screen::Screen;
 use crate::source::Source;
+use nms_codes::Code;
 use nms_fees::Setup;
 use nms_import::{ImportFault, MapFault, document_of, next_row, open_rows};
 use nms_import_trades::{
@@ -157,7 +158,7 @@ fn finish<F: Write, W: Write>(job: &mut TradeJob<'_, F>, answers: &mut W) -> Res
     };
     write_trade_tally(answers, &job.tally, &sums)?;
     if sums.refused > sums.rows / 2 {
-        return Err(Fault::of("I1", 7, About::Nothing));
+        return Err(Fault::of(Code::I1, About::Nothing));
     }
     Ok(Ending::Done)
 }

@@ -22,6 +22,7 @@ mod trading;
 
 use answers::Answers;
 use fault::Fault;
+use nms_codes::Code;
 use nms_review_words::{Request, WordsFault, read_words};
 use nms_show::{Ending, Form, Item, write_line};
 use screen::Screen;
@@ -34,6 +35,7 @@ use std::time::Clock;
 use std::{env, io};
 use telling::tell_fault;
 
+<<<<<<< HEAD
 /// Printed if a word is not UTF-8, or if out of memory for the words.
 const NO_TEXT: &str = "nms_review: usage: a word of the call is not UTF-8\n";
 
@@ -41,6 +43,8 @@ const NO_MEMORY: &str = "nms_review: G2: memory ran out for the words\n";
 
 const NOT_WRITTEN: &str = "nms_review: E2: the output could not be written\n";
 
+=======
+>>>>>>> a5bd3baf26bd25d266419d9d01d5b4e0c51fd0ed
 fn main(rt: HostRuntime) -> ExitCode {
     let screen = Screen {
         answers: rt.stdout().is_terminal(),
@@ -56,12 +60,12 @@ where
 {
     let own = match own_words(rt) {
         Ok(own) => own,
-        Err(ErrorKind::OutOfMemory) => return tell_early(errors, NO_MEMORY, 5),
-        Err(_) => return tell_early(errors, NO_TEXT, 2),
+        Err(ErrorKind::OutOfMemory) => return tell_code(errors, Code::G2),
+        Err(_) => return tell_early(errors, Code::Usage, "a word of the call is not UTF-8"),
     };
     match words_of(rt.alloc(), &own) {
         Some(words) => answer(rt, screen, &words, errors),
-        None => tell_early(errors, NO_MEMORY, 5),
+        None => tell_code(errors, Code::G2),
     }
 }
 
@@ -74,7 +78,7 @@ where
         Ok(request) => answer_request(rt, screen, &request, errors),
         Err(WordsFault::Parser { text, help: true }) => tell_help(rt, text.as_str(), errors),
         Err(WordsFault::Parser { text, help: false }) => tell_refusal(errors, text.as_str()),
-        Err(WordsFault::NoMemory) => tell_early(errors, NO_MEMORY, 5),
+        Err(WordsFault::NoMemory) => tell_code(errors, Code::G2),
     }
 }
 
@@ -96,12 +100,12 @@ where
 {
     let both = screen.answers && screen.errors;
     let Ok(mut answers) = Answers::new(rt.alloc(), io::writer(rt), both) else {
-        return Err(Fault::of("E4", 5, fault::About::Nothing));
+        return Err(Fault::of(Code::E4, fault::About::Nothing));
     };
     let served = serve(rt, screen, request, &mut answers);
     match answers.flush() {
         Ok(()) => served,
-        Err(_) => served.and(Err(Fault::of("E2", 1, fault::About::Nothing))),
+        Err(_) => served.and(Err(Fault::of(Code::E2, fault::About::Nothing))),
     }
 }
 
@@ -109,7 +113,7 @@ where
 fn tell_help<T: Print, E: Write>(rt: &T, help: &str, errors: &mut E) -> u8 {
     match io::writer(rt).write_all(help.as_bytes()) {
         Ok(()) => 0,
-        Err(_) => tell_early(errors, NOT_WRITTEN, 1),
+        Err(_) => tell_code(errors, Code::E2),
     }
 }
 
@@ -127,10 +131,28 @@ fn tell_refusal<E: Write>(errors: &mut E, text: &str) -> u8 {
     2
 }
 
+<<<<<<< HEAD
 /// Prints a text on standard error, and gives the status. If standard error does not take it, the status stays.
 fn tell_early<E: Write>(errors: &mut E, text: &str, status: u8) -> u8 {
     let _ = errors.write_all(text.as_bytes());
     status
+=======
+/// Prints a code with its sentence on standard error, and gives the status.
+fn tell_code<E: Write>(errors: &mut E, code: Code) -> u8 {
+    tell_early(errors, code, code.sentence())
+}
+
+/// The same with another sentence. What standard error does not take changes no status.
+fn tell_early<E: Write>(errors: &mut E, code: Code, sentence: &str) -> u8 {
+    let items = [
+        Item::Text("nms_review: "),
+        Item::Text(code.text()),
+        Item::Text(": "),
+        Item::Text(sentence),
+    ];
+    let _ = write_line(errors, Form::Text { colours: false }, &items);
+    code.status()
+>>>>>>> a5bd3baf26bd25d266419d9d01d5b4e0c51fd0ed
 }
 
 /// Words as they are lent; `None` if out of memory.

@@ -1,15 +1,18 @@
 //! The option `--html` of `trades`: writes a page for the file, beside the answers.
 use crate::answers::Answers;
 use crate::call::form_of;
+use crate::drawing::drawing_fault;
 use crate::fault::{About, Fault};
 use crate::files::{create_file, open_word, word_at};
 use crate::screen::Screen;
 use crate::source::Source;
+use crate::trading::trades_fault;
+use nms_codes::Code;
 use nms_fees::Setup;
 use nms_page::{Named, PageFault, write_page};
 use nms_review_words::Request;
 use nms_show::Ending;
-use nms_trades::{Layout, Timing, TradesFault};
+use nms_trades::{Layout, Timing};
 use std::io::Write;
 use std::rt::Files;
 use std::time::Clock;
@@ -38,7 +41,7 @@ where
     let mut executions = Source::new(rt, screen, executions);
     let file = create_file(rt, request, path)?;
     let Ok(mut page) = Answers::new(rt.alloc(), file, false) else {
-        return Err(Fault::of("E4", 5, About::Nothing));
+        return Err(Fault::of(Code::E4, About::Nothing));
     };
     let named = Named {
         changes: word_at(request, CHANGES).as_bytes(),
@@ -63,20 +66,23 @@ where
     );
     let served = match served {
         Ok(ending) if page.flush().is_ok() => Ok(ending),
-        Ok(_) => Err(Fault::of("E2", 1, About::Nothing)),
+        Ok(_) => Err(Fault::of(Code::E2, About::Nothing)),
         Err(fault) => Err(page_fault(fault, About::Word(EXECUTIONS), About::Word(CHANGES))),
     };
     both_ended(&mut changes, &mut executions, served)
 }
 
+<<<<<<< HEAD
 /// A fault of executions on a page or a picture: it is about the file of the executions, about one of their times, or about
 /// another file.
 pub(crate) fn page_fault(fault: PageFault, executions: About, other: About) -> Fault {
+=======
+/// A fault of executions on a page or a picture: in the file of the executions, in what names the version, or in another one.
+pub(crate) fn page_fault(fault: PageFault, executions: About, version: About) -> Fault {
+>>>>>>> a5bd3baf26bd25d266419d9d01d5b4e0c51fd0ed
     match fault {
-        PageFault::Trades(TradesFault::Times(fault)) => Fault::of_times(fault, About::Times),
-        PageFault::Trades(TradesFault::Symbols(fault)) => Fault::of_times(fault, About::Symbols),
-        fault if fault.is_of_executions() => Fault::of(fault.code(), fault.status(), executions),
-        fault => Fault::of(fault.code(), fault.status(), other),
+        PageFault::Drawing(fault) => drawing_fault(fault, version, About::Word(CHANGES)),
+        PageFault::Trades(fault) => trades_fault(fault, executions),
     }
 }
 
@@ -89,9 +95,8 @@ pub(crate) fn both_ended<T: Clock + Eprint, R>(
     changes.clear();
     executions.clear();
     match (served, changes.failed(), executions.failed()) {
-        (Err(fault), Some(error), _) | (Err(fault), None, Some(error)) if fault.code == "E1" => {
-            Err(Fault::unread(error, fault.about))
-        }
+        (Err(fault), Some(error), _) | (Err(fault), None, Some(error)) if fault.code == Code::E1 =>
+            { Err(Fault::unread(error, fault.about)) }
         (served, _, _) => served,
     }
 }

@@ -1,7 +1,7 @@
 //! The service of each subcommand: it reads the words, opens the files, and calls a library for the answer.
 use crate::call::{ended, form_of, has_word, no_sym, sym_at, version_of};
 use crate::comparing::serve_compare;
-use crate::drawing::serve_draw;
+use crate::drawing::{drawing_fault, serve_draw};
 use crate::explaining::serve_explain;
 use crate::fault::{About, Fault};
 use crate::files::{open_word, read_file, setup_of, word_at};
@@ -10,12 +10,14 @@ use crate::screen::Screen;
 use crate::source::Source;
 use crate::timing::{given_times, serve_when, version_among};
 use crate::trading::serve_trades;
+use nms_codes::Code;
 use nms_drawing::{show_version, stream_changes, write_opening};
 use nms_fees::Setup;
 use nms_review_words::{Request, Sub};
+use nms_scripts::ScriptFault;
 use nms_show::Ending;
 use nms_tape::write_tape;
-use nms_verdicts::{check_answers, explain_why};
+use nms_verdicts::{VerdictFault, check_answers, explain_why};
 use std::io::Write;
 use std::rt::Files;
 use std::time::Clock;
@@ -83,9 +85,19 @@ where
     let mut source = Source::new(rt, screen, file);
     let served = match write_tape(rt.alloc(), setup, &mut source, answers) {
         Ok(()) => Ok(Ending::Done),
-        Err(fault) => Err(Fault::of(fault.code(), fault.status(), About::Word(0))),
+        Err(fault) => Err(Fault::of(code_of_script(fault), About::Word(0))),
     };
     ended(&mut source, served)
+}
+
+/// The code of a script's fault.
+fn code_of_script(fault: ScriptFault) -> Code {
+    match fault {
+        ScriptFault::ReadFault => Code::E1,
+        ScriptFault::WriteFault => Code::E2,
+        ScriptFault::TooLong => Code::E3,
+        ScriptFault::NoMemory => Code::E4,
+    }
 }
 
 /// Shows a version.
@@ -118,10 +130,7 @@ where
         form,
         answers,
     )
-    .map_err(|fault| match fault.code() {
-        "H3" => Fault::of("H3", 6, About::Times),
-        code => fault_of(code, fault.status(), ("A1", About::Word(0)), 1),
-    });
+    .map_err(|fault| drawing_fault(fault, About::Word(0), About::Word(1)));
     ended(&mut source, served)
 }
 
@@ -140,7 +149,7 @@ where
     let file = open_word(rt, request, 1)?;
     let mut source = Source::new(rt, screen, file);
     let served = write_opening(rt.alloc(), setup, &mut source, version, answers).map_err(|fault| {
-        fault_of(fault.code(), fault.status(), ("A1", About::Word(0)), 1)
+        drawing_fault(fault, About::Word(0), About::Word(1))
     });
     ended(&mut source, served)
 }
@@ -173,7 +182,7 @@ where
         form,
         answers,
     )
-    .map_err(|fault| { fault_of(fault.code(), fault.status(), ("H3", About::Times), 0) });
+    .map_err(|fault| drawing_fault(fault, About::Nothing, About::Word(0)));
     ended(&mut source, served)
 }
 
@@ -204,7 +213,7 @@ where
         form,
         answers,
     )
-    .map_err(|fault| { fault_of(fault.code(), fault.status(), ("H3", About::Times), 0) });
+    .map_err(verdict_fault);
     ended(&mut source, served)
 }
 
@@ -235,19 +244,25 @@ where
         form,
         answers,
     )
-    .map_err(|fault| match fault.code() {
-        "H3" => Fault::of("H3", 6, About::Times),
-        code => fault_of(code, fault.status(), ("L11", About::Word(1)), 0),
-    });
+    .map_err(verdict_fault);
     ended(&mut source, served)
 }
 
+<<<<<<< HEAD
 /// A fault of the library: one of them is about another word than that of the file.
 fn fault_of(code: &'static str, status: u8, other: (&str, About), file: usize) -> Fault {
     let about = if code == other.0 {
         other.1
     } else {
         About::Word(file)
+=======
+/// A fault of a judgement: the changes are the first word, and the plans the second.
+fn verdict_fault(fault: VerdictFault) -> Fault {
+    let about = match fault {
+        VerdictFault::Times(_) => About::Times,
+        VerdictFault::Plan(_) => About::Word(1),
+        VerdictFault::Changes(_) | VerdictFault::Board(_) | VerdictFault::Show(_) => About::Word(0),
+>>>>>>> a5bd3baf26bd25d266419d9d01d5b4e0c51fd0ed
     };
-    Fault::of(code, status, about)
+    Fault::of(fault.code(), about)
 }

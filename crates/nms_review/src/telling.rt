@@ -1,9 +1,11 @@
 //! The report on a request that was not served.
 use crate::fault::{About, Fault};
+use nms_codes::{Code, Matter};
 use nms_review_words::{Request, Sub};
 use nms_show::{Form, Item, ShowFault, write_line};
 use std::io::{ErrorKind, Write};
 
+<<<<<<< HEAD
 /// The sentence for each code that ends a request. `explain` reports the place of a record.
 static SENTENCES: [(&'static str, &'static str); 37] = [
     ("E1", "it could not be read"),
@@ -81,12 +83,14 @@ static SENTENCES: [(&'static str, &'static str); 37] = [
 /// Other sentences for records and memory.
 const REFUSED: &str = "a record was refused";
 
+=======
+>>>>>>> a5bd3baf26bd25d266419d9d01d5b4e0c51fd0ed
 /// Reports a fault of a request, and gives the exit status.
 pub(crate) fn tell_fault<E: Write>(fault: &Fault, request: &Request, errors: &mut E) -> u8 {
     if write_fault(fault, request, errors).is_ok() {
         let _ = write_tip(fault, request, errors);
     }
-    fault.status
+    fault.code.status()
 }
 
 /// Writes the line of a fault: the file or the word, the code, and a sentence.
@@ -105,7 +109,7 @@ fn write_fault<E: Write>(
         Item::Text("nms_review: "),
         Item::Bytes(name.as_bytes()),
         Item::Text(colon),
-        Item::Text(fault.code),
+        Item::Text(fault.code.text()),
         Item::Text(": "),
         Item::Text(sentence_of(fault)),
         Item::Text(line),
@@ -138,18 +142,35 @@ fn write_tip<E: Write>(fault: &Fault, request: &Request, errors: &mut E) -> Resu
     write_line(errors, Form::Text { colours: false }, &items)
 }
 
-/// The kind of the file that was refused, as `explain` names it.
+/// The kind of the file that was refused, as `explain` names it: only records and setups have places that it shows.
 fn kind_of(fault: &Fault, request: &Request) -> Option<&'static str> {
+<<<<<<< HEAD
     // `explain` shows places only for records and setups.
     if fault.status == 6 && !fault.code.starts_with('L') {
+=======
+    if request.command == Sub::Explain {
+>>>>>>> a5bd3baf26bd25d266419d9d01d5b4e0c51fd0ed
         return None;
     }
-    match (fault.status, fault.about, request.command) {
-        (_, _, Sub::Explain) => None,
-        (3, _, _) => Some("setup"),
-        (6, About::Word(_), Sub::Tape) => Some("script"),
-        (6, About::Word(1), Sub::Why) | (6, About::Plan, _) => Some("plan"),
-        (6, About::Word(_), _) => Some("changes"),
+    match fault.code.matter() {
+        Matter::Setup => Some("setup"),
+        Matter::Record => kind_of_records(fault.about, request.command),
+        Matter::Content
+        | Matter::Mapping
+        | Matter::Words
+        | Matter::Input
+        | Matter::Output
+        | Matter::Memory
+        | Matter::Import => None,
+    }
+}
+
+/// The kind of a file of records that a call names, if it is one.
+fn kind_of_records(about: About, command: Sub) -> Option<&'static str> {
+    match (about, command) {
+        (About::Word(_), Sub::Tape) => Some("script"),
+        (About::Word(1), Sub::Why) | (About::Plan, _) => Some("plan"),
+        (About::Word(_), _) => Some("changes"),
         _ => None,
     }
 }
@@ -182,11 +203,10 @@ fn sentence_of(fault: &Fault) -> &'static str {
     if let Some(error) = fault.cause {
         return cause_of(error.kind());
     }
-    if fault.status == 2 {
+    if fault.code == Code::Usage {
         return fault.expected;
     }
-    let known = SENTENCES.iter().find(|known| known.0 == fault.code);
-    known.map_or(REFUSED, |known| known.1)
+    fault.code.sentence()
 }
 
 /// The system's reason why a file could not be read.

@@ -3,6 +3,7 @@ use crate::call::{form_of, has_word, version_in, version_of};
 use crate::fault::{About, Fault};
 use crate::files::{read_file, word_at};
 use crate::screen::Screen;
+use nms_codes::Code;
 use nms_review_words::Request;
 use nms_show::{Ending, Form, Item, write_line, write_object};
 use nms_times::{Rising, TimeOfDay, Times, find_span, read_times, source_row};
@@ -201,7 +202,7 @@ fn tell_time<W: Write>(
     answers: &mut W,
 ) -> Result<Ending, Fault> {
     if version > times.len() as u64 {
-        return Err(Fault::of("A1", 6, About::Version));
+        return Err(Fault::of(Code::A1, About::Version));
     }
     let digits = times.time_of(version).map(|time| time.text());
     let time = match &digits {

@@ -62,12 +62,17 @@ where
     match served {
         Err(fault) if fault.is_of_executions() => {
             changes.clear();
-            let own = Fault::of(fault.code(), fault.status(), About::Word(EXECUTIONS));
-            ended(&mut executions, Err(own))
+            ended(
+                &mut executions,
+                Err(trades_fault(fault, About::Word(EXECUTIONS))),
+            )
         }
         Err(fault) => {
             executions.clear();
-            ended(&mut changes, Err(own_fault(fault)))
+            ended(
+                &mut changes,
+                Err(trades_fault(fault, About::Word(EXECUTIONS))),
+            )
         }
         Ok(ending) => {
             changes.clear();
@@ -77,16 +82,15 @@ where
     }
 }
 
-/// A fault that is not about the executions: of the changes, or of the times.
-fn own_fault(fault: TradesFault) -> Fault {
+/// A fault of executions: in their file, in that of the changes, or in the times.
+pub(crate) fn trades_fault(fault: TradesFault, executions: About) -> Fault {
     match fault {
+        TradesFault::Executions(_) | TradesFault::TooLong => Fault::of(fault.code(), executions),
         TradesFault::Times(fault) => Fault::of_times(fault, About::Times),
         TradesFault::Symbols(fault) => Fault::of_times(fault, About::Symbols),
-        TradesFault::Changes(_)
-        | TradesFault::Executions(_)
-        | TradesFault::Board(_)
-        | TradesFault::TooLong
-        | TradesFault::Show(_) => { Fault::of(fault.code(), fault.status(), About::Word(CHANGES)) }
+        TradesFault::Changes(_) | TradesFault::Board(_) | TradesFault::Show(_) => {
+            Fault::of(fault.code(), About::Word(CHANGES))
+        }
     }
 }
 

@@ -6,7 +6,7 @@ use nms_fee_book::Caps;
 use nms_fees::Setup;
 use nms_import::ImportFault;
 use nms_quote::{Feed, OrderSide, Part};
-use nms_show::{Form, Item, write_line};
+use nms_show::{Form, Item, ShowFault, write_line};
 use nms_units::Price;
 use std::io::Write;
 
@@ -168,7 +168,7 @@ fn text_line<W: Write>(out: &mut W, text: &str) -> Result<(), ImportFault> {
 fn line<W: Write>(out: &mut W, items: &[Item<'_>]) -> Result<(), ImportFault> {
     match write_line(out, Form::Text { colours: false }, items) {
         Ok(()) => Ok(()),
-        Err(fault) if fault.status() == 5 => Err(ImportFault::NoMemory),
-        Err(_) => Err(ImportFault::WriteFault),
+        Err(ShowFault::NoMemory) => Err(ImportFault::NoMemory),
+        Err(ShowFault::WriteFault) => Err(ImportFault::WriteFault),
     }
 }

@@ -11,21 +11,3 @@ pub enum ShowFault {
     #[error("E4: out of memory")]
     NoMemory,
 }
-
-impl ShowFault {
-    /// The code of the fault, `E2` or `E4`.
-    pub fn code(self) -> &'static str {
-        match self {
-            ShowFault::WriteFault => "E2",
-            ShowFault::NoMemory => "E4",
-        }
-    }
-
-    /// The exit status of a program that it ends: 1 for the writer, 5 for memory.
-    pub fn status(self) -> u8 {
-        match self {
-            ShowFault::WriteFault => 1,
-            ShowFault::NoMemory => 5,
-        }
-    }
-}

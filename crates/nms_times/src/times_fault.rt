@@ -25,6 +25,7 @@ pub enum TimesFault {
 }
 
 impl TimesFault {
+<<<<<<< HEAD
     /// The code: `H1` to `H4`, or `E4`.
     pub fn code(self) -> &'static str {
         match self {
@@ -48,6 +49,9 @@ impl TimesFault {
     }
 
     /// The line of the fault, from 1, if it has one.
+=======
+    /// The line that it is about, from 1, if it is about one.
+>>>>>>> a5bd3baf26bd25d266419d9d01d5b4e0c51fd0ed
     pub fn line(self) -> Option<u64> {
         match self {
             TimesFault::NotTime { line }

@@ -1,5 +1,6 @@
 //! Why executions were not judged.
 use nms_board::BoardFault;
+use nms_codes::Code;
 use nms_files::ChangesFault;
 use nms_lines::RecordFault;
 use nms_show::ShowFault;
@@ -34,26 +35,14 @@ pub enum TradesFault {
 
 impl TradesFault {
     /// The code of the fault: that of a file, `H2` to `H4`, `B1`, `E2`, `E3` or `E4`.
-    pub fn code(&self) -> &'static str {
+    pub fn code(&self) -> Code {
         match self {
-            TradesFault::Changes(fault) => fault.code(),
-            TradesFault::Executions(fault) => fault.code(),
-            TradesFault::Times(fault) | TradesFault::Symbols(fault) => fault.code(),
-            TradesFault::Board(fault) => fault.code(),
-            TradesFault::TooLong => "E3",
-            TradesFault::Show(fault) => fault.code(),
-        }
-    }
-
-    /// The exit status of a program that it ends.
-    pub fn status(&self) -> u8 {
-        match self {
-            TradesFault::Changes(fault) => fault.status(),
-            TradesFault::Executions(fault) => fault.status(),
-            TradesFault::Times(fault) | TradesFault::Symbols(fault) => fault.status(),
-            TradesFault::Board(BoardFault::NoMemory) => 5,
-            TradesFault::TooLong => 6,
-            TradesFault::Show(fault) => fault.status(),
+            TradesFault::Changes(fault) => Code::of_changes(*fault),
+            TradesFault::Executions(fault) => Code::of_record(*fault),
+            TradesFault::Times(fault) | TradesFault::Symbols(fault) => Code::of_times(*fault),
+            TradesFault::Board(fault) => Code::of_board(*fault),
+            TradesFault::TooLong => Code::E3,
+            TradesFault::Show(fault) => Code::of_show(*fault),
         }
     }
 

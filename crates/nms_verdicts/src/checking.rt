@@ -10,6 +10,7 @@ use crate::plan_telling::{PlanNumber, tell_plan};
 use crate::telling::{Heading, tell, tell_head, tell_line};
 use crate::verdict_fault::VerdictFault;
 use nms_board::Boards;
+use nms_codes::Code;
 use nms_fees::Setup;
 use nms_files::read_changes;
 use nms_lines::{PlanTextFault, read_plan};
@@ -318,7 +319,7 @@ fn write_unreadable<W: Write>(
             ("plan", Item::Number(number.plan)),
             ("line", Item::Number(number.line)),
             ("verdict", Item::Alarm("UNREADABLE")),
-            ("code", Item::Text("L11")),
+            ("code", Item::Text(Code::L11.text())),
         ],
     )
 }

@@ -3,6 +3,7 @@ ghost use Rattle.std.specs.Prelude.{◌≡◌};
 ghost use Rattle.nms_verdicts.specs.Explained.{ending_of};
 
 use nms_cert::Doubt;
+use nms_codes::Code;
 use nms_plan_places::DoubtPlace;
 use nms_show::Ending;
 
@@ -30,7 +31,7 @@ impl Verdict {
     pub(crate) fn code(&self) -> Option<&'static str> {
         match self {
             Verdict::Confirmed => None,
-            Verdict::Beyond { .. } => Some("A1"),
+            Verdict::Beyond { .. } => Some(Code::A1.text()),
             Verdict::Doubted { doubt, .. } => Some(doubt.code()),
         }
     }

@@ -1,5 +1,6 @@
 //! Why plans were not judged.
 use nms_board::BoardFault;
+use nms_codes::Code;
 use nms_files::ChangesFault;
 use nms_lines::PlanTextFault;
 use nms_show::ShowFault;
@@ -29,24 +30,13 @@ pub enum VerdictFault {
 
 impl VerdictFault {
     /// The code of the fault: that of the file, `B1`, `L11`, `L12`, `E2` or `E4`.
-    pub fn code(&self) -> &'static str {
+    pub fn code(&self) -> Code {
         match self {
-            VerdictFault::Changes(fault) => fault.code(),
-            VerdictFault::Times(fault) => fault.code(),
-            VerdictFault::Board(fault) => fault.code(),
-            VerdictFault::Plan(fault) => fault.code(),
-            VerdictFault::Show(fault) => fault.code(),
-        }
-    }
-
-    /// The exit status of a program that it ends.
-    pub fn status(&self) -> u8 {
-        match self {
-            VerdictFault::Changes(fault) => fault.status(),
-            VerdictFault::Times(fault) => fault.status(),
-            VerdictFault::Board(BoardFault::NoMemory) => 5,
-            VerdictFault::Plan(fault) => fault.status(),
-            VerdictFault::Show(fault) => fault.status(),
+            VerdictFault::Changes(fault) => Code::of_changes(*fault),
+            VerdictFault::Times(fault) => Code::of_times(*fault),
+            VerdictFault::Board(fault) => Code::of_board(*fault),
+            VerdictFault::Plan(fault) => Code::of_plan_text(*fault),
+            VerdictFault::Show(fault) => Code::of_show(*fault),
         }
     }
 }

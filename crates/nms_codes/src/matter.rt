@@ -1,0 +1,58 @@
+//! What a code speaks of.
+ghost use Rattle.std.specs.Prelude.{◌≡◌};
+ghost use Rattle.nms_codes.specs.Codes.{names_a_word, status_of_matter};
+
+/// What a code speaks of.
+#[derive(Clone, Copy, Debug, PartialEq, Eq)]
+pub enum Matter {
+    /// A record or the text of a plan: `explain` shows where it stands.
+    Record,
+    /// Whatever else a file says: a length, an order, times.
+    Content,
+    /// A setup.
+    Setup,
+    /// A mapping, or the columns that it names.
+    Mapping,
+    /// The words of the call.
+    Words,
+    /// A file that could not be read.
+    Input,
+    /// The output: no file that is read.
+    Output,
+    /// Memory: no file.
+    Memory,
+    /// A whole import that is doubtful.
+    Import,
+}
+
+impl Matter {
+    /// The exit status of a call that ends by it, 1 to 7.
+    pub fn status(self) -> u8
+        ensures { result ≡ status_of_matter self }
+    {
+        match self {
+            Matter::Input | Matter::Output => 1,
+            Matter::Words => 2,
+            Matter::Setup | Matter::Mapping => 3,
+            Matter::Memory => 5,
+            Matter::Record | Matter::Content => 6,
+            Matter::Import => 7,
+        }
+    }
+
+    /// Whether a word of the call is to blame, or the file that it names.
+    pub fn is_of_a_word(self) -> bool
+        ensures { result ≡ names_a_word self }
+    {
+        match self {
+            Matter::Output | Matter::Memory => false,
+            Matter::Record
+            | Matter::Content
+            | Matter::Setup
+            | Matter::Mapping
+            | Matter::Words
+            | Matter::Input
+            | Matter::Import => true,
+        }
+    }
+}

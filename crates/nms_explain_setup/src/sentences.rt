@@ -1,0 +1,17 @@
+//! What each fault of a setup is, in a sentence.
+use nms_fees::SetupFault;
+
+/// A fault, in words.
+pub(crate) fn sentence_of(fault: SetupFault) -> &'static str {
+    match fault {
+        SetupFault::NotToml => "the text is no TOML document",
+        SetupFault::Missing => "a required key is absent",
+        SetupFault::UnknownKey => "no such key may stand here",
+        SetupFault::BadName => "a name that is not of its form",
+        SetupFault::WrongType => "a value of another kind",
+        SetupFault::OutOfRange => "a value out of its range",
+        SetupFault::OverCap => "a charge over its cap",
+        SetupFault::TooMany => "too many tables",
+        SetupFault::NoMemory => "out of memory",
+    }
+}
