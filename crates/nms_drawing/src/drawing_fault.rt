@@ -38,35 +38,6 @@ impl DrawingFault {
     /// The code of the fault.
     pub fn code(self) -> Code {
         match self {
-<<<<<<< HEAD
-            DrawingFault::Changes(fault) => fault.code(),
-            DrawingFault::Board(fault) => fault.code(),
-            DrawingFault::VersionBeyondTape => "A1",
-            DrawingFault::Plan(PlanTextFault::BadPlanText) => "L11",
-            DrawingFault::Plan(PlanTextFault::NoMemory) => "L12",
-            DrawingFault::Plan(PlanTextFault::WriteFault) => "L13",
-            DrawingFault::Times(fault) => fault.code(),
-            DrawingFault::WriteFault => "E2",
-            DrawingFault::NoMemory => "E4",
-        }
-    }
-
-    /// Whether the plan's text was refused, and not the changes.
-    pub fn is_of_plan(self) -> bool {
-        self == DrawingFault::Plan(PlanTextFault::BadPlanText)
-    }
-
-    /// The exit status of a program that it ends: 1 for a stream, 5 for memory, 6 for a refused input.
-    pub fn status(self) -> u8 {
-        match self {
-            DrawingFault::Changes(fault) => fault.status(),
-            DrawingFault::Times(fault) => fault.status(),
-            DrawingFault::VersionBeyondTape | DrawingFault::Plan(PlanTextFault::BadPlanText) => 6,
-            DrawingFault::Board(_)
-            | DrawingFault::NoMemory
-            | DrawingFault::Plan(PlanTextFault::NoMemory) => 5,
-            DrawingFault::WriteFault | DrawingFault::Plan(PlanTextFault::WriteFault) => 1,
-=======
             DrawingFault::Changes(fault) => Code::of_changes(fault),
             DrawingFault::Board(fault) => Code::of_board(fault),
             DrawingFault::VersionBeyondTape => Code::A1,
@@ -74,7 +45,6 @@ impl DrawingFault {
             DrawingFault::Times(fault) => Code::of_times(fault),
             DrawingFault::WriteFault => Code::E2,
             DrawingFault::NoMemory => Code::E4,
->>>>>>> a5bd3baf26bd25d266419d9d01d5b4e0c51fd0ed
         }
     }
 }

@@ -15,13 +15,8 @@ use nms_show::{Ending, Form, Item, ShowFault};
 use std::alloc::Global;
 use std::io::{Read, Write};
 
-<<<<<<< HEAD
 /// The code of a text that is not a plan's.
-const CODE: &str = "L11";
-=======
-/// The code of a text that is no plan's.
 const CODE: Code = Code::L11;
->>>>>>> a5bd3baf26bd25d266419d9d01d5b4e0c51fd0ed
 
 /// What the caller asks for.
 #[derive(Clone, Copy)]
