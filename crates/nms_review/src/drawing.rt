@@ -121,23 +121,12 @@ where
     both_ended(&mut changes, &mut executions, served)
 }
 
-<<<<<<< HEAD
-/// The word that a fault of the library is about.
-fn about_of(request: &Request, code: &str) -> About {
-    match code {
-        "L11" => About::Plan,
-        "H2" | "H3" => About::Times,
-        "A1" if request.to.is_some() => About::To,
-        "A1" => About::From,
-        _ => About::Word(0),
-=======
 /// What names the last version that is drawn.
 fn last_of(request: &Request) -> About {
     if request.to.is_some() {
         About::To
     } else {
         About::From
->>>>>>> a5bd3baf26bd25d266419d9d01d5b4e0c51fd0ed
     }
 }
 

@@ -8,15 +8,8 @@ use std::io;
 #[derive(Clone, Copy)]
 pub(crate) struct Fault {
     /// The code, or `usage`.
-<<<<<<< HEAD
-    pub(crate) code: &'static str,
-    /// The exit status.
-    pub(crate) status: u8,
-    /// The word that it is about.
-=======
     pub(crate) code: Code,
     /// What it is about.
->>>>>>> a5bd3baf26bd25d266419d9d01d5b4e0c51fd0ed
     pub(crate) about: About,
     /// The system's reason, if a file could not be read.
     pub(crate) cause: Option<io::Error>,
@@ -60,15 +53,9 @@ pub(crate) enum About {
 impl Fault {
     /// A fault of the library, in the file that a word names.
     ///
-<<<<<<< HEAD
     /// Faults of memory and of the output are not about a file.
-    pub(crate) fn of(code: &'static str, status: u8, about: About) -> Self {
-        let is_own = status == 5 || code == "E2" || code == "L13";
-=======
-    /// Memory and the output are no matter of a file.
     pub(crate) fn of(code: Code, about: About) -> Self {
         let is_of_a_word = code.matter().is_of_a_word();
->>>>>>> a5bd3baf26bd25d266419d9d01d5b4e0c51fd0ed
         Fault {
             code,
             about: if is_of_a_word { about } else { About::Nothing },

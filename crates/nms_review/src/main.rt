@@ -35,16 +35,6 @@ use std::time::Clock;
 use std::{env, io};
 use telling::tell_fault;
 
-<<<<<<< HEAD
-/// Printed if a word is not UTF-8, or if out of memory for the words.
-const NO_TEXT: &str = "nms_review: usage: a word of the call is not UTF-8\n";
-
-const NO_MEMORY: &str = "nms_review: G2: memory ran out for the words\n";
-
-const NOT_WRITTEN: &str = "nms_review: E2: the output could not be written\n";
-
-=======
->>>>>>> a5bd3baf26bd25d266419d9d01d5b4e0c51fd0ed
 fn main(rt: HostRuntime) -> ExitCode {
     let screen = Screen {
         answers: rt.stdout().is_terminal(),
@@ -131,18 +121,12 @@ fn tell_refusal<E: Write>(errors: &mut E, text: &str) -> u8 {
     2
 }
 
-<<<<<<< HEAD
-/// Prints a text on standard error, and gives the status. If standard error does not take it, the status stays.
-fn tell_early<E: Write>(errors: &mut E, text: &str, status: u8) -> u8 {
-    let _ = errors.write_all(text.as_bytes());
-    status
-=======
 /// Prints a code with its sentence on standard error, and gives the status.
 fn tell_code<E: Write>(errors: &mut E, code: Code) -> u8 {
     tell_early(errors, code, code.sentence())
 }
 
-/// The same with another sentence. What standard error does not take changes no status.
+/// As `tell_code`, with another sentence. If standard error does not take it, the status stays.
 fn tell_early<E: Write>(errors: &mut E, code: Code, sentence: &str) -> u8 {
     let items = [
         Item::Text("nms_review: "),
@@ -152,7 +136,6 @@ fn tell_early<E: Write>(errors: &mut E, code: Code, sentence: &str) -> u8 {
     ];
     let _ = write_line(errors, Form::Text { colours: false }, &items);
     code.status()
->>>>>>> a5bd3baf26bd25d266419d9d01d5b4e0c51fd0ed
 }
 
 /// Words as they are lent; `None` if out of memory.

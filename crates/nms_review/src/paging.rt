@@ -72,14 +72,8 @@ where
     both_ended(&mut changes, &mut executions, served)
 }
 
-<<<<<<< HEAD
-/// A fault of executions on a page or a picture: it is about the file of the executions, about one of their times, or about
-/// another file.
-pub(crate) fn page_fault(fault: PageFault, executions: About, other: About) -> Fault {
-=======
-/// A fault of executions on a page or a picture: in the file of the executions, in what names the version, or in another one.
+/// A fault of executions on a page or a picture: it is about the file of the executions, what names the version, or another file.
 pub(crate) fn page_fault(fault: PageFault, executions: About, version: About) -> Fault {
->>>>>>> a5bd3baf26bd25d266419d9d01d5b4e0c51fd0ed
     match fault {
         PageFault::Drawing(fault) => drawing_fault(fault, version, About::Word(CHANGES)),
         PageFault::Trades(fault) => trades_fault(fault, executions),

@@ -248,21 +248,12 @@ where
     ended(&mut source, served)
 }
 
-<<<<<<< HEAD
-/// A fault of the library: one of them is about another word than that of the file.
-fn fault_of(code: &'static str, status: u8, other: (&str, About), file: usize) -> Fault {
-    let about = if code == other.0 {
-        other.1
-    } else {
-        About::Word(file)
-=======
 /// A fault of a judgement: the changes are the first word, and the plans the second.
 fn verdict_fault(fault: VerdictFault) -> Fault {
     let about = match fault {
         VerdictFault::Times(_) => About::Times,
         VerdictFault::Plan(_) => About::Word(1),
         VerdictFault::Changes(_) | VerdictFault::Board(_) | VerdictFault::Show(_) => About::Word(0),
->>>>>>> a5bd3baf26bd25d266419d9d01d5b4e0c51fd0ed
     };
     Fault::of(fault.code(), about)
 }

@@ -5,86 +5,6 @@ use nms_review_words::{Request, Sub};
 use nms_show::{Form, Item, ShowFault, write_line};
 use std::io::{ErrorKind, Write};
 
-<<<<<<< HEAD
-/// The sentence for each code that ends a request. `explain` reports the place of a record.
-static SENTENCES: [(&'static str, &'static str); 37] = [
-    ("E1", "it could not be read"),
-    ("E2", "the output could not be written"),
-    ("E3", "it has more than 10,000,000 records"),
-    ("E4", "memory ran out"),
-    ("B1", "memory ran out for the board"),
-    ("A1", "the file has fewer changes than that version"),
-    ("A3", "memory ran out for the judgement"),
-    ("C1", "this setup is no TOML"),
-    ("C2", "a key is absent from this setup"),
-    ("C3", "this setup has a key that is not known"),
-    (
-        "C4",
-        "a name in this setup is not of its form, or stands twice",
-    ),
-    ("C5", "a value in this setup is not of its kind"),
-    ("C6", "a number in this setup is out of its range"),
-    ("C7", "a fee or a rate in this setup is over its cap"),
-    ("C8", "this setup has too many participants or symbols"),
-    ("C9", "memory ran out for the setup"),
-    ("F4", "it has more changes than the setup's tape_limit"),
-    ("G2", "memory ran out for the words"),
-    (
-        "I1",
-        "more than half of the rows were refused: is it the mapping of these files?",
-    ),
-    (
-        "I2",
-        "no row shows a round lot on either side: are the sizes lots, and not shares?",
-    ),
-    ("I3", "times fall, though the mapping says that they do not"),
-    ("J1", "it has not one time for each change"),
-    (
-        "J2",
-        "a change is before an earlier one, in the order that the mapping gives",
-    ),
-    (
-        "J3",
-        "a row is before an earlier one, in the order that the mapping gives",
-    ),
-    (
-        "L1",
-        "the first refused record is of no kind that is read there",
-    ),
-    (
-        "L2",
-        "the first refused record has not the number of fields of its kind",
-    ),
-    (
-        "L3",
-        "the first refused record names a participant that is not on the roster",
-    ),
-    (
-        "L4",
-        "the first refused record names a symbol that is not on the roster",
-    ),
-    ("L5", "the first refused record has a state that is none"),
-    ("L6", "the first refused record has a price that is none"),
-    ("L7", "the first refused record has shares that are none"),
-    ("L8", "the first refused record has half a side"),
-    ("L11", "it is not the text of one plan"),
-    ("H1", "a line is not the time of a change"),
-    (
-        "H2",
-        "a time is before the one above it; if the file is sorted by symbol, give --symbols",
-    ),
-    ("H3", "it has not as many lines as there are changes"),
-    (
-        "H4",
-        "a line is not a symbol with its first and its last version",
-    ),
-];
-
-/// Other sentences for records and memory.
-const REFUSED: &str = "a record was refused";
-
-=======
->>>>>>> a5bd3baf26bd25d266419d9d01d5b4e0c51fd0ed
 /// Reports a fault of a request, and gives the exit status.
 pub(crate) fn tell_fault<E: Write>(fault: &Fault, request: &Request, errors: &mut E) -> u8 {
     if write_fault(fault, request, errors).is_ok() {
@@ -144,12 +64,7 @@ fn write_tip<E: Write>(fault: &Fault, request: &Request, errors: &mut E) -> Resu
 
 /// The kind of the file that was refused, as `explain` names it: only records and setups have places that it shows.
 fn kind_of(fault: &Fault, request: &Request) -> Option<&'static str> {
-<<<<<<< HEAD
-    // `explain` shows places only for records and setups.
-    if fault.status == 6 && !fault.code.starts_with('L') {
-=======
     if request.command == Sub::Explain {
->>>>>>> a5bd3baf26bd25d266419d9d01d5b4e0c51fd0ed
         return None;
     }
     match fault.code.matter() {

@@ -25,33 +25,7 @@ pub enum TimesFault {
 }
 
 impl TimesFault {
-<<<<<<< HEAD
-    /// The code: `H1` to `H4`, or `E4`.
-    pub fn code(self) -> &'static str {
-        match self {
-            TimesFault::NotTime { .. } => "H1",
-            TimesFault::TimesFall { .. } => "H2",
-            TimesFault::OtherLength => "H3",
-            TimesFault::NotSymbol { .. } => "H4",
-            TimesFault::NoMemory => "E4",
-        }
-    }
-
-    /// The exit status of a program that it ends: 6 for what was read, 5 for memory.
-    pub fn status(self) -> u8 {
-        match self {
-            TimesFault::NotTime { .. }
-            | TimesFault::TimesFall { .. }
-            | TimesFault::OtherLength
-            | TimesFault::NotSymbol { .. } => 6,
-            TimesFault::NoMemory => 5,
-        }
-    }
-
     /// The line of the fault, from 1, if it has one.
-=======
-    /// The line that it is about, from 1, if it is about one.
->>>>>>> a5bd3baf26bd25d266419d9d01d5b4e0c51fd0ed
     pub fn line(self) -> Option<u64> {
         match self {
             TimesFault::NotTime { line }
