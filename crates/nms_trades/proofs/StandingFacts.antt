@@ -14,7 +14,7 @@ use Rattle.nms_quote.specs.declared.side_quote.Side.TheVariants.{Bid, Offer}
 use Rattle.nms_board.specs.Quotation.{quotation_of}
 use Rattle.nms_trades.specs.Around.{flickers, is_inferior}
 use Rattle.nms_trades.specs.Parts.{part_at}
-use Rattle.nms_trades.proofs.BestFacts.{best_decides}
+use Rattle.nms_trades.proofs.BestFacts.{AreInOrder, best_decides}
 use Rattle.nms_trades.proofs.PartFacts.{inferior_is}
 use Rattle.nms_trades.proofs.TrackFacts.{some_version}
 use Rattle.std.specs.Prelude.{not}
@@ -26,13 +26,13 @@ any_alike p q same (n ∷ ns) = rw (same n, any_alike p q same ns) refl
 
 -- by whether it trades through the best prices of some version, and whether it trades through none on some
 pub standing_by : (sizes : Sizes) (tape : Tape) (symbol millionths first last : ℕ)
-    → standing_of (any_version (λ n. holds_of test.Through millionths (best_at sizes tape symbol n)) first last)
+    → ((n : ℕ) → AreInOrder (view_of sizes (version n tape) symbol)) → standing_of (any_version (λ n. holds_of test.Through millionths (best_at sizes tape symbol n)) first last)
     (any_version (λ n. holds_of test.Clean millionths (best_at sizes tape symbol n)) first last)
     ≡ standing_over (goes_through_at sizes tape symbol millionths) first last
-standing_by sizes tape symbol millionths first last =
+standing_by sizes tape symbol millionths first last order =
     let through : (n : ℕ) → holds_of test.Through millionths (best_at sizes tape symbol n)
     ≡ goes_through_at sizes tape symbol millionths n =
-    λ n. best_decides millionths (view_of sizes (version n tape) symbol) in
+    λ n. best_decides millionths (view_of sizes (version n tape) symbol) (order n) in
     rw (
       any_alike (λ n. holds_of test.Through millionths (best_at sizes tape symbol n))
           (goes_through_at sizes tape symbol millionths) through _,

@@ -1,34 +1,23 @@
 -- The best protected prices of a symbol in each version (17 CFR 242.600, "protected bid or protected offer").
-use Rattle.std.specs.Prelude.{ℕ, ◌<◌, ◌&&◌, Bool, true, List, fold, length, nat_lt, slice_get, Option, Some, None, if◌then◌else◌}
+use Rattle.std.specs.Prelude.{ℕ, ◌<◌, List, length, option_map, slice_get, Option}
 use Rattle.nms_quote.specs.Roster.{Sizes}
 use Rattle.nms_quote.specs.Tape.{Tape, version}
+use Rattle.nms_quote.specs.declared.side_quote.Side.TheVariants.{Bid, Offer}
+use Rattle.nms_board.specs.Ranking.{ranked}
 use Rattle.nms_board.specs.View.{Seen, view_of}
 use Rattle.nms_board.specs.declared.row.Row.{Row}
+use Rattle.nms_trades.specs.Judged.{best_protected}
 use Rattle.nms_trades.specs.Track.{HasTrack}
 use Rattle.nms_trades.specs.declared.track.Limits.{Limits}
 use Rattle.nms_trades.specs.declared.track.Track.{Track}
 
--- whether a price is above a bid, or there is none
-abbrev pub beats_bid : ℕ → Option ℕ → Bool
-beats_bid price None = true
-beats_bid price (Some bid) = nat_lt bid price
+-- the price of the best protected one of rows in rank order
+abbrev pub best_price : List Row → Option ℕ
+best_price rows = option_map (λ row. row.price) (best_protected rows)
 
--- whether a price is below an offer, or there is none
-abbrev pub beats_offer : ℕ → Option ℕ → Bool
-beats_offer price None = true
-beats_offer price (Some offer) = nat_lt price offer
-
--- the higher of a bid and a row's, if it is protected
-abbrev pub higher_bid : Option ℕ → Row → Option ℕ
-higher_bid best row = if row.protected && beats_bid row.price best then Some row.price else best
-
--- the lower of an offer and a row's, if it is protected
-abbrev pub lower_offer : Option ℕ → Row → Option ℕ
-lower_offer best row = if row.protected && beats_offer row.price best then Some row.price else best
-
--- the best protected prices of what is seen
+-- the best protected prices of what is seen: those of the protected bid and offer that rank first
 abbrev pub limits_of : Seen → Limits
-limits_of seen = record { bid = fold higher_bid None seen.bids; offer = fold lower_offer None seen.offers }
+limits_of seen = record { bid = best_price (ranked Bid seen.bids); offer = best_price (ranked Offer seen.offers) }
 
 -- those of a symbol in a version
 abbrev pub best_at : Sizes → Tape → (sym n : ℕ) → Limits

@@ -1,16 +1,17 @@
 //! The best protected prices of each symbol in each version: `specs/Bests`.
-ghost use Rattle.std.specs.Prelude.{◌≡◌, ◌≢◌, ◌≤◌, ◌<◌, ℕ, ◌+◌, ◌++◌, ◌∷◌, [], All, IfOk, OnOk, None, false, fold, length, slice_get, true};
+ghost use Rattle.std.specs.Prelude.{◌≡◌, ◌≢◌, ◌≤◌, ◌<◌, ℕ, ◌+◌, ◌++◌, ◌∷◌, [], All, IfOk, OnOk, false, length, slice_get, true};
 ghost use Rattle.nms_board.specs.Cells.{StandsFor, after, takes};
 ghost use Rattle.nms_board.specs.History.{concerns};
-ghost use Rattle.nms_board.specs.Shown.{seen_on};
+ghost use Rattle.nms_board.specs.Ranking.{ranked};
+ghost use Rattle.nms_board.specs.Shown.{rows_held, seen_on};
 ghost use Rattle.nms_quote.specs.Roster.{holds, sizes_of};
 ghost use Rattle.nms_quote.specs.Tape.{Tape, version};
 ghost use Rattle.nms_quote.specs.declared.TheConstants.{MOST_CHANGES};
-ghost use Rattle.nms_trades.specs.Bests.{AreBests, beats_bid, beats_offer, higher_bid, limits_of, lower_offer};
+ghost use Rattle.nms_trades.specs.Bests.{AreBests, best_price, limits_of};
 ghost use Rattle.nms_trades.specs.Track.{AreNoted, IsNoted};
 
 use crate::track::{Limits, Track, no_tracks, note_at};
-use nms_board::{BoardFault, Boards, Row, View, other_symbols_stay};
+use nms_board::{BoardFault, Boards, other_symbols_stay};
 use nms_quote::{Change, Roster, Side, Sym};
 use std::alloc::{AllocError, Global};
 
@@ -94,86 +95,33 @@ fn note_all(board: &Boards, bests: &mut Vec<Track>) -> Result<(), AllocError>
 
 /// Notes the best prices of a symbol.
 fn note_sym(board: &Boards, sym: Sym, bests: &mut Vec<Track>) -> Result<(), AllocError>
-    requires { sym < length bests.old.items }
+    requires place { sym < length bests.old.items }
+    requires sym { sym < length board.now.sizes.lots }
     ensures count { length bests.new.items ≡ length bests.old.items }
     ensures own { (own : ℕ) → own ≡ sym → OnOk result (IsNoted board.now.applied (limits_of (seen_on board.now own))
         (slice_get bests.old.items own) (slice_get bests.new.items own)) }
     ensures others { (other : ℕ) → other ≢ sym → slice_get bests.new.items other ≡ slice_get bests.old.items other }
 {
-    let limits = limits_of(&board.view(sym));
+    let limits = Limits {
+        bid: best_price(board, Side::Bid, sym),
+        offer: best_price(board, Side::Offer, sym),
+    };
     note_at(bests, usize::from(sym.get()), board.applied(), limits)
 }
 
-/// The best protected prices of what is seen.
-fn limits_of(view: &View) -> Limits
-    ensures { result ≡ limits_of view.now }
+/// The price of a side's best protected quotation in a symbol, if there is one. Rows are read in rank order up to that one.
+fn best_price(board: &Boards, side: Side, sym: Sym) -> Option<u64>
+    requires { sym < length board.now.sizes.lots }
+    ensures { result ≡ best_price (ranked side (rows_held board.now sym side)) }
 {
-    Limits {
-        bid: highest_bid(view.rows(Side::Bid)),
-        offer: lowest_offer(view.rows(Side::Offer)),
+    board.shows_rows(sym);
+    for at in 0..board.parts() {
+        let Some(row) = board.ranked(side, sym, at) else {
+            return None;
+        };
+        if row.protected {
+            return Some(row.price.get());
+        }
     }
-}
-
-/// The price of the highest protected bid, if there is one.
-fn highest_bid(rows: &[Row]) -> Option<u64>
-    ensures { result ≡ fold higher_bid None rows.now }
-{
-    let mut best = None;
-    for row in rows {
-        best = higher_bid(best, row);
-    }
-    best
-}
-
-/// The higher of a bid and a row's, if it is protected.
-fn higher_bid(best: Option<u64>, row: &Row) -> Option<u64>
-    ensures { result ≡ higher_bid best row.now }
-{
-    if row.protected && beats_bid(row.price.get(), best) {
-        Some(row.price.get())
-    } else {
-        best
-    }
-}
-
-/// Whether a price is above a bid, or there is none.
-fn beats_bid(price: u64, best: Option<u64>) -> bool
-    ensures { result ≡ beats_bid price best }
-{
-    match best {
-        Some(bid) => price > bid,
-        None => true,
-    }
-}
-
-/// The price of the lowest protected offer, if there is one.
-fn lowest_offer(rows: &[Row]) -> Option<u64>
-    ensures { result ≡ fold lower_offer None rows.now }
-{
-    let mut best = None;
-    for row in rows {
-        best = lower_offer(best, row);
-    }
-    best
-}
-
-/// The lower of an offer and a row's, if it is protected.
-fn lower_offer(best: Option<u64>, row: &Row) -> Option<u64>
-    ensures { result ≡ lower_offer best row.now }
-{
-    if row.protected && beats_offer(row.price.get(), best) {
-        Some(row.price.get())
-    } else {
-        best
-    }
-}
-
-/// Whether a price is below an offer, or there is none.
-fn beats_offer(price: u64, best: Option<u64>) -> bool
-    ensures { result ≡ beats_offer price best }
-{
-    match best {
-        Some(offer) => price < offer,
-        None => true,
-    }
+    None
 }

@@ -87,6 +87,7 @@ fn standing_over(execution: &Execution, marks: &[Mark]) -> Standing
     ensures { (sizes : Sizes) (tape : Tape) (upto : ℕ) → IsTrack (best_at sizes tape execution.now.sym) upto marks.now
         → execution.now.last ≤ upto → result ≡ standing_in sizes tape execution.now }
 {
+    rows_have_one_rank_order();
     let (price, first, last) = (execution.millionths, execution.first, execution.last);
     let some_through = any_version(marks, Test::Through, price, first, last);
     let some_clean = any_version(marks, Test::Clean, price, first, last);

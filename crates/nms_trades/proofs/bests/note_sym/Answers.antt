@@ -7,6 +7,6 @@ returns-clause-own c = λ own is. rw is
       c.from.ensures,
       c.get.ensures.place,
       c.applied.ensures.count,
-      c.limits_of-limits.ensures,
-      c.view.ensures.cells,
+      c.best_price.ensures,
+      c.best_price-2.ensures,
     ) at c.note_at.ensures.own)
