@@ -1,11 +1,11 @@
 -- The answers to records, written one after another.
-use Rattle.std.proofs.Common.{◌≡◌, ◌+◌, ◌++◌, ◌∷◌, [], List, ℕ, suc, true, false, cond, drop, take, map, refl, sym, subst, ap, ◌∙◌, arith, append_assoc}
+use Rattle.std.proofs.Common.{◌≡◌, ◌+◌, ◌++◌, ◌∷◌, [], List, ℕ, suc, true, false, cond, drop, take, map, get_or, length, ◌<◌, refl, sym, subst, ap, ◌∙◌, arith, append_assoc}
 use Rattle.std.proofs.Common.{Option, None, Some}
 use Rattle.std.specs.Io.KnownBytes.{Appends}
 use Rattle.std.specs.List.{flat_map, prefix_len}
 use Rattle.std.specs.Prelude.{Err, Ok, OnErr, Result}
 use Rattle.std.proofs.KnownBytes.{Appends-nil, Appends-trans}
-use Rattle.std.proofs.lemmas.List.{append-nil}
+use Rattle.std.proofs.lemmas.List.{append-nil, drop_more}
 use Rattle.std.proofs.lemmas.List.Concat.{flat_map-append}
 use Rattle.std.proofs.lemmas.List.Sums.{take_while-cons}
 use Rattle.nms_quote.specs.Roster.{Listing}
@@ -133,3 +133,16 @@ order-next roster found place execution rest refused =
     (flat_map-append record_text (answer_records roster own) (flat_map (answer_records roster) later)
     ∙ ap (λ n. text_of (answer_records roster own)
     ++ text_of_answers roster (in_order found n rest (refused_left (Some execution.number) refused))) next)
+
+-- the same at a place among the executions
+pub order-at : (roster : Listing) (found : List (Option Finding)) (place : ℕ) (executions : List Execution) (refused : List Refusal)
+    (execution : Execution) → place < length executions → execution ≡ get_or executions place execution
+    → text_of_answers roster (in_order found place (drop place executions) refused)
+    ≡ refused_text (Some execution.number) refused
+    ++ (text_of (answer_records roster (Judged execution (found_at found place)))
+    ++ text_of_answers roster (in_order found (place + 1) (drop (place + 1) executions) (refused_left (Some execution.number) refused)))
+order-at roster found place executions refused execution below read =
+    let is : drop place executions ≡ execution ∷ drop (place + 1) executions =
+    drop_more executions place execution below ∙ ap (λ (it : Execution). it ∷ drop (place + 1) executions) (sym read) in
+    ap (λ list. text_of_answers roster (in_order found place list refused)) is
+    ∙ order-next roster found place execution (drop (place + 1) executions) refused

@@ -1,6 +1,7 @@
 -- The sums of quotations, and of more of them.
 use Rattle.std.proofs.Common.{◌≡◌, ◌≤◌, ◌<◌, ◌+◌, ◌-◌, ◌*◌, ◌++◌, ◌∷◌, [], List, ℕ, Bool, true, false, cond, get_or, suc, take, ℤ, ◌+ℤ◌, ◌≤ℤ◌, ◌^◌, length, max, min, refl, sym, ap, ◌∙◌, arith}
 use Rattle.std.proofs.Common.{append_assoc, filter, fold, map, not, pos, ◌||◌}
+use mir.Val.{bool_byte}
 use Rattle.std.specs.List.{count_by, list_any, sum_by}
 use Rattle.std.proofs.lemmas.Int.{ints}
 use Rattle.std.proofs.lemmas.List.{length-append, length-take-le, map-append, take_more}
@@ -101,6 +102,11 @@ sums-append execution shares before more =
       helped = helped i;
       flickers = flickers i;
     }
+
+-- a mark as a number
+pub as_number : (mark : Bool) → bool_byte mark ≡ cond mark 1 0
+as_number true = refl
+as_number false = refl
 
 -- the sums of rows that are left
 unfoldable sums_left : Execution → (shares : ℕ) → List Marked → (helped : Bool) → Sums
