@@ -32,7 +32,7 @@ unfolding in_order
 order-execution found place [] refused execution below =
     let count = count_before (Some execution.number) refused in
     let all = count_all execution.number refused below in
-    let same : place ≡ place + length [] = omega arith in
+    let same : place ≡ place + 0 = omega arith in
     ap (λ first. map Refused first ++ Judged execution (found_at found place) ∷ map Refused (drop count refused))
     (take_all count refused (omega (arith, all)))
     ∙ ap (λ rest. map Refused refused ++ Judged execution (found_at found place) ∷ map Refused rest) (drop_all count refused (omega (arith, all)))

@@ -180,9 +180,10 @@ count_so_far execution finding place sums within is =
     let marked = marked_from finding 0 passed in
     let long : length marked ≡ place = length-marked finding 0 passed ∙ length-take-le place finding.passed.items within in
     let count : sums.count ≡ (sums_in execution execution.shares marked).count = ap (λ (s : Sums). s.count) is in
-    let flickers : sums.flickers ≡ (sums_in execution execution.shares marked).flickers = ap (λ (s : Sums). s.flickers) is in
-    (omega (arith, long, count, count_within execution execution.shares marked),
-    omega (arith, long, flickers, flickers_within execution execution.shares marked))
+    let flickers : sums.flickers ≡ (sums_in execution execution.shares marked).flickers = ap (λ (s : Sums). s.flickers) is in (
+      omega (arith, long, count, count_within execution execution.shares marked),
+      omega (arith, long, flickers, flickers_within execution execution.shares marked),
+    )
 
 -- one row counts once at most
 pub count_of_one : (execution : Execution) (shares : ℕ) (one : Marked) (own : Sums) → own ≡ sums_in execution shares (one ∷ [])

@@ -66,7 +66,9 @@ fn write_each<W: Write>(
         let execution = &records.executions[place];
         let number = Some(execution.number);
         refused = write_refused(alloc, records, refused, number, form, text, answers)?;
-        write_judged(alloc, roster, execution, findings, place, form, text, answers)?;
+        write_judged(
+            alloc, roster, execution, findings, place, form, text, answers,
+        )?;
     }
     write_refused(alloc, records, refused, None, form, text, answers)?;
     Ok(())
