@@ -258,9 +258,7 @@ fn write_one<P: Write>(
     scene: &Scene,
     page: &mut P,
 ) -> Result<(), PageFault> {
-    let Some(sums) = sums_of(execution, finding) else {
-        return Err(PageFault::Trades(TradesFault::TooLong));
-    };
+    let sums = sums_of(execution, finding);
     mark(page, "<section>\n<h3>")?;
     say(page, &[Item::Bytes(execution.name.as_slice())])?;
     mark(page, "</h3>\n<p>")?;

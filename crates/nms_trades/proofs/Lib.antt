@@ -1,12 +1,15 @@
 mod AlongFacts
+mod AnswerFacts
 mod BestFacts
 mod BestSteps
 mod OkFacts
+mod OrderFacts
 mod OwnFacts
 mod PartFacts
 mod PowerFacts
 mod RankFacts
 mod StandingFacts
+mod SumFacts
 mod TrackFacts
 mod TurnFacts
 mod WholeFacts

@@ -1,10 +1,12 @@
 pub use Rattle.nms_quote.specs.Tape as Tape
 pub use Rattle.nms_board.specs.View as View
 pub use Rattle.nms_rules.specs.Through as Through
+pub mod Answers
 pub mod Around
 pub mod Bests
 pub mod Causes
 pub mod Counts
+pub mod Examples
 pub mod Faults
 pub mod FinePrice
 pub mod Found

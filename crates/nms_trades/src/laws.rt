@@ -3,6 +3,7 @@ ghost use Rattle.std.specs.Prelude.{◌≡◌, ◌≤◌, ℕ, ◌*◌, Bool, fa
 ghost use Rattle.nms_quote.specs.declared.side_quote.Side.TheVariants.{Bid, Offer};
 ghost use Rattle.nms_board.specs.Ranking.{better_price};
 ghost use Rattle.nms_trades.specs.Around.{standing_over};
+ghost use Rattle.nms_trades.specs.Examples.{ExamplesHold};
 ghost use Rattle.nms_trades.specs.Judged.{whole_price};
 ghost use Rattle.nms_trades.specs.declared.standing.Standing.TheVariants as standing;
 
@@ -19,4 +20,9 @@ pub fn a_window_is_all_or_none()
         → (n : ℕ) → first ≤ n → n ≤ last → through n ≡ true }
     ensures none { (through : ℕ → Bool) (first last : ℕ) → standing_over through first last ≡ standing.Clean
         → (n : ℕ) → first ≤ n → n ≤ last → through n ≡ false }
+{}
+
+/// The definitions of sums, causes and of the order of answers give what the worked examples say.
+pub fn worked_examples()
+    ensures { ExamplesHold }
 {}

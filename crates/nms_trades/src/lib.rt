@@ -38,7 +38,7 @@ pub use execution::{Deal, Execution};
 pub use execution_file::{Records, Refusal};
 pub use finding::Finding;
 pub use judging::judge_all;
-pub use laws::{a_whole_price_decides, a_window_is_all_or_none};
+pub use laws::{a_whole_price_decides, a_window_is_all_or_none, worked_examples};
 pub use lines::write_answers;
 pub use millionths::{MOST_MILLIONTHS, millionths_in, push_millionths};
 pub use money_through::{Sums, difference, is_helped, sums_of};

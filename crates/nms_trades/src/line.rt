@@ -1,9 +1,12 @@
 //! The lines of one execution as CSV: `specs/Lines`.
-ghost use Rattle.std.specs.Prelude.{◌≡◌, ◌++◌, ◌∷◌, [], OnOk, codes};
+ghost use Rattle.std.specs.Prelude.{◌≡◌, ◌++◌, ◌∷◌, ◌<◌, [], IfOk, OnOk, codes, get_or, true, if◌then◌else◌};
+ghost use Rattle.std.specs.Fmt.{decimal};
 ghost use Rattle.nms_lines.specs.Text.{later_fields, text_of};
-ghost use Rattle.nms_trades.specs.Lines.{clean_record, is_own, marks_of, quotation_fields, records_of_row, refusal_record, row_record, row_records, side_word, standing_word};
+ghost use Rattle.nms_trades.specs.Sums.{all_flicker};
+ghost use Rattle.nms_trades.specs.FinePrice.{fine_text};
+ghost use Rattle.nms_trades.specs.Lines.{all_causes, causes_text, clean_record, is_own, marks_of, next_word, quotation_fields, records_of_row, refusal_record, row_record, row_records, side_word, standing_word, through_record, through_records};
 
-use crate::cause::Cause;
+use crate::cause::{CAUSES, Cause};
 use crate::execution::Execution;
 use crate::execution_file::Refusal;
 use crate::finding::Finding;
@@ -44,18 +47,52 @@ pub(crate) fn append_through(
     execution: &Execution,
     finding: &Finding,
     sums: &Sums,
-) -> Result<(), AllocError> {
-    out.extend_from_slice(word_of_standing(finding.standing).as_bytes())?;
-    out.push(b',')?;
-    out.extend_from_slice(execution.name.as_slice())?;
-    push_number(out, execution.version)?;
-    push_number(out, sums.count)?;
-    push_millionths(out, sums.worst)?;
-    push_number(out, u64::from(sums.shares))?;
+) -> Result<(), AllocError>
+    ensures { OnOk result (out.new.items ≡ out.old.items ++ text_of (through_records roster.now execution.now finding.now sums.now)) }
+{
+    append_found(out, execution, finding, sums)?;
+    append_rows(out, roster, execution, finding)
+}
+
+/// Appends that an execution traded through, without the rows.
+fn append_found(
+    out: &mut Vec<u8>,
+    execution: &Execution,
+    finding: &Finding,
+    sums: &Sums,
+) -> Result<(), AllocError>
+    ensures { OnOk result (out.new.items ≡ out.old.items ++ text_of (through_record execution.now finding.now sums.now ∷ [])) }
+{
+    append_head(out, execution, finding.standing)?;
+    append_sums(out, sums)?;
     out.push(b',')?;
     append_causes(out, execution, finding.crossed, sums)?;
-    end_record(out)?;
-    append_rows(out, roster, execution, finding)
+    end_record(out)
+}
+
+/// Appends how many rows are left, the greatest difference and the shares.
+fn append_sums(out: &mut Vec<u8>, sums: &Sums) -> Result<(), AllocError>
+    ensures { OnOk result (out.new.items ≡ out.old.items
+        ++ (44 ∷ decimal sums.now.count ++ (44 ∷ fine_text sums.now.worst ++ 44 ∷ decimal sums.now.shares))) }
+{
+    push_number(out, sums.count)?;
+    push_millionths(out, sums.worst)?;
+    push_number(out, u64::from(sums.shares))
+}
+
+/// Appends how an execution stands, its name and its version.
+fn append_head(
+    out: &mut Vec<u8>,
+    execution: &Execution,
+    standing: Standing,
+) -> Result<(), AllocError>
+    ensures { OnOk result (out.new.items ≡ out.old.items
+        ++ (standing_word standing ++ 44 ∷ (execution.now.name.items ++ 44 ∷ decimal execution.now.version))) }
+{
+    out.extend_from_slice(word_of_standing(standing).as_bytes())?;
+    out.push(b',')?;
+    out.extend_from_slice(execution.name.as_slice())?;
+    push_number(out, execution.version)
 }
 
 /// Appends the causes that apply, joined by `+`, or `NONE`.
@@ -64,27 +101,49 @@ pub(crate) fn append_causes(
     execution: &Execution,
     crossed: bool,
     sums: &Sums,
-) -> Result<(), AllocError> {
-    let mut first = true;
-    for cause in Cause::ALL {
-        if !cause.applies(
-            &execution.claims,
-            crossed,
-            sums.helped,
-            sums.is_flickering(),
-        ) {
-            continue;
-        }
-        if !first {
-            out.push(b'+')?;
-        }
-        out.extend_from_slice(cause.word().as_bytes())?;
-        first = false;
+) -> Result<(), AllocError>
+    ensures { OnOk result (out.new.items ≡ out.old.items
+        ++ causes_text execution.now.claims crossed sums.now.helped (all_flicker sums.now)) }
+{
+    let flickering = sums.is_flickering();
+    let mut some = false;
+    for place in 0..CAUSES {
+        let cause = cause_at(place);
+        let applies = cause.applies(&execution.claims, crossed, sums.helped, flickering);
+        some = append_cause(out, some, cause, applies)?;
     }
-    if first {
+    if !some {
         out.extend_from_slice(b"NONE")?;
     }
     Ok(())
+}
+
+/// The cause at a place.
+fn cause_at(place: usize) -> Cause
+    requires { place < 13 }
+    ensures { result ≡ get_or all_causes place result }
+{
+    Cause::ALL[place]
+}
+
+/// Appends a cause if it applies, after a plus if one stands before it. Returns whether one stands there now.
+fn append_cause(
+    out: &mut Vec<u8>,
+    some: bool,
+    cause: Cause,
+    applies: bool,
+) -> Result<bool, AllocError>
+    ensures text { OnOk result (out.new.items ≡ out.old.items ++ next_word some applies cause) }
+    ensures some { IfOk result (λ it. it ≡ (if applies then true else some)) }
+{
+    if !applies {
+        return Ok(some);
+    }
+    if some {
+        out.push(b'+')?;
+    }
+    out.extend_from_slice(cause.word().as_bytes())?;
+    Ok(true)
 }
 
 /// Appends the rows that self-help does not take out.

@@ -1,7 +1,7 @@
 //! How much an execution traded through: rows, shares and dollars.
-ghost use Rattle.std.specs.Prelude.{◌≡◌, ◌≤◌};
-ghost use Rattle.nms_trades.specs.Lines.{is_helped};
-ghost use Rattle.nms_trades.specs.Sums.{all_flicker, difference};
+ghost use Rattle.std.specs.Prelude.{ℕ, ◌≡◌, ◌≤◌, ◌<◌, ◌+◌, ◌*◌, ◌^◌, ◌≤ℤ◌, ◌∷◌, [], pos};
+ghost use Rattle.nms_trades.specs.declared.execution.Execution.{Execution};
+ghost use Rattle.nms_trades.specs.Sums.{IsCost, all_flicker, difference, is_helped, sums_found, sums_in, sums_with};
 
 use crate::execution::Execution;
 use crate::finding::Finding;
@@ -34,7 +34,9 @@ impl Sums {
     }
 
     /// Nothing.
-    pub(crate) fn none() -> Sums {
+    pub(crate) fn none() -> Sums
+        ensures { (execution : Execution) (shares : ℕ) → result ≡ sums_in execution shares [] }
+    {
         Sums {
             count: 0,
             worst: 0,
@@ -42,6 +44,25 @@ impl Sums {
             dollars: 0,
             helped: false,
             flickers: 0,
+        }
+    }
+
+    /// With those of more rows.
+    fn with(self, more: Sums) -> Sums
+        requires count { self.count + more.count < 2 ^ 64 }
+        requires flickers { self.flickers + more.flickers < 2 ^ 64 }
+        requires shares { self.shares + more.shares < 2 ^ 32 }
+        requires own { IsCost self }
+        requires other { IsCost more }
+        ensures { result ≡ sums_with self more }
+    {
+        Sums {
+            count: self.count + more.count,
+            worst: self.worst.max(more.worst),
+            shares: self.shares + more.shares,
+            dollars: self.dollars + more.dollars,
+            helped: self.helped || more.helped,
+            flickers: self.flickers + more.flickers,
         }
     }
 }
@@ -65,44 +86,48 @@ pub fn is_helped(execution: &Execution, row: &Row) -> bool
     execution.claims.self_help.has(row.part)
 }
 
-/// How much an execution traded through. The rows take its shares in their order. `None` comes only of more than 2^127
-/// millionths of a dollar.
-pub fn sums_of(execution: &Execution, finding: &Finding) -> Option<Sums> {
+/// How much an execution traded through. The rows take its shares in their order.
+pub fn sums_of(execution: &Execution, finding: &Finding) -> Sums
+    ensures { result ≡ sums_found execution.now finding.now }
+{
     let mut sums = Sums::none();
     for place in 0..finding.passed.len() {
         let row = &finding.passed[place].1;
-        sums = with_row(sums, execution, row, finding.is_flickering(place))?;
+        let left = execution.shares.get() - sums.shares;
+        sums = sums.with(sums_of_row(execution, row, left, finding.is_flickering(place)));
     }
-    Some(sums)
+    sums
 }
 
-/// The same with one more row.
-pub(crate) fn with_row(
-    sums: Sums,
-    execution: &Execution,
-    row: &Row,
-    flickers: bool,
-) -> Option<Sums> {
-    let mut sums = sums;
+/// How much an execution traded through one row, which takes at most that many shares. Self-help may take the row out.
+pub(crate) fn sums_of_row(execution: &Execution, row: &Row, left: u32, flickers: bool) -> Sums
+    ensures sums { result ≡ sums_in execution.now left ((row.now, flickers) ∷ []) }
+    ensures cost { IsCost result }
+    ensures left { result.shares ≤ left }
+{
     if is_helped(execution, row) {
-        sums.helped = true;
-        return Some(sums);
+        return Sums {
+            helped: true,
+            ..Sums::none()
+        };
     }
     let by = difference(row, execution.millionths);
-    let taken = row
-        .size
-        .min(execution.shares.get().checked_sub(sums.shares)?);
-    sums.count = sums.count.checked_add(1)?;
-    if flickers {
-        sums.flickers = sums.flickers.checked_add(1)?;
+    let shares = row.size.min(left);
+    Sums {
+        count: 1,
+        worst: by,
+        shares,
+        dollars: cost_of(by, shares),
+        helped: false,
+        flickers: u64::from(flickers),
     }
-    sums.worst = sums.worst.max(by);
-    sums.shares = sums.shares.checked_add(taken)?;
-    sums.dollars = sums.dollars.checked_add(cost_of(by, taken)?)?;
-    Some(sums)
 }
 
 /// A difference times shares.
-fn cost_of(by: u64, shares: u32) -> Option<i128> {
-    i128::from(by).checked_mul(i128::from(shares))
+fn cost_of(by: u64, shares: u32) -> i128
+    ensures cost { result ≡ pos (by * shares) }
+    ensures low { pos 0 ≤ℤ result }
+    ensures high { result ≤ℤ pos (2 ^ 64 * shares) }
+{
+    i128::from(by) * i128::from(shares)
 }

@@ -24,6 +24,7 @@ pub(crate) fn read_execution(
     requires { AreOfChanges clock.now.changes clock.now.rising.items }
     ensures on { IfOk result (IsOn roster.now clock.now.changes) }
     ensures read { IfOk result (IsReadFrom roster.now clock.now (fields_of row.now)) }
+    ensures number { IfOk result (λ execution. execution.number ≡ number) }
 {
     if field_at(row, 0) != b"D".as_slice() {
         return Err(TradeFault::UnknownKind);

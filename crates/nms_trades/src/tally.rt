@@ -5,7 +5,7 @@ ghost use Rattle.nms_trades.specs.Counts.{is_perhaps, is_through, stands_once};
 use crate::cause::{CAUSES, Cause};
 use crate::execution::Execution;
 use crate::finding::Finding;
-use crate::money_through::{Sums, sums_of, with_row};
+use crate::money_through::{Sums, sums_of, sums_of_row};
 use crate::standing::Standing;
 use nms_times::TimeOfDay;
 use std::alloc::{AllocError, Global};
@@ -132,7 +132,7 @@ impl Tally {
         ensures perhaps { OnSome result (self.new.all.perhaps ≡ self.old.all.perhaps + stands_once is_perhaps finding.now) }
         ensures through { OnSome result (self.new.all.through ≡ self.old.all.through + stands_once is_through finding.now) }
     {
-        let sums = sums_of(execution, finding)?;
+        let sums = sums_of(execution, finding);
         let is_open = sums.count > 0 && !has_cause(execution, finding, &sums);
         let all = self.all.with(finding, is_open, &sums)?;
         self.add_places(execution, finding, is_open, &sums)?;
@@ -190,22 +190,14 @@ impl Tally {
 
     /// Counts the rows that an execution traded through, each for its participant.
     fn add_rows(&mut self, execution: &Execution, finding: &Finding) -> Option<()> {
-        let mut before = Sums::none();
+        let mut left = execution.shares.get();
         for place in 0..finding.passed.len() {
             let row = &finding.passed[place].1;
-            let after = with_row(before, execution, row, finding.is_flickering(place))?;
+            let own = sums_of_row(execution, row, left, finding.is_flickering(place));
             if let Some(count) = self.passed.get_mut(usize::from(row.part.get())) {
-                let own = Sums {
-                    count: after.count.checked_sub(before.count)?,
-                    worst: after.worst,
-                    shares: after.shares.checked_sub(before.shares)?,
-                    dollars: after.dollars.checked_sub(before.dollars)?,
-                    helped: false,
-                    flickers: 0,
-                };
                 *count = count.with_sums(&own)?;
             }
-            before = Sums { worst: 0, ..after };
+            left -= own.shares;
         }
         Some(())
     }

@@ -1,7 +1,8 @@
 //! A file of executions, judged on a file of changes.
-ghost use Rattle.std.specs.Prelude.{◌≡◌, ◌≤◌, All, IfOk, length, true};
+ghost use Rattle.std.specs.Prelude.{ℕ, ◌≡◌, ◌≤◌, All, IfOk, length, true};
 ghost use Rattle.nms_quote.specs.Roster.{holds, sizes_of};
 ghost use Rattle.nms_quote.specs.declared.TheConstants.{MOST_CHANGES};
+ghost use Rattle.nms_trades.specs.Answers.{AreNumbered};
 ghost use Rattle.nms_trades.specs.Reading.{IsOn};
 
 use crate::clock::{Timing, clock_of};
@@ -52,7 +53,8 @@ pub fn judge_file<C: Read + Drop, E: Read + Drop, W: Write>(
 }
 
 /// Reads all executions of a file, at most 10,000,000, on that many changes, whose times find the versions of those that have a
-/// time. A record that is refused does not stop the others.
+/// time. A record that is refused does not stop the others. Each record of the file stands among the executions or the refused
+/// records, with its number.
 pub fn read_timed<R: Read + Drop>(
     alloc: Global,
     roster: &Roster,
@@ -61,6 +63,7 @@ pub fn read_timed<R: Read + Drop>(
     source: R,
 ) -> Result<Records, TradesFault>
     ensures on { IfOk result (λ records. All (IsOn roster.now changes) records.executions.items) }
+    ensures numbered { IfOk result (λ records. (last : ℕ) × AreNumbered last records.executions.items records.refused.items) }
 {
     let clock = clock_of(alloc, roster, timing, changes)?;
     read_executions(alloc, roster, &clock, source)

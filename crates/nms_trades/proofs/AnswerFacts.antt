@@ -1,0 +1,148 @@
+-- The answers to records, written one after another.
+use Rattle.std.proofs.Common.{◌≡◌, ◌+◌, ◌++◌, ◌∷◌, [], List, ℕ, suc, true, false, cond, drop, take, map, get_or, length, ◌<◌, refl, sym, subst, ap, ◌∙◌, arith, append_assoc}
+use Rattle.std.proofs.Common.{Option, None, Some}
+use Rattle.std.specs.Io.KnownBytes.{Appends}
+use Rattle.std.specs.List.{flat_map, prefix_len}
+use Rattle.std.specs.Prelude.{Err, Ok, OnErr, Result}
+use Rattle.std.proofs.KnownBytes.{Appends-nil, Appends-trans}
+use Rattle.std.proofs.lemmas.List.{append-nil, drop_more}
+use Rattle.std.proofs.lemmas.List.Concat.{flat_map-append}
+use Rattle.std.proofs.lemmas.List.Sums.{take_while-cons}
+use Rattle.nms_quote.specs.Roster.{Listing}
+use Rattle.nms_lines.specs.Layout.{Record}
+use Rattle.nms_lines.specs.Text.{record_text, text_of}
+use Rattle.nms_lines.specs.Written.{AppendsPart}
+use Rattle.nms_lines.proofs.Offered.{part_more}
+use Rattle.nms_trades.specs.Answers.{Answer, answer_records, count_before, found_at, in_order, is_before, refused_left, refused_text, text_of_answers}
+use Rattle.nms_trades.specs.Answers.Answer.{Judged, Refused}
+use Rattle.nms_trades.specs.Lines.{refusal_record}
+use Rattle.nms_trades.specs.declared.execution.Execution.{Execution}
+use Rattle.nms_trades.specs.declared.execution_file.Refusal.{Refusal}
+use Rattle.nms_trades.specs.declared.finding.Finding.{Finding}
+
+-- of a whole text a first part was written, and the rest is still to be
+pub record Going (old now : Option (List ℕ)) (whole rest : List ℕ) : Type 0 where
+  pub done : List ℕ
+  pub written : Appends old now done
+  pub split : whole ≡ done ++ rest
+
+pub going_from : (known : Option (List ℕ)) (whole rest : List ℕ) → whole ≡ rest → Going known known whole rest
+going_from known whole rest same = record { done = []; written = Appends-nil known; split = same }
+
+-- one piece more
+pub going_on : (old now new : Option (List ℕ)) (whole rest piece more : List ℕ) → Going old now whole rest → Appends now new piece
+    → rest ≡ piece ++ more → Going old new whole more
+going_on old now new whole rest piece more had came split = record {
+  done = had.done ++ piece;
+  written = Appends-trans old now new had.done piece had.written came;
+  split = had.split ∙ ap (λ (t : List ℕ). had.done ++ t) split ∙ sym (append_assoc had.done piece more);
+}
+
+-- all of it
+pub going_done : (old now : Option (List ℕ)) (whole rest : List ℕ) → Going old now whole rest → rest ≡ [] → Appends old now whole
+going_done old now whole rest had none =
+    subst (Appends old now) (sym (had.split ∙ ap (λ (t : List ℕ). had.done ++ t) none ∙ append-nil had.done)) had.written
+
+-- a first part of a text is one of what the text begins
+part_of_longer : (old new : Option (List ℕ)) (text more : List ℕ) → AppendsPart old new text → AppendsPart old new (text ++ more)
+part_of_longer old new text more cut = record {
+  part = cut.part;
+  rest = cut.rest ++ more;
+  split = ap (λ (t : List ℕ). t ++ more) cut.split ∙ append_assoc cut.part cut.rest more;
+  written = cut.written;
+}
+
+-- a first part of a piece more
+pub going_cut : (old now new : Option (List ℕ)) (whole rest piece more : List ℕ) → Going old now whole rest → AppendsPart now new piece
+    → rest ≡ piece ++ more → AppendsPart old new whole
+going_cut old now new whole rest piece more had cut split =
+    subst (AppendsPart old new) (sym (had.split ∙ ap (λ (t : List ℕ). had.done ++ t) split))
+    (part_more old now new had.done (piece ++ more) had.written (part_of_longer now new piece more cut))
+
+-- nothing was written of it
+pub nothing_written : (known : Option (List ℕ)) (text : List ℕ) → AppendsPart known known text
+nothing_written known text = record { part = []; rest = text; split = refl; written = Appends-nil known }
+
+-- what holds anyway holds at a failure
+pub anyway_failed : {A E P : Type 0} (result : Result A E) → P → OnErr result P
+anyway_failed (Ok x) holds = tt
+anyway_failed (Err e) holds = holds
+
+-- a refused record that stands before
+pub text-before : (number : Option ℕ) (one : Refusal) (rest : List Refusal) → is_before number one ≡ true
+    → refused_text number (one ∷ rest) ≡ text_of (refusal_record one ∷ []) ++ refused_text number rest
+text-before number one rest before =
+    let own = record_text (refusal_record one) in
+    let later = refused_text number rest in
+    ap (λ (xs : List Refusal). text_of (map refusal_record xs))
+    (take_while-cons (is_before number) one rest
+    ∙ ap (λ b. cond b (one ∷ take (count_before number rest) rest) []) before)
+    ∙ ap (λ (t : List ℕ). t ++ later) (sym (append-nil own))
+
+pub left-before : (number : Option ℕ) (one : Refusal) (rest : List Refusal) → is_before number one ≡ true
+    → refused_left number (one ∷ rest) ≡ refused_left number rest
+left-before number one rest before =
+    let next : 1 + count_before number rest ≡ suc (count_before number rest) = omega arith in
+    ap (λ b. drop (cond b (1 + count_before number rest) 0) (one ∷ rest)) before ∙ ap (λ n. drop n (one ∷ rest)) next
+
+-- one that stands after
+pub text-after : (number : Option ℕ) (one : Refusal) (rest : List Refusal) → is_before number one ≡ false
+    → refused_text number (one ∷ rest) ≡ []
+text-after number one rest after =
+    ap (λ b. text_of (map refusal_record (take (cond b (1 + count_before number rest) 0) (one ∷ rest)))) after
+
+pub left-after : (number : Option ℕ) (one : Refusal) (rest : List Refusal) → is_before number one ≡ false
+    → refused_left number (one ∷ rest) ≡ one ∷ rest
+left-after number one rest after = ap (λ b. drop (cond b (1 + count_before number rest) 0) (one ∷ rest)) after
+
+-- if there is no record after them, all stand before
+all_before : (refused : List Refusal) → take (count_before None refused) refused ≡ refused
+all_before [] = refl
+all_before (one ∷ rest) = take_while-cons (is_before None) one rest ∙ ap (λ more. one ∷ more) (all_before rest)
+
+-- what is written of refused records
+refused_records : (roster : Listing) (refused : List Refusal) → flat_map (answer_records roster) (map Refused refused) ≡ map refusal_record refused
+refused_records roster [] = refl
+refused_records roster (one ∷ rest) = ap (λ more. refusal_record one ∷ more) (refused_records roster rest)
+
+-- the refused records that are left come last
+pub order-end : (roster : Listing) (found : List (Option Finding)) (place : ℕ) (refused : List Refusal)
+    → text_of_answers roster (in_order found place [] refused) ≡ refused_text None refused
+unfolding in_order
+order-end roster found place refused =
+    ap text_of (refused_records roster refused) ∙ ap (λ xs. text_of (map refusal_record xs)) (sym (all_before refused))
+
+-- before an execution stand the refused records of lower numbers, and after it the other answers
+pub order-next : (roster : Listing) (found : List (Option Finding)) (place : ℕ) (execution : Execution) (rest : List Execution)
+    (refused : List Refusal)
+    → text_of_answers roster (in_order found place (execution ∷ rest) refused)
+    ≡ refused_text (Some execution.number) refused
+    ++ (text_of (answer_records roster (Judged execution (found_at found place)))
+    ++ text_of_answers roster (in_order found (place + 1) rest (refused_left (Some execution.number) refused)))
+unfolding in_order
+order-next roster found place execution rest refused =
+    let before = take (count_before (Some execution.number) refused) refused in
+    let own = Judged execution (found_at found place) in
+    let later = in_order found (suc place) rest (refused_left (Some execution.number) refused) in
+    let next : suc place ≡ place + 1 = omega arith in
+    let records = flat_map-append (answer_records roster) (map Refused before) (own ∷ later)
+    ∙ ap (λ first. first ++ (answer_records roster own ++ flat_map (answer_records roster) later)) (refused_records roster before) in
+    ap text_of records
+    ∙ flat_map-append record_text (map refusal_record before) (answer_records roster own ++ flat_map (answer_records roster) later)
+    ∙ ap (λ text. text_of (map refusal_record before) ++ text)
+    (flat_map-append record_text (answer_records roster own) (flat_map (answer_records roster) later)
+    ∙ ap (λ n. text_of (answer_records roster own)
+    ++ text_of_answers roster (in_order found n rest (refused_left (Some execution.number) refused))) next)
+
+-- the same at a place among the executions
+pub order-at : (roster : Listing) (found : List (Option Finding)) (place : ℕ) (executions : List Execution) (refused : List Refusal)
+    (execution : Execution) → place < length executions → execution ≡ get_or executions place execution
+    → text_of_answers roster (in_order found place (drop place executions) refused)
+    ≡ refused_text (Some execution.number) refused
+    ++ (text_of (answer_records roster (Judged execution (found_at found place)))
+    ++ text_of_answers roster (in_order found (place + 1) (drop (place + 1) executions) (refused_left (Some execution.number) refused)))
+order-at roster found place executions refused execution below read =
+    let is : drop place executions ≡ execution ∷ drop (place + 1) executions =
+    drop_more executions place execution below ∙ ap (λ (it : Execution). it ∷ drop (place + 1) executions) (sym read) in
+    ap (λ list. text_of_answers roster (in_order found place list refused)) is
+    ∙ order-next roster found place execution (drop (place + 1) executions) refused

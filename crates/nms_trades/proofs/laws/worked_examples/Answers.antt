@@ -1,0 +1,18 @@
+-- `worked_examples`: all that it promises.
+use Rattle.std.proofs.Common.{refl}
+use Rattle.nms_quote.specs.Members.{has_part}
+use Rattle.nms_trades.specs.Answers.{in_order}
+use Rattle.nms_trades.specs.Sums.{cost_of}
+use Rattle.nms_trades.proofs.laws.worked_examples.Goals as goal
+
+pub returns : goal.returns
+unfolding has_part in_order cost_of
+returns c = record {
+  both_bids = λ execution. refl;
+  many_shares = λ execution. refl;
+  one_is_helped = λ execution. refl;
+  no_bids = λ execution. refl;
+  no_cause = refl;
+  some_causes = refl;
+  five_records = λ execution. refl;
+}
