@@ -1,3 +1,4 @@
+mod ClockFacts
 mod RowFacts
 mod TextFacts
 mod TimeFacts

@@ -1,7 +1,7 @@
 //! Times of day: `specs/Times` and `specs/Imported`.
 ghost use Rattle.std.specs.Prelude.{◌≡◌, ◌++◌, ◌∷◌, [], ◌<◌, ◌≤◌, ◌+◌, length, true, IfSome, OnOk, Some};
 ghost use Rattle.nms_units.specs.Digits.{by_point, point_in};
-ghost use Rattle.nms_units.specs.Price.{both, digit_at};
+ghost use Rattle.nms_units.specs.Price.{both};
 ghost use Rattle.nms_import.specs.Mapping.{time_of};
 ghost use Rattle.nms_import.specs.Times.{after_seconds, clock_at, clock_digits, clock_number, clock_of, fraction, has_marks, hours_at, is_clock, iso_number, minutes_at, nanoseconds, only_if, point_and_fraction, seconds, second_at, seconds_and_fraction, seconds_at, seconds_number, two_at, whole_seconds, without_z};
 ghost use Rattle.nms_import.specs.Imported.{fifteen_digits, line_of, numbered_line, times_text};
@@ -10,6 +10,10 @@ use crate::cause::Cause;
 use crate::meanings::{Meanings, TimeForm};
 use nms_units::parse_digits;
 use std::alloc::AllocError;
+
+/// The two digits of each number below 100.
+static PAIRS: [u8; 200] =
+    *b"00010203040506070809101112131415161718192021222324252627282930313233343536373839404142434445464748495051525354555657585960616263646566676869707172737475767778798081828384858687888990919293949596979899";
 
 /// A time of day as digits, `HHMMSSnnnnnnnnn`.
 pub(crate) fn time_in(meanings: &Meanings, text: &[u8]) -> Result<u64, Cause>
@@ -319,31 +323,37 @@ fn append_time(out: &mut Vec<u8>, time: u64) -> Result<(), AllocError>
 pub fn append_clock(out: &mut Vec<u8>, time: u64) -> Result<(), AllocError>
     ensures { OnOk result (out.new.items ≡ out.old.items ++ fifteen_digits time) }
 {
-    let (hours, seconds) = (time / 1_000_000_000_000, time / 1_000_000_000);
-    let (millis, micros) = (time / 1_000_000, time / 1000);
-    out.extend_from_slice(&[
-        digit(hours, 100),
-        digit(hours, 10),
-        digit(hours, 1),
-        digit(seconds, 100),
-        digit(seconds, 10),
-        digit(seconds, 1),
-        digit(millis, 100),
-        digit(millis, 10),
-        digit(millis, 1),
-        digit(micros, 100),
-        digit(micros, 10),
-        digit(micros, 1),
-        digit(time, 100),
-        digit(time, 10),
-        digit(time, 1),
-    ])
+    out.extend_from_slice(&clock_text(time))
 }
 
-/// The digit of a number at the place of a unit.
-fn digit(number: u64, unit: u64) -> u8
-    requires { 0 < unit }
-    ensures { result ≡ digit_at unit number }
+/// A time, or the last 15 digits of a number, as 15 digits.
+fn clock_text(time: u64) -> [u8; 15]
+    ensures { result ≡ fifteen_digits time }
 {
-    b'0' + (number / unit % 10) as u8
+    let front = (time / 1_000_000_000 % 1_000_000) as u32;
+    let back = (time % 1_000_000_000) as u32;
+    let hours = (front / 10_000) as usize * 2;
+    let minutes = (front / 100 % 100) as usize * 2;
+    let seconds = (front % 100) as usize * 2;
+    let first = (back / 10_000_000) as usize * 2;
+    let second = (back / 100_000 % 100) as usize * 2;
+    let third = (back / 1000 % 100) as usize * 2;
+    let fourth = (back / 10 % 100) as usize * 2;
+    [
+        PAIRS[hours],
+        PAIRS[hours + 1],
+        PAIRS[minutes],
+        PAIRS[minutes + 1],
+        PAIRS[seconds],
+        PAIRS[seconds + 1],
+        PAIRS[first],
+        PAIRS[first + 1],
+        PAIRS[second],
+        PAIRS[second + 1],
+        PAIRS[third],
+        PAIRS[third + 1],
+        PAIRS[fourth],
+        PAIRS[fourth + 1],
+        b'0' + (back % 10) as u8,
+    ]
 }
