@@ -147,7 +147,8 @@ none_here p xs at x is fails none =
     subst (λ n. find p (take n xs) ≡ None) one_more (none_at p xs at x is fails none)
 
 -- no row of a side is protected if none is of those that were read, and no more is left
-pub none_past : (side : Side) (rows : List Row) (at : ℕ) → AreRows rows → length rows ≤ at → best_protected (take at (ranked side rows)) ≡ None
+pub none_past : (side : Side) (rows : List Row) (at : ℕ) → AreRows rows → length rows ≤ at
+    → best_protected (take at (ranked side rows)) ≡ None
     → None ≡ best_price (ranked side rows)
 none_past side rows at are past none =
     let few : length (ranked side rows) ≡ length rows =

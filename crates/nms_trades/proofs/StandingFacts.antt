@@ -26,7 +26,8 @@ any_alike p q same (n ∷ ns) = rw (same n, any_alike p q same ns) refl
 
 -- by whether it trades through the best prices of some version, and whether it trades through none on some
 pub standing_by : (sizes : Sizes) (tape : Tape) (symbol millionths first last : ℕ)
-    → ((n : ℕ) → AreInOrder (view_of sizes (version n tape) symbol)) → standing_of (any_version (λ n. holds_of test.Through millionths (best_at sizes tape symbol n)) first last)
+    → ((n : ℕ) → AreInOrder (view_of sizes (version n tape) symbol)) → standing_of
+    (any_version (λ n. holds_of test.Through millionths (best_at sizes tape symbol n)) first last)
     (any_version (λ n. holds_of test.Clean millionths (best_at sizes tape symbol n)) first last)
     ≡ standing_over (goes_through_at sizes tape symbol millionths) first last
 standing_by sizes tape symbol millionths first last order =

@@ -64,7 +64,8 @@ pub record ExamplesHold : Type 0 where
       → sums_in (sold execution claims_some) 400 (first_bid ∷ second_bid ∷ [])
       ≡ record { count = 1; worst = 20000; shares = 200; dollars = pos 4000000; helped = true; flickers = 1 }
   pub no_bids : (execution : Execution)
-      → sums_in (sold execution claims_nothing) 400 [] ≡ record { count = 0; worst = 0; shares = 0; dollars = pos 0; helped = false; flickers = 0 }
+      → sums_in (sold execution claims_nothing) 400 [] ≡ record
+      { count = 0; worst = 0; shares = 0; dollars = pos 0; helped = false; flickers = 0 }
   pub no_cause : causes_text claims_nothing false false false ≡ codes "NONE"
   pub some_causes : causes_text claims_some true true false ≡ codes "SELFHELP-CLAIMED+CROSSED+ISO-CLAIMED"
   -- records 2, 4 and 5 of five are refused

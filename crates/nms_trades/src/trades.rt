@@ -27,11 +27,11 @@ pub enum Layout {
     Table,
 }
 
-/// Judges each execution of a file on the version of the changes that it names, or that was in force at its time, and writes what is found in the order of the
-/// file: CSV, or an object a line as JSON; or the counts and sums of all.
+/// Judges each execution of a file on the version of the changes that it names, or that was in force at its time, and writes
+/// what is found in the order of the file: CSV, or an object a line as JSON; or the counts and sums of all.
 ///
-/// Both files are read whole; executions are at most 10,000,000. A record that is refused is written as such and counted. `Refused` if there is one, else
-/// `Done`. Nothing is flushed.
+/// Both files are read whole; executions are at most 10,000,000. A record that is refused is written as such and counted.
+/// `Refused` if there is one, else `Done`. Nothing is flushed.
 pub fn judge_file<C: Read + Drop, E: Read + Drop, W: Write>(
     alloc: Global,
     setup: &Setup,

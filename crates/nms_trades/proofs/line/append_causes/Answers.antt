@@ -49,7 +49,8 @@ returns-else-not-some c =
     let helped = c.args.sums.now.helped in
     let flickering = c.is_flickering-flickering.result in
     let words = plus_words claims crossed helped flickering (take c.loop-place.place all_causes) in
-    let all : take c.loop-place.place all_causes ≡ all_causes = take_all c.loop-place.place all_causes (omega (arith, c.loop-place-test.false)) in
+    let all : take c.loop-place.place all_causes ≡ all_causes = take_all c.loop-place.place all_causes
+    (omega (arith, c.loop-place-test.false)) in
     c.loop-place.invariant.0
     ∙ ap (λ text. c.args.out.now.items ++ text) (sym (joined_some words (sym c.loop-place.invariant.1 ∙ c.if-not-some.false))
     ∙ ap (λ list. joined_or_none (plus_words claims crossed helped flickering list)) all

@@ -13,7 +13,8 @@ loop-place-init c =
 
 pub with-sums-requires-clause-count : goal.with-sums-requires-clause-count
 with-sums-requires-clause-count c =
-    let below : c.loop-place.place < length c.args.finding.now.passed.items = omega (arith, c.loop-place-test.true, c.len-place-end.ensures) in
+    let below : c.loop-place.place < length c.args.finding.now.passed.items = omega
+    (arith, c.loop-place-test.true, c.len-place-end.ensures) in
     let so_far = count_so_far c.args.execution.now c.args.finding.now c.loop-place.place c.loop-place.sums (omega (arith, below))
     c.loop-place.invariant.sums in
     let own = count_of_one c.args.execution.now _ _ c.sums_of_row.result c.sums_of_row.ensures.sums in
@@ -21,7 +22,8 @@ with-sums-requires-clause-count c =
 
 pub with-sums-requires-clause-flickers : goal.with-sums-requires-clause-flickers
 with-sums-requires-clause-flickers c =
-    let below : c.loop-place.place < length c.args.finding.now.passed.items = omega (arith, c.loop-place-test.true, c.len-place-end.ensures) in
+    let below : c.loop-place.place < length c.args.finding.now.passed.items = omega
+    (arith, c.loop-place-test.true, c.len-place-end.ensures) in
     let so_far = count_so_far c.args.execution.now c.args.finding.now c.loop-place.place c.loop-place.sums (omega (arith, below))
     c.loop-place.invariant.sums in
     let own = count_of_one c.args.execution.now _ _ c.sums_of_row.result c.sums_of_row.ensures.sums in
@@ -30,7 +32,8 @@ with-sums-requires-clause-flickers c =
 pub loop-place-preserved : goal.loop-place-preserved
 loop-place-preserved c =
     let had = c.loop-place.invariant in
-    let below : c.loop-place.place < length c.args.finding.now.passed.items = omega (arith, c.loop-place-test.true, c.len-place-end.ensures) in
+    let below : c.loop-place.place < length c.args.finding.now.passed.items = omega
+    (arith, c.loop-place-test.true, c.len-place-end.ensures) in
     record {
       sums = c.with-sums.ensures
           ∙ sums-next c.args.execution.now c.args.finding.now c.loop-place.place c.loop-place.sums c.sums_of_row.result _ c.index.result.now
