@@ -1,5 +1,6 @@
 -- The records of the rows that an execution traded through.
-use Rattle.std.proofs.Common.{ℕ, Bool, true, false, drop, if◌then◌else◌, suc, ◌≡◌, ◌+◌, List, [], ◌∷◌, ◌++◌, length, refl, sym, ap, ◌∙◌, append_assoc, arith}
+use Rattle.std.proofs.Common.{ℕ, Bool, true, false, drop, if◌then◌else◌, suc, ◌≡◌, ◌+◌, List, [], ◌∷◌, ◌++◌, length, refl, sym, ap, ◌∙◌}
+use Rattle.std.proofs.Common.{append_assoc, arith}
 use Rattle.std.proofs.lemmas.Bool.{false≢true}
 use Rattle.std.proofs.lemmas.List.{append-nil}
 use Rattle.nms_quote.specs.Roster.{Listing}

@@ -1,8 +1,9 @@
 -- The sums of quotations, and of more of them.
-use Rattle.std.proofs.Common.{◌≡◌, ◌≤◌, ◌<◌, ◌+◌, ◌-◌, ◌*◌, ◌++◌, ◌∷◌, [], List, ℕ, Bool, true, false, cond, get_or, suc, take, ℤ, ◌+ℤ◌, ◌≤ℤ◌, ◌^◌, length, max, min, refl, sym, ap, ◌∙◌, arith}
-use Rattle.std.proofs.Common.{append_assoc, filter, fold, map, not, pos, ◌||◌}
+use Rattle.std.proofs.Common.{◌≡◌, ◌≤◌, ◌<◌, ◌+◌, ◌-◌, ◌*◌, ◌++◌, ◌∷◌, [], List, ℕ, Bool, true, false, cond, get_or, suc, take, ℤ}
+use Rattle.std.proofs.Common.{length, max, min, refl, sym, ap, ◌∙◌, arith}
+use Rattle.std.proofs.Common.{fold, not, pos, ◌||◌}
 use mir.Val.{bool_byte}
-use Rattle.std.specs.List.{count_by, list_any, sum_by}
+use Rattle.std.specs.List.{count_by, list_any}
 use Rattle.std.proofs.lemmas.Int.{ints}
 use Rattle.std.proofs.lemmas.List.{length-append, length-take-le, map-append, take_more}
 use Rattle.std.proofs.lemmas.List.Elements.{filter-append}
@@ -10,7 +11,8 @@ use Rattle.std.proofs.lemmas.List.Sums.{count_by-le-length, fold-append, length-
 use Rattle.nms_quote.specs.declared.side_quote.Side.{Side}
 use Rattle.nms_board.specs.declared.row.Row.{Row}
 use Rattle.nms_trades.specs.Counts.{flickers_at}
-use Rattle.nms_trades.specs.Sums.{IsCost, Marked, cost_of, difference, differences, displayed, greatest, is_helped, marked_from, rows_left, sums_in, sums_with}
+use Rattle.nms_trades.specs.Sums.{IsCost, Marked, cost_of, difference, differences, displayed, greatest, is_helped, marked_from}
+use Rattle.nms_trades.specs.Sums.{rows_left, sums_in, sums_with}
 use Rattle.nms_trades.specs.declared.execution.Execution.{Execution}
 use Rattle.nms_trades.specs.declared.finding.Finding.{Finding}
 use Rattle.nms_trades.specs.declared.money_through.Sums.{Sums}
@@ -50,7 +52,8 @@ cost-append : (millionths shares : ℕ) (before more : List Marked)
 unfolding cost_of
 cost-append millionths shares [] more =
     let less : shares ≡ shares - displayed [] = omega arith in
-    let same : cost_of millionths shares more ≡ cost_of millionths (shares - displayed []) more = ap (λ n. cost_of millionths n more) less in
+    let same : cost_of millionths shares more ≡ cost_of millionths (shares - displayed []) more = ap (λ n. cost_of millionths n more)
+    less in
     omega (arith, same)
 cost-append millionths shares (first ∷ before) more =
     let own = difference first.0 millionths * min first.0.size shares in
@@ -66,7 +69,8 @@ cost-append millionths shares (first ∷ before) more =
 
 any-append : {X : Type 0} (p : X → Bool) (before more : List X) → list_any p (before ++ more) ≡ (list_any p before || list_any p more)
 any-append p [] more = refl
-any-append p (first ∷ before) more = either (p first) (list_any p before) (list_any p more) (list_any p (before ++ more)) (any-append p before more)
+any-append p (first ∷ before) more = either (p first) (list_any p before) (list_any p more) (list_any p (before ++ more)) (any-append p
+    before more)
   where
     either : (own rest later all : Bool) → all ≡ (rest || later) → (own || all) ≡ ((own || rest) || later)
     either true rest later all is = refl

@@ -1,5 +1,6 @@
 -- What is written of a file of executions: an answer to each record, in the order of the records. This product's own rule.
-use Rattle.std.specs.Prelude.{ℕ, suc, ◌≡◌, ◌≤◌, ◌+◌, ◌++◌, All, Bool, true, false, List, [], ◌∷◌, drop, length, map, nat_lt, slice_get, take}
+use Rattle.std.specs.Prelude.{ℕ, suc, ◌≡◌, ◌≤◌, ◌+◌, ◌++◌, All, Bool, true, false, List, [], ◌∷◌, drop, length, map, nat_lt, slice_get}
+use Rattle.std.specs.Prelude.{take}
 use Rattle.std.specs.Prelude.{unwrap_or, Option, Some, None}
 use Rattle.std.specs.List.{flat_map, prefix_len, range_with_len}
 use Rattle.nms_quote.specs.Roster.{Listing}

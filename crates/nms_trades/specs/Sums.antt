@@ -1,6 +1,7 @@
 -- How much an execution traded through, without the quotations that self-help takes out: how many, the greatest difference, the
 -- shares and the dollars. This product's own rule.
-use Rattle.std.specs.Prelude.{ℕ, ◌*◌, ◌-◌, ◌+◌, ◌==◌, ◌&&◌, ◌||◌, ◌+ℤ◌, ◌≤ℤ◌, ◌^◌, Bool, List, [], ◌∷◌, filter, fold, length, map, max, min, nat_lt, not, pos, suc}
+use Rattle.std.specs.Prelude.{ℕ, ◌*◌, ◌-◌, ◌+◌, ◌==◌, ◌&&◌, ◌||◌, ◌+ℤ◌, ◌≤ℤ◌, ◌^◌, Bool, List, [], ◌∷◌, filter, fold, length, map, max}
+use Rattle.std.specs.Prelude.{min, nat_lt, not, pos, suc}
 use Rattle.std.specs.List.{count_by, list_any, sum_by}
 use Rattle.nms_quote.specs.Members.{has_part}
 use Rattle.nms_quote.specs.declared.side_quote.Side.{Side}
