@@ -70,7 +70,8 @@ later_high : (w t : ℕ) → is_clock t ≡ true → t ≤ later_by w t
 later_high w t valid =
     let parts = clock_parts t valid in
     let low : since_midnight t ≤ 86399999999999 = omega (arith, parts.0, parts.1, parts.2) in
-    both (nat_lt (since_midnight t + w) 86400000000000) (more (since_midnight t + w) t valid (omega arith)) (more 86399999999999 t valid low)
+    both (nat_lt (since_midnight t + w) 86400000000000) (more (since_midnight t + w) t valid (omega arith)) (more 86399999999999 t
+    valid low)
   where
     both : (b : Bool) → t ≤ clock_at (since_midnight t + w) → t ≤ clock_at 86399999999999
         → t ≤ clock_at (if b then since_midnight t + w else 86399999999999)
@@ -94,6 +95,7 @@ pub timed_within : (clock : Clock) (rising : Rising) (t : ℕ)
 timed_within clock rising t at earlier valid =
     let low = earlier_by clock.window t in
     let high = later_by clock.window t in
-    let times = rising.times.now in
-    (rises clock.before rising low t (at times low t) (earlier times low t) (earlier_low clock.window t valid),
-    rises clock.before rising t high (at times t high) (earlier times t high) (later_high clock.window t valid))
+    let times = rising.times.now in (
+      rises clock.before rising low t (at times low t) (earlier times low t) (earlier_low clock.window t valid),
+      rises clock.before rising t high (at times t high) (earlier times t high) (later_high clock.window t valid),
+    )
