@@ -3,18 +3,17 @@ use Rattle.std.proofs.Common.{◌≡◌, ◌+◌, ◌++◌, ◌∷◌, [], List,
 use Rattle.std.proofs.Common.{subst, ap, ◌∙◌, arith, append_assoc}
 use Rattle.std.proofs.Common.{Option, None, Some}
 use Rattle.std.specs.Io.KnownBytes.{Appends}
-use Rattle.std.specs.List.{flat_map, prefix_len}
+use Rattle.std.specs.List.{flat_map}
 use Rattle.std.specs.Prelude.{Err, Ok, OnErr, Result}
 use Rattle.std.proofs.KnownBytes.{Appends-nil, Appends-trans}
 use Rattle.std.proofs.lemmas.List.{append-nil, drop_more}
 use Rattle.std.proofs.lemmas.List.Concat.{flat_map-append}
 use Rattle.std.proofs.lemmas.List.Sums.{take_while-cons}
 use Rattle.nms_quote.specs.Roster.{Listing}
-use Rattle.nms_lines.specs.Layout.{Record}
 use Rattle.nms_lines.specs.Text.{record_text, text_of}
 use Rattle.nms_lines.specs.Written.{AppendsPart}
 use Rattle.nms_lines.proofs.Offered.{part_more}
-use Rattle.nms_trades.specs.Answers.{Answer, answer_records, count_before, found_at, in_order, is_before, refused_left, refused_text}
+use Rattle.nms_trades.specs.Answers.{answer_records, count_before, found_at, in_order, is_before, refused_left, refused_text}
 use Rattle.nms_trades.specs.Answers.{text_of_answers}
 use Rattle.nms_trades.specs.Answers.Answer.{Judged, Refused}
 use Rattle.nms_trades.specs.Lines.{refusal_record}
@@ -103,8 +102,8 @@ all_before [] = refl
 all_before (one ∷ rest) = take_while-cons (is_before None) one rest ∙ ap (λ more. one ∷ more) (all_before rest)
 
 -- what is written of refused records
-refused_records : (roster : Listing) (refused : List Refusal)
-    → flat_map (answer_records roster) (map Refused refused) ≡ map refusal_record refused
+refused_records : (roster : Listing) (refused : List Refusal) → flat_map (answer_records roster) (map Refused refused) ≡ map
+    refusal_record refused
 refused_records roster [] = refl
 refused_records roster (one ∷ rest) = ap (λ more. refusal_record one ∷ more) (refused_records roster rest)
 

@@ -13,4 +13,5 @@ mod SumFacts
 mod TrackFacts
 mod TurnFacts
 mod WholeFacts
+mod WindowFacts
 mod LineFacts

@@ -1,14 +1,14 @@
 -- One record more: its answer comes last.
-use Rattle.std.proofs.Common.{◌≡◌, ◌≤◌, ◌<◌, ◌+◌, ◌++◌, ◌∷◌, [], List, ℕ, Bool, suc, true, false, cond, drop, take, map, length, nat_lt}
-use Rattle.std.proofs.Common.{refl, sym, subst, ap, ◌∙◌, arith, append_assoc, Option, None, Some}
-use Rattle.std.specs.List.{prefix_len, range_with_len}
+use Rattle.std.proofs.Common.{◌≡◌, ◌≤◌, ◌<◌, ◌+◌, ◌++◌, ◌∷◌, [], List, ℕ, suc, false, cond, drop, take, map, length, nat_lt}
+use Rattle.std.proofs.Common.{refl, sym, ap, ◌∙◌, arith, append_assoc, Option, Some}
+use Rattle.std.specs.List.{range_with_len}
 use Rattle.std.specs.Prelude.{All}
 use Rattle.std.proofs.lemmas.Bool.{le-ltb, lt-ltb}
-use Rattle.std.proofs.lemmas.List.{append-nil, drop-append-le, drop_all, length_push, map-append, map-id, take-append-le, take_all}
+use Rattle.std.proofs.lemmas.List.{drop-append-le, drop_all, length_push, map-append, map-id, take-append-le, take_all}
 use Rattle.std.proofs.lemmas.List.Elements.{All-drop, All-head, All-push, All-tail, All-weaker}
 use Rattle.std.proofs.lemmas.List.FromFn.{map-range_with_len_more}
 use Rattle.std.proofs.lemmas.List.Sums.{prefix_len-le-length}
-use Rattle.nms_trades.specs.Answers.{Answer, AreNumbered, count_before, found_at, in_order, is_before, number_of, refused_left}
+use Rattle.nms_trades.specs.Answers.{AreNumbered, count_before, found_at, in_order, is_before, number_of, refused_left}
 use Rattle.nms_trades.specs.Answers.Answer.{Judged, Refused}
 use Rattle.nms_trades.specs.declared.execution.Execution.{Execution}
 use Rattle.nms_trades.specs.declared.execution_file.Refusal.{Refusal}
@@ -35,8 +35,8 @@ order-execution found place [] refused execution below =
     let same : place ≡ place + 0 = omega arith in
     ap (λ first. map Refused first ++ Judged execution (found_at found place) ∷ map Refused (drop count refused))
     (take_all count refused (omega (arith, all)))
-    ∙ ap (λ rest. map Refused refused ++ Judged execution (found_at found place) ∷ map Refused rest)
-    (drop_all count refused (omega (arith, all)))
+    ∙ ap (λ rest. map Refused refused ++ Judged execution (found_at found place) ∷ map Refused rest) (drop_all count refused (omega
+    (arith, all)))
     ∙ ap (λ at. map Refused refused ++ Judged execution (found_at found at) ∷ []) same
 order-execution found place (first ∷ before) refused execution below =
     let left = refused_left (Some first.number) refused in
@@ -94,7 +94,8 @@ unfolding in_order
 numbered_none = record {
   count = refl;
   executions_within = λ k d below. absurd (omega arith);
-  refused_within = λ k d below. absurd (omega arith);
+  refused_within = λ k d below. absurd
+      (omega arith);
   order = λ found. refl;
 }
 
@@ -108,8 +109,8 @@ numbered_execution last executions refused execution own had = record {
       (All-weaker (λ (one : Execution). one.number ≤ last) (λ (one : Execution). one.number ≤ last + 1) (λ one low. omega (arith, low))
       executions had.executions_within)
       (omega (arith, own));
-  refused_within = All-weaker (λ (one : Refusal). one.number ≤ last) (λ (one : Refusal). one.number ≤ last + 1)
-      (λ one low. omega (arith, low)) refused had.refused_within;
+  refused_within = All-weaker (λ (one : Refusal). one.number ≤ last) (λ (one : Refusal). one.number ≤ last + 1) (λ one low. omega
+      (arith, low)) refused had.refused_within;
   order = λ found.
       let below = All-weaker (λ (one : Refusal). one.number ≤ last) (λ (one : Refusal). one.number < execution.number)
       (λ one low. omega (arith, low, own)) refused had.refused_within in
@@ -127,8 +128,8 @@ pub numbered_refusal : (last : ℕ) (executions : List Execution) (refused : Lis
     → AreNumbered (last + 1) executions (refused ++ one ∷ [])
 numbered_refusal last executions refused one own had = record {
   count = omega (arith, length_push refused one, had.count);
-  executions_within = All-weaker (λ (it : Execution). it.number ≤ last) (λ (it : Execution). it.number ≤ last + 1)
-      (λ it low. omega (arith, low)) executions had.executions_within;
+  executions_within = All-weaker (λ (it : Execution). it.number ≤ last) (λ (it : Execution). it.number ≤ last + 1) (λ it low. omega
+      (arith, low)) executions had.executions_within;
   refused_within = All-push (λ (it : Refusal). it.number ≤ last + 1) refused one
       (All-weaker (λ (it : Refusal). it.number ≤ last) (λ (it : Refusal). it.number ≤ last + 1) (λ it low. omega (arith, low)) refused
       had.refused_within)

@@ -1,9 +1,9 @@
 -- The sums of quotations, and of more of them.
-use Rattle.std.proofs.Common.{◌≡◌, ◌≤◌, ◌<◌, ◌+◌, ◌-◌, ◌*◌, ◌++◌, ◌∷◌, [], List, ℕ, Bool, true, false, cond, get_or, suc, take, ℤ, ◌+ℤ◌}
-use Rattle.std.proofs.Common.{◌≤ℤ◌, ◌^◌, length, max, min, refl, sym, ap, ◌∙◌, arith}
-use Rattle.std.proofs.Common.{append_assoc, filter, fold, map, not, pos, ◌||◌}
+use Rattle.std.proofs.Common.{◌≡◌, ◌≤◌, ◌<◌, ◌+◌, ◌-◌, ◌*◌, ◌++◌, ◌∷◌, [], List, ℕ, Bool, true, false, cond, get_or, suc, take, ℤ}
+use Rattle.std.proofs.Common.{length, max, min, refl, sym, ap, ◌∙◌, arith}
+use Rattle.std.proofs.Common.{fold, not, pos, ◌||◌}
 use mir.Val.{bool_byte}
-use Rattle.std.specs.List.{count_by, list_any, sum_by}
+use Rattle.std.specs.List.{count_by, list_any}
 use Rattle.std.proofs.lemmas.Int.{ints}
 use Rattle.std.proofs.lemmas.List.{length-append, length-take-le, map-append, take_more}
 use Rattle.std.proofs.lemmas.List.Elements.{filter-append}
@@ -69,8 +69,8 @@ cost-append millionths shares (first ∷ before) more =
 
 any-append : {X : Type 0} (p : X → Bool) (before more : List X) → list_any p (before ++ more) ≡ (list_any p before || list_any p more)
 any-append p [] more = refl
-any-append p (first ∷ before) more = either (p first) (list_any p before) (list_any p more) (list_any p (before ++ more))
-    (any-append p before more)
+any-append p (first ∷ before) more = either (p first) (list_any p before) (list_any p more) (list_any p (before ++ more)) (any-append p
+    before more)
   where
     either : (own rest later all : Bool) → all ≡ (rest || later) → (own || all) ≡ ((own || rest) || later)
     either true rest later all is = refl

@@ -1,10 +1,9 @@
 -- Worked examples of what is written of executions. The right-hand sides are worked out by hand.
-use Rattle.std.specs.Prelude.{ℕ, ◌≡◌, true, false, List, [], ◌∷◌, codes, map, min, pos, Some, None}
+use Rattle.std.specs.Prelude.{ℕ, ◌≡◌, true, false, [], ◌∷◌, codes, map, pos}
 use Rattle.nms_quote.specs.Members.{nobody}
-use Rattle.nms_board.specs.declared.row.Row.{Row}
-use Rattle.nms_trades.specs.Answers.{in_order, number_of, refused_left}
+use Rattle.nms_trades.specs.Answers.{in_order, number_of}
 use Rattle.nms_trades.specs.Lines.{causes_text}
-use Rattle.nms_trades.specs.Sums.{Marked, all_flicker, cost_of, difference, differences, displayed, greatest, rows_left, sums_in}
+use Rattle.nms_trades.specs.Sums.{Marked, sums_in}
 use Rattle.nms_trades.specs.declared.claims.Claims.{Claims}
 use Rattle.nms_trades.specs.declared.execution.Execution.{Execution}
 use Rattle.nms_trades.specs.declared.execution_file.Refusal.{Refusal}
@@ -64,8 +63,14 @@ pub record ExamplesHold : Type 0 where
       → sums_in (sold execution claims_some) 400 (first_bid ∷ second_bid ∷ [])
       ≡ record { count = 1; worst = 20000; shares = 200; dollars = pos 4000000; helped = true; flickers = 1 }
   pub no_bids : (execution : Execution)
-      → sums_in (sold execution claims_nothing) 400 [] ≡ record
-      { count = 0; worst = 0; shares = 0; dollars = pos 0; helped = false; flickers = 0 }
+      → sums_in (sold execution claims_nothing) 400 [] ≡ record {
+        count = 0;
+        worst = 0;
+        shares = 0;
+        dollars = pos 0;
+        helped = false;
+        flickers = 0;
+      }
   pub no_cause : causes_text claims_nothing false false false ≡ codes "NONE"
   pub some_causes : causes_text claims_some true true false ≡ codes "SELFHELP-CLAIMED+CROSSED+ISO-CLAIMED"
   -- records 2, 4 and 5 of five are refused

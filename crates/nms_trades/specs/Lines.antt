@@ -1,5 +1,5 @@
 -- The lines of an execution. This product's own rule.
-use Rattle.std.specs.Prelude.{ℕ, ◌==◌, ◌++◌, drop, flat_map, Bool, true, false, List, [], ◌∷◌, codes, Option, Some, None, if◌then◌else◌}
+use Rattle.std.specs.Prelude.{ℕ, ◌==◌, ◌++◌, flat_map, Bool, true, false, List, [], ◌∷◌, codes, Option, Some, None, if◌then◌else◌}
 use Rattle.std.specs.Prelude.{suc}
 use Rattle.std.specs.Fmt.{decimal}
 use Rattle.nms_units.specs.Price.{price_text}

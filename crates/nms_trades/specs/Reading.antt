@@ -8,7 +8,7 @@ use Rattle.nms_quote.specs.Roster.{Listing, place_in}
 use Rattle.nms_lines.specs.Layout.{Record, field, is_text}
 use Rattle.nms_lines.specs.Numbers.{above_zero, shares_number}
 use Rattle.nms_trades.specs.FinePrice.{fine_number}
-use Rattle.nms_trades.specs.When.{when_in}
+use Rattle.nms_trades.specs.When.{IsWithin, when_in}
 use Rattle.nms_trades.specs.declared.clock.Clock.{Clock}
 use Rattle.nms_trades.specs.declared.clock.When.{When}
 use Rattle.nms_trades.specs.declared.execution.Deal.{Deal}
@@ -60,6 +60,10 @@ pub record IsOn (roster : Listing) (changes : ℕ) (execution : Execution) : Typ
   pub last : execution.last ≤ changes
   pub second_before : execution.second_before ≤ changes
   pub price : execution.millionths ≤ 9999999999999
+
+-- the version of an execution lies within its window
+abbrev pub IsInWindow : Execution → Type 0
+IsInWindow execution = IsWithin execution.first execution.version execution.last
 
 -- the execution that a record says, but for its flags
 pub record IsReadFrom (roster : Listing) (clock : Clock) (fields : Record) (execution : Execution) : Type 0 where

@@ -55,3 +55,7 @@ when_in clock sym text =
 -- the times of a clock are of no more changes than there are
 abbrev pub AreOfChanges : ℕ → List (Option Rising) → Type 0
 AreOfChanges changes all = All (λ found. IfSome found (λ rising. rising.before + length rising.times.now ≤ changes)) all
+
+-- a version lies within a window
+abbrev pub IsWithin : (first version last : ℕ) → Type 0
+IsWithin first version last = (first ≤ version) × (version ≤ last)

@@ -1,13 +1,13 @@
 //! When an execution took place: versions that are found by their times: `specs/When`.
 ghost use Rattle.std.specs.Prelude.{◌≡◌, ◌≢◌, ◌≤◌, ◌+◌, IfOk, IfSome, drop, length, slice_index};
-ghost use Rattle.nms_trades.specs.When.{AreOfChanges, at_time, timed, version_by, when_in};
+ghost use Rattle.nms_trades.specs.When.{AreOfChanges, IsWithin, at_time, timed, version_by, when_in};
 
 use crate::trade_fault::TradeFault;
 use crate::trades_fault::TradesFault;
 use nms_lines::name_of_sym;
 use nms_quote::{Roster, Sym};
 use nms_show::ShowFault;
-use nms_times::{Rising, TimeOfDay, Times, find_span};
+use nms_times::{Rising, TimeOfDay, Times, find_span, versions_rise_with_time};
 use nms_units::parse_digits;
 use std::alloc::Global;
 
@@ -66,6 +66,7 @@ impl Clock<'_> {
         ensures first { IfOk result (λ when. when.first ≤ self.now.changes) }
         ensures last { IfOk result (λ when. when.last ≤ self.now.changes) }
         ensures second_before { IfOk result (λ when. when.second_before ≤ self.now.changes) }
+        ensures window { IfOk result (λ when. IsWithin when.first when.version when.last) }
     {
         if let Some(digits) = time_text(text) {
             let Some(time) = TimeOfDay::parse(digits) else {
@@ -94,6 +95,7 @@ impl Clock<'_> {
         ensures first { IfOk result (λ when. when.first ≤ self.now.changes) }
         ensures last { IfOk result (λ when. when.last ≤ self.now.changes) }
         ensures second_before { IfOk result (λ when. when.second_before ≤ self.now.changes) }
+        ensures window { IfOk result (λ when. IsWithin when.first when.version when.last) }
     {
         if !self.has_times {
             return Err(TradeFault::NoTimes);
@@ -116,7 +118,9 @@ impl Clock<'_> {
         ensures first { result.first ≤ self.now.changes }
         ensures last { result.last ≤ self.now.changes }
         ensures second_before { result.second_before ≤ self.now.changes }
+        ensures window { IsWithin result.first result.version result.last }
     {
+        versions_rise_with_time();
         When {
             version: version_by(self.before, rising, time),
             first: version_by(self.before, rising, time.earlier_by(self.window)),

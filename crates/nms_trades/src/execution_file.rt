@@ -1,7 +1,7 @@
 //! A file of executions, read record by record: `specs/Reading`.
 ghost use Rattle.std.specs.Prelude.{ℕ, ◌≡◌, ◌+◌, All, IfOk, OnOk};
 ghost use Rattle.nms_trades.specs.Answers.{AreNumbered};
-ghost use Rattle.nms_trades.specs.Reading.{IsOn};
+ghost use Rattle.nms_trades.specs.Reading.{IsInWindow, IsOn};
 ghost use Rattle.nms_trades.specs.When.{AreOfChanges};
 
 use crate::clock::Clock;
@@ -44,6 +44,7 @@ pub(crate) fn read_executions<R: Read + Drop>(
 ) -> Result<Records, TradesFault>
     requires { AreOfChanges clock.now.changes clock.now.rising.items }
     ensures on { IfOk result (λ records. All (IsOn roster.now clock.now.changes) records.executions.items) }
+    ensures window { IfOk result (λ records. All IsInWindow records.executions.items) }
     ensures numbered { IfOk result (λ records. (last : ℕ) × AreNumbered last records.executions.items records.refused.items) }
 {
     let mut reader = open_records(alloc, source);
@@ -68,8 +69,10 @@ fn take_records<R: Read>(
 ) -> Result<(), TradesFault>
     requires times { AreOfChanges clock.now.changes clock.now.rising.items }
     requires on { All (IsOn roster.now clock.now.changes) records.old.executions.items }
+    requires window { All IsInWindow records.old.executions.items }
     requires none { AreNumbered 0 records.old.executions.items records.old.refused.items }
     ensures on { All (IsOn roster.now clock.now.changes) records.new.executions.items }
+    ensures window { All IsInWindow records.new.executions.items }
     ensures numbered { OnOk result ((last : ℕ) × AreNumbered last records.new.executions.items records.new.refused.items) }
 {
     for number in 1..MOST_EXECUTIONS + 1 {
@@ -96,7 +99,9 @@ fn take_record(
 ) -> Result<(), TradesFault>
     requires times { AreOfChanges clock.now.changes clock.now.rising.items }
     requires on { All (IsOn roster.now clock.now.changes) records.old.executions.items }
+    requires window { All IsInWindow records.old.executions.items }
     ensures on { All (IsOn roster.now clock.now.changes) records.new.executions.items }
+    ensures window { All IsInWindow records.new.executions.items }
     ensures numbered { (last : ℕ) → number ≡ last + 1 → AreNumbered last records.old.executions.items records.old.refused.items
         → OnOk result (AreNumbered number records.new.executions.items records.new.refused.items) }
 {

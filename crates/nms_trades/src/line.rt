@@ -4,7 +4,9 @@ ghost use Rattle.std.specs.Fmt.{decimal};
 ghost use Rattle.nms_lines.specs.Text.{later_fields, text_of};
 ghost use Rattle.nms_trades.specs.Sums.{all_flicker};
 ghost use Rattle.nms_trades.specs.FinePrice.{fine_text};
-ghost use Rattle.nms_trades.specs.Lines.{all_causes, causes_text, clean_record, is_own, marks_of, next_word, quotation_fields, records_of_row, refusal_record, row_record, row_records, side_word, standing_word, through_record, through_records};
+ghost use Rattle.nms_trades.specs.Lines.{all_causes, causes_text, clean_record, is_own, marks_of, next_word, quotation_fields};
+ghost use Rattle.nms_trades.specs.Lines.{records_of_row, refusal_record, row_record, row_records, side_word, standing_word};
+ghost use Rattle.nms_trades.specs.Lines.{through_record, through_records};
 
 use crate::cause::{CAUSES, Cause};
 use crate::execution::Execution;

@@ -3,7 +3,8 @@ ghost use Rattle.std.specs.Prelude.{◌≡◌, ◌++◌, ◌∷◌, [], drop, tr
 ghost use Rattle.std.specs.Io.KnownBytes.{Appends};
 ghost use Rattle.nms_lines.specs.Text.{text_of};
 ghost use Rattle.nms_lines.specs.Written.{AppendsPart};
-ghost use Rattle.nms_trades.specs.Answers.{IsShowFault, answer_records, answers_text, found_at, found_records, is_before, is_lines, refused_left, refused_text};
+ghost use Rattle.nms_trades.specs.Answers.{IsShowFault, answer_records, answers_text, found_at, found_records, is_before, is_lines};
+ghost use Rattle.nms_trades.specs.Answers.{refused_left, refused_text};
 ghost use Rattle.nms_trades.specs.Answers.Answer.{Judged};
 ghost use Rattle.nms_trades.specs.Lines.{refusal_record};
 

@@ -2,7 +2,7 @@
 ghost use Rattle.std.specs.Prelude.{◌≡◌, IfErr, IfOk, true};
 ghost use Rattle.std.specs.List.{list_all};
 ghost use Rattle.csv.specs.Records.{fields_of};
-ghost use Rattle.nms_trades.specs.Reading.{IsOn, IsReadFrom, deal_in, is_name, is_name_byte, part_of};
+ghost use Rattle.nms_trades.specs.Reading.{IsInWindow, IsOn, IsReadFrom, deal_in, is_name, is_name_byte, part_of};
 ghost use Rattle.nms_trades.specs.When.{AreOfChanges};
 
 use crate::clock::Clock;
@@ -25,6 +25,7 @@ pub(crate) fn read_execution(
     ensures on { IfOk result (IsOn roster.now clock.now.changes) }
     ensures read { IfOk result (IsReadFrom roster.now clock.now (fields_of row.now)) }
     ensures number { IfOk result (λ execution. execution.number ≡ number) }
+    ensures window { IfOk result IsInWindow }
 {
     if field_at(row, 0) != b"D".as_slice() {
         return Err(TradeFault::UnknownKind);

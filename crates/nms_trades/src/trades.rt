@@ -3,7 +3,7 @@ ghost use Rattle.std.specs.Prelude.{ℕ, ◌≡◌, ◌≤◌, All, IfOk, length
 ghost use Rattle.nms_quote.specs.Roster.{holds, sizes_of};
 ghost use Rattle.nms_quote.specs.declared.TheConstants.{MOST_CHANGES};
 ghost use Rattle.nms_trades.specs.Answers.{AreNumbered};
-ghost use Rattle.nms_trades.specs.Reading.{IsOn};
+ghost use Rattle.nms_trades.specs.Reading.{IsInWindow, IsOn};
 
 use crate::clock::{Timing, clock_of};
 use crate::execution_file::{Records, read_executions};
@@ -63,6 +63,7 @@ pub fn read_timed<R: Read + Drop>(
     source: R,
 ) -> Result<Records, TradesFault>
     ensures on { IfOk result (λ records. All (IsOn roster.now changes) records.executions.items) }
+    ensures window { IfOk result (λ records. All IsInWindow records.executions.items) }
     ensures numbered { IfOk result (λ records. (last : ℕ) × AreNumbered last records.executions.items records.refused.items) }
 {
     let clock = clock_of(alloc, roster, timing, changes)?;

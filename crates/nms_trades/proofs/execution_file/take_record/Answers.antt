@@ -1,5 +1,5 @@
 -- `take_record`: the record has its number, by `numbered_execution` or `numbered_refusal`.
-use Rattle.std.proofs.Common.{◌≡◌, ◌+◌, List, sym, subst, ◌∙◌}
+use Rattle.std.proofs.Common.{◌+◌, List, sym, subst, ◌∙◌}
 use Rattle.nms_trades.specs.Answers.{AreNumbered}
 use Rattle.nms_trades.specs.declared.execution.Execution.{Execution}
 use Rattle.nms_trades.specs.declared.execution_file.Refusal.{Refusal}

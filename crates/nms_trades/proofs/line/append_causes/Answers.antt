@@ -1,12 +1,11 @@
 -- `append_causes`: the turns of its loop, and its end.
-use Rattle.std.proofs.Common.{◌≡◌, ◌++◌, ◌∷◌, ◌+◌, ◌<◌, ◌≤◌, List, ℕ, [], drop, take, length, ap, sym, ◌∙◌, append_assoc, arith}
+use Rattle.std.proofs.Common.{◌≡◌, ◌++◌, ◌∷◌, ◌+◌, ◌<◌, List, ℕ, [], drop, take, length, ap, sym, ◌∙◌, append_assoc, arith}
 use Rattle.std.proofs.Common.{Bool, true, if◌then◌else◌}
 use Rattle.std.proofs.lemmas.List.{append-nil, take_more, take_all}
 use Rattle.std.proofs.lemmas.List.Concat.{flat_map-append}
-use Rattle.nms_trades.specs.Causes.{applies, word_of}
+use Rattle.nms_trades.specs.Causes.{word_of}
 use Rattle.nms_trades.specs.Lines.{all_causes, joined_or_none, next_word, plus_word, plus_words}
 use Rattle.nms_trades.proofs.LineFacts.{is_some, joined_some, some-more, words-more}
-use Rattle.nms_trades.specs.declared.cause.Cause.{Cause}
 use Rattle.nms_trades.proofs.line.append_causes.Goals as goal
 
 pub loop-place-preserved : goal.loop-place-preserved
@@ -49,8 +48,10 @@ returns-else-not-some c =
     let helped = c.args.sums.now.helped in
     let flickering = c.is_flickering-flickering.result in
     let words = plus_words claims crossed helped flickering (take c.loop-place.place all_causes) in
-    let all : take c.loop-place.place all_causes ≡ all_causes = take_all c.loop-place.place all_causes
-    (omega (arith, c.loop-place-test.false)) in
+    let all : take c.loop-place.place all_causes ≡ all_causes = take_all c.loop-place.place all_causes (omega (
+      arith,
+      c.loop-place-test.false,
+    )) in
     c.loop-place.invariant.0
     ∙ ap (λ text. c.args.out.now.items ++ text) (sym (joined_some words (sym c.loop-place.invariant.1 ∙ c.if-not-some.false))
     ∙ ap (λ list. joined_or_none (plus_words claims crossed helped flickering list)) all

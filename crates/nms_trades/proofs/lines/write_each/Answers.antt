@@ -23,8 +23,8 @@ returns-in_err-refused-clause-cut g c = λ lines.
     let left = drop c.loop-place.refused refused in
     let below : place < length executions = omega (arith, c.loop-place-test.true, c.len-place-end.ensures) in
     anyway_failed c.from_residual.result
-    (going_cut (g.W.Write.contents c.args.answers.now) (g.W.Write.contents c.loop-place.answers)
-    (g.W.Write.contents c.write_refused.new.answers)
+    (going_cut (g.W.Write.contents c.args.answers.now) (g.W.Write.contents c.loop-place.answers) (g.W.Write.contents
+    c.write_refused.new.answers)
     (answers_text roster executions refused found) (text_of_answers roster (in_order found place (drop place executions) left))
     (refused_text (Some execution.number) left) _ (c.loop-place.invariant lines) (c.in_err-refused.ensures.cut lines)
     (order-at roster found place executions left execution below c.index-execution.ensures))
@@ -39,15 +39,15 @@ returns-in_err-write_judged-clause-cut g c = λ lines.
     let execution : Execution = c.index-execution.result.now in
     let left = drop c.loop-place.refused refused in
     let own = text_of (answer_records roster (Judged execution (found_at found place))) in
-    let later = text_of_answers roster
-    (in_order found (place + 1) (drop (place + 1) executions) (refused_left (Some execution.number) left)) in
+    let later = text_of_answers roster (in_order found (place + 1) (drop (place + 1) executions) (refused_left (Some execution.number)
+    left)) in
     let below : place < length executions = omega (arith, c.loop-place-test.true, c.len-place-end.ensures) in
     anyway_failed c.from_residual-in_err-write_judged.result
-    (going_cut (g.W.Write.contents c.args.answers.now) (g.W.Write.contents c.write_refused.new.answers)
-    (g.W.Write.contents c.write_judged.new.answers)
+    (going_cut (g.W.Write.contents c.args.answers.now) (g.W.Write.contents c.write_refused.new.answers) (g.W.Write.contents
+    c.write_judged.new.answers)
     (answers_text roster executions refused found) (own ++ later) own later
-    (going_on (g.W.Write.contents c.args.answers.now) (g.W.Write.contents c.loop-place.answers)
-    (g.W.Write.contents c.write_refused.new.answers)
+    (going_on (g.W.Write.contents c.args.answers.now) (g.W.Write.contents c.loop-place.answers) (g.W.Write.contents
+    c.write_refused.new.answers)
     (answers_text roster executions refused found) (text_of_answers roster (in_order found place (drop place executions) left))
     (refused_text (Some execution.number) left) (own ++ later) (c.loop-place.invariant lines) (c.in_ok-refused.ensures.written lines)
     (order-at roster found place executions left execution below c.index-execution.ensures))
@@ -67,11 +67,11 @@ loop-place-preserved g c = λ lines.
     let later = answered (refused_left (Some execution.number) left) in
     let below : place < length executions = omega (arith, c.loop-place-test.true, c.len-place-end.ensures) in
     let next : later ≡ answered (drop c.in_ok-refused.refused refused) = ap answered (sym c.in_ok-refused.ensures.next) in
-    going_on (g.W.Write.contents c.args.answers.now) (g.W.Write.contents c.write_refused.new.answers)
-    (g.W.Write.contents c.write_judged.new.answers)
+    going_on (g.W.Write.contents c.args.answers.now) (g.W.Write.contents c.write_refused.new.answers) (g.W.Write.contents
+    c.write_judged.new.answers)
     (answers_text roster executions refused found) (own ++ later) own (answered (drop c.in_ok-refused.refused refused))
-    (going_on (g.W.Write.contents c.args.answers.now) (g.W.Write.contents c.loop-place.answers)
-    (g.W.Write.contents c.write_refused.new.answers)
+    (going_on (g.W.Write.contents c.args.answers.now) (g.W.Write.contents c.loop-place.answers) (g.W.Write.contents
+    c.write_refused.new.answers)
     (answers_text roster executions refused found) (text_of_answers roster (in_order found place (drop place executions) left))
     (refused_text (Some execution.number) left) (own ++ later) (c.loop-place.invariant lines) (c.in_ok-refused.ensures.written lines)
     (order-at roster found place executions left execution below c.index-execution.ensures))
@@ -87,8 +87,8 @@ returns-in_err-write_refused-clause-cut g c = λ lines.
     let left = drop c.loop-place.refused refused in
     let over : length executions ≤ place = omega (arith, c.loop-place-test.false, c.len-place-end.ensures) in
     anyway_failed c.from_residual-in_err-write_refused.result
-    (going_cut (g.W.Write.contents c.args.answers.now) (g.W.Write.contents c.loop-place.answers)
-    (g.W.Write.contents c.write_refused-2.new.answers)
+    (going_cut (g.W.Write.contents c.args.answers.now) (g.W.Write.contents c.loop-place.answers) (g.W.Write.contents
+    c.write_refused-2.new.answers)
     (answers_text roster executions refused found) (text_of_answers roster (in_order found place (drop place executions) left))
     (refused_text None left) [] (c.loop-place.invariant lines) (c.in_err-write_refused.ensures.cut lines)
     (ap (λ list. text_of_answers roster (in_order found place list left)) (drop_all place executions over)
@@ -105,8 +105,8 @@ returns-clause-written g c = λ lines.
     let over : length executions ≤ place = omega (arith, c.loop-place-test.false, c.len-place-end.ensures) in
     going_done (g.W.Write.contents c.args.answers.now) (g.W.Write.contents c.write_refused-2.new.answers)
     (answers_text roster executions refused found) []
-    (going_on (g.W.Write.contents c.args.answers.now) (g.W.Write.contents c.loop-place.answers)
-    (g.W.Write.contents c.write_refused-2.new.answers)
+    (going_on (g.W.Write.contents c.args.answers.now) (g.W.Write.contents c.loop-place.answers) (g.W.Write.contents
+    c.write_refused-2.new.answers)
     (answers_text roster executions refused found) (text_of_answers roster (in_order found place (drop place executions) left))
     (refused_text None left) [] (c.loop-place.invariant lines) (c.in_ok-write_refused.ensures.written lines)
     (ap (λ list. text_of_answers roster (in_order found place list left)) (drop_all place executions over)

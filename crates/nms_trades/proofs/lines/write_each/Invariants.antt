@@ -8,5 +8,5 @@ use Rattle.nms_trades.proofs.lines.write_each.Given as goal
 abbrev pub invariant-loop-place : goal.invariant-loop-place
 invariant-loop-place g l = is_lines l.form ≡ true → Going (g.W.Write.contents l.fn.answers) (g.W.Write.contents l.answers)
     (answers_text l.roster l.records.executions.items l.records.refused.items l.findings)
-    (text_of_answers l.roster
-    (in_order l.findings l.place (drop l.place l.records.executions.items) (drop l.refused l.records.refused.items)))
+    (text_of_answers l.roster (in_order l.findings l.place (drop l.place l.records.executions.items) (drop l.refused
+    l.records.refused.items)))
