@@ -5,8 +5,8 @@ use Rattle.std.specs.Fmt.{decimal}
 use Rattle.nms_units.specs.Price.{price_text}
 use Rattle.nms_quote.specs.Roster.{Listing, part_text}
 use Rattle.nms_quote.specs.declared.side_quote.Side.{Side}
-use Rattle.nms_quote.specs.declared.side_quote.Side.TheVariants.{Bid, Offer}
 use Rattle.nms_board.specs.declared.row.Row.{Row}
+use Rattle.nms_lines.specs.Sides.{side_word}
 use Rattle.nms_lines.specs.Layout.{Record}
 use Rattle.nms_trades.specs.FinePrice.{fine_text}
 use Rattle.nms_trades.specs.Sums.{all_flicker, difference, is_helped}
@@ -30,10 +30,6 @@ refusal_record refusal = codes "REFUSED" ∷ decimal refusal.number ∷ decimal 
 -- an execution that traded through nothing
 abbrev pub clean_record : Execution → Record
 clean_record execution = codes "CLEAN" ∷ execution.name.items ∷ decimal execution.version ∷ []
-
-abbrev pub side_word : Side → List ℕ
-side_word Bid = codes "BID"
-side_word Offer = codes "OFFER"
 
 -- the word of a standing
 abbrev pub standing_word : Standing → List ℕ

@@ -5,7 +5,7 @@ ghost use Rattle.nms_lines.specs.Text.{later_fields, text_of};
 ghost use Rattle.nms_trades.specs.Sums.{all_flicker};
 ghost use Rattle.nms_trades.specs.FinePrice.{fine_text};
 ghost use Rattle.nms_trades.specs.Lines.{all_causes, causes_text, clean_record, is_own, marks_of, next_word, quotation_fields};
-ghost use Rattle.nms_trades.specs.Lines.{records_of_row, refusal_record, row_record, row_records, side_word, standing_word};
+ghost use Rattle.nms_trades.specs.Lines.{records_of_row, refusal_record, row_record, row_records, standing_word};
 ghost use Rattle.nms_trades.specs.Lines.{through_record, through_records};
 
 use crate::cause::{CAUSES, Cause};
@@ -16,7 +16,7 @@ use crate::millionths::push_millionths;
 use crate::money_through::{Sums, difference, is_helped};
 use crate::standing::Standing;
 use nms_board::Row;
-use nms_lines::{end_record, name_of_part, push_number, push_price, push_text};
+use nms_lines::{end_record, name_of_part, push_number, push_price, push_text, word_of_side};
 use nms_quote::{Part, Roster, Side};
 use std::alloc::AllocError;
 
@@ -221,16 +221,6 @@ fn append_quotation(
     push_price(out, row.price)?;
     push_number(out, u64::from(row.size))?;
     push_number(out, row.receipt)
-}
-
-/// The word for a side.
-pub(crate) fn word_of_side(side: Side) -> &'static str
-    ensures { result.now ≡ side_word side }
-{
-    match side {
-        Side::Bid => "BID",
-        Side::Offer => "OFFER",
-    }
 }
 
 /// The word of a standing.

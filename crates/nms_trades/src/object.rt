@@ -2,12 +2,12 @@
 use crate::execution::Execution;
 use crate::execution_file::Refusal;
 use crate::finding::Finding;
-use crate::line::{append_causes, is_own, word_of_side};
+use crate::line::{append_causes, is_own};
 use crate::millionths::push_millionths;
 use crate::money_through::{Sums, difference, is_helped};
 use crate::standing::Standing;
 use nms_board::Row;
-use nms_lines::name_of_part;
+use nms_lines::{name_of_part, word_of_side};
 use nms_quote::{Roster, Side};
 use nms_show::{Item, ShowFault, write_object};
 use std::alloc::{AllocError, Global};
