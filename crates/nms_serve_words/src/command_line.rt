@@ -92,5 +92,5 @@ fn stale_arg<'a>(alloc: Global) -> Arg<'a> {
     Arg::new(alloc, "stale")
         .long("stale")
         .value_name("SECONDS")
-        .help("Warns on standard error of a feed without a record for so long, 1 to 86400")
+        .help("Warns on standard error of a feed without a record for that long, 1 to 86400")
 }
