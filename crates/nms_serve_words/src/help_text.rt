@@ -11,7 +11,7 @@ pub(crate) const AFTER_HELP: &str =
     "A path may be a FIFO: it is read, or written, as its other end comes and goes.
 Without --client, requests come from standard input and answers go to standard
 output. Beside the tape's file, FILE.published has its length at each publishing.
-Where the tape has as many changes as the setup's tape_limit, an epoch begins: its tape
+When the tape has as many changes as the setup's tape_limit, an epoch begins: its tape
 is FILE.1, then FILE.2 and so on, and EPOCH,1 stands before a client's first answer there.
 
 With --keep a feed's FIFO is at its end when its writer has left and all clients
