@@ -1,10 +1,9 @@
 -- A list whose levels never fall is what stands of it on each level, level after level.
-use Rattle.std.proofs.Common.{ℕ, zero, suc, ◌≡◌, ◌+◌, ◌<◌, ◌≤◌, ◌⊎◌, inl, inr, Bool, true, false, List, [], ◌∷◌, ◌++◌, map, refl}
-use Rattle.std.proofs.Common.{sym, ap, subst, ◌∙◌, arith, append_assoc}
+use Rattle.std.proofs.Common.{ℕ, ◌≡◌, ◌+◌, ◌<◌, ◌≤◌, ◌⊎◌, inl, inr, Bool, true, false, List, [], ◌∷◌, ◌++◌, refl}
+use Rattle.std.proofs.Common.{ap, ◌∙◌, arith}
 use Rattle.std.specs.Prelude.{⊤, filter, flat_map, nat_eq}
 use Rattle.std.specs.List.{AllByRecursion}
 use Rattle.std.proofs.lemmas.Bool.{eq-eqb, ne_eqb}
-use Rattle.std.proofs.lemmas.Bool.Decides.{eqb_tells}
 
 -- one of these numbers
 abbrev pub IsOneOf : List ℕ → ℕ → Type 0
@@ -47,7 +46,8 @@ module _ {X : Type 0} (level : X → ℕ) where
   skip : (x : X) (xs : List X) (low : ℕ) (ns : List ℕ) → level x ≤ low → Rise low ns → blocks ns (x ∷ xs) ≡ blocks ns xs
   skip x xs low [] le rise = refl
   skip x xs low (n ∷ ns) le rise =
-      rw (ne_eqb (level x) n (λ e. omega (arith, e, le, rise.0))) (ap (λ l. on n xs ++ l) (skip x xs n ns (omega (arith, le, rise.0)) rise.1))
+      rw (ne_eqb (level x) n (λ e. omega (arith, e, le, rise.0)))
+      (ap (λ l. on n xs ++ l) (skip x xs n ns (omega (arith, le, rise.0)) rise.1))
 
   pub in_order : (low : ℕ) (ns : List ℕ) (xs : List X) → Rise low ns → NeverFall low xs
       → AllByRecursion (λ x. IsOneOf (low ∷ ns) (level x)) xs → on low xs ++ blocks ns xs ≡ xs

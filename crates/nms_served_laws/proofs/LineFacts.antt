@@ -1,5 +1,5 @@
 -- A line of the script is answered as the request that it stands for, under any number; and how the board's own lines are read.
-use Rattle.std.proofs.Common.{ℕ, ◌≡◌, ◌<◌, ◌++◌, Bool, true, false, List, [], ◌∷◌, map, Option, Some, None, Result, Ok, Err, refl, ap}
+use Rattle.std.proofs.Common.{ℕ, ◌≡◌, ◌++◌, Bool, true, false, List, [], ◌∷◌, map, Option, Some, None, Result, Ok, Err, refl, ap}
 use Rattle.std.proofs.Common.{sym, subst, ◌∙◌, codes, if◌then◌else◌, length, option_map, inl, inr}
 use Rattle.std.specs.Prelude.{nat_lt, ◌&&◌}
 use Rattle.std.proofs.lemmas.Bool.{false≢true, le-ltb}
@@ -146,7 +146,8 @@ of_part roster part below = elim (slice_get_cases roster.parts part).1 [
 ]
 
 -- a change of the roster belongs to a feed
-pub belongs : (roster : Listing) (said : Change) → holds (sizes_of roster) said ≡ true → (own : Feed) × (feed_of_change roster said ≡ Some own)
+pub belongs : (roster : Listing) (said : Change) → holds (sizes_of roster) said ≡ true
+    → (own : Feed) × (feed_of_change roster said ≡ Some own)
 belongs roster (change.Quote part symbol state bid offer) held = of_part roster part (left _ _ held)
 belongs roster (change.State part symbol state) held = of_part roster part (left _ _ held)
 belongs roster (change.Withdraw part) held = of_part roster part held

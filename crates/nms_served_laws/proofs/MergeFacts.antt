@@ -1,7 +1,7 @@
 -- The script of an epoch, publishing by publishing, and each client's part of it in the client's own order.
-use Rattle.std.proofs.Common.{ℕ, ◌≡◌, ◌+◌, ◌<◌, ◌≤◌, inl, inr, Bool, true, false, List, [], ◌∷◌, ◌++◌, length, map, take, drop, Option, Some, refl}
-use Rattle.std.proofs.Common.{sym}
-use Rattle.std.proofs.Common.{ap, ap₂, subst, ◌∙◌, arith, append_assoc, length-append, slice_get, codes, if◌then◌else◌, ◌==◌}
+use Rattle.std.proofs.Common.{ℕ, ◌≡◌, ◌+◌, ◌≤◌, inl, inr, Bool, true, false, List, [], ◌∷◌, ◌++◌, length, map, take, drop, Option, Some}
+use Rattle.std.proofs.Common.{refl, sym}
+use Rattle.std.proofs.Common.{ap, ap₂, subst, ◌∙◌, arith, append_assoc, length-append, codes, ◌==◌}
 use Rattle.std.specs.Prelude.{All, flat_map, nat_eq, unwrap_or}
 use Rattle.std.specs.List.{AllByRecursion}
 use Rattle.std.proofs.lemmas.Bool.{eq-eqb}
@@ -10,25 +10,22 @@ use Rattle.std.proofs.lemmas.List.{append-nil, length-take-le, take-append-drop,
 use Rattle.std.proofs.lemmas.List.Concat.{flat_map-append}
 use Rattle.std.proofs.lemmas.List.Elements.{All-drop, All-from_recursion, All-take, recursion_from_All}
 use Rattle.nms_quote.specs.Merge.{changes_of}
-use Rattle.nms_quote.specs.Roster.{Listing, feed_of_change}
+use Rattle.nms_quote.specs.Roster.{Listing}
 use Rattle.nms_quote.specs.Tape.{Tape, version}
-use Rattle.nms_quote.specs.declared.change.Change.{Change}
 use Rattle.nms_quote.specs.declared.feed.Feed.{Feed}
 use Rattle.nms_quote.specs.declared.feed.Feed.TheVariants as feed
-use Rattle.nms_quote.specs.declared.marked.Marked.{Marked}
 use Rattle.nms_fees.specs.Settings.{Settings}
 use Rattle.nms_lines.specs.Layout.{Record}
 use Rattle.nms_change_text.specs.ReadBack.{ChangesReadAsWritten, FitsRecord, ReadsBack}
 use Rattle.nms_flow.specs.Laws.{IsOnOwnFeed, fed_by}
 use Rattle.nms_flow.specs.Run.{Event, changes_in, sent_by, tape_at}
 use Rattle.nms_scripts.specs.Script as script
-use Rattle.nms_served_laws.specs.Epoch.{Asked, Client, Epoch, IsServed, RiseTo}
-use Rattle.nms_served_laws.specs.Merged.{Line, Placed, as_request, asked_on, change_lines, lines_after, own, placed_of, script_of}
+use Rattle.nms_served_laws.specs.Epoch.{Asked, Epoch, IsServed, RiseTo}
+use Rattle.nms_served_laws.specs.Merged.{Line, Placed, as_request, asked_on, change_lines, lines_after, own, script_of}
 use Rattle.nms_served_laws.specs.OneScript.{AreSaid, IsOneScript, Said, requests_of}
 use Rattle.nms_served_laws.proofs.BlockFacts.{Rise, blocks, filter-swap, in_order, on}
 use Rattle.nms_served_laws.proofs.LineFacts.{belongs}
 use Rattle.nms_served_laws.proofs.RequestFacts.{IsGood, OfClient, level_of, of, of_clients, one_within, placed_as}
-use Rattle.nms_served_laws.proofs.RequestFacts as clients
 use Rattle.nms_served_laws.proofs.RunFacts.{IsAskedOn, Led, Request, ask_all, changes_in-marked, fields_in, line_of, marked_by, none_led}
 use Rattle.nms_served_laws.proofs.RunFacts.{publish, standing_at, take_all_in, taken_is, told_in}
 
@@ -100,9 +97,9 @@ good_on : (settings : Settings) (tape : Tape) (n : ℕ) (requests : List Request
 good_on settings tape n [] all = tt
 good_on settings tape n (r ∷ rs) all = elim (eqb_tells r.level n) [
   | inl same ↦ rw same.0 (
-      subst (λ (m : ℕ). IsAskedOn settings (version m tape) r) same.1 all.0,
-      good_on settings tape n rs all.1,
-    )
+    subst (λ (m : ℕ). IsAskedOn settings (version m tape) r) same.1 all.0,
+    good_on settings tape n rs all.1,
+  )
   | inr other ↦ rw other.0 (good_on settings tape n rs all.1)
 ]
 

@@ -1,7 +1,7 @@
 -- The requests of an epoch's clients, each with its answer, from what is known of each client.
-use Rattle.std.proofs.Common.{ℕ, zero, suc, ◌≡◌, ◌+◌, ◌<◌, ◌≤◌, ◌⊎◌, inl, inr, Bool, true, false, List, [], ◌∷◌, ◌++◌, length, map, take, Option}
+use Rattle.std.proofs.Common.{ℕ, zero, suc, ◌≡◌, ◌+◌, ◌≤◌, inl, inr, List, [], ◌∷◌, ◌++◌, length, map, take, Option}
 use Rattle.std.proofs.Common.{Some, None, refl, sym, ap, ap₂, subst, ◌∙◌, arith, slice_get, ◌==◌}
-use Rattle.std.specs.Prelude.{Contains, IfSome, filter, flat_map, nat_eq}
+use Rattle.std.specs.Prelude.{Contains, IfSome, filter, flat_map}
 use Rattle.std.specs.List.{AllByRecursion}
 use Rattle.std.proofs.lemmas.Bool.{eq-eqb, ne_eqb}
 use Rattle.std.proofs.lemmas.List.{append-nil, length-take-le, map-append}
@@ -12,7 +12,7 @@ use Rattle.nms_lines.specs.Layout.{Record}
 use Rattle.nms_answers.specs.Requests.{AnswersRequest}
 use Rattle.nms_answers.specs.Streams.{AnswersFrom}
 use Rattle.nms_served_laws.specs.Epoch.{Asked, Client, Epoch, IsClient, NeverFall, RiseTo, WasPublished, known_after}
-use Rattle.nms_served_laws.specs.Merged.{Line, Placed, as_request, placed_from, placed_of}
+use Rattle.nms_served_laws.specs.Merged.{Placed, as_request, placed_from, placed_of}
 use Rattle.nms_served_laws.proofs.BlockFacts.{IsOneOf}
 use Rattle.nms_served_laws.proofs.BlockFacts as blocks
 use Rattle.nms_served_laws.proofs.RunFacts.{Request, line_of}
@@ -142,7 +142,8 @@ module _ (settings : Settings) (epoch : Epoch) (rise : RiseTo 0 (length epoch.ta
   none_of at [] all = refl
   none_of at (request ∷ requests) all = rw (ne_eqb request.client at all.0) (none_of at requests all.1)
 
-  pub of_clients : (place : ℕ) (clients : List Client) → AllByRecursion (IsClient settings epoch) clients → OfClients settings epoch place clients
+  pub of_clients : (place : ℕ) (clients : List Client) → AllByRecursion (IsClient settings epoch) clients
+      → OfClients settings epoch place clients
   of_clients place [] all = record {
     requests = [];
     placed = refl;
@@ -165,8 +166,9 @@ module _ (settings : Settings) (epoch : Epoch) (rise : RiseTo 0 (length epoch.ta
         each = λ nth at wanted same found. by_place first rest nth at wanted same found;
       }
     where
-      by_place : (first : OfClient settings epoch place client.first 0 client.asked client.told) (rest : OfClients settings epoch (place + 1) clients)
-          (nth at : ℕ) (wanted : Client) → at ≡ place + nth → slice_get (client ∷ clients) nth ≡ Some wanted
+      by_place : (first : OfClient settings epoch place client.first 0 client.asked client.told)
+          (rest : OfClients settings epoch (place + 1) clients) (nth at : ℕ) (wanted : Client)
+          → at ≡ place + nth → slice_get (client ∷ clients) nth ≡ Some wanted
           → (one : OfClient settings epoch at wanted.first 0 wanted.asked wanted.told)
           × (of at (first.requests ++ rest.requests) ≡ one.requests)
       by_place first rest zero at wanted same found =
@@ -189,5 +191,5 @@ module _ (settings : Settings) (epoch : Epoch) (rise : RiseTo 0 (length epoch.ta
           (λ r is e. omega (arith, is, e, same)) first.requests first.clients) in (
             later.0,
             filter-append (λ (r : Request). r.client == at) first.requests rest.requests
-            ∙ ap (λ (a : List Request). a ++ of at rest.requests) none ∙ later.1,
+                ∙ ap (λ (a : List Request). a ++ of at rest.requests) none ∙ later.1,
           )

@@ -1,8 +1,8 @@
 -- The run of the machine that answers the script, made line by line.
-use Rattle.std.proofs.Common.{ℕ, ◌≡◌, ◌≢◌, ◌+◌, ◌-◌, ◌<◌, ◌≤◌, Bool, true, false, cond, inl, inr, List, [], ◌∷◌, ◌++◌, length, map, take, drop}
-use Rattle.std.proofs.Common.{Option, Some, None, Result, Ok, Err, refl, sym, ap, subst, ◌∙◌, arith, append_assoc, length-append, codes, ◌==◌}
+use Rattle.std.proofs.Common.{ℕ, ◌≡◌, ◌+◌, ◌-◌, ◌<◌, ◌≤◌, Bool, true, false, inl, List, [], ◌∷◌, ◌++◌, length, map, take}
+use Rattle.std.proofs.Common.{Option, Some, None, Ok, refl, sym, ap, subst, ◌∙◌, arith, append_assoc, length-append, codes, ◌==◌}
 use Rattle.std.proofs.Common.{if◌then◌else◌}
-use Rattle.std.specs.Prelude.{All, IfSome, flat_map, option_to_list, unwrap_or}
+use Rattle.std.specs.Prelude.{IfSome, flat_map, option_to_list, unwrap_or}
 use Rattle.std.specs.List.{AllByRecursion, filter_map}
 use Rattle.std.proofs.lemmas.Bool.{ne_eqb}
 use Rattle.std.proofs.lemmas.List.{append-nil, length-drop, map-append, take_all}
@@ -22,18 +22,15 @@ use Rattle.nms_lines.specs.declared.line.Reading.TheVariants as source
 use Rattle.nms_change_text.specs.ChangeText.{change_record}
 use Rattle.nms_change_text.specs.ReadBack.{FitsRecord, ReadsBack}
 use Rattle.nms_flow.specs.Flow.{room_under}
-use Rattle.nms_flow.specs.Run.{Event, IsAnswered, IsRun, Room, Standing, after, answer_to, answer_to_send, answer_to_take, changes_in}
+use Rattle.nms_flow.specs.Run.{Event, IsAnswered, IsRun, Standing, after, answer_to, answer_to_send, answer_to_take, changes_in}
 use Rattle.nms_flow.specs.Run.{queue_at, standing_after, tape_at, version_at, version_published}
 use Rattle.nms_flow.specs.declared.step.Step.TheVariants as step
-use Rattle.nms_flow.specs.declared.step_fault.StepFault.TheVariants as step_fault
-use Rattle.nms_flow.specs.declared.reply.Reply.{Reply}
 use Rattle.nms_flow.specs.declared.reply.Reply.TheVariants as reply
 use Rattle.nms_flow.proofs.Offered.{filter_map-push, is_run-push, standing_after-push}
 use Rattle.nms_text.specs.Answers.{published_record, taken_record}
 use Rattle.nms_scripts.specs.Script.{AnswersRecord, script_reading}
 use Rattle.nms_answers.specs.Requests.{AnswersRequest}
-use Rattle.nms_answers.specs.Told.{look_at}
-use Rattle.nms_served_laws.specs.Merged.{Line, Owner, as_request, change_lines, own}
+use Rattle.nms_served_laws.specs.Merged.{Line, as_request, change_lines, own}
 use Rattle.nms_served_laws.specs.OneScript.{AreSaid, Said, if_of, renumbered, requests_of, told_to}
 use Rattle.nms_served_laws.proofs.LineFacts.{IsLookAt, answered_as, answers_change, belongs}
 
@@ -202,7 +199,8 @@ own_more : (settings : Settings) (at next : Standing) (lengths published all_len
     → ((number : ℕ) → Adds settings at next published (own fields) [] number) → lengths ++ published ≡ all_lengths
     → Led settings at lengths lines asked → Led settings next all_lengths (lines ++ own fields ∷ []) asked
 own_more settings at next lengths published all_lengths lines fields asked adds out led =
-    one_more settings at next lengths published all_lengths lines (own fields) asked [] asked adds (λ client. refl) out (append-nil asked) led
+    one_more settings at next lengths published all_lengths lines (own fields) asked [] asked adds (λ client. refl) out
+    (append-nil asked) led
 
 module _ (settings : Settings) where
   queued : (at : Standing) → length (queue_at at) ≡ length at.sent - at.taken
@@ -237,7 +235,8 @@ module _ (settings : Settings) where
       let said : script_reading settings (change_record settings.roster change) ≡ Ok (line.Change change) =
       reads (source.Script settings.desks) (refl, refl) in
       let feeds = belongs settings.roster change held in
-      let mark : unwrap_or (feed_of_change settings.roster change) feed.A ≡ feeds.0 = ap (λ (o : Option Feed). unwrap_or o feed.A) feeds.1 in
+      let mark : unwrap_or (feed_of_change settings.roster change) feed.A ≡ feeds.0 =
+      ap (λ (o : Option Feed). unwrap_or o feed.A) feeds.1 in
       let sent : (number : ℕ) → Adds settings before between [] (own (change_record settings.roster change)) [] number = λ number. record {
         told = [];
         events = (step.Send marked.feed change, Ok reply.Sent) ∷ [];
@@ -262,7 +261,8 @@ module _ (settings : Settings) where
       (append_assoc lines (own (change_record settings.roster change) ∷ []) (own (codes "T" ∷ []) ∷ []))
       (own_more settings between next lengths [] lengths (lines ++ own (change_record settings.roster change) ∷ []) (codes "T" ∷ []) asked
       took (append-nil lengths)
-      (own_more settings before between lengths [] lengths lines (change_record settings.roster change) asked sent (append-nil lengths) led))
+      (own_more settings before between lengths [] lengths lines (change_record settings.roster change) asked sent (append-nil lengths)
+      led))
 
   -- changes are sent and taken, one after another
   pub take_all_in : (tape more : Tape) (published : ℕ) (lengths : List ℕ) (lines : List Line) (asked : List Request) → 1 ≤ settings.queue
@@ -278,8 +278,8 @@ module _ (settings : Settings) where
       let now = take_in tape published lengths lines asked change queue (omega (arith, limit)) reads.0 fits.0.0 led in
       let rest = take_all_in (tape ++ change ∷ []) more published lengths (lines ++ two) asked queue
       (omega (arith, limit, length-append tape (change ∷ []))) reads.1 fits.1 now in
-      subst (λ (t : Tape). Led settings (standing_at settings.roster t published) lengths (lines ++ change_lines settings.roster (change ∷ more))
-      asked) (append_assoc tape (change ∷ []) more)
+      subst (λ (t : Tape). Led settings (standing_at settings.roster t published) lengths
+      (lines ++ change_lines settings.roster (change ∷ more)) asked) (append_assoc tape (change ∷ []) more)
       (subst (λ (ls : List Line). Led settings (standing_at settings.roster ((tape ++ change ∷ []) ++ more) published) lengths ls asked)
       (append_assoc lines two (change_lines settings.roster more)) rest)
 
@@ -325,14 +325,14 @@ module _ (settings : Settings) where
       let at : Standing = standing_at settings.roster tape (length tape) in
       one_more settings at at lengths [] lengths lines (line_of request) asked (request ∷ []) (asked ++ request ∷ [])
       (λ number.
-          let answered = answered_as settings request.number number request.fields request.look request.told is.0 in
-          record {
-            told = answered.also;
-            events = answered.events;
-            answers = answered.answers;
-            goes = looks tape request.look answered.events is.1 answered.looks;
-            tells = λ client. of_client (request.client == client) (map (renumbered request.number) answered.also) request.told answered.same;
-          })
+      let answered = answered_as settings request.number number request.fields request.look request.told is.0 in
+      record {
+        told = answered.also;
+        events = answered.events;
+        answers = answered.answers;
+        goes = looks tape request.look answered.events is.1 answered.looks;
+        tells = λ client. of_client (request.client == client) (map (renumbered request.number) answered.also) request.told answered.same;
+      })
       (λ client. of_client (request.client == client) (as_request request.fields ∷ []) (as_request request.fields ∷ []) refl)
       (append-nil lengths) refl led
 
@@ -343,11 +343,13 @@ module _ (settings : Settings) where
   ask_all tape lengths lines asked [] all led =
       subst (λ (rs : List Request). Led settings (standing_at settings.roster tape (length tape)) lengths (lines ++ []) rs)
       (sym (append-nil asked))
-      (subst (λ (ls : List Line). Led settings (standing_at settings.roster tape (length tape)) lengths ls asked) (sym (append-nil lines)) led)
+      (subst (λ (ls : List Line). Led settings (standing_at settings.roster tape (length tape)) lengths ls asked)
+      (sym (append-nil lines)) led)
   ask_all tape lengths lines asked (request ∷ more) all led =
       subst (λ (rs : List Request). Led settings (standing_at settings.roster tape (length tape)) lengths
       (lines ++ map line_of (request ∷ more)) rs) (append_assoc asked (request ∷ []) more)
-      (subst (λ (ls : List Line). Led settings (standing_at settings.roster tape (length tape)) lengths ls ((asked ++ request ∷ []) ++ more))
+      (subst (λ (ls : List Line). Led settings (standing_at settings.roster tape (length tape)) lengths ls
+      ((asked ++ request ∷ []) ++ more))
       (append_assoc lines (line_of request ∷ []) (map line_of more))
       (ask_all tape lengths (lines ++ line_of request ∷ []) (asked ++ request ∷ []) more all.1
       (ask tape lengths lines asked request all.0 led)))

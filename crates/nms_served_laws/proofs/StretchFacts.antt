@@ -1,11 +1,8 @@
 -- A client's stream is cut by epochs: request by request, from the last on.
-use Rattle.std.proofs.Common.{ℕ, ◌≡◌, ◌+◌, ◌<◌, ◌≤◌, inl, inr, List, [], ◌∷◌, ◌++◌, length, map, max, Option, Some, None, refl, sym, ap, ap₂}
+use Rattle.std.proofs.Common.{ℕ, ◌≡◌, ◌+◌, ◌<◌, ◌≤◌, inl, inr, List, [], ◌∷◌, ◌++◌, length, map, max, Option, Some, None, refl, sym, ap}
 use Rattle.std.proofs.Common.{subst, ◌∙◌, arith, append_assoc, length-append}
-use Rattle.std.specs.Prelude.{flat_map}
-use Rattle.std.specs.List.{AllByRecursion}
 use Rattle.std.proofs.Math.Nat.{le-max_left, max-le}
 use Rattle.std.proofs.lemmas.Bool.{eq-eqb}
-use Rattle.std.proofs.lemmas.List.{map-append}
 use Rattle.nms_quote.specs.Tape.{Tape}
 use Rattle.nms_fees.specs.Settings.{Settings}
 use Rattle.nms_lines.specs.Layout.{Record}
@@ -15,7 +12,7 @@ use Rattle.nms_answers.specs.Requests.{AnswersRequest, Sees}
 use Rattle.nms_answers.specs.Streams.{AnswersFrom, ServesFrom}
 use Rattle.nms_answers.specs.declared.epoch_desk.EpochDesk.{EpochDesk}
 use Rattle.nms_served_laws.specs.Epoch.{Asked, NeverFall, known_after}
-use Rattle.nms_served_laws.specs.Stretches.{AreStretches, IsCut, Stretch, StreamsAreCut, asked_in, shown_in, told_in}
+use Rattle.nms_served_laws.specs.Stretches.{AreStretches, Stretch, StreamsAreCut, asked_in, shown_in, told_in}
 
 -- a version that begins with all these is no shorter than the longest
 no_shorter : (seen : Tape) (known : List Tape) → AllBegin seen known → longest_of known ≤ length seen
@@ -81,9 +78,14 @@ goes_over settings number requests first epoch known looks told shown rises rest
       later = stretch ∷ rest.later;
       answers = (refl, refl);
       rising = tt;
-      are = (omega (arith, rises), omega arith, subst (λ (n : ℕ). AnswersFrom settings n (map (λ (a : Asked). a.fields) rest.here)
-          (map (λ (a : Asked). a.look) rest.here) rest.here_told) (omega arith) rest.answers, rest.rising,
-          subst (λ (n : ℕ). AreStretches settings n (epoch + 1) rest.later) (omega arith) rest.are);
+      are = (
+        omega (arith, rises),
+        omega arith,
+        subst (λ (n : ℕ). AnswersFrom settings n (map (λ (a : Asked). a.fields) rest.here)
+            (map (λ (a : Asked). a.look) rest.here) rest.here_told) (omega arith) rest.answers,
+        rest.rising,
+        subst (λ (n : ℕ). AreStretches settings n (epoch + 1) rest.later) (omega arith) rest.are,
+      );
       fields = rest.fields;
       seen = rest.seen;
       tells = rest.tells;
@@ -133,7 +135,8 @@ rest_of settings number (fields ∷ requests) old new looks told shown known le
     by_epoch again (inl same) =
         let here : next.epoch ≡ old.epoch = on.3 ∙ ap (λ (d : EpochDesk). d.epoch) same in
         let it = from again known (subst (λ (d : EpochDesk). known ≤ longest_of d.desk.known) (sym same) le) in
-        let text : now ++ last ≡ shown = ap (λ (l : List Record). l ++ (now ++ last)) (sym (no_line old.epoch next.epoch here)) ∙ shown_so in
+        let text : now ++ last ≡ shown =
+        ap (λ (l : List Record). l ++ (now ++ last)) (sym (no_line old.epoch next.epoch here)) ∙ shown_so in
         subst (λ (e : ℕ). Rest settings number (fields ∷ requests) e known looks told shown) here
         (subst (λ (l : List (Option Tape)). Rest settings number (fields ∷ requests) next.epoch known l told shown) (sym looks_are)
         (subst (λ (t : List Record). Rest settings number (fields ∷ requests) next.epoch known (look ∷ rest) t shown) (sym told_is)

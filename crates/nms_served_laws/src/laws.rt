@@ -10,10 +10,10 @@ use nms_change_text::changes_read_as_written;
 use nms_fees::Setup;
 use nms_flow::tape_and_queue_are_a_merge;
 
-/// An epoch of a served run is one script, `script_of`: for each publishing the tape's changes since the one before, the
-/// publishing, and then the requests that were answered on that version, client by client. The answer of the machine of scripts to
-/// it has for each client, in order, all that the client was told. A refusal has the number that its request has in the client's
-/// own stream.
+/// An epoch is one script: the script's answers are, for each client in order, all that the client was told. The script,
+/// `script_of`, is made of the tape and the requests: for each publishing the changes since the one before, the publishing, and then
+/// the requests that were answered on that version, client by client. A refusal names the number of its request in the client's own
+/// stream.
 pub fn a_served_epoch_is_a_script(setup: &Setup)
     ensures { (epoch : Epoch) → IsServed setup.now epoch → IsOneScript setup.now epoch }
 {
@@ -22,14 +22,14 @@ pub fn a_served_epoch_is_a_script(setup: &Setup)
     tape_and_queue_are_a_merge();
 }
 
-/// A client's stream, as `answer_stream` promises it, is cut by epochs: in each the client asks and is told what a client of that
-/// epoch does, its versions never fall there, and its epochs rise.
+/// A client's stream, as `answer_stream` promises it, is cut by epochs. In each of them the client's requests are answered in order,
+/// on versions that never fall; and the epochs rise.
 pub fn a_stream_is_cut_by_epochs()
     ensures { StreamsAreCut }
 {}
 
-/// So a whole run is a script for each epoch: what a client is shown is, epoch by epoch, the line of each that it goes over to and
-/// what that epoch's script tells it.
+/// So a run is one script for each epoch: a client is shown, epoch by epoch, the line of one that it goes over to, and what that
+/// epoch's script tells it.
 pub fn a_served_run_is_its_scripts(setup: &Setup)
     ensures { RunIsScripts setup.now }
 {

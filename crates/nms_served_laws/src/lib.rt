@@ -1,8 +1,8 @@
-//! A served run is a script: in each epoch there is one script whose answers are, for each client, all that it was told.
+//! A served run is a script: in each epoch there is one script whose answers are, for each client in order, all that it was told.
 //!
-//! The law is on what `nms_answers` proves of a client's stream, the epoch's tape and the lengths that were published. It has as
-//! premises that these belong together, which only `tests/replay.py` shows of a run: that each answer's version was published, and
-//! that the tape was published whole. It says nothing of the files' bytes.
+//! The laws take what `nms_answers` proves of a client's stream. Their premises are that answers are on published versions, and that
+//! the whole tape was published: only `tests/replay.py` shows this of a run. If a script may answer in several ways (the plan of an
+//! order), what the client was told is one of them. The laws say nothing of the files' bytes.
 #![tactic(auto)]
 
 mod laws;
