@@ -8,9 +8,11 @@ use Rattle.nms_quote.specs.declared.side_quote.QState.TheVariants.{Halted}
 use Rattle.nms_quote.specs.declared.change.Change.TheVariants as change
 use Rattle.nms_lines.specs.Layout.{Record}
 use Rattle.nms_text.specs.Answers.{refusal}
+use Rattle.nms_answers.specs.Epochs.{epoch_record}
 use Rattle.nms_served_laws.specs.Epoch.{Asked, Client, Epoch}
 use Rattle.nms_served_laws.specs.Merged.{Line, as_request, own, script_of}
 use Rattle.nms_served_laws.specs.OneScript.{Said, requests_of, told_to}
+use Rattle.nms_served_laws.specs.Stretches.{Stretch, shown_in}
 
 abbrev pub roster : Listing
 roster = record { parts = (codes "N", feed.A) ∷ (codes "P", feed.B) ∷ []; syms = (codes "ABC", 100) ∷ [] }
@@ -54,6 +56,10 @@ some_said = record { line = of 1 2 (best (codes "1") (codes "XYZ")); told = refu
     ∷ record { line = own halt; told = [] }
     ∷ record { line = of 0 2 (best (codes "0") (codes "ABC")); told = (codes "BEST" ∷ []) ∷ [] } ∷ []
 
+-- what a client was told in an epoch: one record
+abbrev pub stretch : ℕ → Record → Stretch
+stretch number told = record { epoch = number; client = record { first = 1; asked = []; told = told ∷ [] } }
+
 pub record ExamplesHold : Type 0 where
   pub the_script : script_of roster epoch
       ≡ of 0 1 (best (codes "0") (codes "ABC")) ∷ of 1 1 (codes "?" ∷ []) ∷ of 1 2 (best (codes "1") (codes "XYZ"))
@@ -65,3 +71,5 @@ pub record ExamplesHold : Type 0 where
       ≡ (codes "?" ∷ []) ∷ best (codes "1") (codes "XYZ") ∷ best (codes "1") (codes "ABC") ∷ []
   pub a_refusal_has_its_own_number : told_to 1 some_said ≡ refusal 2 (codes "L3") ∷ []
   pub an_answer_is_as_it_is : told_to 0 some_said ≡ (codes "BEST" ∷ []) ∷ []
+  pub a_later_epoch_has_its_line : shown_in 0 (stretch 0 (codes "BEST" ∷ []) ∷ stretch 2 (codes "THRU" ∷ []) ∷ [])
+      ≡ (codes "BEST" ∷ []) ∷ epoch_record 2 ∷ (codes "THRU" ∷ []) ∷ []

@@ -9,4 +9,5 @@ returns c = record {
   in_its_own_order = refl;
   a_refusal_has_its_own_number = refl;
   an_answer_is_as_it_is = refl;
+  a_later_epoch_has_its_line = refl;
 }
