@@ -50,7 +50,7 @@ pub record IsClient (settings : Settings) (epoch : Epoch) (client : Client) : Ty
   pub published : AllByRecursion (λ asked. IfSome asked.look (WasPublished epoch)) client.asked
   pub rising : NeverFall 0 client.asked
 
--- and of the epoch: its changes are the roster's, they are within the setup's limit, and the whole tape was published
+-- what is known of an epoch: its changes are the roster's, they are within the setup's limit, and the whole tape was published
 pub record IsServed (settings : Settings) (epoch : Epoch) : Type 0 where
   pub fits : All (FitsRecord settings.roster) epoch.tape
   pub limit : length epoch.tape ≤ settings.tape_limit

@@ -1,4 +1,4 @@
--- What it is that an epoch is one script: the sequential machine tells each client what it was told. This product's own rule.
+-- What it means that an epoch is one script: the sequential machine tells each client what it was told. This product's own rule.
 use Rattle.std.specs.Prelude.{ℕ, ◌≡◌, ◌+◌, ◌==◌, List, [], ◌∷◌, ◌++◌, flat_map, map, slice_get, Option, Some, None, if◌then◌else◌}
 use Rattle.std.specs.List.{filter_map}
 use Rattle.nms_quote.specs.Merge.{changes_of}
