@@ -1,0 +1,7 @@
+mod BlockFacts
+mod LineFacts
+mod MergeFacts
+mod RequestFacts
+mod RunFacts
+mod StretchFacts
+mod WholeFacts
