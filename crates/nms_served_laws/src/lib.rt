@@ -2,7 +2,8 @@
 //!
 //! The laws take what `nms_answers` proves of a client's stream. Their premises are that answers are on published versions, and that
 //! the whole tape was published: only `tests/replay.py` shows this of a run. If a script may answer in several ways (the plan of an
-//! order), what the client was told is one of them. The laws say nothing of the files' bytes.
+//! order), what the client was told is one of them. After a fault, a tape is covered up to its last publishing. The laws say
+//! nothing of the files' bytes.
 #![tactic(auto)]
 
 mod laws;
