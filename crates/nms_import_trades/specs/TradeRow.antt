@@ -19,7 +19,7 @@ use Rattle.nms_trades.specs.FinePrice.{fine_number}
 use Rattle.nms_trades.specs.Reading.{is_name}
 use Rattle.nms_trades.specs.declared.execution.Deal.{Deal}
 use Rattle.nms_trades.specs.declared.execution.Deal.TheVariants as deal
-use Rattle.nms_trades.specs.declared.TheConstants.{MOST_MILLIONTHS}
+use Rattle.nms_import_trades.specs.declared.TheConstants.{MOST_MILLIONTHS}
 use Rattle.nms_import_trades.specs.declared.claim.Claim.{Claim}
 use Rattle.nms_import_trades.specs.declared.claim.Flag.{Flag}
 use Rattle.nms_import_trades.specs.declared.claim.Flag.TheVariants as flag

@@ -26,3 +26,6 @@ pub use trade_meanings::TradeMeanings;
 pub use trade_row::read_trade;
 pub use trade_tally::{TradeSums, TradeTally};
 pub use trade_telling::{TradeTold, write_trade_tally};
+
+/// The highest price in 1/1,000,000 dollar, as `trades` reads one: 9,999,999.999999 dollars.
+pub const MOST_MILLIONTHS: u64 = 9_999_999_999_999;
