@@ -1,4 +1,4 @@
-# The third way: ./nms_tool as a child process on two pipes, from any language. It prints examples/python/child.out.
+# ./nms_tool as a child process on two pipes, from any language. It prints examples/python/child.out.
 #
 #     python3 examples/python/child.py ./nms_tool
 #
