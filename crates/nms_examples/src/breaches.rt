@@ -2,8 +2,8 @@
 
 use crate::Failed;
 use nms_board::{Boards, View};
+use nms_engine::read_changes;
 use nms_fees::Setup;
-use nms_files::read_changes;
 use nms_lines::read_plan;
 use nms_quote::{Change, Order};
 use nms_rules::breach;

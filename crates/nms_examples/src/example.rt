@@ -11,8 +11,8 @@ use crate::records::give_lines;
 use crate::settings::give_settings;
 use crate::steps::give_steps;
 use crate::trials::give_trials;
+use nms_engine::{Counts, SETUP_K, run_script};
 use nms_fees::Setup;
-use nms_scripts::{Counts, SETUP_K, run_script};
 use std::alloc::Global;
 use std::io::Write;
 

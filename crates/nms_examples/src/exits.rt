@@ -2,13 +2,12 @@
 
 use crate::Failed;
 use nms_board::BoardFault;
+use nms_engine::{
+    ChangesFault, FeedFault, LiveFault, OrdersFault, PlanFault, ReportFault, ScriptFault, TextFault,
+};
 use nms_fees::SetupFault;
-use nms_file_answers::{PlanFault, ReportFault};
-use nms_files::{ChangesFault, FeedFault, OrdersFault};
 use nms_lines::{LineFault, PlanTextFault, RecordFault};
-use nms_live::LiveFault;
 use nms_quote::Feed;
-use nms_text::{ScriptFault, TextFault};
 use std::io::Write;
 
 /// Adds each fault's code and its exit status, a line each.

@@ -2,14 +2,14 @@
 
 use crate::Failed;
 use nms_board::BoardFault;
+use nms_engine::{
+    AuditFault, ChangesFault, FeedFault, LiveFault, OrdersFault, ReportFault, ScriptFault,
+    TextFault,
+};
 use nms_fees::SetupFault;
-use nms_file_answers::{AuditFault, ReportFault};
-use nms_files::{ChangesFault, FeedFault, OrdersFault};
 use nms_flow::{FlowFault, StepFault};
 use nms_lines::{LineFault, PlanTextFault, RecordFault};
-use nms_live::LiveFault;
 use nms_quote::{Feed, RosterFault};
-use nms_text::{ScriptFault, TextFault};
 use nms_units::UnitFault;
 use nms_words::WordsFault;
 use std::fmt::Display;

@@ -16,8 +16,8 @@ mod steps;
 mod trials;
 
 use example::give;
+use nms_engine::SETUP_K;
 use nms_fees::{Setup, read_setup};
-use nms_scripts::SETUP_K;
 use std::io::{Read, Write};
 use std::process::ExitCode;
 use std::{io, str};

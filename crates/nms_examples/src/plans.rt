@@ -2,9 +2,8 @@
 
 use crate::Failed;
 use nms_cert::Doubt;
+use nms_engine::{AuditFault, audit, read_changes};
 use nms_fees::Setup;
-use nms_file_answers::{AuditFault, audit};
-use nms_files::read_changes;
 use nms_lines::{read_plan, write_plan};
 use nms_quote::{Certificate, Plan};
 use std::alloc::Global;

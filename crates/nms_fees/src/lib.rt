@@ -10,6 +10,7 @@ mod repeat;
 mod section;
 mod setup;
 mod setup_fault;
+mod setup_k;
 mod setup_reading;
 mod toml_table;
 
@@ -20,6 +21,7 @@ pub use laws::the_least_fault_is_read;
 pub use nms_fee_book::{Caps, FeeBook, FeeSchedule, MOST_FEE, MOST_RATE};
 pub use setup::Setup;
 pub use setup_fault::SetupFault;
+pub use setup_k::SETUP_K;
 pub use setup_reading::read_setup;
 pub use toml_table::{is_participant_key, is_symbol_key, is_top_key, rows_at, rows_in, value_at};
 

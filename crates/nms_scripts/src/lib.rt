@@ -4,7 +4,6 @@
 mod counts;
 mod script;
 mod script_record;
-mod setup_k;
 mod through;
 
 /// The most records of a script. This product's own rule.
@@ -14,4 +13,3 @@ pub use counts::Counts;
 pub use nms_text::ScriptFault;
 pub use script::{read as read_record, run_script};
 pub use script_record::serve;
-pub use setup_k::SETUP_K;

@@ -3,9 +3,8 @@ ghost use Rattle.std.specs.Prelude.{◌≡◌, IfSome};
 
 use crate::same::same;
 use nms_board::{Boards, View};
-use nms_fees::{FeeBook, Setup, read_setup};
+use nms_fees::{FeeBook, SETUP_K, Setup, read_setup};
 use nms_quote::{Change, Order, OrderSide, Part, PartSet, QState, SideQuote, Sym};
-use nms_scripts::SETUP_K;
 use nms_sweep::{Cutoff, Cutoffs};
 use nms_units::{Price, Shares};
 use std::alloc::Global;

@@ -7,11 +7,10 @@ use crate::chance::Chance;
 use crate::same::same;
 use nms_board::{Boards, View};
 use nms_cert::confirm;
-use nms_fees::{FeeBook, Setup, read_setup};
+use nms_fees::{FeeBook, SETUP_K, Setup, read_setup};
 use nms_quote::{
     Certificate, Change, CutKind, Order, OrderSide, Part, PartSet, Plan, QState, SideQuote, Sym,
 };
-use nms_scripts::SETUP_K;
 use nms_sweep::plan;
 use nms_units::{Price, Shares};
 use plain::plain_plan;

@@ -3,9 +3,8 @@ ghost use Rattle.std.specs.Prelude.{◌≡◌, All, IfOk, IfSome};
 
 use crate::same::same;
 use nms_board::Row;
-use nms_fees::{Setup, read_setup};
+use nms_fees::{SETUP_K, Setup, read_setup};
 use nms_quote::{Change, Part, QState, Side, SideQuote, Sym};
-use nms_scripts::SETUP_K;
 use nms_units::{Lot, Price, Shares};
 use nms_versions::{
     AppendFault, Desk, NoReading, OpenFault, Publisher, Receipt, Settled, Unsettled, open_tape,

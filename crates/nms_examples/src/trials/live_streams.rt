@@ -1,8 +1,8 @@
 //! The text of a live run on streams that fail or count.
 use super::same;
 use super::streams::Pipe;
+use nms_engine::write_live;
 use nms_fees::Setup;
-use nms_text::write_live;
 use std::alloc::Global;
 use std::cell::Cell;
 use std::test::Fail;

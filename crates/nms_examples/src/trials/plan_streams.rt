@@ -1,9 +1,8 @@
 //! Plans on streams that fail or count. Plans that are read and written again stand in `examples/`.
 use super::same;
 use super::streams::Pipe;
+use nms_engine::{order_of, plan_changes};
 use nms_fees::Setup;
-use nms_file_answers::plan_changes;
-use nms_files::order_of;
 use nms_lines::{PlanTextFault, read_plan, write_plan};
 use std::alloc::Global;
 use std::cell::Cell;

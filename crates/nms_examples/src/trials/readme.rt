@@ -38,8 +38,8 @@ fn look(
 pub(super) mod shown {
     use super::look;
     use crate::trials::same;
+    use nms_engine::read_changes;
     use nms_fees::Setup;
-    use nms_files::read_changes;
     use nms_quote::Sym;
     use std::alloc::Global;
     use std::test::Fail;

@@ -1,8 +1,8 @@
 //! Reports on streams that fail or count.
 use super::same;
 use super::streams::{Pipe, Source};
+use nms_engine::report_changes;
 use nms_fees::Setup;
-use nms_file_answers::report_changes;
 use std::alloc::Global;
 use std::cell::Cell;
 use std::test::Fail;

@@ -1,9 +1,8 @@
 //! Scripts on streams that fail or count.
 use super::same;
 use super::streams::{Pipe, Source};
+use nms_engine::{ScriptFault, run_script};
 use nms_fees::Setup;
-use nms_scripts::run_script;
-use nms_text::ScriptFault;
 use std::alloc::Global;
 use std::cell::Cell;
 use std::io;

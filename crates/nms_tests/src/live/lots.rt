@@ -2,9 +2,9 @@
 use super::worked::{order, told};
 use super::{Wanted, run};
 use crate::same::same;
+use nms_fees::SETUP_K;
 use nms_live::{Answer, Gate, GatePoint, Live};
 use nms_quote::Leg;
-use nms_scripts::SETUP_K;
 use std::alloc::Global;
 use std::process::Abort;
 use std::sync::Wait;

@@ -2,9 +2,9 @@
 use super::run;
 use super::worked::{compare_closing, feed_a, feed_b, has_four, order, told};
 use crate::same::same;
+use nms_fees::SETUP_K;
 use nms_live::{Answer, Gate, GatePoint, Live};
 use nms_quote::Feed;
-use nms_scripts::SETUP_K;
 use std::alloc::Global;
 use std::process::Abort;
 use std::sync::atomic::{AtomicBool, Ordering};

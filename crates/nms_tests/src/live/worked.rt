@@ -1,11 +1,10 @@
 //! Runs of a few changes, by values worked out by hand.
 use super::{Wanted, run, setup_text};
 use crate::same::same;
-use nms_fees::read_setup;
+use nms_fees::{SETUP_K, read_setup};
 use nms_lines::{LineFault, read_plan};
 use nms_live::{Answer, Gate, GatePoint, Live, LiveFault, OpenGate};
 use nms_quote::{Certificate, Change, Feed, Leg, Part, Plan, Roster};
-use nms_scripts::SETUP_K;
 use std::alloc::Global;
 use std::process::Abort;
 use std::sync::Wait;
