@@ -5,10 +5,10 @@ use crate::fault::{About, Fault};
 use crate::files::word_at;
 use crate::screen::Screen;
 use crate::source::Source;
+use crate::words::Request;
 use nms_codes::Code;
 use nms_fees::{Setup, feed_named};
 use nms_quote::{Feed, Sym};
-use nms_review_words::Request;
 use nms_show::{Ending, Form};
 use std::time::Clock;
 

@@ -9,6 +9,7 @@ use crate::files::{open_word, read_file, word_at};
 use crate::importing::{fault_in as import_fault, tell_map_fault};
 use crate::screen::Screen;
 use crate::source::Source;
+use crate::words::Request;
 use nms_codes::Code;
 use nms_compare::{
     CompareFault, NationalMapping, Shown, compare_rows, keys_of, read_national_mapping,
@@ -18,7 +19,6 @@ use nms_fees::Setup;
 use nms_files::read_changes;
 use nms_import::{MapFault, Work, next_row, open_rows};
 use nms_quote::Change;
-use nms_review_words::Request;
 use nms_show::Ending;
 use std::alloc::Global;
 use std::io::Write;

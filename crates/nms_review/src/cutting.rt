@@ -10,12 +10,12 @@ use crate::importing::{
 };
 use crate::screen::Screen;
 use crate::source::Source;
+use crate::words::Request;
 use csv::{ByteRecord, Reader};
 use nms_fees::Setup;
 use nms_import::{
     Columns, ImportFault, MapFault, Mapping, Notes, Order, Tally, Told, next_row, open_rows,
 };
-use nms_review_words::Request;
 use nms_shards::{
     Cutting, LEAST_LIMIT, Shard, begin_shard, import_shard, write_listed, write_setup,
 };

@@ -1,8 +1,8 @@
 //! Files of a call: opened, or read whole.
 use crate::fault::{About, Fault};
+use crate::words::Request;
 use nms_codes::Code;
 use nms_fees::{SETUP_K, Setup, read_setup};
-use nms_review_words::Request;
 use std::alloc::Global;
 use std::os::unix::fs::MetadataExt;
 use std::rt::Files;

@@ -6,13 +6,13 @@ use crate::files::{create_file, open_word, read_file, word_at};
 use crate::importing_trades::{is_trade_map, serve_import_trades};
 use crate::screen::Screen;
 use crate::source::Source;
+use crate::words::Request;
 use nms_codes::Code;
 use nms_fees::Setup;
 use nms_import::{
     Guard, Half, ImportFault, MapFault, Mapping, Notes, Tally, Told, Work, import_rows, next_row,
     open_rows, read_mapping, write_symbols, write_tally,
 };
-use nms_review_words::Request;
 use nms_show::{Ending, Form, Item, write_line};
 use std::alloc::Global;
 use std::io::Write;

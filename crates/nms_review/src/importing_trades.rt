@@ -6,6 +6,7 @@ use crate::files::{open_word, word_at};
 use crate::importing::{create, fault_in, flush, tell_map_fault};
 use crate::screen::Screen;
 use crate::source::Source;
+use crate::words::Request;
 use nms_codes::Code;
 use nms_fees::Setup;
 use nms_import::{ImportFault, MapFault, document_of, next_row, open_rows};
@@ -13,7 +14,6 @@ use nms_import_trades::{
     TradeMapping, TradeTally, TradeTold, TradeWork, import_trades, is_of_trades,
     read_trade_mapping, write_trade_tally,
 };
-use nms_review_words::Request;
 use nms_show::Ending;
 use std::alloc::Global;
 use std::io::Write;

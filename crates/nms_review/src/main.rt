@@ -19,11 +19,12 @@ mod source;
 mod telling;
 mod timing;
 mod trading;
+mod words;
 
+use crate::words::{Request, WordsFault, read_words};
 use answers::Answers;
 use fault::Fault;
 use nms_codes::Code;
-use nms_review_words::{Request, WordsFault, read_words};
 use nms_show::{Ending, Form, Item, write_line};
 use screen::Screen;
 use serving::serve;

@@ -1,7 +1,7 @@
 //! The report on a request that was not served.
 use crate::fault::{About, Fault};
+use crate::words::{Request, Sub};
 use nms_codes::{Code, Matter};
-use nms_review_words::{Request, Sub};
 use nms_show::{Form, Item, ShowFault, write_line};
 use std::io::{ErrorKind, Write};
 

@@ -1,6 +1,6 @@
 //! The command line as `clap` reads it.
-use crate::help_text::{ABOUT, AFTER_HELP, VERSION};
-use crate::subcommand::{KINDS, Sub, Word, WordForm};
+use super::help_text::{ABOUT, AFTER_HELP, VERSION};
+use super::subcommand::{KINDS, Sub, Word, WordForm};
 use clap::{Arg, ArgAction, Command};
 use std::alloc::{AllocError, Global};
 

@@ -2,7 +2,7 @@
 
 /// A request to the program, each a subcommand of the command line.
 #[derive(Clone, Copy)]
-pub enum Sub {
+pub(crate) enum Sub {
     /// Reports the place of the fault in each refused record of a file. Its own words are `KIND` and `FILE`.
     Explain,
     /// Writes the changes that a script takes, as a file of changes. Its own word is `SCRIPT`.
@@ -32,7 +32,7 @@ pub enum Sub {
 
 /// What kind of file is explained.
 #[derive(Clone, Copy)]
-pub enum Kind {
+pub(crate) enum Kind {
     /// A script.
     Script,
     /// A file of changes.
@@ -437,7 +437,7 @@ impl Sub {
 
 impl Kind {
     /// The kind that a word names.
-    pub fn named(word: &str) -> Option<Kind> {
+    pub(crate) fn named(word: &str) -> Option<Kind> {
         match word {
             "script" => Some(Kind::Script),
             "changes" => Some(Kind::Changes),

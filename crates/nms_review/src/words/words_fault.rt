@@ -4,7 +4,7 @@ use thiserror::Error;
 
 /// Why the words of the command line are no request.
 #[derive(Debug, Drop, Error)]
-pub enum WordsFault {
+pub(crate) enum WordsFault {
     /// G1: the parser's text: a fault or, if `help` holds, the help or the version that was asked for.
     #[error("{text}")]
     Parser { text: String, help: bool },

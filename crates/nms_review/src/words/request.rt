@@ -1,51 +1,51 @@
 //! The request that the words of the command line make.
-use crate::subcommand::Sub;
+use super::subcommand::Sub;
 
 /// The request that the words of the command line make.
 #[derive(Drop)]
-pub struct Request {
+pub(crate) struct Request {
     /// The subcommand.
-    pub command: Sub,
+    pub(crate) command: Sub,
     /// The subcommand's own words, in order.
-    pub words: Vec<String>,
+    pub(crate) words: Vec<String>,
     /// The file that `--setup` names.
-    pub setup: Option<String>,
+    pub(crate) setup: Option<String>,
     /// The letter that `--feed` gives, as it was written.
-    pub feed: Option<String>,
+    pub(crate) feed: Option<String>,
     /// The file that `--plan` names.
-    pub plan: Option<String>,
+    pub(crate) plan: Option<String>,
     /// The file that `--map` names.
-    pub map: Option<String>,
+    pub(crate) map: Option<String>,
     /// The name that `--out` gives to the written files.
-    pub out: Option<String>,
+    pub(crate) out: Option<String>,
     /// The file that `--times` names.
-    pub times: Option<String>,
+    pub(crate) times: Option<String>,
     /// The file that `--symbols` names.
-    pub symbols: Option<String>,
+    pub(crate) symbols: Option<String>,
     /// The symbol that `--symbol` names.
-    pub symbol: Option<String>,
+    pub(crate) symbol: Option<String>,
     /// The version that `--version` gives, as it was written.
-    pub version: Option<String>,
+    pub(crate) version: Option<String>,
     /// The file of executions that `--trades` names.
-    pub trades: Option<String>,
+    pub(crate) trades: Option<String>,
     /// The first version that `--from` gives, as it was written.
-    pub from: Option<String>,
+    pub(crate) from: Option<String>,
     /// The last version that `--to` gives, as it was written.
-    pub to: Option<String>,
+    pub(crate) to: Option<String>,
     /// The page that `--html` names.
-    pub html: Option<String>,
+    pub(crate) html: Option<String>,
     /// The nanoseconds that `--window` gives, as they were written.
-    pub window: Option<String>,
+    pub(crate) window: Option<String>,
     /// Whether `--own` was given.
-    pub own: bool,
+    pub(crate) own: bool,
     /// Whether `--rows` was given.
-    pub rows: bool,
+    pub(crate) rows: bool,
     /// Whether `--shards` was given.
-    pub shards: bool,
+    pub(crate) shards: bool,
     /// Whether `--before` was given.
-    pub before: bool,
+    pub(crate) before: bool,
     /// Whether `--json` was given.
-    pub json: bool,
+    pub(crate) json: bool,
     /// Whether `--table` was given.
-    pub table: bool,
+    pub(crate) table: bool,
 }

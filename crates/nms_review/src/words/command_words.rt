@@ -1,8 +1,8 @@
 //! The words of the command line, read as a request.
-use crate::command_line::review_command;
-use crate::request::Request;
-use crate::subcommand::{Sub, WordForm};
-use crate::words_fault::WordsFault;
+use super::command_line::review_command;
+use super::request::Request;
+use super::subcommand::{Sub, WordForm};
+use super::words_fault::WordsFault;
 use clap::error::ErrorKind;
 use clap::{ArgMatches, Error};
 use std::alloc::{AllocError, Global};
@@ -15,7 +15,7 @@ tip: give options behind the subcommand: nms_review stream CHANGES --setup FILE
 /// Reads the words that follow the program's name: a subcommand, its own words and its options.
 ///
 /// `Parser` has the parser's text: a fault, or the help or the version that was asked for. `NoMemory` may replace any answer.
-pub fn read_words<'a>(alloc: Global, words: &'a [&'a str]) -> Result<Request, WordsFault> {
+pub(crate) fn read_words<'a>(alloc: Global, words: &'a [&'a str]) -> Result<Request, WordsFault> {
     match review_command(alloc)?.try_get_matches_from(words) {
         Ok(matches) => Ok(request_in(alloc, &matches)?),
         Err(error) => Err(fault_of(alloc, words, &error)),
