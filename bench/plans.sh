@@ -34,10 +34,9 @@ text = without(text, "/// How many random plans", "/// What is asked for")
 text = without(text, "// ---- every small board", "// ---- boards drawn at random")
 text = text[: text.index("#[test]")]
 for old, new in (
-    ("use nms_scripts::SETUP_K;\n", ""),
     ("use crate::same::same;\n", ""),
     ("use std::alloc::Global;\n", "use crate::Failed;\n"),
-    ("Setup, read_setup", "read_setup"),
+    ("SETUP_K, Setup, read_setup", "read_setup"),
     (" CutKind,", ""),
     ("fees: &FeeBook, number: u32) ->", "fees: &FeeBook, number: u32, seed: u64) ->"),
     ("state: 600", "state: seed"),

@@ -6,9 +6,10 @@ ghost use Rattle.nms_quote.specs.declared.TheConstants.{MOST_CHANGES};
 use crate::call::ended;
 use crate::fault::{About, Fault};
 use crate::files::{open_word, read_file, word_at};
-use crate::importing::{fault_in as import_fault, tell_map_fault};
+use crate::importing::tell_map_fault;
 use crate::screen::Screen;
 use crate::source::Source;
+use crate::vendor::open_vendor;
 use crate::words::Request;
 use nms_codes::Code;
 use nms_compare::{
@@ -17,7 +18,7 @@ use nms_compare::{
 };
 use nms_fees::Setup;
 use nms_files::read_changes;
-use nms_import::{MapFault, Work, next_row, open_rows};
+use nms_import::{MapFault, Work};
 use nms_quote::Change;
 use nms_show::Ending;
 use std::alloc::Global;
@@ -104,18 +105,9 @@ where
     requires each { length keys.now ≡ length changes.now }
 {
     let alloc = rt.alloc();
-    let file = open_word(rt, request, NATIONAL)?;
     let form = mapping.file();
-    let mut reader = open_rows(
-        alloc,
-        form.delimiter,
-        form.quotes,
-        Source::new(rt, screen, file),
-    );
     let mut work = Work::new(alloc);
-    if form.header {
-        next_row(&mut reader, &mut work.row).map_err(|fault| import_fault(fault, NATIONAL))?;
-    }
+    let mut reader = open_vendor(rt, screen, request, NATIONAL, form, &mut work.row)?;
     let vendor = match mapping.vendor(alloc, &work.row) {
         Ok(vendor) => vendor,
         Err(fault) => return tell_map_fault(rt, word_at(request, NATIONAL), &fault),

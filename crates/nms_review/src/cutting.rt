@@ -4,18 +4,17 @@ ghost use Rattle.nms_shards.specs.declared.TheConstants.{LEAST_LIMIT};
 
 use crate::answers::Answers;
 use crate::fault::{About, Fault};
-use crate::files::{open_word, word_at};
+use crate::files::word_at;
 use crate::importing::{
     create, fault_in, flush, no_memory, show_told, tell_counts, tell_map_fault,
 };
 use crate::screen::Screen;
 use crate::source::Source;
+use crate::vendor::open_vendor;
 use crate::words::Request;
 use csv::{ByteRecord, Reader};
 use nms_fees::Setup;
-use nms_import::{
-    Columns, ImportFault, MapFault, Mapping, Notes, Order, Tally, Told, next_row, open_rows,
-};
+use nms_import::{Columns, ImportFault, MapFault, Mapping, Notes, Order, Tally, Told};
 use nms_shards::{
     Cutting, LEAST_LIMIT, Shard, begin_shard, import_shard, write_listed, write_setup,
 };
@@ -141,16 +140,9 @@ fn cut_file<'a, T>(
 where
     T: AllocGlobal + Clock + Eprint + Files,
 {
-    let alloc = rt.alloc();
-    let file = open_word(rt, request, place)?;
-    let source = Source::new(rt, screen, file);
     let form = mapping.file;
-    let mut reader = open_rows(alloc, form.delimiter, form.quotes, source);
-    job.row.clear();
-    if form.header {
-        next_row(&mut reader, &mut job.row).map_err(|fault| fault_in(fault, place))?;
-    }
-    let columns = match mapping.columns(alloc, &job.row) {
+    let mut reader = open_vendor(rt, screen, request, place, form, &mut job.row)?;
+    let columns = match mapping.columns(rt.alloc(), &job.row) {
         Ok(columns) => columns,
         Err(fault) => {
             tell_map_fault(rt, word_at(request, place), &fault)?;

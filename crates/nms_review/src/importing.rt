@@ -2,16 +2,16 @@
 use crate::answers::Answers;
 use crate::cutting::cut_files;
 use crate::fault::{About, Fault};
-use crate::files::{create_file, open_word, read_file, word_at};
+use crate::files::{create_file, read_file, word_at};
 use crate::importing_trades::{is_trade_map, serve_import_trades};
 use crate::screen::Screen;
-use crate::source::Source;
+use crate::vendor::open_vendor;
 use crate::words::Request;
 use nms_codes::Code;
 use nms_fees::Setup;
 use nms_import::{
-    Guard, Half, ImportFault, MapFault, Mapping, Notes, Tally, Told, Work, import_rows, next_row,
-    open_rows, read_mapping, write_symbols, write_tally,
+    Guard, Half, ImportFault, MapFault, Mapping, Notes, Tally, Told, Work, import_rows,
+    read_mapping, write_symbols, write_tally,
 };
 use nms_show::{Ending, Form, Item, write_line};
 use std::alloc::Global;
@@ -112,16 +112,9 @@ fn import_file<'a, T>(
 where
     T: AllocGlobal + Clock + Eprint + Files,
 {
-    let alloc = rt.alloc();
-    let file = open_word(rt, request, place)?;
-    let source = Source::new(rt, screen, file);
     let form = mapping.file;
-    let mut reader = open_rows(alloc, form.delimiter, form.quotes, source);
-    job.work.row.clear();
-    if form.header {
-        next_row(&mut reader, &mut job.work.row).map_err(|fault| fault_in(fault, place))?;
-    }
-    let columns = match mapping.columns(alloc, &job.work.row) {
+    let mut reader = open_vendor(rt, screen, request, place, form, &mut job.work.row)?;
+    let columns = match mapping.columns(rt.alloc(), &job.work.row) {
         Ok(columns) => columns,
         Err(fault) => {
             tell_map_fault(rt, word_at(request, place), &fault)?;

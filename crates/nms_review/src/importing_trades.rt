@@ -2,14 +2,14 @@
 //! one file.
 use crate::answers::Answers;
 use crate::fault::{About, Fault};
-use crate::files::{open_word, word_at};
+use crate::files::word_at;
 use crate::importing::{create, fault_in, flush, tell_map_fault};
 use crate::screen::Screen;
-use crate::source::Source;
+use crate::vendor::open_vendor;
 use crate::words::Request;
 use nms_codes::Code;
 use nms_fees::Setup;
-use nms_import::{ImportFault, MapFault, document_of, next_row, open_rows};
+use nms_import::{ImportFault, MapFault, document_of};
 use nms_import_trades::{
     TradeMapping, TradeTally, TradeTold, TradeWork, import_trades, is_of_trades,
     read_trade_mapping, write_trade_tally,
@@ -116,16 +116,9 @@ fn import_trade_file<'a, T>(
 where
     T: AllocGlobal + Clock + Eprint + Files,
 {
-    let alloc = rt.alloc();
-    let file = open_word(rt, request, place)?;
-    let source = Source::new(rt, screen, file);
     let form = mapping.file;
-    let mut reader = open_rows(alloc, form.delimiter, form.quotes, source);
-    job.work.row.clear();
-    if form.header {
-        next_row(&mut reader, &mut job.work.row).map_err(|fault| fault_in(fault, place))?;
-    }
-    let columns = match mapping.columns(alloc, &job.work.row) {
+    let mut reader = open_vendor(rt, screen, request, place, form, &mut job.work.row)?;
+    let columns = match mapping.columns(rt.alloc(), &job.work.row) {
         Ok(columns) => columns,
         Err(fault) => {
             tell_map_fault(rt, word_at(request, place), &fault)?;

@@ -19,6 +19,7 @@ mod source;
 mod telling;
 mod timing;
 mod trading;
+mod vendor;
 mod words;
 
 use crate::words::{Request, WordsFault, read_words};

@@ -1,7 +1,6 @@
 //! The setup that a request names.
 use crate::program_fault::ProgramFault;
-use nms_fees::{Setup, SetupFault, read_setup};
-use nms_scripts::SETUP_K;
+use nms_fees::{SETUP_K, Setup, SetupFault, read_setup};
 use nms_serve_words::Request;
 use nms_serving::ServeFault;
 use std::alloc::Global;
