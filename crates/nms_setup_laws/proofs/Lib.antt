@@ -1,0 +1,3 @@
+mod LeastLemmas
+mod NamesTwice
+mod Findings
