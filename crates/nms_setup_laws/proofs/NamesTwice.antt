@@ -42,7 +42,8 @@ any-none (x ∷ xs) = any-none xs
 any-append : {X : Type 0} (test : X → Bool) (first : List X) (last : X)
     → list_any test (first ++ last ∷ []) ≡ (list_any test first || test last)
 any-append test [] last = or_none (test last)
-any-append test (x ∷ first) last = ap (λ b. test x || b) (any-append test first last) ∙ sym (or_assoc (test x) (list_any test first) (test last))
+any-append test (x ∷ first) last = ap (λ b. test x || b) (any-append test first last)
+    ∙ sym (or_assoc (test x) (list_any test first) (test last))
 
 -- either of two tests
 any-either : {X : Type 0} (f g : X → Bool) (xs : List X) → list_any (λ x. f x || g x) xs ≡ (list_any f xs || list_any g xs)
