@@ -3,7 +3,7 @@ use Rattle.std.proofs.Common.{◌≡◌, ◌≢◌, ◌∙◌, ◌<◌, ◌+◌,
 use Rattle.std.proofs.Common.{List, [], ◌∷◌, Option, Some, None}
 use Rattle.std.proofs.Common.{map, drop, length, get_or, is_some, option_map, option_and_then, refl, sym, subst, ap, arith, if◌then◌else◌}
 use borrow.Author.Tests.{eq-eqb, ne_eqb}
-use Rattle.std.proofs.lemmas.List.{append_assoc, drop_more}
+use Rattle.std.proofs.lemmas.List.{append_assoc, drop_more, map-append}
 use Rattle.std.specs.List.{list_any}
 use Rattle.std.specs.Str.{bytes_eq}
 use Rattle.std.specs.String.{string_bytes}
@@ -126,7 +126,7 @@ from_next : (values : List (Bor Text)) (i : ℕ) (d : Bor Text) → i < length v
 from_next values i d within = ap (λ (rest : List (Bor Text)). clients_of (texts rest)) (drop_more values i d within)
 
 -- the value at i is no client, so there are no clients of it and those after it
-pub none_from : (values : List (Bor Text)) (i : ℕ) (d : Bor Text) → i < length values → None ≡ client_of (get_or values i d).now
+none_from : (values : List (Bor Text)) (i : ℕ) (d : Bor Text) → i < length values → None ≡ client_of (get_or values i d).now
     → clients_of (texts (drop i values)) ≡ None
 none_from values i d within none = from_next values i d within
     ∙ ap (option_and_then (λ (client : Client). option_map (λ clients. client ∷ clients)
@@ -139,7 +139,7 @@ joined before client None = refl
 joined before client (Some after) = ap (λ (clients : List Client). Some clients) (sym (append_assoc before (client ∷ []) after))
 
 -- the client at i stands before those after it
-pub next_from : (before : List Client) (values : List (Bor Text)) (i : ℕ) (d : Bor Text) (client : Client) → i < length values
+next_from : (before : List Client) (values : List (Bor Text)) (i : ℕ) (d : Bor Text) (client : Client) → i < length values
     → Some client ≡ client_of (get_or values i d).now
     → option_map (λ after. before ++ after) (clients_of (texts (drop i values)))
     ≡ option_map (λ after. (before ++ client ∷ []) ++ after) (clients_of (texts (drop (i + 1) values)))
@@ -148,6 +148,23 @@ next_from before values i d client within some =
     ap (option_map (λ (after : List Client). before ++ after)) (from_next values i d within
     ∙ ap (option_and_then (λ (one : Client). option_map (λ clients. one ∷ clients) rest)) (sym some))
     ∙ joined before client rest
+
+-- the client at i is read: it stands after the clients so far
+pub one_read : (values : List (Bor Text)) (i : ℕ) (d : Bor Text) (clients more : List ClientPaths) (client : ClientPaths) → i < length values
+    → clients_of (texts values) ≡ option_map (λ rest. map shown_client clients ++ rest) (clients_of (texts (drop i values)))
+    → Some (shown_client client) ≡ client_of (get_or values i d).now → more ≡ clients ++ client ∷ []
+    → clients_of (texts values) ≡ option_map (λ rest. map shown_client more ++ rest) (clients_of (texts (drop (i + 1) values)))
+one_read values i d clients more client within so_far some all =
+    so_far ∙ next_from (map shown_client clients) values i d (shown_client client) within some
+    ∙ ap (λ (found : List Client). option_map (λ rest. found ++ rest) (clients_of (texts (drop (i + 1) values))))
+    (sym (ap (map shown_client) all ∙ map-append shown_client clients (client ∷ [])))
+
+-- the client at i is none: so the values give no clients
+pub none_read : (values : List (Bor Text)) (i : ℕ) (d : Bor Text) (clients : List ClientPaths) → i < length values
+    → clients_of (texts values) ≡ option_map (λ rest. map shown_client clients ++ rest) (clients_of (texts (drop i values)))
+    → None ≡ client_of (get_or values i d).now → clients_of (texts values) ≡ None
+none_read values i d clients within so_far none =
+    so_far ∙ ap (option_map (λ (rest : List Client). map shown_client clients ++ rest)) (none_from values i d within none)
 
 -- ---- paths
 

@@ -1,4 +1,5 @@
 pub mod ClientLemmas
+pub mod Commands
 pub mod Defaults
 pub mod Examples
 pub mod FeedLemmas

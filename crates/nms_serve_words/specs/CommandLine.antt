@@ -59,10 +59,13 @@ abbrev pub without_options : App
 without_options = on_top (λ top. record top { no_binary_name = true; arg_required_else_help = true; has_version = true })
     (new_app (codes "nms_serve"))
 
+-- with the options that name files
+abbrev pub with_files : App
+with_files = fold with_rule without_options (setup_rule ∷ feed_rule ∷ client_rule ∷ tape_rule ∷ [])
+
 -- the whole command line
 abbrev pub serve : App
-serve = fold with_rule without_options
-    (setup_rule ∷ feed_rule ∷ client_rule ∷ tape_rule ∷ strict_rule ∷ keep_rule ∷ wait_rule ∷ stale_rule ∷ [])
+serve = fold with_rule with_files (strict_rule ∷ keep_rule ∷ wait_rule ∷ stale_rule ∷ [])
 
 -- ---- what the matches hold
 

@@ -1,7 +1,7 @@
 //! The command line as `clap` reads it.
 ghost use Rattle.std.specs.Prelude.{◌≡◌, IfOk, false};
 ghost use Rattle.clap.specs.Words.{app_of, rule_of, with_rule};
-ghost use Rattle.nms_serve_words.specs.CommandLine.{client_rule, feed_rule, keep_rule, serve, setup_rule, stale_rule, strict_rule, tape_rule, wait_rule, without_options};
+ghost use Rattle.nms_serve_words.specs.CommandLine.{client_rule, feed_rule, keep_rule, serve, setup_rule, stale_rule, strict_rule, tape_rule, wait_rule, with_files, without_options};
 
 use crate::help_text::{ABOUT, AFTER_HELP, VERSION};
 use clap::{Arg, ArgAction, Command};
@@ -11,14 +11,20 @@ use std::alloc::{AllocError, Global};
 pub(crate) fn serve_command<'a>(alloc: Global) -> Result<Command<'a>, AllocError>
     ensures { IfOk result (λ command. app_of command ≡ serve) }
 {
-    let command = with_arg(bare_command(alloc)?, setup_arg(alloc))?;
-    let command = with_arg(command, feed_arg(alloc))?;
-    let command = with_arg(command, client_arg(alloc))?;
-    let command = with_arg(command, tape_arg(alloc))?;
-    let command = with_arg(command, strict_arg(alloc))?;
+    let command = with_arg(file_command(alloc)?, strict_arg(alloc))?;
     let command = with_arg(command, keep_arg(alloc))?;
     let command = with_arg(command, wait_arg(alloc))?;
     with_arg(command, stale_arg(alloc))
+}
+
+/// The command line with the options that name files alone.
+fn file_command<'a>(alloc: Global) -> Result<Command<'a>, AllocError>
+    ensures { IfOk result (λ command. app_of command ≡ with_files) }
+{
+    let command = with_arg(bare_command(alloc)?, setup_arg(alloc))?;
+    let command = with_arg(command, feed_arg(alloc))?;
+    let command = with_arg(command, client_arg(alloc))?;
+    with_arg(command, tape_arg(alloc))
 }
 
 /// A command that takes this option too.
