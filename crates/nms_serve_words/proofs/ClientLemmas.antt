@@ -150,7 +150,8 @@ next_from before values i d client within some =
     ∙ joined before client rest
 
 -- the client at i is read: it stands after the clients so far
-pub one_read : (values : List (Bor Text)) (i : ℕ) (d : Bor Text) (clients more : List ClientPaths) (client : ClientPaths) → i < length values
+pub one_read : (values : List (Bor Text)) (i : ℕ) (d : Bor Text) (clients more : List ClientPaths) (client : ClientPaths)
+    → i < length values
     → clients_of (texts values) ≡ option_map (λ rest. map shown_client clients ++ rest) (clients_of (texts (drop i values)))
     → Some (shown_client client) ≡ client_of (get_or values i d).now → more ≡ clients ++ client ∷ []
     → clients_of (texts values) ≡ option_map (λ rest. map shown_client more ++ rest) (clients_of (texts (drop (i + 1) values)))

@@ -5,4 +5,5 @@ pub mod Examples
 pub mod FeedLemmas
 pub mod Lists
 pub mod Refusals
+pub mod RightWords
 pub mod SecondLemmas

@@ -1,11 +1,11 @@
 //! The words of the command line, read as a request.
-ghost use Rattle.std.specs.Prelude.{◌≡◌, ◌==◌, ◌||◌, ◌∷◌, ◌++◌, OnOk, [], map, Some, None, IfOk, IfErr, option_map};
+ghost use Rattle.std.specs.Prelude.{◌≡◌, ◌==◌, ◌||◌, ◌∷◌, ◌++◌, OnOk, [], map, Some, None, IfOk, IfErr, MatchResult, option_map};
 ghost use Rattle.std.specs.Char.{is_ascii_digit};
 ghost use Rattle.std.specs.List.{list_all, list_any};
 ghost use Rattle.std.specs.Str.{bytes_eq};
 ghost use Rattle.std.specs.String.{string_bytes};
 ghost use Rattle.clap.specs.Words.{first_of, found_of, kind_of, rows_of};
-ghost use Rattle.nms_serve_words.specs.CommandLine.{IsAsked, IsClientsFault, IsFaultOf, IsFeedsFault, IsParserFault, IsRefusal, asks_for_help, faults_in, given_by, given_in, is_flagged, shown, shown_client, shown_feed};
+ghost use Rattle.nms_serve_words.specs.CommandLine.{Asked, IsAsked, IsClientsFault, IsFaultOf, IsFeedsFault, IsParserFault, IsRefusal, asks_for_help, faults_in, given_by, given_in, is_flagged, shown, shown_client, shown_feed};
 ghost use Rattle.nms_serve_words.specs.Values.{client_in, client_of, clients_of, feed_of, feeds_of, has_twice, in_a_day, is_same_input, is_same_output, place_of, seconds_of, stale_of};
 
 use crate::command_line::serve_command;
@@ -26,6 +26,9 @@ pub fn read_words<'a>(alloc: Global, words: &'a [&'a str]) -> Result<Request, Wo
     ensures read { IfOk result (λ request. IsAsked (given_by (map (λ word. word.now) words.entry.now)) (shown request)) }
     ensures accepted { IfOk result (λ _. faults_in (map (λ word. word.now) words.entry.now) ≡ []) }
     ensures refused { IfErr result (IsRefusal (map (λ word. word.now) words.entry.now)) }
+    ensures answered { (asked : Asked) → faults_in (map (λ word. word.now) words.entry.now) ≡ []
+        → IsAsked (given_by (map (λ word. word.now) words.entry.now)) asked
+        → MatchResult result (λ request. shown request ≡ asked) (λ fault. fault ≡ WordsFault.NoMemory) }
 {
     match serve_command(alloc)?.try_get_matches_from(words) {
         Ok(matches) => request_in(alloc, &matches),
