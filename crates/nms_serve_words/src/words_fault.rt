@@ -29,8 +29,13 @@ pub enum WordsFault {
 }
 
 impl WordsFault {
+    ghost use Rattle.std.specs.Prelude.{◌≡◌};
+    ghost use Rattle.nms_serve_words.specs.Faults.{status_of};
+
     /// The exit status of a program that it ends: 2 for words, 5 for memory.
-    pub fn status(&self) -> u8 {
+    pub fn status(&self) -> u8
+        ensures { result ≡ status_of self.now }
+    {
         match self {
             WordsFault::Parser { .. }
             | WordsFault::FeedForm
@@ -44,6 +49,11 @@ impl WordsFault {
 }
 
 impl From<AllocError> for WordsFault {
+    ghost use Rattle.std.specs.Prelude.{◌≡◌};
+    ghost use Rattle.nms_serve_words.specs.declared.words_fault.WordsFault.TheVariants.{NoMemory};
+
+    ghost from_gives = { λ _ fault. fault ≡ NoMemory };
+
     fn from(_error: AllocError) -> WordsFault {
         WordsFault::NoMemory
     }
