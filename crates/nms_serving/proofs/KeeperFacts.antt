@@ -1,6 +1,7 @@
 -- How a keeper's tape, its board and its published version belong together.
 use Rattle.std.proofs.Common.{ℕ, ◌≡◌, ◌+◌, ◌<◌, ◌≤◌, ◌++◌, List, [], ◌∷◌, Option, Some, None, length, take, drop, fold}
 use Rattle.std.proofs.Common.{refl, sym, ap, subst, ◌∙◌, arith, length-append, append_assoc}
+use Rattle.std.proofs.KnownBytes.{Appends-nil}
 use Rattle.std.proofs.lemmas.List.{append-nil, take_more}
 use Rattle.std.proofs.lemmas.List.Sums.{fold-append}
 use Rattle.std.specs.Prelude.{get_or}
@@ -9,8 +10,11 @@ use Rattle.nms_quote.specs.Roster.{Listing, Sizes}
 use Rattle.nms_quote.specs.declared.change.Change.{Change}
 use Rattle.nms_board.specs.Cells.{Board, after, opening}
 use Rattle.nms_change_text.specs.ChangeText.{changes_text}
+use Rattle.nms_lines.specs.Written.{AppendsPart}
 use Rattle.nms_opening.specs.Alike.{ShowAlike}
 use Rattle.nms_opening.specs.Opening.{Opens}
+use Rattle.nms_serving.specs.Keeping.{Keeping, with_change}
+use Rattle.nms_serving.specs.Lengths.{length_line, opening_lines}
 use Rattle.nms_versions.specs.Published.{changes, committed}
 use Rattle.nms_versions.specs.Taped.{Taped, tape_of}
 
@@ -84,6 +88,13 @@ pub appends_nothing : (known : Option (List ℕ)) (roster : Listing) (more : Lis
 appends_nothing None roster more none = tt
 appends_nothing (Some bytes) roster more none = rw none (sym (append-nil bytes))
 
+-- none or all of a text is a first part of it
+pub no_part : (known : Option (List ℕ)) (text : List ℕ) → AppendsPart known known text
+no_part known text = record { part = []; rest = text; split = refl; written = Appends-nil known }
+
+pub whole_part : (before after : Option (List ℕ)) (text : List ℕ) → Appends before after text → AppendsPart before after text
+whole_part before after text all = record { part = text; rest = []; split = sym (append-nil text); written = all }
+
 -- changes appended to an empty tape are the tape
 pub taken_whole : (taped later : Taped) (more : List Change) → tape_of taped ≡ []
     → later ≡ record taped { pending = taped.pending ++ more } → tape_of later ≡ more
@@ -92,21 +103,35 @@ taken_whole taped later more none is =
     rw is (ap (λ (p : List Change). p ++ (taped.pending ++ more)) parts.0 ∙ ap (λ (p : List Change). p ++ more) parts.1)
 
 pub some_waiting : (taped later : Taped) (more : List Change) (published : ℕ) → tape_of taped ≡ []
-    → later ≡ record taped { pending = taped.pending ++ more } → published ≡ length (changes later.published) → 0 < length more
+    → later ≡ record taped { pending = taped.pending ++ more } → published ≡ 0 → 0 < length more
     → published < length (tape_of later)
-some_waiting taped later more published none is counted some =
-    let shown : changes later.published ≡ [] = ap (λ (t : Taped). changes t.published) is ∙ none_published taped none in
-    omega (arith, counted, ap length shown, ap length (taken_whole taped later more none is), some)
+some_waiting taped later more published none is zero some = omega (arith, zero, ap length (taken_whole taped later more none is), some)
 
 -- and what is written of them is all of them
 pub recorded_whole : (taped later : Taped) (more : List Change) (published : ℕ) (roster : Listing) (before after : Option (List ℕ))
-    → tape_of taped ≡ [] → later ≡ record taped { pending = taped.pending ++ more } → published ≡ length (changes later.published)
+    → tape_of taped ≡ [] → later ≡ record taped { pending = taped.pending ++ more } → published ≡ 0
     → Appends before after (changes_text roster (drop published (tape_of later))) → Appends before after (changes_text roster more)
-recorded_whole taped later more published roster before after none is counted written =
-    let zero : published ≡ 0 = counted ∙ ap length (ap (λ (t : Taped). changes t.published) is ∙ none_published taped none) in
+recorded_whole taped later more published roster before after none is zero written =
     let text : drop published (tape_of later) ≡ more =
     ap (λ (n : ℕ). drop n (tape_of later)) zero ∙ taken_whole taped later more none is in
     subst (λ (l : List Change). Appends before after (changes_text roster l)) text written
+
+-- what is written of the lengths: nothing of none, and else one line
+pub lists_nothing : (known : Option (List ℕ)) (more : List Change) → more ≡ [] → Appends known known (opening_lines more)
+lists_nothing None more none = tt
+lists_nothing (Some bytes) more none = rw none (sym (append-nil bytes))
+
+lines_of_some : (more : List Change) → 0 < length more → length_line (length more) ≡ opening_lines more
+lines_of_some [] some = absurd (omega (arith, some))
+lines_of_some (change ∷ more) some = refl
+
+pub listed_whole : (taped later : Taped) (more : List Change) (before after : Option (List ℕ)) → tape_of taped ≡ []
+    → later ≡ record taped { pending = taped.pending ++ more } → 0 < length more
+    → Appends before after (length_line (length (tape_of later))) → Appends before after (opening_lines more)
+listed_whole taped later more before after none is some written =
+    let line : length_line (length (tape_of later)) ≡ opening_lines more =
+    ap (λ (l : List Change). length_line (length l)) (taken_whole taped later more none is) ∙ lines_of_some more some in
+    subst (λ (l : List ℕ). Appends before after l) line written
 
 -- a board that has taken the opening changes of another shows the same
 opens_alike : (board next : Board) (taped : Taped) (sym_ : ℕ) → Opens board (tape_of taped) → taped.sizes ≡ board.sizes
@@ -133,3 +158,18 @@ added_more taped now later xs i x within at was is =
     is ∙ ap (λ (t : Taped). record t { pending = t.pending ++ x ∷ [] }) was
     ∙ ap (λ (p : List Change). record taped { pending = p })
     (append_assoc taped.pending (take i xs) (x ∷ []) ∙ ap (λ (p : List Change). taped.pending ++ p) (sym more))
+
+-- a change more on the tape, and what it leaves
+module _ {X Y : Type 0} where
+  pub one_more : (old new : Keeping X Y) (change : Change) → new ≡ with_change old change
+      → new.publisher ≡ record old.publisher { pending = old.publisher.pending ++ change ∷ [] }
+  one_more old new change is = ap (λ (k : Keeping X Y). k.publisher) is
+
+  pub one_more_leaves : (old new : Keeping X Y) (change : Change) → new ≡ with_change old change
+      → (new.tape ≡ old.tape) × (new.lengths ≡ old.lengths) × (new.roster ≡ old.roster) × (new.published ≡ old.published)
+  one_more_leaves old new change is = (
+    ap (λ (k : Keeping X Y). k.tape) is,
+    ap (λ (k : Keeping X Y). k.lengths) is,
+    ap (λ (k : Keeping X Y). k.roster) is,
+    ap (λ (k : Keeping X Y). k.published) is,
+  )

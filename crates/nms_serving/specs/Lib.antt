@@ -1,4 +1,5 @@
 pub mod Faults
+pub mod Keeping
 pub mod Lengths
 pub mod Room
 pub mod Silences

@@ -1,14 +1,17 @@
-//! The taker's side of the board: each batch of changes is on the tape's file before it is published.
-ghost use Rattle.std.specs.Prelude.{◌≡◌, ℕ, ◌+◌, ◌<◌, ◌≤◌, ◌++◌, ◌∷◌, [], drop, fold, length, IfOk, OnErr, OnOk};
+//! The taker's side of the board: each batch of changes is on the tape's file before it is published (specs/Keeping).
+ghost use Rattle.std.specs.Prelude.{◌≡◌, ℕ, ◌+◌, ◌<◌, ◌≤◌, ◌++◌, ◌∷◌, ◌⊎◌, [], drop, fold, length, IfOk, OnErr, OnOk};
 ghost use Rattle.std.specs.Io.KnownBytes.{Appends};
 ghost use Rattle.nms_change_text.specs.ChangeText.{changes_text};
 ghost use Rattle.nms_quote.specs.Roster.{sizes_of};
 ghost use Rattle.nms_quote.specs.declared.TheConstants.{MOST_CHANGES};
 ghost use Rattle.nms_board.specs.Cells.{after, opening};
+ghost use Rattle.nms_lines.specs.Written.{AppendsPart};
 ghost use Rattle.nms_opening.specs.Alike.{ShowAlike};
 ghost use Rattle.nms_opening.specs.Opening.{Opens};
-ghost use Rattle.nms_serving.specs.Lengths.{length_line};
-ghost use Rattle.nms_versions.specs.Published.{changes, committed};
+ghost use Rattle.nms_serving.specs.declared.TheConstants.{MOST_BATCH};
+ghost use Rattle.nms_serving.specs.Keeping.{IsKept, IsWritten, with_all_published, with_change, with_writers};
+ghost use Rattle.nms_serving.specs.Lengths.{length_line, opening_lines};
+ghost use Rattle.nms_versions.specs.Published.{changes};
 ghost use Rattle.nms_versions.specs.Taped.{tape_of};
 
 use crate::MOST_BATCH;
@@ -23,13 +26,20 @@ use nms_quote::{Change, Roster};
 use nms_versions::{AppendFault, Publisher, Receipt};
 use std::alloc::{AllocError, Global};
 use std::io::Write;
+use std::marker::Model;
 use std::sync::Wait;
 
-/// Takes the changes of one epoch in, writes each batch to the tape's file and then publishes it. It is not `Drop`: end it by
-/// `end`.
-pub(crate) struct Keeper<'a, X: Write, Y: Write> {
+/// The taker of a board that runs: it takes the changes of an epoch in, writes each batch, and then publishes it. It is not
+/// `Drop`: end it by `end`.
+///
+/// `serve` runs one in threads, over paths. A server of one's own calls it in the thread that takes, with any two writers, and
+/// gives the desks of the same opening to the threads that look.
+///
+/// If a publishing fails, a file may have a first part of a text, or all of it. A later batch would follow that part: so end the
+/// keeper.
+pub struct Keeper<'a, X: Write, Y: Write> {
     roster: &'a Roster,
-    pub(crate) publisher: Publisher,
+    publisher: Publisher,
     /// The board of the tape, from which the next epoch begins.
     board: Boards,
     /// The file of the tape.
@@ -40,6 +50,7 @@ pub(crate) struct Keeper<'a, X: Write, Y: Write> {
     text: Vec<u8>,
     /// How many changes were published.
     published: u64,
+    /// How often changes were published.
     publishings: u64,
     ghost counted: { published ≡ length (changes publisher.published) },
     ghost often: { publishings ≤ published },
@@ -49,10 +60,27 @@ pub(crate) struct Keeper<'a, X: Write, Y: Write> {
     ghost standing: { board ≡ fold after (opening publisher.sizes) (tape_of publisher) },
 }
 
+impl<'a, X: Write, Y: Write> Model for Keeper<'a, X, Y> {
+    ghost use Rattle.nms_serving.specs.Keeping.{Keeping};
+
+    ghost Value = { Keeping X Y };
+
+    ghost view = { λ k. record {
+      roster = k.roster.now;
+      publisher = k.publisher;
+      board = k.board;
+      tape = k.tape;
+      lengths = k.lengths;
+      published = k.published;
+      publishings = k.publishings;
+    } };
+}
+
 impl<'a, X: Write, Y: Write> Keeper<'a, X, Y> {
-    /// Keeps a tape that was just opened, with a board that has nothing on it.
+    /// Keeps a tape that was just opened (`open_tape` of `nms_versions`), with a board that has nothing on it. The writers are
+    /// those of the tape and of its lengths. Nothing is written yet.
     #[tactic(auto, using(crate::proofs::KeeperFacts::stands_empty))]
-    pub(crate) fn new(
+    pub fn new(
         alloc: Global,
         roster: &'a Roster,
         publisher: Publisher,
@@ -64,8 +92,7 @@ impl<'a, X: Write, Y: Write> Keeper<'a, X, Y> {
         requires sizes { publisher.sizes ≡ sizes_of roster.now }
         requires empty { tape_of publisher ≡ [] }
         requires board { board ≡ opening publisher.sizes }
-        ensures publisher { result.publisher ≡ publisher }
-        ensures files { (result.tape ≡ tape) × (result.lengths ≡ lengths) × (result.roster.now ≡ roster.now) }
+        ensures begins { result ≡ record { roster = roster.now; publisher = publisher; board = board; tape = tape; lengths = lengths; published = 0; publishings = 0 } }
     {
         let mut publisher = publisher;
         let published = publisher.receipt().version();
@@ -82,9 +109,11 @@ impl<'a, X: Write, Y: Write> Keeper<'a, X, Y> {
     }
 
     /// The keeper of the next epoch, over a tape that was just opened and its files. The new tape begins with the opening
-    /// changes of this board, which are written to its file and then published. So a look shows the same before and after. This
-    /// keeper stays as it is.
-    pub(crate) fn next<R: Wait>(
+    /// changes of this board, which are written to its file and then published. So a look shows the same before and after.
+    ///
+    /// This keeper stays as it is, also at a fault: `NoMemory`, `TapeFull` if the new tape has no room for the opening changes,
+    /// or `NotWritten`. Then the publishing of the new tape has ended, and its files may have a first part of a text.
+    pub fn next<R: Wait>(
         &self,
         alloc: Global,
         rt: &R,
@@ -100,9 +129,11 @@ impl<'a, X: Write, Y: Write> Keeper<'a, X, Y> {
         requires sizes { publisher.sizes ≡ self.now.publisher.sizes }
         ensures opening { IfOk result (λ next. next.publisher.opening ≡ publisher.opening) }
         ensures sizes { IfOk result (λ next. next.publisher.sizes ≡ publisher.sizes) }
+        ensures roster { IfOk result (λ next. next.roster ≡ self.now.roster) }
         ensures opens { IfOk result (λ next. Opens self.now.board (tape_of next.publisher)) }
         ensures published { IfOk result (λ next. changes next.publisher.published ≡ tape_of next.publisher) }
-        ensures recorded { IfOk result (λ next. Appends (X.contents tape) (X.contents next.tape) (changes_text self.now.roster.now (tape_of next.publisher))) }
+        ensures recorded { IfOk result (λ next. Appends (X.contents tape) (X.contents next.tape) (changes_text self.now.roster (tape_of next.publisher))) }
+        ensures listed { IfOk result (λ next. Appends (Y.contents lengths) (Y.contents next.lengths) (opening_lines (tape_of next.publisher))) }
         ensures alike { IfOk result (λ next. (sym : ℕ) → sym < length self.now.board.sizes.lots → ShowAlike self.now.board next.board sym) }
     {
         let (Ok(changes), Ok(board)) = (
@@ -114,7 +145,11 @@ impl<'a, X: Write, Y: Write> Keeper<'a, X, Y> {
         };
         let mut next = Keeper::new(alloc, self.roster, publisher, board, tape, lengths);
         match next.open_with(rt, &changes) {
-            Ok(()) => Ok(next),
+            Ok(()) => {
+                // Its count says that its board is the tape's.
+                let _kept = next.changes();
+                Ok(next)
+            }
             Err(fault) => {
                 next.end(rt);
                 Err(fault)
@@ -123,14 +158,17 @@ impl<'a, X: Write, Y: Write> Keeper<'a, X, Y> {
     }
 
     /// Takes the opening changes of an epoch in, writes them and then publishes them, all at once.
-    #[tactic(auto, using(crate::proofs::KeeperFacts::none_published, crate::proofs::KeeperFacts::none_waiting, crate::proofs::KeeperFacts::appends_nothing, crate::proofs::KeeperFacts::taken_whole, crate::proofs::KeeperFacts::some_waiting, crate::proofs::KeeperFacts::recorded_whole))]
+    #[tactic(auto, using(crate::proofs::KeeperFacts::none_published, crate::proofs::KeeperFacts::none_waiting, crate::proofs::KeeperFacts::appends_nothing, crate::proofs::KeeperFacts::taken_whole, crate::proofs::KeeperFacts::some_waiting, crate::proofs::KeeperFacts::recorded_whole, crate::proofs::KeeperFacts::lists_nothing, crate::proofs::KeeperFacts::listed_whole))]
     fn open_with<R: Wait>(&mut self, rt: &R, first: &[Change]) -> Result<(), ServeFault>
         requires empty { tape_of self.old.publisher ≡ [] }
+        requires begins { self.old.published ≡ 0 }
         ensures opening { OnOk result (self.new.publisher.opening ≡ self.old.publisher.opening) }
         ensures sizes { OnOk result (self.new.publisher.sizes ≡ self.old.publisher.sizes) }
+        ensures roster { OnOk result (self.new.roster ≡ self.old.roster) }
         ensures taken { OnOk result (tape_of self.new.publisher ≡ first.now) }
         ensures published { OnOk result (changes self.new.publisher.published ≡ tape_of self.new.publisher) }
-        ensures recorded { OnOk result (Appends (X.contents self.old.tape) (X.contents self.new.tape) (changes_text self.old.roster.now first.now)) }
+        ensures recorded { OnOk result (Appends (X.contents self.old.tape) (X.contents self.new.tape) (changes_text self.old.roster first.now)) }
+        ensures listed { OnOk result (Appends (Y.contents self.old.lengths) (Y.contents self.new.lengths) (opening_lines first.now)) }
     {
         if first.is_empty() {
             return Ok(());
@@ -145,7 +183,7 @@ impl<'a, X: Write, Y: Write> Keeper<'a, X, Y> {
     /// Appends changes to the tape, in order.
     fn append_all(&mut self, first: &[Change]) -> Result<(), ServeFault>
         ensures added { OnOk result (self.new.publisher ≡ record self.old.publisher { pending = self.old.publisher.pending ++ first.now }) }
-        ensures kept { (self.new.tape ≡ self.old.tape) × (self.new.roster.now ≡ self.old.roster.now) × (self.new.published ≡ self.old.published) }
+        ensures kept { (self.new.tape ≡ self.old.tape) × (self.new.lengths ≡ self.old.lengths) × (self.new.roster ≡ self.old.roster) × (self.new.published ≡ self.old.published) }
     {
         for change in first {
             match self.append(change) {
@@ -157,40 +195,52 @@ impl<'a, X: Write, Y: Write> Keeper<'a, X, Y> {
     }
 
     /// The message of what is published, for a desk.
-    pub(crate) fn receipt(&mut self) -> Receipt
+    pub fn receipt(&mut self) -> Receipt
         ensures opening { result.opening ≡ self.old.publisher.opening }
-        ensures same { self.new.publisher ≡ self.old.publisher }
+        ensures published { result.published ≡ self.old.publisher.published }
+        ensures same { self.new ≡ self.old }
     {
         self.publisher.receipt()
     }
 
-    /// How many changes were taken in.
-    pub(crate) fn changes(&self) -> u64
+    /// How many changes the tape has. Of every keeper: its counts are those of the tape, and its board is the tape's.
+    pub fn changes(&self) -> u64
         ensures count { result ≡ length (tape_of self.now.publisher) }
         ensures within { result ≤ MOST_CHANGES }
+        ensures kept { IsKept self.now }
     {
         self.publisher.tape().len() as u64
     }
 
     /// How often changes were published, each time at least one.
     #[tactic(auto, using(crate::proofs::KeeperFacts::published_within))]
-    pub(crate) fn publishings(&self) -> u64
-        ensures { result ≤ length (tape_of self.now.publisher) }
+    pub fn publishings(&self) -> u64
+        ensures count { result ≡ self.now.publishings }
+        ensures within { result ≤ length (tape_of self.now.publisher) }
     {
         self.publishings
     }
 
     /// How many changes wait to be published.
     #[tactic(auto, using(crate::proofs::KeeperFacts::published_within))]
-    pub(crate) fn waiting(&self) -> u64
-        ensures { result + self.now.published ≡ length (tape_of self.now.publisher) }
+    pub fn waiting(&self) -> u64
+        ensures count { result + self.now.published ≡ length (tape_of self.now.publisher) }
+        ensures pending { result ≡ length self.now.publisher.pending }
     {
         self.changes() - self.published
     }
 
-    /// Takes a change in, and publishes after each 64.
+    /// Takes a change in. Once `MOST_BATCH` changes wait, they are published, as by `publish`.
+    ///
+    /// `TapeFull` if the tape has as many changes as it may, or if the change is not of the roster, and `NoMemory`: both leave
+    /// all as it was. If the publishing fails instead, the change is on the tape, and no desk sees it.
     #[tactic(auto, using(crate::proofs::KeeperFacts::longer_appended))]
-    pub(crate) fn take_in<R: Wait>(&mut self, rt: &R, change: &Change) -> Result<(), ServeFault>
+    pub fn take_in<R: Wait>(&mut self, rt: &R, change: &Change) -> Result<(), ServeFault>
+        ensures shown { OnOk result ((self.new ≡ with_change self.old change.now)
+            ⊎ ((self.new ≡ with_all_published (with_change self.old change.now) self.new.tape self.new.lengths) × IsWritten X.contents Y.contents self.old self.new)) }
+        ensures few { OnOk result (length (tape_of self.new.publisher) < self.new.published + MOST_BATCH) }
+        ensures unpublished { OnErr result ((self.new ≡ self.old) ⊎ (self.new ≡ with_writers (with_change self.old change.now) self.new.tape self.new.lengths)) }
+        ensures taken { OnOk result (tape_of self.new.publisher ≡ tape_of self.old.publisher ++ change.now ∷ []) }
         ensures sizes { self.new.publisher.sizes ≡ self.old.publisher.sizes }
         ensures longer { length (tape_of self.old.publisher) ≤ length (tape_of self.new.publisher) }
     {
@@ -207,9 +257,8 @@ impl<'a, X: Write, Y: Write> Keeper<'a, X, Y> {
     /// Appends a change to the tape.
     #[tactic(auto, using(crate::proofs::KeeperFacts::stands_on, crate::proofs::KeeperFacts::sized_on))]
     fn append(&mut self, change: &Change) -> Result<(), ServeFault>
-        ensures added { OnOk result (self.new.publisher ≡ record self.old.publisher { pending = self.old.publisher.pending ++ change.now ∷ [] }) }
-        ensures unchanged { OnErr result (self.new.publisher ≡ self.old.publisher) }
-        ensures kept { (self.new.tape ≡ self.old.tape) × (self.new.roster.now ≡ self.old.roster.now) × (self.new.published ≡ self.old.published) }
+        ensures added { OnOk result (self.new ≡ with_change self.old change.now) }
+        ensures unchanged { OnErr result (self.new ≡ self.old) }
     {
         if !self.board.takes(change) {
             return Err(ServeFault::TapeFull);
@@ -225,14 +274,20 @@ impl<'a, X: Write, Y: Write> Keeper<'a, X, Y> {
 
     /// Writes the waiting changes to the tape's file, and the tape's length to the file beside it, and then publishes them. If
     /// either can't be written, nothing is published: so both writes have ended well before any desk sees the changes.
+    /// `waiting` tells whether there are any.
+    ///
+    /// `NotWritten` if a writer fails, which may have taken a first part, or `NoMemory`. Then the changes still wait, and no
+    /// desk sees them.
     #[tactic(auto, using(crate::proofs::KeeperFacts::stands_still, crate::proofs::KeeperFacts::as_long_published))]
-    pub(crate) fn publish<R: Wait>(&mut self, rt: &R) -> Result<(), ServeFault>
+    pub fn publish<R: Wait>(&mut self, rt: &R) -> Result<(), ServeFault>
         requires some { self.old.published < length (tape_of self.old.publisher) }
         ensures listed { OnOk result (Appends (Y.contents self.old.lengths) (Y.contents self.new.lengths) (length_line (length (tape_of self.old.publisher)))) }
-        ensures recorded { OnOk result (Appends (X.contents self.old.tape) (X.contents self.new.tape) (changes_text self.old.roster.now (drop self.old.published (tape_of self.old.publisher)))) }
+        ensures recorded { OnOk result (Appends (X.contents self.old.tape) (X.contents self.new.tape) (changes_text self.old.roster (drop self.old.published (tape_of self.old.publisher)))) }
         ensures published { OnOk result (changes self.new.publisher.published ≡ tape_of self.old.publisher) }
-        ensures unpublished { OnErr result (self.new.publisher ≡ self.old.publisher) }
-        ensures whole { OnOk result (self.new.publisher ≡ record self.old.publisher { published = committed self.old.publisher.published self.old.publisher.pending; pending = [] }) }
+        ensures unpublished { OnErr result (self.new ≡ with_writers self.old self.new.tape self.new.lengths) }
+        ensures recorded_part { OnErr result (AppendsPart (X.contents self.old.tape) (X.contents self.new.tape) (changes_text self.old.roster (drop self.old.published (tape_of self.old.publisher)))) }
+        ensures listed_part { OnErr result (AppendsPart (Y.contents self.old.lengths) (Y.contents self.new.lengths) (length_line (length (tape_of self.old.publisher)))) }
+        ensures whole { OnOk result (self.new ≡ with_all_published self.old self.new.tape self.new.lengths) }
         ensures sizes { self.new.publisher.sizes ≡ self.old.publisher.sizes }
         ensures longer { length (tape_of self.old.publisher) ≤ length (tape_of self.new.publisher) }
     {
@@ -247,10 +302,13 @@ impl<'a, X: Write, Y: Write> Keeper<'a, X, Y> {
     }
 
     /// Writes the waiting changes to the tape's file, and the tape's length to the file beside it.
+    #[tactic(auto, using(crate::proofs::KeeperFacts::no_part, crate::proofs::KeeperFacts::whole_part))]
     fn record(&mut self) -> Result<(), ServeFault>
-        ensures same { (self.new.publisher ≡ self.old.publisher) × (self.new.published ≡ self.old.published) × (self.new.publishings ≡ self.old.publishings) }
+        ensures same { self.new ≡ with_writers self.old self.new.tape self.new.lengths }
         ensures listed { OnOk result (Appends (Y.contents self.old.lengths) (Y.contents self.new.lengths) (length_line (length (tape_of self.old.publisher)))) }
-        ensures recorded { OnOk result (Appends (X.contents self.old.tape) (X.contents self.new.tape) (changes_text self.old.roster.now (drop self.old.published (tape_of self.old.publisher)))) }
+        ensures recorded { OnOk result (Appends (X.contents self.old.tape) (X.contents self.new.tape) (changes_text self.old.roster (drop self.old.published (tape_of self.old.publisher)))) }
+        ensures recorded_part { OnErr result (AppendsPart (X.contents self.old.tape) (X.contents self.new.tape) (changes_text self.old.roster (drop self.old.published (tape_of self.old.publisher)))) }
+        ensures listed_part { OnErr result (AppendsPart (Y.contents self.old.lengths) (Y.contents self.new.lengths) (length_line (length (tape_of self.old.publisher)))) }
     {
         let tape = self.publisher.tape();
         let batch = batch_of(tape, self.published);
@@ -271,7 +329,7 @@ impl<'a, X: Write, Y: Write> Keeper<'a, X, Y> {
     }
 
     /// Ends the publishing. Desks show nothing from then on.
-    pub(crate) fn end<R: Wait>(self, rt: &R)
+    pub fn end<R: Wait>(self, rt: &R)
     where
         X: Drop,
         Y: Drop,

@@ -32,6 +32,7 @@ pub use door::Door;
 pub use epochs::EpochFiles;
 pub use feeding::FeedEnd;
 pub use guarded::Guarded;
+pub use keeper::Keeper;
 pub use report::{Heard, Refused};
 pub use room::has_room_for_epochs;
 pub use run::{Run, Ways};

@@ -7,6 +7,7 @@ abbrev pub invariant-loop-change : goal.invariant-loop-change
 invariant-loop-change g l = record {
   added : l.self.publisher ≡ record l.fn.self.publisher { pending = l.fn.self.publisher.pending ++ take l.change-index l.first };
   tape : l.self.tape ≡ l.fn.self.tape;
-  roster : l.self.roster.now ≡ l.fn.self.roster.now;
+  lengths : l.self.lengths ≡ l.fn.self.lengths;
+  roster : l.self.roster ≡ l.fn.self.roster;
   published : l.self.published ≡ l.fn.self.published;
 }
