@@ -1,0 +1,4 @@
+pub mod BlankFacts
+pub mod MarkFacts
+pub mod NestFacts
+pub mod ValueFacts
