@@ -129,12 +129,16 @@ fn tell_findings<W: Write>(
         least: None,
     };
     for finding in found {
-        let room = MOST_TOLD.saturating_sub(summary.told);
+        let room = MOST_TOLD - summary.told;
         let faults = faults_at(document, finding);
         tell_finding(told, choices, document, finding, room, answers)?;
+        // Only a text too long for any memory has more faults than a count.
+        let Some(sum) = summary.faults.checked_add(faults) else {
+            return Err(ShowFault::NoMemory);
+        };
         summary = Summary {
-            faults: summary.faults.saturating_add(faults),
-            told: summary.told.saturating_add(faults.min(room)),
+            faults: sum,
+            told: summary.told + faults.min(room),
             least: Some(lesser(summary.least, finding.fault)),
         };
     }

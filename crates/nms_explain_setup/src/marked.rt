@@ -1,5 +1,5 @@
 //! A part of a text, by its line (`specs/Marking`).
-ghost use Rattle.std.specs.Prelude.{◌≡◌, ◌-◌, ◌≤◌, length, min, max, not, take, slice_range, take_while, reverse};
+ghost use Rattle.std.specs.Prelude.{◌≡◌, ◌-◌, ◌≤◌, length, max, min, not, reverse, slice_range, take, take_while};
 ghost use Rattle.nms_explain_setup.specs.Marking.{begins_character, column_at, is_feed, line_begin, line_from, line_number, remarked, span, whole};
 ghost use Rattle.nms_explain_setup.specs.Blanks.{trim_end};
 
