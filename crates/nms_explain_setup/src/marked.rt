@@ -1,5 +1,5 @@
 //! A part of a text, by its line (`specs/Marking`).
-ghost use Rattle.std.specs.Prelude.{◌≡◌, ◌-◌, ◌≤◌, length, max, min, not, reverse, slice_range, take, take_while};
+ghost use Rattle.std.specs.Prelude.{◌≡◌, ◌+◌, ◌-◌, ◌≤◌, length, max, min, not, reverse, slice_range, take, take_while};
 ghost use Rattle.nms_explain_setup.specs.Marking.{begins_character, column_at, is_feed, line_begin, line_from, line_number, remarked, span, whole};
 ghost use Rattle.nms_explain_setup.specs.Blanks.{trim_end};
 
@@ -84,6 +84,7 @@ impl<'a> Marked<'a> {
         ensures before { result.before ≡ before }
         ensures number { result.number ≡ number }
         ensures pair { result.pair ≡ span 0 0 }
+        ensures within { length result.line.now ≤ length line.now }
     {
         let pair = Pair {
             key: 0,
@@ -149,9 +150,10 @@ fn bytes_behind(before: &[u8]) -> usize
 
 /// The line that begins at a place, without its end.
 #[tactic(auto, using(crate::proofs::MarkFacts::take_front))]
-fn line_from(text: &[u8], begin: usize) -> &[u8]
+pub(crate) fn line_from(text: &[u8], begin: usize) -> &[u8]
     requires { begin ≤ length text.now }
-    ensures { result.now ≡ line_from text.now begin }
+    ensures value { result.now ≡ line_from text.now begin }
+    ensures within { begin + length result.now ≤ length text.now }
 {
     let rest = &text[begin..];
     &rest[..line_length(rest)]
@@ -183,6 +185,7 @@ pub fn mark_at(text: &[u8], start: usize, end: usize) -> Marked<'_>
     ensures start { result.pair.start ≡ min (min start (length text.now) - result.before) (length result.line.now) }
     ensures end { result.pair.end ≡ min (max end (min start (length text.now)) - result.before) (length result.line.now) }
     ensures part { result.pair ≡ span result.pair.start result.pair.end }
+    ensures within { result.before + length result.line.now ≤ length text.now }
 {
     let number = line_number(text, start);
     let place = start.min(text.len());

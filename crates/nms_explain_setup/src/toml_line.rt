@@ -65,7 +65,8 @@ impl Pair {
 
 /// Where a key with its value stands in a line that begins with it. If the key has points, it is the whole line.
 pub fn pair_in(line: &[u8], key: &[u8]) -> Option<Pair>
-    ensures { result ≡ pair_in line.now key.now }
+    ensures value { result ≡ pair_in line.now key.now }
+    ensures within { IfSome result (λ pair. pair.start ≤ length line.now) }
 {
     let from_key = trim_start(line);
     let (found, rest) = key_at(from_key)?;
