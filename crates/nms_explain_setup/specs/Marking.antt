@@ -1,7 +1,7 @@
 -- The line of a text that holds a place, and the columns of a line. This product's own rule.
-use Rattle.std.specs.Prelude.{ℕ, ◌+◌, ◌-◌, ◌==◌, ◌||◌, List, Bool, not, count_by, take, drop, reverse, take_while, nat_le, nat_lt, length}
+use Rattle.std.specs.Prelude.{ℕ, ◌≡◌, ◌+◌, ◌-◌, ◌==◌, ◌||◌, List, Bool, not, count_by, take, drop, min, reverse, take_while, nat_le, nat_lt, length}
 use Rattle.nms_explain_setup.specs.declared.marked.Marked.{Marked}
-use Rattle.nms_explain_setup.specs.Blanks.{trim_start}
+use Rattle.nms_explain_setup.specs.Blanks.{trim_end, trim_start}
 use Rattle.nms_explain_setup.specs.declared.toml_line.Pair.{Pair}
 
 -- whether a byte ends a line
@@ -39,3 +39,10 @@ remarked marked pair = record { line = marked.line; before = marked.before; numb
 -- the whole line, from behind the white space at its start
 abbrev pub whole : Marked → Marked
 whole marked = remarked marked (span (length marked.line.now - length (trim_start marked.line.now)) (length marked.line.now))
+
+-- a part of the line of a text that holds a place, with that line's own number
+pub record IsOf (text : List ℕ) (marked : Marked) : Type 0 where
+  pub place : ℕ
+  pub number : marked.number ≡ line_number text place
+  pub before : marked.before ≡ line_begin text (min place (length text))
+  pub line : marked.line.now ≡ trim_end (line_from text marked.before)

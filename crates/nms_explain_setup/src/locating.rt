@@ -1,6 +1,7 @@
 //! Where a table and a key stand in a setup's text. This does not find all that TOML allows: not a key with escapes, nor one
 //! below a header with points.
 ghost use Rattle.std.specs.Prelude.{◌≡◌, ◌+◌, ◌^◌, ◌<◌, ◌≤◌, IfSome, length};
+ghost use Rattle.nms_explain_setup.specs.Marking.{IsOf};
 
 use crate::in_braces::{element_in, key_in};
 use crate::marked::{Marked, line_from, mark_at};
@@ -9,7 +10,9 @@ use crate::toml_line::{header_in, names_key, pair_in, value_in};
 use nms_setup_places::{SetupArray, SetupTable};
 
 /// Where a key stands in a table. For a table at a key of the top, this is its header.
-pub(crate) fn locate_key<'a>(text: &'a [u8], table: SetupTable, key: &[u8]) -> Option<Marked<'a>> {
+pub(crate) fn locate_key<'a>(text: &'a [u8], table: SetupTable, key: &[u8]) -> Option<Marked<'a>>
+    ensures { IfSome result (IsOf text.now) }
+{
     if let Some(marked) = locate_line(text, table, key) {
         return Some(marked);
     }
@@ -22,7 +25,8 @@ pub(crate) fn locate_key<'a>(text: &'a [u8], table: SetupTable, key: &[u8]) -> O
 
 /// The line of a table that has a key.
 fn locate_line<'a>(text: &'a [u8], table: SetupTable, key: &[u8]) -> Option<Marked<'a>>
-    ensures { IfSome result (λ marked. marked.before + marked.pair.start ≤ length text.now) }
+    ensures within { IfSome result (λ marked. marked.before + marked.pair.start ≤ length text.now) }
+    ensures of_text { IfSome result (IsOf text.now) }
 {
     let mut reached = Reached::top();
     'lines: loop {
@@ -38,7 +42,9 @@ fn locate_line<'a>(text: &'a [u8], table: SetupTable, key: &[u8]) -> Option<Mark
 }
 
 /// Where a table begins: its header, or its element in an array in brackets.
-pub(crate) fn locate_table(text: &[u8], table: SetupTable) -> Option<Marked<'_>> {
+pub(crate) fn locate_table(text: &[u8], table: SetupTable) -> Option<Marked<'_>>
+    ensures { IfSome result (IsOf text.now) }
+{
     if let Some(marked) = locate_header(text, table) {
         return Some(marked);
     }
@@ -50,7 +56,9 @@ pub(crate) fn locate_table(text: &[u8], table: SetupTable) -> Option<Marked<'_>>
 }
 
 /// The header of a table.
-fn locate_header(text: &[u8], table: SetupTable) -> Option<Marked<'_>> {
+fn locate_header(text: &[u8], table: SetupTable) -> Option<Marked<'_>>
+    ensures { IfSome result (IsOf text.now) }
+{
     let mut reached = Reached::top();
     'lines: loop {
         let line = line_from(text, reached.bytes);
@@ -118,6 +126,7 @@ impl Reached {
     fn mark(self, text: &[u8]) -> Marked<'_>
         ensures before { result.before ≤ self.bytes }
         ensures within { result.before + length result.line.now ≤ length text.now }
+        ensures of_text { IsOf text.now result }
     {
         mark_at(text, self.bytes, self.bytes)
     }
@@ -131,7 +140,8 @@ impl Reached {
         key: &[u8],
     ) -> Option<Marked<'a>>
         requires within { self.bytes + length line.now ≤ length text.now }
-        ensures { IfSome result (λ marked. marked.before + marked.pair.start ≤ length text.now) }
+        ensures within { IfSome result (λ marked. marked.before + marked.pair.start ≤ length text.now) }
+        ensures of_text { IfSome result (IsOf text.now) }
     {
         if !self.nest.is_outer() {
             return None;

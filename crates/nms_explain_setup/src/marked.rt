@@ -186,6 +186,7 @@ pub fn mark_at(text: &[u8], start: usize, end: usize) -> Marked<'_>
     ensures end { result.pair.end ≡ min (max end (min start (length text.now)) - result.before) (length result.line.now) }
     ensures part { result.pair ≡ span result.pair.start result.pair.end }
     ensures within { result.before + length result.line.now ≤ length text.now }
+    ensures place { start ≤ result.before + length result.line.now → result.before + result.pair.start ≡ start }
 {
     let number = line_number(text, start);
     let place = start.min(text.len());
