@@ -2,3 +2,4 @@ pub mod BlankFacts
 pub mod MarkFacts
 pub mod NestFacts
 pub mod ValueFacts
+mod Worked
