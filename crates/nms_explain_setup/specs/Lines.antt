@@ -1,6 +1,6 @@
 -- A line of a setup's text: a header, or a key with its value. TOML 1.0, "Keys", "Table" and "Array of Tables", but for keys
 -- with escapes: in quotes a key ends at the next quotation mark.
-use Rattle.std.specs.Prelude.{ℕ, ◌+◌, ◌-◌, ◌^◌, ◌==◌, ◌&&◌, ◌||◌, List, [], ◌∷◌, Bool, true, false}
+use Rattle.std.specs.Prelude.{ℕ, ◌+◌, ◌-◌, ◌^◌, ◌≤◌, ◌==◌, ◌&&◌, ◌||◌, List, [], ◌∷◌, Bool, true, false}
 use Rattle.std.specs.Prelude.{Option, Some, None, bytes_eq, codes, drop, length, min, option_map, position, take, take_while, if◌then◌else◌}
 use Rattle.std.specs.Char.{is_ascii_alphanumeric}
 use Rattle.nms_explain_setup.specs.declared.toml_line.Pair.{Pair}
@@ -109,3 +109,10 @@ moved pair bytes = record {
   start = place_moved pair.start bytes;
   end = place_moved pair.end bytes;
 }
+
+-- the places of a key and of a value in a line of that many bytes: each begins before it ends, and ends in the line
+pub record IsIn (long : ℕ) (pair : Pair) : Type 0 where
+  pub key : pair.key ≤ pair.key_end
+  pub key_end : pair.key_end ≤ long
+  pub start : pair.start ≤ pair.end
+  pub end : pair.end ≤ long

@@ -1,5 +1,6 @@
 -- The line of a text that holds a place, and the columns of a line. This product's own rule.
-use Rattle.std.specs.Prelude.{ℕ, ◌≡◌, ◌+◌, ◌-◌, ◌==◌, ◌||◌, List, Bool, not, count_by, take, drop, min, reverse, take_while, nat_le, nat_lt, length}
+use Rattle.std.specs.Prelude.{ℕ, ◌≡◌, ◌+◌, ◌-◌, ◌==◌, ◌||◌, List, Bool, not}
+use Rattle.std.specs.Prelude.{count_by, drop, length, min, nat_le, nat_lt, reverse, take, take_while}
 use Rattle.nms_explain_setup.specs.declared.marked.Marked.{Marked}
 use Rattle.nms_explain_setup.specs.Blanks.{trim_end, trim_start}
 use Rattle.nms_explain_setup.specs.declared.toml_line.Pair.{Pair}

@@ -1,5 +1,5 @@
 //! A part of a text, by its line (`specs/Marking`).
-ghost use Rattle.std.specs.Prelude.{◌≡◌, ◌+◌, ◌-◌, ◌≤◌, length, max, min, not, reverse, slice_range, take, take_while};
+ghost use Rattle.std.specs.Prelude.{◌≡◌, ◌+◌, ◌-◌, ◌≤◌, count_by, length, max, min, not, reverse, slice_range, take, take_while};
 ghost use Rattle.nms_explain_setup.specs.Marking.{begins_character, column_at, is_feed, line_begin, line_from, line_number, remarked, span, whole};
 ghost use Rattle.nms_explain_setup.specs.Blanks.{trim_end};
 
@@ -178,6 +178,7 @@ fn line_number(text: &[u8], place: usize) -> u64
 
 /// The part of a text from one place to another, or to the end of the line in which it begins. A place past the end of the
 /// text is its end.
+#[tactic(auto, using(crate::proofs::MarkFacts::column_is))]
 pub fn mark_at(text: &[u8], start: usize, end: usize) -> Marked<'_>
     ensures number { result.number ≡ line_number text.now start }
     ensures before { result.before ≡ line_begin text.now (min start (length text.now)) }
@@ -187,6 +188,8 @@ pub fn mark_at(text: &[u8], start: usize, end: usize) -> Marked<'_>
     ensures part { result.pair ≡ span result.pair.start result.pair.end }
     ensures within { result.before + length result.line.now ≤ length text.now }
     ensures place { start ≤ result.before + length result.line.now → result.before + result.pair.start ≡ start }
+    ensures column { start ≤ result.before + length result.line.now
+        → column_at result.line.now result.pair.start ≡ 1 + count_by begins_character (slice_range text.now result.before start) }
 {
     let number = line_number(text, start);
     let place = start.min(text.len());

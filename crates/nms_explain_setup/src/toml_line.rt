@@ -1,6 +1,6 @@
 //! One line of a setup's text: a header, or a key with its value (`specs/Lines`).
 ghost use Rattle.std.specs.Prelude.{◌≡◌, ◌==◌, ◌&&◌, ◌+◌, ◌<◌, ◌≤◌, ◌^◌, IfSome, length, min, option_map, position, take_while};
-ghost use Rattle.nms_explain_setup.specs.Lines.{bare_key, ends_value, header_in, is_bare, is_dotted, is_free, key_at, moved, name_in, names_key, pair_in, quoted_key, unquoted, value_behind, value_in, value_length};
+ghost use Rattle.nms_explain_setup.specs.Lines.{IsIn, bare_key, ends_value, header_in, is_bare, is_dotted, is_free, key_at, moved, name_in, names_key, pair_in, quoted_key, unquoted, value_behind, value_in, value_length};
 ghost use Rattle.nms_explain_setup.specs.Nesting.{outer_nest};
 
 use crate::blanks::{trim, trim_end, trim_start};
@@ -66,7 +66,7 @@ impl Pair {
 /// Where a key with its value stands in a line that begins with it. If the key has points, it is the whole line.
 pub fn pair_in(line: &[u8], key: &[u8]) -> Option<Pair>
     ensures value { result ≡ pair_in line.now key.now }
-    ensures within { IfSome result (λ pair. pair.start ≤ length line.now) }
+    ensures within { IfSome result (IsIn (length line.now)) }
 {
     let from_key = trim_start(line);
     let (found, rest) = key_at(from_key)?;
