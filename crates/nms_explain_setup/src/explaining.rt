@@ -1,4 +1,8 @@
-//! Why the text of a setup is refused.
+//! Why the text of a setup is refused (`specs/Ended`).
+ghost use Rattle.std.specs.Prelude.{◌≡◌, IfOk, IsUtf8, length};
+ghost use Rattle.toml.specs.Parse.{parse_document};
+ghost use Rattle.nms_explain_setup.specs.Ended.{ending_at, ending_of};
+
 use crate::findings::{faults_at, tell_finding};
 use crate::hints::text_hint;
 use crate::marked::mark_at;
@@ -27,7 +31,10 @@ pub fn explain_setup<W: Write>(
     text: &[u8],
     form: Form,
     answers: &mut W,
-) -> Result<Ending, ShowFault> {
+) -> Result<Ending, ShowFault>
+    ensures read { IfOk result (λ ending. IsUtf8 text.now → ending ≡ ending_at (parse_document text.now)) }
+    ensures no_text { IfOk result (λ ending. ¬ (IsUtf8 text.now) → ending ≡ Ending.SetupRefused) }
+{
     let told = Told {
         alloc,
         form,
@@ -44,11 +51,9 @@ pub fn explain_setup<W: Write>(
 }
 
 /// Reports it for a text that is UTF-8.
-fn explain_text<W: Write>(
-    told: Told<'_>,
-    text: &str,
-    answers: &mut W,
-) -> Result<Ending, ShowFault> {
+fn explain_text<W: Write>(told: Told<'_>, text: &str, answers: &mut W) -> Result<Ending, ShowFault>
+    ensures { IfOk result (λ ending. ending ≡ ending_at (parse_document text.now)) }
+{
     match examine(told.alloc, text) {
         Ok(Examined::NoToml(NoToml { start, end, error })) => {
             tell_no_toml(told, start, end, error.message(), answers)
@@ -65,7 +70,9 @@ fn tell_no_toml<'a, W: Write>(
     end: usize,
     expected: &'a str,
     answers: &mut W,
-) -> Result<Ending, ShowFault> {
+) -> Result<Ending, ShowFault>
+    ensures { IfOk result (λ ending. ending ≡ Ending.SetupRefused) }
+{
     let marked = mark_at(told.text, start, end);
     let fault = SetupFault::NotToml;
     let refusal = Refusal {
@@ -96,12 +103,15 @@ fn tell_document<W: Write>(
     document: &Table,
     found: &[Finding],
     answers: &mut W,
-) -> Result<Ending, ShowFault> {
+) -> Result<Ending, ShowFault>
+    ensures { IfOk result (λ ending. ending ≡ ending_of (length found.now)) }
+{
     let summary = tell_findings(told, document, found, answers)?;
     tell_summary(told.alloc, told.form, told.file, summary, answers)?;
-    match summary.least {
-        Some(_) => Ok(Ending::SetupRefused),
-        None => Ok(Ending::Done),
+    if found.is_empty() {
+        Ok(Ending::Done)
+    } else {
+        Ok(Ending::SetupRefused)
     }
 }
 
@@ -119,12 +129,16 @@ fn tell_findings<W: Write>(
         least: None,
     };
     for finding in found {
-        let room = MOST_TOLD.saturating_sub(summary.told);
+        let room = MOST_TOLD - summary.told;
         let faults = faults_at(document, finding);
         tell_finding(told, choices, document, finding, room, answers)?;
+        // Only a text too long for any memory has more faults than a count.
+        let Some(sum) = summary.faults.checked_add(faults) else {
+            return Err(ShowFault::NoMemory);
+        };
         summary = Summary {
-            faults: summary.faults.saturating_add(faults),
-            told: summary.told.saturating_add(faults.min(room)),
+            faults: sum,
+            told: summary.told + faults.min(room),
             least: Some(lesser(summary.least, finding.fault)),
         };
     }

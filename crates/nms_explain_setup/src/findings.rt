@@ -258,7 +258,10 @@ fn tell_again<'a, W: Write>(
     first: usize,
     answers: &mut W,
 ) -> Result<(), ShowFault> {
-    let place = first.saturating_add(1);
+    // No memory holds as many elements as a number can count.
+    let Some(place) = first.checked_add(1) else {
+        return Err(ShowFault::NoMemory);
+    };
     let alloc = told.alloc;
     let Ok(expected) = format!(in alloc; "a name of its own: number {place} has it too") else {
         return Err(ShowFault::NoMemory);

@@ -1,22 +1,25 @@
 //! Where an element of an array in brackets stands, and a key of an element in braces.
+ghost use Rattle.std.specs.Prelude.{◌<◌, IfSome, length};
+
 use crate::nest::Nest;
 use crate::toml_line::{Pair, pair_in};
 
 /// How many bytes stand before an element of an array, given how many elements do.
-pub(crate) fn element_in(array: &[u8], place: usize) -> Option<usize> {
+pub(crate) fn element_in(array: &[u8], place: usize) -> Option<usize>
+    ensures { IfSome result (λ at. at < length array.now) }
+{
     let mut nest = Nest::outer();
-    let mut before = 0usize;
+    let mut before = 0;
     for at in 0..array.len() {
-        let rest = array.get(at..)?;
-        let byte = *rest.first()?;
+        let byte = array[at];
         if nest.is_plain_at(1) {
             if byte == b',' {
-                before = before.saturating_add(1);
+                before += 1;
             } else if before == place && begins_value(byte) {
                 return Some(at);
             }
         }
-        nest = nest.behind(rest);
+        nest = nest.behind(&array[at..]);
         if nest.is_plain_at(0) {
             return None;
         }
@@ -30,17 +33,19 @@ fn begins_value(byte: u8) -> bool {
 }
 
 /// Where a key stands in a table in braces: how many bytes stand before it, and the key with its value from there on.
-pub(crate) fn key_in(table: &[u8], key: &[u8]) -> Option<(usize, Pair)> {
+pub(crate) fn key_in(table: &[u8], key: &[u8]) -> Option<(usize, Pair)>
+    ensures { IfSome result (λ found. found.0 < length table.now) }
+{
     let mut nest = Nest::outer();
     let mut may_begin = false;
     for at in 0..table.len() {
-        let rest = table.get(at..)?;
+        let rest = &table[at..];
         if may_begin && nest.is_plain_at(1) {
             if let Some(pair) = pair_from(rest, key) {
                 return Some((at, pair));
             }
         }
-        may_begin = keys_begin_behind(nest, *rest.first()?, may_begin);
+        may_begin = keys_begin_behind(nest, table[at], may_begin);
         nest = nest.behind(rest);
         if nest.is_plain_at(0) {
             return None;

@@ -2,6 +2,7 @@
 //! expected.
 #![tactic(auto)]
 
+mod blanks;
 mod expected;
 mod explaining;
 mod findings;

@@ -1,4 +1,9 @@
-//! A part of a text, by its line.
+//! A part of a text, by its line (`specs/Marking`).
+ghost use Rattle.std.specs.Prelude.{◌≡◌, ◌+◌, ◌-◌, ◌≤◌, count_by, length, max, min, not, reverse, slice_range, take, take_while};
+ghost use Rattle.nms_explain_setup.specs.Marking.{begins_character, column_at, is_feed, line_begin, line_from, line_number, remarked, span, whole};
+ghost use Rattle.nms_explain_setup.specs.Blanks.{trim_end};
+
+use crate::blanks::{trim_end, trim_start};
 use crate::toml_line::Pair;
 
 /// A part of a line.
@@ -16,30 +21,34 @@ pub struct Marked<'a> {
 
 impl<'a> Marked<'a> {
     /// The bytes of the value.
-    pub fn value(&self) -> &'a [u8] {
-        let (start, end) = (self.pair.start, self.pair.end);
-        self.line.get(start..end).unwrap_or(&[])
+    pub fn value(&self) -> &'a [u8]
+        ensures { result.now ≡ slice_range self.now.line.now self.now.pair.start self.now.pair.end }
+    {
+        bytes_between(self.line, self.pair.start, self.pair.end)
     }
 
     /// The column at which the carets begin, in characters from 1.
-    pub fn column(&self) -> u64 {
-        let before = self.line.get(..self.pair.start).unwrap_or(self.line);
-        let mut column = 1u64;
-        for byte in before {
-            if *byte & 0xC0 != 0x80 {
-                column = column.saturating_add(1);
-            }
-        }
-        column
+    pub fn column(&self) -> u64
+        ensures { result ≡ column_at self.now.line.now self.now.pair.start }
+    {
+        let before = first_bytes(self.line, self.pair.start);
+        1 + before
+            .iter()
+            .filter(|byte| begins_character(**byte))
+            .count() as u64
     }
 
     /// The same line, with only the key marked.
-    pub fn at_key(self) -> Marked<'a> {
+    pub fn at_key(self) -> Marked<'a>
+        ensures { result ≡ remarked self.entry (span self.entry.pair.key self.entry.pair.key_end) }
+    {
         self.at(self.pair.key, self.pair.key_end)
     }
 
     /// Another part of the same line.
-    pub fn at(self, start: usize, end: usize) -> Marked<'a> {
+    pub fn at(self, start: usize, end: usize) -> Marked<'a>
+        ensures { result ≡ remarked self.entry (span start end) }
+    {
         let pair = Pair {
             key: start,
             key_end: end,
@@ -50,7 +59,9 @@ impl<'a> Marked<'a> {
     }
 
     /// A key with its value of the same line.
-    pub fn with(self, pair: Pair) -> Marked<'a> {
+    pub fn with(self, pair: Pair) -> Marked<'a>
+        ensures { result ≡ remarked self.entry pair }
+    {
         Marked {
             line: self.line,
             before: self.before,
@@ -60,16 +71,21 @@ impl<'a> Marked<'a> {
     }
 
     /// The whole line, without white space round it.
-    pub fn whole(self) -> Marked<'a> {
-        let indent = self
-            .line
-            .len()
-            .saturating_sub(self.line.trim_ascii_start().len());
+    pub fn whole(self) -> Marked<'a>
+        ensures { result ≡ whole self.entry }
+    {
+        let indent = self.line.len() - trim_start(self.line).len();
         self.at(indent, self.line.len())
     }
 
     /// A line of a text, with white space and its end after it, marked at its start.
-    pub fn of_line(line: &'a [u8], before: usize, number: u64) -> Marked<'a> {
+    pub fn of_line(line: &'a [u8], before: usize, number: u64) -> Marked<'a>
+        ensures line { result.line.now ≡ trim_end line.now }
+        ensures before { result.before ≡ before }
+        ensures number { result.number ≡ number }
+        ensures pair { result.pair ≡ span 0 0 }
+        ensures within { length result.line.now ≤ length line.now }
+    {
         let pair = Pair {
             key: 0,
             key_end: 0,
@@ -77,7 +93,7 @@ impl<'a> Marked<'a> {
             end: 0,
         };
         Marked {
-            line: line.trim_ascii_end(),
+            line: trim_end(line),
             before,
             number,
             pair,
@@ -85,22 +101,101 @@ impl<'a> Marked<'a> {
     }
 }
 
-/// The part of a text from one place to another, or to the end of the line in which it begins.
-pub fn mark_at(text: &[u8], start: usize, end: usize) -> Marked<'_> {
-    let mut number = 0u64;
-    let mut begins = 0usize;
-    let mut last: &[u8] = &[];
-    for line in text.split(|byte| *byte == b'\n') {
-        number = number.saturating_add(1);
-        last = line;
-        let ends = begins.saturating_add(line.len());
-        if start <= ends {
-            break;
-        }
-        begins = ends.saturating_add(1);
+/// The bytes from one place to another, as far as there are any.
+fn bytes_between(bytes: &[u8], start: usize, end: usize) -> &[u8]
+    ensures { result.now ≡ slice_range bytes.now start end }
+{
+    if end <= start || bytes.len() <= start {
+        return &[];
     }
-    let marked = Marked::of_line(last, begins, number);
-    let start = start.saturating_sub(begins).min(marked.line.len());
-    let end = end.saturating_sub(begins).min(marked.line.len());
-    marked.at(start, end.max(start))
+    first_bytes(&bytes[start..], end - start)
+}
+
+/// That many bytes at the start, or all if there are fewer.
+fn first_bytes(bytes: &[u8], most: usize) -> &[u8]
+    ensures { result.now ≡ take most bytes.now }
+{
+    if bytes.len() <= most {
+        return bytes;
+    }
+    &bytes[..most]
+}
+
+/// Whether a byte begins a character.
+fn begins_character(byte: u8) -> bool
+    ensures { result ≡ begins_character byte }
+{
+    byte < 128 || byte >= 192
+}
+
+/// How many bytes stand before the first line feed.
+fn line_length(rest: &[u8]) -> usize
+    ensures value { result ≡ length (take_while (λ byte. not (is_feed byte)) rest.now) }
+    ensures within { result ≤ length rest.now }
+{
+    rest.iter().take_while(|byte| **byte != b'\n').count()
+}
+
+/// How many bytes stand behind the last line feed.
+fn bytes_behind(before: &[u8]) -> usize
+    ensures value { result ≡ length (take_while (λ byte. not (is_feed byte)) (reverse before.now)) }
+    ensures within { result ≤ length before.now }
+{
+    before
+        .iter()
+        .rev()
+        .take_while(|byte| **byte != b'\n')
+        .count()
+}
+
+/// The line that begins at a place, without its end.
+#[tactic(auto, using(crate::proofs::MarkFacts::take_front))]
+pub(crate) fn line_from(text: &[u8], begin: usize) -> &[u8]
+    requires { begin ≤ length text.now }
+    ensures value { result.now ≡ line_from text.now begin }
+    ensures within { begin + length result.now ≤ length text.now }
+{
+    let rest = &text[begin..];
+    &rest[..line_length(rest)]
+}
+
+/// Where the line begins that holds a place.
+fn line_begin(text: &[u8], place: usize) -> usize
+    requires { place ≤ length text.now }
+    ensures value { result ≡ line_begin text.now place }
+    ensures within { result ≤ place }
+{
+    place - bytes_behind(&text[..place])
+}
+
+/// The number of the line that holds a place.
+fn line_number(text: &[u8], place: usize) -> u64
+    ensures { result ≡ line_number text.now place }
+{
+    let before = first_bytes(text, place);
+    1 + before.iter().filter(|byte| **byte == b'\n').count() as u64
+}
+
+/// The part of a text from one place to another, or to the end of the line in which it begins. A place past the end of the
+/// text is its end.
+#[tactic(auto, using(crate::proofs::MarkFacts::column_is))]
+pub fn mark_at(text: &[u8], start: usize, end: usize) -> Marked<'_>
+    ensures number { result.number ≡ line_number text.now start }
+    ensures before { result.before ≡ line_begin text.now (min start (length text.now)) }
+    ensures line { result.line.now ≡ trim_end (line_from text.now result.before) }
+    ensures start { result.pair.start ≡ min (min start (length text.now) - result.before) (length result.line.now) }
+    ensures end { result.pair.end ≡ min (max end (min start (length text.now)) - result.before) (length result.line.now) }
+    ensures part { result.pair ≡ span result.pair.start result.pair.end }
+    ensures within { result.before + length result.line.now ≤ length text.now }
+    ensures place { start ≤ result.before + length result.line.now → result.before + result.pair.start ≡ start }
+    ensures column { start ≤ result.before + length result.line.now
+        → column_at result.line.now result.pair.start ≡ 1 + count_by begins_character (slice_range text.now result.before start) }
+{
+    let number = line_number(text, start);
+    let place = start.min(text.len());
+    let begins = line_begin(text, place);
+    let marked = Marked::of_line(line_from(text, begins), begins, number);
+    let behind = end.max(place) - begins;
+    let long = marked.line.len();
+    marked.at((place - begins).min(long), behind.min(long))
 }

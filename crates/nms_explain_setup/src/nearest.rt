@@ -10,6 +10,8 @@ const LONGEST: usize = 32;
 const MOST_COMPARED: usize = 100;
 /// The most edits by which a key may differ from another.
 const MOST_EDITS: usize = 2;
+/// The distance of a key that is not near.
+const TOO_FAR: usize = 6;
 
 /// The known key that is nearest to an unknown key, if one is near; absent ones are preferred.
 pub(crate) fn nearest_known(
@@ -19,17 +21,24 @@ pub(crate) fn nearest_known(
     key: &str,
 ) -> Result<Option<KnownKey>, AllocError> {
     let mut nearest = None;
-    let mut least = MOST_EDITS.saturating_add(1).saturating_mul(2);
+    let mut least = TOO_FAR;
     for known in table.keys() {
         let edits = edits_between(alloc, known.text(), key)?;
-        let stands = usize::from(members.get(known.text()).is_some());
-        let far = edits.saturating_mul(2).saturating_add(stands);
-        if edits <= MOST_EDITS && far < least {
+        let far = distance(edits, members.get(known.text()).is_some());
+        if far < least {
             least = far;
             nearest = Some(*known);
         }
     }
     Ok(nearest)
+}
+
+/// How far a known key is, by the edits that lead to it: of two with as many edits, one that stands in the table is farther.
+fn distance(edits: usize, stands: bool) -> usize {
+    if edits > MOST_EDITS {
+        return TOO_FAR;
+    }
+    if stands { 2 * edits + 1 } else { 2 * edits }
 }
 
 /// The unknown key of a table that is nearest to an absent one, if one is near.

@@ -1,4 +1,7 @@
-//! How deep a place of a TOML text lies: in a text in quotes, in a comment, in the brackets and braces of a value.
+//! How deep a place of a TOML text lies: in a text in quotes, in a comment, in the brackets and braces of a value
+//! (`specs/Nesting`).
+ghost use Rattle.std.specs.Prelude.{◌≡◌, ◌==◌, ◌&&◌, ◌<◌, ◌-◌, length};
+ghost use Rattle.nms_explain_setup.specs.Nesting.{at_depth, behind_byte, behind_end, behind_line, behind_plain, behind_quoted, entered, is_outer, is_plain, outer_nest};
 
 /// What a byte is read as.
 #[derive(Clone, Copy)]
@@ -26,7 +29,9 @@ pub struct Nest {
 
 impl Nest {
     /// Before the first byte.
-    pub fn outer() -> Nest {
+    pub fn outer() -> Nest
+        ensures { result ≡ outer_nest }
+    {
         Nest {
             within: Within::Plain,
             depth: 0,
@@ -35,8 +40,24 @@ impl Nest {
     }
 
     /// Whether a header or a key may begin here, if a line does.
-    pub fn is_outer(self) -> bool {
-        self.within == Within::Plain && self.depth == 0
+    pub fn is_outer(self) -> bool
+        ensures { result ≡ is_outer self }
+    {
+        self.is_plain() && self.depth == 0
+    }
+
+    /// Whether a byte here is TOML's own, if none is skipped.
+    fn is_plain(self) -> bool
+        ensures { result ≡ is_plain self.within }
+    {
+        match self.within {
+            Within::Plain => true,
+            Within::Basic
+            | Within::Literal
+            | Within::LongBasic
+            | Within::LongLiteral
+            | Within::Comment => false,
+        }
     }
 
     /// Whether a comment has begun.
@@ -45,8 +66,10 @@ impl Nest {
     }
 
     /// Whether a byte here is TOML's own, with that many brackets and braces open.
-    pub(crate) fn is_plain_at(self, depth: usize) -> bool {
-        self.within == Within::Plain && self.skipped == 0 && self.depth == depth
+    pub(crate) fn is_plain_at(self, depth: usize) -> bool
+        ensures { result ≡ ((is_plain self.within && self.skipped == 0) && self.depth == depth) }
+    {
+        self.is_plain() && self.skipped == 0 && self.depth == depth
     }
 
     /// After the first byte of what follows, which may be the end of a line.
@@ -59,70 +82,92 @@ impl Nest {
     }
 
     /// After a line and its end.
-    pub fn behind_line(self, line: &[u8]) -> Nest {
+    pub fn behind_line(self, line: &[u8]) -> Nest
+        ensures { result ≡ behind_line self line.now }
+    {
         let mut nest = self;
         for place in 0..line.len() {
-            nest = nest.behind_byte(line.get(place..).unwrap_or(&[]));
+            nest = nest.behind_byte(&line[place..]);
         }
         nest.behind_end()
     }
 
     /// After the end of a line: a comment ends there, and a text in single quotes.
-    fn behind_end(self) -> Nest {
+    fn behind_end(self) -> Nest
+        ensures { result ≡ behind_end self }
+    {
         let within = match self.within {
-            Within::LongBasic | Within::LongLiteral => self.within,
-            _ => Within::Plain,
+            Within::LongBasic => Within::LongBasic,
+            Within::LongLiteral => Within::LongLiteral,
+            Within::Plain | Within::Basic | Within::Literal | Within::Comment => Within::Plain,
         };
-        Nest {
-            within,
-            depth: self.depth,
-            skipped: 0,
-        }
+        self.entering(within, 0)
     }
 
     /// After the first byte of what follows.
-    pub(crate) fn behind_byte(self, rest: &[u8]) -> Nest {
+    pub(crate) fn behind_byte(self, rest: &[u8]) -> Nest
+        ensures { result ≡ behind_byte self rest.now }
+    {
         if self.skipped > 0 {
-            return self.skipping(self.skipped.saturating_sub(1));
+            return self.entering(self.within, self.skipped - 1);
         }
         match self.within {
             Within::Plain => self.behind_plain(rest),
-            Within::Basic => self.behind_quoted(rest, b"\""),
-            Within::Literal => self.behind_quoted(rest, b"'"),
-            Within::LongBasic => self.behind_quoted(rest, b"\"\"\""),
-            Within::LongLiteral => self.behind_quoted(rest, b"'''"),
+            Within::Basic => self.behind_quoted(rest, b"\"", 0, true),
+            Within::Literal => self.behind_quoted(rest, b"'", 0, false),
+            Within::LongBasic => self.behind_quoted(rest, b"\"\"\"", 2, true),
+            Within::LongLiteral => self.behind_quoted(rest, b"'''", 2, false),
             Within::Comment => self,
         }
     }
 
     /// After a byte of TOML's own.
-    fn behind_plain(self, rest: &[u8]) -> Nest {
-        match rest {
-            [b'"', b'"', b'"', ..] => self.entering(Within::LongBasic, 2),
-            [b'\'', b'\'', b'\'', ..] => self.entering(Within::LongLiteral, 2),
-            [b'"', ..] => self.entering(Within::Basic, 0),
-            [b'\'', ..] => self.entering(Within::Literal, 0),
-            [b'#', ..] => self.entering(Within::Comment, 0),
-            [b'[' | b'{', ..] => self.at_depth(self.depth.saturating_add(1)),
-            [b']' | b'}', ..] => self.at_depth(self.depth.saturating_sub(1)),
-            _ => self,
+    fn behind_plain(self, rest: &[u8]) -> Nest
+        ensures { result ≡ behind_plain self rest.now }
+    {
+        if rest.starts_with(b"\"\"\"") {
+            return self.entering(Within::LongBasic, 2);
         }
-    }
-
-    /// After a byte of a text in these quotes.
-    fn behind_quoted(self, rest: &[u8], quotes: &[u8]) -> Nest {
-        if rest.starts_with(quotes) {
-            let more = if quotes.len() == 1 { 0 } else { 2 };
-            return self.entering(Within::Plain, more);
+        if rest.starts_with(b"'''") {
+            return self.entering(Within::LongLiteral, 2);
         }
-        let is_escape = matches!(self.within, Within::Basic | Within::LongBasic);
-        if is_escape && rest.first() == Some(&b'\\') {
-            return self.skipping(1);
+        if rest.starts_with(b"\"") {
+            return self.entering(Within::Basic, 0);
+        }
+        if rest.starts_with(b"'") {
+            return self.entering(Within::Literal, 0);
+        }
+        if rest.starts_with(b"#") {
+            return self.entering(Within::Comment, 0);
+        }
+        if rest.starts_with(b"[") || rest.starts_with(b"{") {
+            // The number of open brackets has no bound but that of a number.
+            return self.at_depth(self.depth.saturating_add(1));
+        }
+        if rest.starts_with(b"]") || rest.starts_with(b"}") {
+            // A bracket that closes nothing leaves none open.
+            return self.at_depth(self.depth.saturating_sub(1));
         }
         self
     }
 
-    fn entering(self, within: Within, skipped: u8) -> Nest {
+    /// After a byte of a text in these quotes, which have that many bytes after the first. A backslash may escape a byte.
+    fn behind_quoted(self, rest: &[u8], quotes: &[u8], more: u8, escapes: bool) -> Nest
+        ensures { result ≡ behind_quoted quotes.now more escapes self rest.now }
+    {
+        if rest.starts_with(quotes) {
+            return self.entering(Within::Plain, more);
+        }
+        if escapes && rest.starts_with(b"\\") {
+            return self.entering(self.within, 1);
+        }
+        self
+    }
+
+    /// What follows is read as that, behind so many bytes.
+    fn entering(self, within: Within, skipped: u8) -> Nest
+        ensures { result ≡ entered within skipped self }
+    {
         Nest {
             within,
             depth: self.depth,
@@ -130,19 +175,14 @@ impl Nest {
         }
     }
 
-    fn at_depth(self, depth: usize) -> Nest {
+    /// With that many brackets and braces open.
+    fn at_depth(self, depth: usize) -> Nest
+        ensures { result ≡ at_depth depth self }
+    {
         Nest {
             within: self.within,
             depth,
             skipped: 0,
-        }
-    }
-
-    fn skipping(self, skipped: u8) -> Nest {
-        Nest {
-            within: self.within,
-            depth: self.depth,
-            skipped,
         }
     }
 }

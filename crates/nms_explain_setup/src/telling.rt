@@ -94,7 +94,11 @@ fn table_words(table: Option<SetupTable>) -> &'static str {
 fn place_item<'a>(table: Option<SetupTable>) -> Item<'a> {
     match table {
         Some(SetupTable::Participant(before) | SetupTable::Symbol(before)) => {
-            Item::Number((before as u64).saturating_add(1))
+            // No memory holds as many elements as a number can count.
+            match (before as u64).checked_add(1) {
+                Some(place) => Item::Number(place),
+                None => Item::Absent,
+            }
         }
         _ => Item::Absent,
     }

@@ -1,0 +1,5 @@
+pub mod BlankFacts
+pub mod MarkFacts
+pub mod NestFacts
+pub mod ValueFacts
+mod Worked

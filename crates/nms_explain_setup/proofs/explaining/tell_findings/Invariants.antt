@@ -1,0 +1,7 @@
+-- `tell_findings`: no more faults are reported one by one than the most.
+use Rattle.std.proofs.Common.{◌≤◌}
+use Rattle.nms_explain_setup.specs.declared.explaining.TheConstants.{MOST_TOLD}
+use Rattle.nms_explain_setup.proofs.explaining.tell_findings.Given as goal
+
+abbrev pub invariant-loop-finding : goal.invariant-loop-finding
+invariant-loop-finding g l = l.summary.told ≤ MOST_TOLD

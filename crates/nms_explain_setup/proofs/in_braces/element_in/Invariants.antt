@@ -1,0 +1,6 @@
+-- `element_in`: no more elements ended than bytes were read.
+use Rattle.std.proofs.Common.{◌≤◌}
+use Rattle.nms_explain_setup.proofs.in_braces.element_in.Given as goal
+
+abbrev pub invariant-loop-at : goal.invariant-loop-at
+invariant-loop-at l = l.before ≤ l.at

@@ -1,0 +1,13 @@
+-- `locate_line`: a line begins in the text, and no more headers than bytes stand before it. Each line ends behind its start.
+use Rattle.std.proofs.Common.{length, ◌-◌, ◌≤◌}
+use Rattle.nms_explain_setup.proofs.locating.locate_line.Given as goal
+
+abbrev pub invariant-lines : goal.invariant-lines
+invariant-lines l = record {
+  within : l.reached.bytes ≤ length l.text;
+  participants : l.reached.participants ≤ l.reached.bytes;
+  symbols : l.reached.symbols ≤ l.reached.bytes;
+}
+
+abbrev pub decreases-lines : goal.decreases-lines
+decreases-lines l = length l.text - l.reached.bytes
