@@ -1,5 +1,6 @@
 -- The outcomes of texts, how many there are of each, and how a request ends by them.
-use Rattle.std.proofs.Common.{ℕ, ◌≡◌, ◌+◌, ◌<◌, ◌≤◌, ◌++◌, ◌∷◌, ◌∙◌, [], Bool, true, false, suc, List, Option, Some, length, refl, sym, subst}
+use Rattle.std.proofs.Common.{ℕ, ◌≡◌, ◌+◌, ◌<◌, ◌≤◌, ◌++◌, ◌∷◌, ◌∙◌, [], Bool, true, false, suc, List, Option, Some, length, refl, sym}
+use Rattle.std.proofs.Common.{subst}
 use Rattle.std.proofs.Common.{arith, ap, inl, inr, if◌then◌else◌, get_or, take}
 use Rattle.std.specs.Prelude.{◌⊎◌, Any, IfOk, IsPermutation, Result, Ok, Err, filter, nat_lt}
 use Rattle.std.specs.List.{AllByRecursion, AllZip}
@@ -18,7 +19,8 @@ use Rattle.nms_fees.specs.Settings.{Settings}
 use Rattle.nms_files.specs.ChangeFile.{IsFileTape}
 use Rattle.nms_show.specs.declared.ending.Ending.{Ending}
 use Rattle.nms_show.specs.declared.ending.Ending.TheVariants as ending
-use Rattle.nms_verdicts.specs.Checked.{AreCounts, EndsByAll, IsChecked, IsConfirmed, IsDoubted, IsOutcome, IsOutcomeOf, IsUnreadable, counted}
+use Rattle.nms_verdicts.specs.Checked.{AreCounts, EndsByAll, IsChecked, IsConfirmed, IsDoubted, IsOutcome, IsOutcomeOf, IsUnreadable}
+use Rattle.nms_verdicts.specs.Checked.{counted}
 use Rattle.nms_verdicts.specs.Checked.{ending_by, is_confirmed, is_doubted, is_unreadable, outcome_of}
 use Rattle.nms_verdicts.specs.Begun.{texts_of}
 use Rattle.nms_verdicts.specs.Pieces.{ArePieces}

@@ -1,5 +1,6 @@
 -- How the pieces of a text come from one line to the next.
-use Rattle.std.proofs.Common.{ℕ, ◌≡◌, ◌+◌, ◌-◌, ◌<◌, ◌≤◌, ◌++◌, ◌∷◌, ◌∙◌, [], suc, zero, List, Option, Some, None, length, take, drop, refl, sym}
+use Rattle.std.proofs.Common.{ℕ, ◌≡◌, ◌+◌, ◌-◌, ◌<◌, ◌≤◌, ◌++◌, ◌∷◌, ◌∙◌, [], suc, zero, List, Option, Some, None, length, take, drop}
+use Rattle.std.proofs.Common.{refl, sym}
 use Rattle.std.proofs.Common.{ap, append_assoc, arith, length-drop, subst}
 use Rattle.std.specs.Prelude.{All, IfSome, IsPermutation, map, option_map, option_to_list, unwrap_or}
 use Rattle.std.specs.List.{slice_range}

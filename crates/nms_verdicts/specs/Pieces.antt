@@ -1,5 +1,6 @@
 -- The pieces of a text of answers: the texts of plans, and what stands in the place of one. This product's own rule.
-use Rattle.std.specs.Prelude.{ℕ, ◌≡◌, suc, ◌-◌, ◌==◌, ◌++◌, ◌∷◌, ◌&&◌, ◌||◌, [], All, Bool, List, Option, Some, None, true, false, codes, length}
+use Rattle.std.specs.Prelude.{ℕ, ◌≡◌, suc, ◌-◌, ◌==◌, ◌++◌, ◌∷◌, ◌&&◌, ◌||◌, [], All, Bool, List, Option, Some, None, true, false, codes}
+use Rattle.std.specs.Prelude.{length}
 use Rattle.std.specs.Prelude.{if◌then◌else◌, map, not, option_map, option_to_list, take, unwrap_or}
 use Rattle.std.specs.Char.{is_ascii_whitespace}
 use Rattle.std.specs.List.{suffix_len}

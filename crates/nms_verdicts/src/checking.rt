@@ -132,7 +132,8 @@ fn check_text<W: Write>(
 ) -> Result<Ending, VerdictFault>
     requires held { All (λ change. holds (sizes_of setup.now.roster) change ≡ true) changes.now }
     requires few { length changes.now ≤ MOST_CHANGES }
-    ensures { IfOk result (λ ended. (texts : List (List ℕ)) × ArePieces (strip_bom text.now) texts × EndsByAll setup.now changes.now texts ended) }
+    ensures { IfOk result (λ ended. (texts : List (List ℕ)) × ArePieces (strip_bom text.now) texts
+        × EndsByAll setup.now changes.now texts ended) }
 {
     match pieces_of(alloc, setup.roster(), text) {
         Ok(pieces) => check_pieces(alloc, setup, changes, times, file, &pieces, form, answers),

@@ -1,12 +1,13 @@
 //! The texts of plans among other records, by version: `specs/Pieces`.
 ghost use Rattle.std.specs.Prelude.{◌≡◌, ◌<◌, ◌≤◌, ◌++◌, ℕ, IfOk, IfSome, IsPermutation, List, OnOk, Option, Some, length, option_to_list};
 ghost use Rattle.std.specs.List.{slice_range};
+ghost use Rattle.std.specs.List.Sorted.{IsNonDecreasingBy};
 ghost use Rattle.csv.specs.Reading.{strip_bom};
 ghost use Rattle.nms_lines.specs.Layout.{Record};
 ghost use Rattle.nms_lines.specs.Records.{AreAllRecords};
 ghost use Rattle.nms_verdicts.specs.Begun.{IsEnd, begun_text, start_of, texts_of};
-ghost use Rattle.nms_verdicts.specs.Pieces.{ArePieces, IsKind, before_comma, begins_with, first_length, kind_of_records, kind_of_word, pieces_at};
-ghost use Rattle.nms_verdicts.specs.Pieces.{plain_kind, trimmed};
+ghost use Rattle.nms_verdicts.specs.Pieces.{ArePieces, IsKind, before_comma, begins_with, first_length, kind_of_records, kind_of_word};
+ghost use Rattle.nms_verdicts.specs.Pieces.{pieces_at, plain_kind, trimmed};
 
 use memchr::{memchr, memchr2};
 use nms_lines::{ByteRecord, field_at, open_records, read_next, read_plan};
@@ -68,11 +69,17 @@ pub(crate) fn pieces_of<'a>(
     roster: &Roster,
     text: &'a [u8],
 ) -> Result<Vec<Piece<'a>>, AllocError>
-    ensures { IfOk result (λ pieces. (texts : List (List ℕ)) × ArePieces (strip_bom text.now) texts × IsPermutation texts (texts_of pieces.items)) }
+    ensures parted { IfOk result (λ pieces. (texts : List (List ℕ)) × ArePieces (strip_bom text.now) texts
+        × IsPermutation texts (texts_of pieces.items)) }
+    ensures sorted { IfOk result (λ pieces. IsNonDecreasingBy (λ piece. piece.version) pieces.items) }
 {
     let mut pieces = Vec::new(alloc);
     push_pieces(&mut pieces, alloc, roster, without_mark(text))?;
-    pieces.sort_by_key(|piece| piece.version)?;
+    pieces.sort_by_key(
+        |piece: &Piece<'_>| -> u64
+            ensures { result ≡ piece.now.version }
+        { piece.version },
+    )?;
     Ok(pieces)
 }
 
@@ -93,7 +100,8 @@ fn push_pieces<'a>(
     roster: &Roster,
     text: &'a [u8],
 ) -> Result<(), AllocError>
-    ensures { OnOk result ((texts : List (List ℕ)) × ArePieces text.now texts × (texts_of pieces.new.items ≡ texts_of pieces.old.items ++ texts)) }
+    ensures { OnOk result ((texts : List (List ℕ)) × ArePieces text.now texts
+        × (texts_of pieces.new.items ≡ texts_of pieces.old.items ++ texts)) }
 {
     let mut begun = None;
     let mut start: usize = 0;
@@ -127,7 +135,8 @@ fn push_line<'a>(
     requires within { place.end ≤ length text.now }
     ensures next { IfOk result (λ next. IfSome next (λ it. it.start ≤ place.end)) }
     ensures pieces { IfOk result (λ next. (behind : Option (List ℕ) → List (List ℕ))
-        → texts_of pieces.old.items ++ pieces_at kind (slice_range text.now place.start place.end) (begun_text text.now place.start begun) behind
+        → texts_of pieces.old.items
+        ++ pieces_at kind (slice_range text.now place.start place.end) (begun_text text.now place.start begun) behind
         ≡ texts_of pieces.new.items ++ behind (begun_text text.now place.end next)) }
 {
     match kind {
