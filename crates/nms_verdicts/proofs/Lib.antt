@@ -1,1 +1,4 @@
+mod CheckFacts
 mod EndingFacts
+mod LineFacts
+mod PieceFacts

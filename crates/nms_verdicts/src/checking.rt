@@ -1,13 +1,19 @@
-//! The plans of a file of answers, each judged on its own version.
-ghost use Rattle.std.specs.Prelude.{◌≡◌, ◌≤◌, All, length, true};
+//! The plans of a file of answers, each judged on its own version: `specs/Checked`.
+ghost use Rattle.std.specs.Prelude.{◌≡◌, ◌≤◌, ◌<◌, ◌+◌, ◌^◌, ◌-◌, ℕ, All, IfOk, List, length, true};
+ghost use Rattle.csv.specs.Reading.{strip_bom};
 ghost use Rattle.nms_quote.specs.Roster.{holds, sizes_of};
 ghost use Rattle.nms_quote.specs.declared.TheConstants.{MOST_CHANGES};
+ghost use Rattle.nms_verdicts.specs.Begun.{texts_of};
+ghost use Rattle.nms_verdicts.specs.Checked.{AreCounts, EndsByAll, IsChecked, IsOutcome, IsOutcomeOf, counted, ending_by};
+ghost use Rattle.nms_verdicts.specs.Checked.{outcome_of};
+ghost use Rattle.nms_verdicts.specs.Pieces.{ArePieces};
 ghost use Rattle.nms_verdicts.specs.Verdicts.{IsAt};
 
 use crate::judging::judge;
 use crate::pieces::{Piece, pieces_of};
 use crate::plan_telling::{PlanNumber, tell_plan};
 use crate::telling::{Heading, tell, tell_head, tell_line};
+use crate::verdict::Verdict;
 use crate::verdict_fault::VerdictFault;
 use nms_board::Boards;
 use nms_codes::Code;
@@ -67,15 +73,15 @@ fn headings_of(times: Option<&Times>) -> &'static [Heading] {
 
 /// The outcome for a plan.
 #[derive(Clone, Copy)]
-enum Outcome {
+pub(crate) enum Outcome {
     Confirmed,
     Doubted,
     Unreadable,
 }
 
 /// How many plans had each outcome.
-#[derive(Clone, Copy, Default)]
-struct Counts {
+#[derive(Clone, Copy)]
+pub(crate) struct Counts {
     confirmed: u64,
     doubted: u64,
     unreadable: u64,
@@ -99,7 +105,9 @@ pub fn check_answers<R: Read + Drop, W: Write>(
     text: &[u8],
     form: Form,
     answers: &mut W,
-) -> Result<Ending, VerdictFault> {
+) -> Result<Ending, VerdictFault>
+    ensures checked { IfOk result (IsChecked setup.now (R.remaining changes) text.now) }
+{
     match read_changes(alloc, setup, changes) {
         Ok(changes) => {
             if let Some(times) = times {
@@ -124,6 +132,8 @@ fn check_text<W: Write>(
 ) -> Result<Ending, VerdictFault>
     requires held { All (λ change. holds (sizes_of setup.now.roster) change ≡ true) changes.now }
     requires few { length changes.now ≤ MOST_CHANGES }
+    ensures { IfOk result (λ ended. (texts : List (List ℕ)) × ArePieces (strip_bom text.now) texts
+        × EndsByAll setup.now changes.now texts ended) }
 {
     match pieces_of(alloc, setup.roster(), text) {
         Ok(pieces) => check_pieces(alloc, setup, changes, times, file, &pieces, form, answers),
@@ -144,6 +154,7 @@ fn check_pieces<W: Write>(
 ) -> Result<Ending, VerdictFault>
     requires held { All (λ change. holds (sizes_of setup.now.roster) change ≡ true) changes.now }
     requires few { length changes.now ≤ MOST_CHANGES }
+    ensures { IfOk result (EndsByAll setup.now changes.now (texts_of pieces.now)) }
 {
     match Boards::new(alloc, setup.roster()) {
         Ok(mut board) => check_on(
@@ -168,9 +179,38 @@ fn check_on<W: Write>(
     requires held { All (λ change. holds (sizes_of setup.now.roster) change ≡ true) changes.now }
     requires few { length changes.now ≤ MOST_CHANGES }
     requires at { IsAt (sizes_of setup.now.roster) changes.now board.old }
+    ensures { IfOk result (EndsByAll setup.now changes.now (texts_of pieces.now)) }
 {
     write_head(answers, form, file, headings_of(times))?;
-    let mut counts = Counts::default();
+    let counts = check_each(
+        alloc, setup, changes, board, times, file, pieces, form, answers,
+    )?;
+    write_totals(alloc, answers, form, pieces.len() as u64, counts)?;
+    Ok(ending_of(counts))
+}
+
+/// Judges the plans of pieces, and returns how many had each outcome.
+fn check_each<W: Write>(
+    alloc: Global,
+    setup: &Setup,
+    changes: &[Change],
+    board: &mut Boards,
+    times: Option<&Times>,
+    file: &str,
+    pieces: &[Piece<'_>],
+    form: Form,
+    answers: &mut W,
+) -> Result<Counts, VerdictFault>
+    requires held { All (λ change. holds (sizes_of setup.now.roster) change ≡ true) changes.now }
+    requires few { length changes.now ≤ MOST_CHANGES }
+    requires at { IsAt (sizes_of setup.now.roster) changes.now board.old }
+    ensures { IfOk result (AreCounts setup.now changes.now (texts_of pieces.now)) }
+{
+    let mut counts = Counts {
+        confirmed: 0,
+        doubted: 0,
+        unreadable: 0,
+    };
     for piece in pieces {
         let number = PlanNumber {
             file,
@@ -183,23 +223,27 @@ fn check_on<W: Write>(
         )?;
         counts = counted(counts, outcome);
     }
-    write_totals(alloc, answers, form, pieces.len() as u64, counts)?;
-    Ok(ending_of(counts))
+    Ok(counts)
 }
 
 /// The counts with one more.
-fn counted(counts: Counts, outcome: Outcome) -> Counts {
+fn counted(counts: Counts, outcome: Outcome) -> Counts
+    requires { counts.confirmed + counts.doubted + counts.unreadable < 2 ^ 64 - 1 }
+    ensures { result ≡ counted counts outcome }
+{
     let mut counts = counts;
     match outcome {
-        Outcome::Confirmed => counts.confirmed = counts.confirmed.saturating_add(1),
-        Outcome::Doubted => counts.doubted = counts.doubted.saturating_add(1),
-        Outcome::Unreadable => counts.unreadable = counts.unreadable.saturating_add(1),
+        Outcome::Confirmed => counts.confirmed += 1,
+        Outcome::Doubted => counts.doubted += 1,
+        Outcome::Unreadable => counts.unreadable += 1,
     }
     counts
 }
 
 /// How a request ends that judged that many plans.
-fn ending_of(counts: Counts) -> Ending {
+fn ending_of(counts: Counts) -> Ending
+    ensures { result ≡ ending_by counts }
+{
     if counts.doubted > 0 {
         Ending::Doubted
     } else if counts.unreadable > 0 {
@@ -224,6 +268,7 @@ fn check_piece<W: Write>(
     requires few { length changes.now ≤ MOST_CHANGES }
     requires at { IsAt (sizes_of setup.now.roster) changes.now board.old }
     ensures at { IsAt (sizes_of setup.now.roster) changes.now board.new }
+    ensures outcome { IfOk result (IsOutcome setup.now changes.now text.now) }
 {
     match read_plan(alloc, text, setup.roster()) {
         Ok((plan, certificate)) => check_plan(
@@ -261,6 +306,7 @@ fn check_plan<W: Write>(
     requires few { length changes.now ≤ MOST_CHANGES }
     requires at { IsAt (sizes_of setup.now.roster) changes.now board.old }
     ensures at { IsAt (sizes_of setup.now.roster) changes.now board.new }
+    ensures outcome { IfOk result (IsOutcomeOf setup.now changes.now plan.now certificate.now.items) }
 {
     let verdict = match judge(alloc, setup, changes, board, plan, certificate) {
         Ok(verdict) => verdict,
@@ -276,9 +322,18 @@ fn check_plan<W: Write>(
         plan,
         &verdict,
     ) {
-        Ok(()) if verdict.is_confirmed() => Ok(Outcome::Confirmed),
-        Ok(()) => Ok(Outcome::Doubted),
+        Ok(()) => Ok(outcome_of(&verdict)),
         Err(fault) => Err(VerdictFault::Show(fault)),
+    }
+}
+
+/// The outcome of a verdict.
+fn outcome_of(verdict: &Verdict) -> Outcome
+    ensures { result ≡ outcome_of verdict.now }
+{
+    match verdict {
+        Verdict::Confirmed => Outcome::Confirmed,
+        Verdict::Beyond { .. } | Verdict::Doubted { .. } => Outcome::Doubted,
     }
 }
 

@@ -30,7 +30,7 @@ pub(crate) fn tell_cuts<W: Write>(
 {
     let mut number: u64 = 0;
     for cut in cuts {
-        number = number.saturating_add(1);
+        number += 1;
         tell_reached(alloc, answers, form, view, fees, plan, most, number, cut)?;
     }
     Ok(())

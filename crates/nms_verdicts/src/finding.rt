@@ -93,21 +93,29 @@ fn of_doubt<'a>(place: &DoubtPlace, roster: &'a Roster, order: &Order) -> Findin
 
 /// What is found of a cut that contradicts the sums at its price.
 fn of_kind(cut: &CutPlace, sums: &CutSums) -> Finding<'static> {
-    let (words, shares) = match cut.cut.kind {
+    let (words, found) = match cut.cut.kind {
         CutKind::TooMuch => (
             "      it says TOOMUCH; |found| shares have to be swept first, no more than the |expected| that can be filled",
-            sums.swept,
+            Item::Number(sums.swept),
         ),
         CutKind::TooLittle => (
             "      it says TOOLITTLE; |found| shares have to be swept or may be taken, no less than the |expected| that can be filled",
-            sums.swept.saturating_add(sums.pool),
+            reached_by(sums),
         ),
         CutKind::Marginal(_) => (
             "      it says MARGINAL; |found| shares have to be swept first, more than the |expected| that can be filled",
-            sums.swept,
+            Item::Number(sums.swept),
         ),
     };
-    of_cut(cut, words, Item::Number(shares), Item::Number(sums.most))
+    of_cut(cut, words, found, Item::Number(sums.most))
+}
+
+/// The shares that have to be swept or may be taken.
+fn reached_by(sums: &CutSums) -> Item<'static> {
+    match sums.swept.checked_add(sums.pool) {
+        Some(shares) => Item::Number(shares),
+        None => Item::Absent,
+    }
 }
 
 /// What is found at the place of a breach.

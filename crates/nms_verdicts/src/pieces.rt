@@ -1,14 +1,22 @@
-//! The texts of plans among other records, by version.
-ghost use Rattle.std.specs.Prelude.{◌<◌, ◌≤◌, length};
+//! The texts of plans among other records, by version: `specs/Pieces`.
+ghost use Rattle.std.specs.Prelude.{◌≡◌, ◌<◌, ◌≤◌, ◌++◌, ℕ, IfOk, IfSome, IsPermutation, List, OnOk, Option, Some, length, option_to_list};
+ghost use Rattle.std.specs.List.{slice_range};
+ghost use Rattle.std.specs.List.Sorted.{IsNonDecreasingBy};
+ghost use Rattle.csv.specs.Reading.{strip_bom};
+ghost use Rattle.nms_lines.specs.Layout.{Record};
+ghost use Rattle.nms_lines.specs.Records.{AreAllRecords};
+ghost use Rattle.nms_verdicts.specs.Begun.{IsEnd, begun_text, start_of, texts_of};
+ghost use Rattle.nms_verdicts.specs.Pieces.{ArePieces, IsKind, before_comma, begins_with, first_length, kind_of_records, kind_of_word};
+ghost use Rattle.nms_verdicts.specs.Pieces.{pieces_at, plain_kind, trimmed};
 
-use memchr::memchr2;
-use nms_lines::{ByteRecord, open_records, read_next, read_plan};
+use memchr::{memchr, memchr2};
+use nms_lines::{ByteRecord, field_at, open_records, read_next, read_plan};
 use nms_quote::Roster;
 use std::alloc::{AllocError, Global};
 
 /// What kind a line of answers is.
 #[derive(Clone, Copy)]
-enum Kind {
+pub(crate) enum Kind {
     /// It begins a plan.
     Plan,
     /// It is of a plan.
@@ -36,12 +44,21 @@ pub(crate) struct Piece<'a> {
 
 /// The beginning of a piece that has not ended.
 #[derive(Clone, Copy)]
-struct Begun<'a> {
-    /// The text from there on.
-    text: &'a [u8],
-    /// How many bytes of it are taken.
-    taken: usize,
+pub(crate) struct Begun {
+    /// Its place in the text.
+    start: usize,
     /// Its first line.
+    line: u64,
+}
+
+/// Where a line of a text is.
+#[derive(Clone, Copy)]
+struct Place {
+    /// Where it begins.
+    start: usize,
+    /// Where it ends.
+    end: usize,
+    /// Which line it is, counted from 1.
     line: u64,
 }
 
@@ -51,12 +68,29 @@ pub(crate) fn pieces_of<'a>(
     alloc: Global,
     roster: &Roster,
     text: &'a [u8],
-) -> Result<Vec<Piece<'a>>, AllocError> {
+) -> Result<Vec<Piece<'a>>, AllocError>
+    ensures parted { IfOk result (λ pieces. (texts : List (List ℕ)) × ArePieces (strip_bom text.now) texts
+        × IsPermutation texts (texts_of pieces.items)) }
+    ensures sorted { IfOk result (λ pieces. IsNonDecreasingBy (λ piece. piece.version) pieces.items) }
+{
     let mut pieces = Vec::new(alloc);
-    let text = text.strip_prefix(b"\xef\xbb\xbf").unwrap_or(text);
-    push_pieces(&mut pieces, alloc, roster, text)?;
-    pieces.sort_by_key(|piece| piece.version)?;
+    push_pieces(&mut pieces, alloc, roster, without_mark(text))?;
+    pieces.sort_by_key(
+        |piece: &Piece<'_>| -> u64
+            ensures { result ≡ piece.now.version }
+        { piece.version },
+    )?;
     Ok(pieces)
+}
+
+/// A text without the mark of the byte order at its start.
+fn without_mark(text: &[u8]) -> &[u8]
+    ensures { result.now ≡ strip_bom text.now }
+{
+    match text.strip_prefix(b"\xef\xbb\xbf") {
+        Some(rest) => rest,
+        None => text,
+    }
 }
 
 /// Appends the pieces of a text.
@@ -65,70 +99,100 @@ fn push_pieces<'a>(
     alloc: Global,
     roster: &Roster,
     text: &'a [u8],
-) -> Result<(), AllocError> {
-    let mut rest = text;
-    let mut begun: Option<Begun<'a>> = None;
+) -> Result<(), AllocError>
+    ensures { OnOk result ((texts : List (List ℕ)) × ArePieces text.now texts
+        × (texts_of pieces.new.items ≡ texts_of pieces.old.items ++ texts)) }
+{
+    let mut begun = None;
+    let mut start: usize = 0;
     let mut line: u64 = 0;
-    // Each line has a byte or more.
-    for _ in 0..text.len() {
-        if rest.is_empty() {
-            break;
-        }
-        let (own, behind) = rest.split_at(line_length(rest));
-        let kind = kind_of(alloc, own)?;
-        line = line.saturating_add(1);
-        if kind == Kind::Plan || kind == Kind::Other {
-            push_piece(pieces, alloc, roster, begun)?;
-            begun = None;
-        }
-        begun = begun_with(begun, kind, rest, own.len(), line);
-        if kind == Kind::End {
-            push_piece(pieces, alloc, roster, begun)?;
-            begun = None;
-        }
-        rest = behind;
+    while start < text.len() {
+        let end = start + line_length(&text[start..]);
+        // Each line has a byte or more, so there are no more lines than bytes.
+        line += 1;
+        let place = Place { start, end, line };
+        let kind = kind_of(alloc, &text[start..end])?;
+        begun = push_line(pieces, alloc, roster, text, begun, kind, place)?;
+        start = end;
     }
-    push_piece(pieces, alloc, roster, begun)
+    push_piece(pieces, alloc, roster, text, begun, start)?;
+    Ok(())
 }
 
-/// The piece that has begun, with one more line; a piece begins at a record of a plan.
-fn begun_with<'a>(
-    begun: Option<Begun<'a>>,
-    kind: Kind,
+/// Appends the piece that ends before a line or with it. Returns the one that has begun then: a piece begins at a record of a
+/// plan.
+fn push_line<'a>(
+    pieces: &mut Vec<Piece<'a>>,
+    alloc: Global,
+    roster: &Roster,
     text: &'a [u8],
-    length: usize,
-    line: u64,
-) -> Option<Begun<'a>> {
-    match (begun, kind) {
-        (Some(begun), _) => Some(Begun {
-            taken: begun.taken.saturating_add(length),
-            ..begun
-        }),
-        (None, Kind::Blank | Kind::Other) => None,
-        (None, _) => Some(Begun {
-            text,
-            taken: length,
-            line,
-        }),
+    begun: Option<Begun>,
+    kind: Kind,
+    place: Place,
+) -> Result<Option<Begun>, AllocError>
+    requires begun { IfSome begun (λ it. it.start ≤ place.start) }
+    requires order { place.start ≤ place.end }
+    requires within { place.end ≤ length text.now }
+    ensures next { IfOk result (λ next. IfSome next (λ it. it.start ≤ place.end)) }
+    ensures pieces { IfOk result (λ next. (behind : Option (List ℕ) → List (List ℕ))
+        → texts_of pieces.old.items
+        ++ pieces_at kind (slice_range text.now place.start place.end) (begun_text text.now place.start begun) behind
+        ≡ texts_of pieces.new.items ++ behind (begun_text text.now place.end next)) }
+{
+    match kind {
+        Kind::Plan => {
+            push_piece(pieces, alloc, roster, text, begun, place.start)?;
+            Ok(Some(Begun {
+                start: place.start,
+                line: place.line,
+            }))
+        }
+        Kind::Inner => Ok(Some(opened(begun, place))),
+        Kind::End => {
+            let whole = Some(opened(begun, place));
+            push_piece(pieces, alloc, roster, text, whole, place.end)?;
+            Ok(None)
+        }
+        Kind::Blank => Ok(begun),
+        Kind::Other => {
+            push_piece(pieces, alloc, roster, text, begun, place.start)?;
+            Ok(None)
+        }
     }
 }
 
-/// Appends a piece that has ended.
+/// The piece that has begun; if none has, one that begins with a line.
+fn opened(begun: Option<Begun>, place: Place) -> Begun
+    ensures { result.start ≡ start_of place.start begun }
+{
+    match begun {
+        Some(begun) => begun,
+        None => Begun {
+            start: place.start,
+            line: place.line,
+        },
+    }
+}
+
+/// Appends the piece that has begun and ends there, if one has.
 fn push_piece<'a>(
     pieces: &mut Vec<Piece<'a>>,
     alloc: Global,
     roster: &Roster,
-    begun: Option<Begun<'a>>,
-) -> Result<(), AllocError> {
+    text: &'a [u8],
+    begun: Option<Begun>,
+    end: usize,
+) -> Result<(), AllocError>
+    requires order { IfSome begun (λ it. it.start ≤ end) }
+    requires within { end ≤ length text.now }
+    ensures { OnOk result (texts_of pieces.new.items ≡ texts_of pieces.old.items ++ option_to_list (begun_text text.now end begun)) }
+{
     let Some(begun) = begun else {
         return Ok(());
     };
-    let text = begun.text.get(..begun.taken).unwrap_or(begun.text);
-    let version = match read_plan(alloc, text, roster) {
-        Ok((plan, _)) => plan.version,
-        Err(_) => u64::MAX,
-    };
-    let plan = (pieces.len() as u64).saturating_add(1);
+    let text = &text[begun.start..end];
+    let version = version_of(alloc, roster, text);
+    let plan = pieces.len() as u64 + 1;
     let line = begun.line;
     pieces.push(Piece {
         text,
@@ -139,46 +203,107 @@ fn push_piece<'a>(
     Ok(())
 }
 
+/// The version that the text of a plan names; if it can't be read, a number above all versions.
+fn version_of(alloc: Global, roster: &Roster, text: &[u8]) -> u64 {
+    match read_plan(alloc, text, roster) {
+        Ok((plan, _)) => plan.version,
+        Err(_) => u64::MAX,
+    }
+}
+
 /// How many bytes the first line of a text takes, with its end.
 fn line_length(text: &[u8]) -> usize
     requires { 0 < length text.now }
     ensures some { 0 < result }
     ensures within { result ≤ length text.now }
+    ensures length { result ≡ first_length text.now }
 {
     match memchr2(b'\n', b'\r', text) {
-        Some(end) if text[end..].starts_with(b"\r\n") => end + 2,
-        Some(end) => end + 1,
+        Some(end) => end + end_length(&text[end..]),
         None => text.len(),
+    }
+}
+
+/// How many bytes the end of a line takes, which a text begins with.
+fn end_length(text: &[u8]) -> usize
+    requires { IsEnd text.now }
+    ensures some { 0 < result }
+    ensures within { result ≤ length text.now }
+    ensures length { result ≡ first_length text.now }
+{
+    match text {
+        [b'\r', b'\n', ..] => 2,
+        _ => 1,
     }
 }
 
 /// What a line is, by its first field. That may stand in quotes: then it is what the reader of records reads of the line. A
 /// record of a plan takes one line, since none of its fields may have a line end.
-fn kind_of(alloc: Global, line: &[u8]) -> Result<Kind, AllocError> {
-    if line.first() == Some(&b'"') {
+fn kind_of(alloc: Global, line: &[u8]) -> Result<Kind, AllocError>
+    ensures { IfOk result (IsKind line.now) }
+{
+    if begins_with_quote(line) {
         return kind_of_quoted(alloc, line);
     }
-    let line = line.trim_ascii_end();
-    if line.is_empty() {
-        return Ok(Kind::Blank);
+    Ok(kind_of_plain(line))
+}
+
+/// Whether a line begins with a quote.
+fn begins_with_quote(line: &[u8]) -> bool
+    ensures { result ≡ begins_with 34 line.now }
+{
+    match line {
+        [b'"', ..] => true,
+        _ => false,
     }
-    let first = line.split(|byte| *byte == b',').next().unwrap_or(line);
-    Ok(kind_of_word(first))
+}
+
+/// What a line is if it does not begin with a quote.
+fn kind_of_plain(line: &[u8]) -> Kind
+    ensures { result ≡ plain_kind line.now }
+{
+    let text = trimmed(line);
+    if text.is_empty() {
+        return Kind::Blank;
+    }
+    kind_of_word(first_field(text))
+}
+
+/// A text without the white space at its end.
+fn trimmed(text: &[u8]) -> &[u8]
+    ensures { result.now ≡ trimmed text.now }
+{
+    text.trim_ascii_end()
+}
+
+/// What stands before the first comma.
+fn first_field(line: &[u8]) -> &[u8]
+    ensures { result.now ≡ before_comma line.now }
+{
+    match memchr(b',', line) {
+        Some(end) => &line[..end],
+        None => line,
+    }
 }
 
 /// What a line is if it begins with a quote.
-fn kind_of_quoted(alloc: Global, line: &[u8]) -> Result<Kind, AllocError> {
+fn kind_of_quoted(alloc: Global, line: &[u8]) -> Result<Kind, AllocError>
+    ensures { (records : List Record) → AreAllRecords (Some line.now) records → IfOk result (λ kind. kind ≡ kind_of_records records) }
+{
     let mut reader = open_records(alloc, line);
     let mut row = ByteRecord::new(alloc);
     match read_next(&mut reader, &mut row) {
-        Ok(_) => Ok(kind_of_word(row.get(0).unwrap_or(&[]).trim_ascii_end())),
+        Ok(true) => Ok(kind_of_word(trimmed(field_at(&row, 0)))),
+        Ok(false) => Ok(Kind::Other),
         // The bytes are there to read, so memory ran out.
         Err(_) => Err(AllocError),
     }
 }
 
 /// What a line is if it begins with a word.
-fn kind_of_word(word: &[u8]) -> Kind {
+fn kind_of_word(word: &[u8]) -> Kind
+    ensures { result ≡ kind_of_word word.now }
+{
     match word {
         b"PLAN" => Kind::Plan,
         b"LEG" | b"CUT" => Kind::Inner,

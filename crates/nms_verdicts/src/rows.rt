@@ -1,4 +1,6 @@
 //! The quotations on the side that an order trades with, in rank order, and what its plan does with each.
+ghost use Rattle.std.specs.Prelude.{◌≤◌, length};
+
 use crate::names::name_of;
 use crate::telling::{Heading, tell, tell_head};
 use nms_board::{Row, View};
@@ -81,11 +83,13 @@ fn state_of(protected: bool) -> Item<'static> {
 }
 
 /// The shares that legs send to a participant.
-fn sent_to(legs: &[Leg], part: Part) -> u64 {
+fn sent_to(legs: &[Leg], part: Part) -> u64
+    requires { length legs.now ≤ 32 }
+{
     let mut sent: u64 = 0;
     for leg in legs {
         if leg.part == part {
-            sent = sent.saturating_add(u64::from(leg.shares.get()));
+            sent += u64::from(leg.shares.get());
         }
     }
     sent

@@ -65,17 +65,16 @@ fn tell_row<W: Write>(
         right: false,
     };
     let mut columns = [empty; MOST_COLUMNS];
-    let mut place: usize = 0;
     let mut used: usize = 0;
-    for heading in headings {
-        let next = place.saturating_add(1);
-        if let Some(column) = columns.get_mut(place) {
-            *column = column_of(*heading, facts);
-            if !matches!(column.item, Item::Absent) {
-                used = next;
-            }
+    for place in 0..MOST_COLUMNS {
+        let Some(heading) = headings.get(place) else {
+            break;
+        };
+        let column = column_of(*heading, facts);
+        columns[place] = column;
+        if !matches!(column.item, Item::Absent) {
+            used = place + 1;
         }
-        place = next;
     }
     write_row(answers, form, columns.get(..used).unwrap_or(&columns))
 }
@@ -105,16 +104,16 @@ pub(crate) fn tell_line<'a, W: Write>(
         return Ok(());
     }
     let mut items = [Item::Absent; MOST_ITEMS];
-    let mut place: usize = 0;
-    for piece in words.as_bytes().split(|byte| *byte == b'|') {
-        if let Some(item) = items.get_mut(place) {
-            *item = if place % 2 == 0 {
-                Item::Bytes(piece)
-            } else {
-                value_of(facts, piece)
-            };
-        }
-        place = place.saturating_add(1);
+    let mut pieces = words.as_bytes().split(|byte| *byte == b'|');
+    for place in 0..MOST_ITEMS {
+        let Some(piece) = pieces.next() else {
+            break;
+        };
+        items[place] = if place % 2 == 0 {
+            Item::Bytes(piece)
+        } else {
+            value_of(facts, piece)
+        };
     }
     write_line(answers, form, &items)
 }

@@ -1,0 +1,8 @@
+-- `check_piece`: the outcome is that of the plan that the text says.
+use Rattle.nms_verdicts.proofs.CheckFacts.{outcome_read}
+use Rattle.nms_verdicts.proofs.checking.check_piece.Goals as goal
+
+pub returns-in-Ok-clause-outcome : goal.returns-in-Ok-clause-outcome
+returns-in-Ok-clause-outcome g c =
+    outcome_read c.args.setup.now c.args.changes.now c.args.text.now c.roster.result.now c.in-Ok.plan c.in-Ok.certificate.items
+    c.check_plan.result c.roster.ensures (λ records all. c.in-Ok.ensures.read records all) c.check_plan.ensures.outcome
