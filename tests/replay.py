@@ -664,6 +664,39 @@ def refused_records(program, tool):
     with Failing(program, tool, "a refused record of a strict run") as it:
         feed = it.room.write("a", GOOD + b"Q,Y,ABC,A,1,1,1,1\n" + OTHER)
         it.ends(it.room.start(*it.words(feed, it.room.fifo("b"), "--strict"), stdin=subprocess.PIPE), 6, "E5: A:2: L9")
+    with Failing(program, tool, "two faults of one record") as it:
+        feed = it.room.write("a", GOOD + b"Q,Y,ABC,A,1.00001,1,1,1\n")
+        it.ends(it.room.start(*it.words(feed, it.room.fifo("b"), "--strict"), stdin=subprocess.PIPE), 6, "E5: A:2: L6")
+
+
+# Requests to a version that has GOOD alone, and the answer that each must have.
+ASKED = (
+    (b"N,0,ABC", b"BEST,0,ABC,1,NORMAL,N,9.9900,100,1,N,10.0100,100,1\n"),
+    (b"?", b"ERR,2,L1\n"),
+    (b"E,1,ABC,10.02", b"THRU,1,ABC,1,10.0200,1\nROW,OFFER,N,10.0100,100\n"),
+    (b"O,0,B,ABC,100,10.02,,N", b"PLAN,1,B,ABC,100,10.0200,,0,0.000000000,N\nEND\n"),
+    (b'N,0,"ABC', b"ERR,5,L1\n"),
+    (b"F", b"ERR,6,L1\n"),
+    (b"N,0,ABC", b"BEST,0,ABC,1,NORMAL,N,9.9900,100,1,N,10.0100,100,1\n"),
+)
+
+
+def fixed_requests(program, tool):
+    """Requests of each kind to one version, in one epoch, and lines that are none."""
+    with Failing(program, tool, "requests to one version") as it:
+        asks, out = it.room.write("in", b"".join(asked + b"\n" for asked, _ in ASKED)), it.room.path("out")
+        started = it.room.start(*it.words(it.room.write("a", GOOD), "/dev/null", "--wait", "--client", f"{asks},{out}"))
+        Heard(started).ends(it.what, 0)
+        lines = bytes_of(out).splitlines(keepends=True)
+        check(f"{it.what}: no other epoch", not any(line.startswith(b"EPOCH") for line in lines), lines[:9])
+        came = [answer for _, answer in blocks(b"".join(line for line in lines if not line.startswith(b"EPOCH")))]
+        check(f"{it.what}: an answer to each", len(came) == len(ASKED), len(came))
+        for (asked, answer), got in zip(ASKED, came):
+            check(f"{it.what}: {asked.decode()}", got == answer, got)
+    with Failing(program, tool, "states without quotations") as it:
+        lines = b"S,N,ABC,M\nS,N,ABC,H\nS,N,ABC,A\n"
+        Heard(it.room.start(*it.words(it.room.write("a", lines)))).ends(it.what, 0)
+        it.tape_is(lines)
 
 
 def ask(started, line):
@@ -1023,7 +1056,7 @@ def main():
         runs, seed = int((sys.argv[3:] or [20])[0]), int((sys.argv[4:] or [611])[0])
         waiting = threading.Thread(target=silent_feeds, args=(program, tool))
         waiting.start()
-        for part in (refused_words, failing_paths, full_tape, epoch_borders, refused_records, torn_feeds, held_requests, kept_feeds, written_first, signals, little_memory):
+        for part in (refused_words, failing_paths, full_tape, epoch_borders, refused_records, fixed_requests, torn_feeds, held_requests, kept_feeds, written_first, signals, little_memory):
             part(program, tool)
         for number in range(runs):
             run_at_random(seed + number, program, tool)
