@@ -1,19 +1,22 @@
 -- How a keeper's tape, its board and its published version belong together.
-use Rattle.std.proofs.Common.{ℕ, ◌≡◌, ◌+◌, ◌<◌, ◌≤◌, ◌++◌, List, [], ◌∷◌, Option, Some, None, length, take, drop, fold}
+use Rattle.std.proofs.Common.{ℕ, ◌≡◌, ◌⊎◌, Bool, true, false, inl, inr, ◌+◌, ◌<◌, ◌≤◌}
+use Rattle.std.proofs.Common.{◌++◌, List, [], ◌∷◌, Option, Some, None, length, take, drop, fold}
 use Rattle.std.proofs.Common.{refl, sym, ap, subst, ◌∙◌, arith, length-append, append_assoc}
 use Rattle.std.proofs.KnownBytes.{Appends-nil}
 use Rattle.std.proofs.lemmas.List.{append-nil, take_more}
 use Rattle.std.proofs.lemmas.List.Sums.{fold-append}
-use Rattle.std.specs.Prelude.{get_or}
+use Rattle.std.proofs.lemmas.Bool.{cases_lt, lt-ltb}
+use Rattle.std.specs.Prelude.{get_or, nat_lt, ◌&&◌}
 use Rattle.std.specs.Io.KnownBytes.{Appends}
-use Rattle.nms_quote.specs.Roster.{Listing, Sizes}
+use Rattle.nms_quote.specs.Roster.{Listing, Sizes, holds}
+use Rattle.nms_quote.specs.declared.TheConstants.{MOST_CHANGES}
 use Rattle.nms_quote.specs.declared.change.Change.{Change}
-use Rattle.nms_board.specs.Cells.{Board, after, opening}
+use Rattle.nms_board.specs.Cells.{Board, after, opening, takes}
 use Rattle.nms_change_text.specs.ChangeText.{changes_text}
 use Rattle.nms_lines.specs.Written.{AppendsPart}
 use Rattle.nms_opening.specs.Alike.{ShowAlike}
 use Rattle.nms_opening.specs.Opening.{Opens}
-use Rattle.nms_serving.specs.Keeping.{Keeping, with_change}
+use Rattle.nms_serving.specs.Keeping.{IsRefused, Keeping, with_change}
 use Rattle.nms_serving.specs.Lengths.{length_line, opening_lines}
 use Rattle.nms_versions.specs.Published.{changes, committed}
 use Rattle.nms_versions.specs.Taped.{Taped, tape_of}
@@ -173,3 +176,27 @@ module _ {X Y : Type 0} where
     ap (λ (k : Keeping X Y). k.roster) is,
     ap (λ (k : Keeping X Y). k.published) is,
   )
+
+-- a board that does not take a change: its tape does not
+clash : (b : Bool) → b ≡ false → b ≡ true → ⊥
+clash b off on = cc
+
+applied_all : (board : Board) (tape : List Change) → (fold after board tape).applied ≡ board.applied + length tape
+applied_all board [] = omega arith
+applied_all board (change ∷ tape) = omega (arith, applied_all (after board change) tape)
+
+pub refused_by : (taped : Taped) (board : Board) (change : Change) → board.sizes ≡ taped.sizes
+    → board ≡ fold after (opening taped.sizes) (tape_of taped) → taped.limit ≤ MOST_CHANGES → length (tape_of taped) ≤ taped.limit
+    → takes board change ≡ false → IsRefused taped change
+refused_by taped board change sized stands limited within none = by_held (holds board.sizes change) refl none
+  where
+    applied : board.applied ≡ length (tape_of taped)
+    applied = omega (arith, ap (λ (b : Board). b.applied) stands, applied_all (opening taped.sizes) (tape_of taped))
+
+    by_held : (b : Bool) → holds board.sizes change ≡ b → (b && nat_lt board.applied MOST_CHANGES) ≡ false → IsRefused taped change
+    by_held false held off = inl (ap (λ (s : Sizes). holds s change) (sym sized) ∙ held)
+    by_held true held off = elim (cases_lt board.applied MOST_CHANGES) as (λ (h : (board.applied < MOST_CHANGES)
+        ⊎ (MOST_CHANGES ≤ board.applied)). IsRefused taped change) [
+          | inl less ↦ absurd (clash (nat_lt board.applied MOST_CHANGES) off (lt-ltb board.applied MOST_CHANGES less))
+          | inr most ↦ inr (omega (arith, most, limited, within, applied))
+        ]

@@ -1,7 +1,7 @@
 -- What a keeper keeps of an epoch: the tape, its board, and what was written of it. This product's own rule.
-use Rattle.std.specs.Prelude.{ℕ, ◌≡◌, ◌+◌, ◌≤◌, ◌++◌, ◌∷◌, [], List, Option, drop, fold, length}
+use Rattle.std.specs.Prelude.{ℕ, ◌≡◌, ◌⊎◌, false, ◌+◌, ◌≤◌, ◌++◌, ◌∷◌, [], List, Option, drop, fold, length}
 use Rattle.std.specs.Io.KnownBytes.{Appends}
-use Rattle.nms_quote.specs.Roster.{Listing, sizes_of}
+use Rattle.nms_quote.specs.Roster.{Listing, holds, sizes_of}
 use Rattle.nms_quote.specs.declared.change.Change.{Change}
 use Rattle.nms_quote.specs.declared.TheConstants.{MOST_CHANGES}
 use Rattle.nms_board.specs.Cells.{Board, after, opening}
@@ -9,6 +9,9 @@ use Rattle.nms_change_text.specs.ChangeText.{changes_text}
 use Rattle.nms_versions.specs.Published.{changes, committed}
 use Rattle.nms_versions.specs.Taped.{Taped, tape_of}
 use Rattle.nms_serving.specs.Lengths.{length_line}
+use Rattle.nms_serving.specs.declared.serve_fault.ServeFault.{ServeFault}
+use Rattle.nms_serving.specs.declared.serve_fault.ServeFault.TheVariants as faults
+use Rattle.nms_serving.specs.declared.stream.Stream.TheVariants as streams
 
 -- the roster, the tape as its publisher has it, the tape's board, the writers of the tape and of its lengths, how many
 -- changes were published, and how often
@@ -57,3 +60,12 @@ pub record IsWritten {X Y : Type 0} (tape_of_writer : X → Option (List ℕ)) (
   pub recorded : Appends (tape_of_writer old.tape) (tape_of_writer new.tape)
       (changes_text old.roster (drop old.published (tape_of new.publisher)))
   pub listed : Appends (lengths_of_writer old.lengths) (lengths_of_writer new.lengths) (length_line (length (tape_of new.publisher)))
+
+-- a change is not taken: it is not of the roster, or the tape has as many changes as it may
+abbrev pub IsRefused : Taped → Change → Type 0
+IsRefused taped change = (holds taped.sizes change ≡ false) ⊎ (length (tape_of taped) ≡ taped.limit)
+
+-- a fault of writing: out of memory, or one of the two writers failed
+abbrev pub IsOfWriting : ServeFault → Type 0
+IsOfWriting fault =
+    (fault ≡ faults.NoMemory) ⊎ ((fault ≡ faults.NotWritten streams.Tape) ⊎ (fault ≡ faults.NotWritten streams.Lengths))

@@ -1,5 +1,5 @@
 //! The taker's side of the board: each batch of changes is on the tape's file before it is published (specs/Keeping).
-ghost use Rattle.std.specs.Prelude.{◌≡◌, ℕ, ◌+◌, ◌<◌, ◌≤◌, ◌++◌, ◌∷◌, ◌⊎◌, [], drop, fold, length, IfOk, OnErr, OnOk};
+ghost use Rattle.std.specs.Prelude.{◌≡◌, ℕ, ◌+◌, ◌<◌, ◌≤◌, ◌++◌, ◌∷◌, ◌⊎◌, [], drop, fold, length, IfErr, IfOk, OnErr, OnOk, Err, ◌↔◌};
 ghost use Rattle.std.specs.Io.KnownBytes.{Appends};
 ghost use Rattle.nms_change_text.specs.ChangeText.{changes_text};
 ghost use Rattle.nms_quote.specs.Roster.{sizes_of};
@@ -9,7 +9,7 @@ ghost use Rattle.nms_lines.specs.Written.{AppendsPart};
 ghost use Rattle.nms_opening.specs.Alike.{ShowAlike};
 ghost use Rattle.nms_opening.specs.Opening.{Opens};
 ghost use Rattle.nms_serving.specs.declared.TheConstants.{MOST_BATCH};
-ghost use Rattle.nms_serving.specs.Keeping.{IsKept, IsWritten, with_all_published, with_change, with_writers};
+ghost use Rattle.nms_serving.specs.Keeping.{IsKept, IsOfWriting, IsRefused, IsWritten, with_all_published, with_change, with_writers};
 ghost use Rattle.nms_serving.specs.Lengths.{length_line, opening_lines};
 ghost use Rattle.nms_versions.specs.Published.{changes};
 ghost use Rattle.nms_versions.specs.Taped.{tape_of};
@@ -232,8 +232,9 @@ impl<'a, X: Write, Y: Write> Keeper<'a, X, Y> {
 
     /// Takes a change in. Once `MOST_BATCH` changes wait, they are published, as by `publish`.
     ///
-    /// `TapeFull` if the tape has as many changes as it may, or if the change is not of the roster, and `NoMemory`: both leave
-    /// all as it was. If the publishing fails instead, the change is on the tape, and no desk sees it.
+    /// `TapeFull` exactly if the tape has as many changes as it may, or the change is not of the roster. It leaves all as it
+    /// was, and so does `NoMemory` of the tape. If the publishing fails, the change is on the tape, and no desk sees it:
+    /// `changes` tells these apart.
     #[tactic(auto, using(crate::proofs::KeeperFacts::longer_appended))]
     pub fn take_in<R: Wait>(&mut self, rt: &R, change: &Change) -> Result<(), ServeFault>
         ensures shown { OnOk result ((self.new ≡ with_change self.old change.now)
@@ -241,6 +242,7 @@ impl<'a, X: Write, Y: Write> Keeper<'a, X, Y> {
         ensures few { OnOk result (length (tape_of self.new.publisher) < self.new.published + MOST_BATCH) }
         ensures unpublished { OnErr result ((self.new ≡ self.old) ⊎ (self.new ≡ with_writers (with_change self.old change.now) self.new.tape self.new.lengths)) }
         ensures taken { OnOk result (tape_of self.new.publisher ≡ tape_of self.old.publisher ++ change.now ∷ []) }
+        ensures full { (result ≡ Err ServeFault.TapeFull) ↔ IsRefused self.old.publisher change.now }
         ensures sizes { self.new.publisher.sizes ≡ self.old.publisher.sizes }
         ensures longer { length (tape_of self.old.publisher) ≤ length (tape_of self.new.publisher) }
     {
@@ -259,7 +261,10 @@ impl<'a, X: Write, Y: Write> Keeper<'a, X, Y> {
     fn append(&mut self, change: &Change) -> Result<(), ServeFault>
         ensures added { OnOk result (self.new ≡ with_change self.old change.now) }
         ensures unchanged { OnErr result (self.new ≡ self.old) }
+        ensures full { (result ≡ Err ServeFault.TapeFull) ↔ IsRefused self.old.publisher change.now }
     {
+        // The tape is within its limit.
+        let _within = self.publisher.tape();
         if !self.board.takes(change) {
             return Err(ServeFault::TapeFull);
         }
@@ -287,6 +292,7 @@ impl<'a, X: Write, Y: Write> Keeper<'a, X, Y> {
         ensures unpublished { OnErr result (self.new ≡ with_writers self.old self.new.tape self.new.lengths) }
         ensures recorded_part { OnErr result (AppendsPart (X.contents self.old.tape) (X.contents self.new.tape) (changes_text self.old.roster (drop self.old.published (tape_of self.old.publisher)))) }
         ensures listed_part { OnErr result (AppendsPart (Y.contents self.old.lengths) (Y.contents self.new.lengths) (length_line (length (tape_of self.old.publisher)))) }
+        ensures writes { IfErr result (λ fault. IsOfWriting fault) }
         ensures whole { OnOk result (self.new ≡ with_all_published self.old self.new.tape self.new.lengths) }
         ensures sizes { self.new.publisher.sizes ≡ self.old.publisher.sizes }
         ensures longer { length (tape_of self.old.publisher) ≤ length (tape_of self.new.publisher) }
@@ -309,6 +315,7 @@ impl<'a, X: Write, Y: Write> Keeper<'a, X, Y> {
         ensures recorded { OnOk result (Appends (X.contents self.old.tape) (X.contents self.new.tape) (changes_text self.old.roster (drop self.old.published (tape_of self.old.publisher)))) }
         ensures recorded_part { OnErr result (AppendsPart (X.contents self.old.tape) (X.contents self.new.tape) (changes_text self.old.roster (drop self.old.published (tape_of self.old.publisher)))) }
         ensures listed_part { OnErr result (AppendsPart (Y.contents self.old.lengths) (Y.contents self.new.lengths) (length_line (length (tape_of self.old.publisher)))) }
+        ensures writes { IfErr result (λ fault. IsOfWriting fault) }
     {
         let tape = self.publisher.tape();
         let batch = batch_of(tape, self.published);
