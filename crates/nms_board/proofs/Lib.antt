@@ -1,3 +1,4 @@
+mod BestLemmas
 pub mod BoardLemmas
 pub mod CarriedLemmas
 pub mod HistoryLemmas

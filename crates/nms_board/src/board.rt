@@ -6,6 +6,7 @@ ghost use Rattle.nms_quote.specs.Roster.{holds, sizes_of};
 ghost use Rattle.nms_quote.specs.Tape.{Tape};
 ghost use Rattle.nms_quote.specs.declared.side_quote.Side.{Side};
 ghost use Rattle.nms_quote.specs.declared.side_quote.Side.TheVariants.{Bid, Offer};
+ghost use Rattle.nms_board.specs.Bests.{AreBests};
 ghost use Rattle.nms_board.specs.Carried.{AreCarried};
 ghost use Rattle.nms_board.specs.Cells.{altered, change_cell, place_of, withdraw_from};
 ghost use Rattle.nms_board.specs.Kept.{AreRanks, row_shown, symbol_cells};
@@ -16,6 +17,7 @@ use crate::MOST_ROWS;
 use crate::board_fault::BoardFault;
 use crate::cell::{Cell, empty_cells};
 use crate::row::Row;
+use crate::symbol_best::{SymbolBest, empty_bests};
 use crate::symbol_ranks::{SymbolRanks, empty_ranks};
 use crate::view::View;
 use arrayvec::ArrayVec;
@@ -37,12 +39,15 @@ pub struct Boards {
     cells: Vec<Cell>,
     /// The rank orders of each symbol, by place, so that a look ranks nothing.
     ranks: Vec<SymbolRanks>,
+    /// The best rows of each symbol, by place, so that a look at them reads no cell.
+    bests: Vec<SymbolBest>,
     applied: u64,
 }
 
 impl Model for Boards {
     ghost use Rattle.nms_board.specs.Cells.{Board, IsBoard};
     ghost use Rattle.nms_board.specs.Kept.{AreRanks};
+    ghost use Rattle.nms_board.specs.Bests.{AreBests};
 
     ghost Value = { Board };
 
@@ -58,7 +63,8 @@ impl Model for Boards {
       lots = b.lots.items;
       cells = b.cells.items;
       applied = b.applied;
-    }) × AreRanks (record { parts = b.parts; lots = b.lots.items }) b.cells.items b.ranks.items };
+    }) × AreRanks (record { parts = b.parts; lots = b.lots.items }) b.cells.items b.ranks.items
+        × AreBests (record { parts = b.parts; lots = b.lots.items }) b.cells.items b.ranks.items b.bests.items };
 }
 
 impl Boards {
@@ -85,12 +91,16 @@ impl Boards {
         let Ok(ranks) = empty_ranks(alloc, lots.len()) else {
             return Err(BoardFault::NoMemory);
         };
+        let Ok(bests) = empty_bests(alloc, lots.len()) else {
+            return Err(BoardFault::NoMemory);
+        };
         Ok(Boards {
             parts,
             opening,
             lots,
             cells,
             ranks,
+            bests,
             applied: 0,
         })
     }
@@ -180,6 +190,19 @@ impl Boards {
         }
     }
 
+    /// The row that ranks first on a side of a symbol of the roster: that of `ranked` at place 0. It is kept, so no cell is
+    /// read.
+    #[inline(always)]
+    pub fn best(&self, side: Side, sym: Sym) -> Option<Row>
+        requires { sym < length self.now.sizes.lots }
+        ensures best { result ≡ ranked_at side (rows_held self.now sym side) 0 }
+        ensures there { MatchOption result (length (rows_held self.now sym side) ≤ 0)
+            (λ row. 0 < length (rows_held self.now sym side)) }
+        ensures part { IfSome result (λ row. row.part < self.now.sizes.parts) }
+    {
+        self.bests[usize::from(sym.get())].on(side)
+    }
+
     /// The sum of the sizes that a side of a symbol of the roster displays, in shares.
     pub fn total(&self, side: Side, sym: Sym) -> u64
         requires { sym < length self.now.sizes.lots }
@@ -234,6 +257,7 @@ impl Boards {
                 &self.lots,
                 &mut self.cells,
                 &mut self.ranks,
+                &mut self.bests,
             ),
             Change::Withdraw { part } => withdraw_from(
                 number,
@@ -242,6 +266,7 @@ impl Boards {
                 &self.lots,
                 &mut self.cells,
                 &mut self.ranks,
+                &mut self.bests,
             ),
             Change::Lot { sym, lot } => set_lot(
                 usize::from(sym.get()),
@@ -250,6 +275,7 @@ impl Boards {
                 &mut self.lots,
                 &self.cells,
                 &mut self.ranks,
+                &mut self.bests,
             ),
         }
     }
@@ -380,13 +406,16 @@ fn withdraw_from(
     lots: &[Lot],
     cells: &mut [Cell],
     ranks: &mut [SymbolRanks],
+    bests: &mut [SymbolBest],
 )
     requires part { part < parts }
     requires parts { parts ≤ MOST_ROWS }
     requires room { MOST_ROWS * length lots.now ≤ length cells.old }
     requires ranks { AreRanks (record { parts = parts; lots = lots.now }) cells.old ranks.old }
+    requires bests { AreBests (record { parts = parts; lots = lots.now }) cells.old ranks.old bests.old }
     ensures cells { cells.new ≡ withdraw_from number part (length lots.now) cells.old }
     ensures ranks { AreRanks (record { parts = parts; lots = lots.now }) cells.new ranks.new }
+    ensures bests { AreBests (record { parts = parts; lots = lots.now }) cells.new ranks.new bests.new }
 {
     for sym in 0..lots.len() {
         if cells[MOST_ROWS * sym + usize::from(part.get())].has_quote() {
@@ -399,6 +428,7 @@ fn withdraw_from(
                 lots,
                 cells,
                 ranks,
+                bests,
             );
         }
     }
@@ -415,23 +445,28 @@ fn alter(
     lots: &[Lot],
     cells: &mut [Cell],
     ranks: &mut [SymbolRanks],
+    bests: &mut [SymbolBest],
 )
     requires part { part < parts }
     requires parts { parts ≤ MOST_ROWS }
     requires sym { sym < length lots.now }
     requires room { MOST_ROWS * length lots.now ≤ length cells.old }
     requires ranks { AreRanks (record { parts = parts; lots = lots.now }) cells.old ranks.old }
+    requires bests { AreBests (record { parts = parts; lots = lots.now }) cells.old ranks.old bests.old }
     requires own { (side : Side) → AreOwn (row_shown (record { parts = parts; lots = lots.now })
         (change_cell cells.old (place_of part sym) (altered number change.now)) sym side) }
     ensures cells { cells.new ≡ change_cell cells.old (place_of part sym) (altered number change.now) }
     ensures ranks { AreRanks (record { parts = parts; lots = lots.now }) cells.new ranks.new }
+    ensures bests { AreBests (record { parts = parts; lots = lots.now }) cells.new ranks.new bests.new }
 {
     let lot = lots[sym];
     let cell = &mut cells[MOST_ROWS * sym + usize::from(part.get())];
     let was = *cell;
     cell.alter(number, change);
+    let shown = symbol_cells(cells, sym, parts);
     let orders = &mut ranks[sym];
-    orders.settle(part, lot, &was, symbol_cells(cells, sym, parts));
+    orders.settle(part, lot, &was, shown);
+    bests[sym].follow(part, lot, orders, shown);
 }
 
 /// Gives a symbol another round lot, in which both its sides rank anew.
@@ -442,18 +477,23 @@ fn set_lot(
     lots: &mut [Lot],
     cells: &[Cell],
     ranks: &mut [SymbolRanks],
+    bests: &mut [SymbolBest],
 )
     requires parts { parts ≤ MOST_ROWS }
     requires sym { sym < length lots.old }
     requires room { MOST_ROWS * length lots.old ≤ length cells.now }
     requires ranks { AreRanks (record { parts = parts; lots = lots.old }) cells.now ranks.old }
+    requires bests { AreBests (record { parts = parts; lots = lots.old }) cells.now ranks.old bests.old }
     requires own { (side : Side) → AreOwn (row_shown (record { parts = parts; lots = slice_set lots.old sym lot })
         cells.now sym side) }
     ensures lots { lots.new ≡ slice_set lots.old sym lot }
     ensures ranks { AreRanks (record { parts = parts; lots = lots.new }) cells.now ranks.new }
+    ensures bests { AreBests (record { parts = parts; lots = lots.new }) cells.now ranks.new bests.new }
 {
+    let shown = symbol_cells(cells, sym, parts);
     let orders = &mut ranks[sym];
-    orders.rank_anew(lot, symbol_cells(cells, sym, parts));
+    orders.rank_anew(lot, shown);
+    bests[sym] = SymbolBest::of(lot, orders, shown);
     lots[sym] = lot;
 }
 

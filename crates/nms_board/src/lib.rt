@@ -8,6 +8,7 @@ mod laws;
 mod passing;
 mod ranks;
 mod row;
+mod symbol_best;
 mod symbol_ranks;
 mod view;
 

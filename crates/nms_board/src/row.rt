@@ -24,6 +24,15 @@ pub struct Row {
 /// The row in a list's unused places.
 impl Default for Row {
     fn default() -> Self {
+        Row::nothing()
+    }
+}
+
+impl Row {
+    /// What stands for no row: one of no shares.
+    pub(crate) fn nothing() -> Self
+        ensures { result.size ≡ 0 }
+    {
         Row {
             price: Price::new(1).unwrap(),
             receipt: 0,
@@ -32,9 +41,7 @@ impl Default for Row {
             protected: false,
         }
     }
-}
 
-impl Row {
     /// Whether a row ranks above another one of its side: by price, then by size, then by receipt.
     pub fn ranks_above(&self, side: Side, other: &Row) -> bool
         ensures { result ≡ ranks_above side self.now other.now }

@@ -24,7 +24,7 @@ pub fn best_on(board: &Boards, side: Side, sym: Sym) -> Option<Row>
     ensures best { IsBestOf side (rows_held board.now sym side) result }
     ensures part { IfSome result (λ row. row.part < board.now.sizes.parts) }
 {
-    board.ranked(side, sym, 0)
+    board.best(side, sym)
 }
 
 /// The protected rows of a side by participant place (17 CFR 242.600, "protected bid or protected offer").

@@ -8,7 +8,7 @@ use Rattle.nms_board.proofs.board.withdraw_from.Goals as goal
 use Rattle.nms_board.proofs.board.withdraw_from.Goals.{then-has_quote, else-has_quote}
 
 pub loop-sym-init : goal.loop-sym-init
-loop-sym-init c = record { cells = sym (withdraw_from_none c.args.number c.args.part c.args.cells.now); ranks = c.requires.ranks }
+loop-sym-init c = record { cells = sym (withdraw_from_none c.args.number c.args.part c.args.cells.now); ranks = c.requires.ranks; bests = c.requires.bests }
 
 pub alter-requires-clause-own : goal.alter-requires-clause-own
 alter-requires-clause-own c = λ side.
@@ -35,6 +35,7 @@ loop-sym-preserved c = elim c.if-has_quote.branch [
     cells = w.cells-is ∙ w.alter.ensures.cells ∙ rw c.loop-sym.invariant.cells (sym
         (withdraw_from_more c.args.number c.args.part c.loop-sym.sym c.args.cells.now));
     ranks = rw (w.cells-is, w.ranks-is) w.alter.ensures.ranks;
+    bests = rw (w.cells-is, w.ranks-is, w.bests-is) w.alter.ensures.bests;
   }
   | else-has_quote w ↦ record {
     cells =
@@ -44,5 +45,6 @@ loop-sym-preserved c = elim c.if-has_quote.branch [
         (omega arith) (omega arith) (c.has_quote.ensures w.if-has_quote.false c.args.number))
         ∙ rw c.loop-sym.invariant.cells (sym (withdraw_from_more c.args.number c.args.part c.loop-sym.sym c.args.cells.now));
     ranks = rw (w.cells-is, w.ranks-is) c.loop-sym.invariant.ranks;
+    bests = rw (w.cells-is, w.ranks-is, w.bests-is) c.loop-sym.invariant.bests;
   }
 ]

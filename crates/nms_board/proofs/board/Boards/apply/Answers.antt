@@ -71,6 +71,15 @@ invariant_of-self-in-Quote c = (
     written_all c.self.inside.ranks.len c.alter.new.ranks c.self.inside.ranks.items (omega (arith, c.alter.auto.ranks)) (omega arith),
     ← c.deref-in-Quote.ensures.value,
   ) c.alter.ensures.ranks,
+  rw (
+    written_all c.self.inside.cells.len c.alter.new.cells c.self.inside.cells.items (omega (arith, c.alter.auto.cells))
+        (omega arith),
+    written_all c.self.inside.ranks.len c.alter.new.ranks c.self.inside.ranks.items (omega (arith, c.alter.auto.ranks))
+        (omega arith),
+    written_all c.self.inside.bests.len c.alter.new.bests c.self.inside.bests.items (omega (arith, c.alter.auto.bests))
+        (omega arith),
+    ← c.deref-in-Quote.ensures.value,
+  ) c.alter.ensures.bests,
 )
 
 pub returns-in-Withdraw-clause-after : goal.returns-in-Withdraw-clause-after
@@ -87,6 +96,15 @@ invariant_of-self c = (
         (omega arith),
     ← c.deref.ensures.value,
   ) c.withdraw_from.ensures.ranks,
+  rw (
+    written_all c.self.inside.cells.len c.withdraw_from.new.cells c.self.inside.cells.items (omega (arith, c.withdraw_from.auto.cells))
+        (omega arith),
+    written_all c.self.inside.ranks.len c.withdraw_from.new.ranks c.self.inside.ranks.items (omega (arith, c.withdraw_from.auto.ranks))
+        (omega arith),
+    written_all c.self.inside.bests.len c.withdraw_from.new.bests c.self.inside.bests.items (omega (arith, c.withdraw_from.auto.bests))
+        (omega arith),
+    ← c.deref.ensures.value,
+  ) c.withdraw_from.ensures.bests,
 )
 
 pub returns-in-Quote-clause-stands : goal.returns-in-Quote-clause-stands
@@ -109,6 +127,15 @@ invariant_of-self-in-Lot-1 c = (
     written_all c.self.inside.ranks.len c.set_lot.new.ranks c.self.inside.ranks.items (omega (arith, c.set_lot.auto.ranks)) (omega arith),
     ← c.deref-in-Lot.ensures.value,
   ) c.set_lot.ensures.ranks,
+  rw (
+    written_all c.self.inside.lots.len c.set_lot.new.lots c.self.inside.lots.items (omega (arith, c.set_lot.auto.lots))
+        (omega arith),
+    written_all c.self.inside.ranks.len c.set_lot.new.ranks c.self.inside.ranks.items (omega (arith, c.set_lot.auto.ranks))
+        (omega arith),
+    written_all c.self.inside.bests.len c.set_lot.new.bests c.self.inside.bests.items (omega (arith, c.set_lot.auto.bests))
+        (omega arith),
+    ← c.deref-in-Lot.ensures.value,
+  ) c.set_lot.ensures.bests,
 )
 
 pub returns-in-Lot-clause-stands : goal.returns-in-Lot-clause-stands

@@ -1,9 +1,10 @@
--- `Boards::new`: clauses `opening` and `stands` and the invariant of what it gives, by `stands_opening` and
--- `ranks_opening`.
+-- `Boards::new`: clauses `opening` and `stands` and the invariant of what it gives, by `stands_opening`,
+-- `ranks_opening` and `bests_opening`.
 use Rattle.std.proofs.Common.{◌≡◌, [], length, sym, ap, subst, ◌∙◌, arith}
 use Rattle.std.proofs.lemmas.Grind.{common_steps}
 use Rattle.nms_quote.specs.Roster.{sizes_of}
 use Rattle.nms_board.specs.Cells.{StandsFor}
+use Rattle.nms_board.proofs.BestLemmas.{bests_opening}
 use Rattle.nms_board.proofs.BoardLemmas.{stands_opening}
 use Rattle.nms_board.proofs.KeptLemmas.{ranks_opening}
 use Rattle.nms_board.proofs.board.Boards.new.Goals as goal
@@ -25,4 +26,7 @@ invariant_of-result c =
       rw (c.in-Ok-empty_cells.ensures, syms)
           (ranks_opening (record { parts = c.parts-parts.result; lots = c.in-Ok-lots_of.lots.items }) c.in-Ok-empty_ranks.ranks.items
           c.parts-parts.ensures.within symbols c.in-Ok-empty_ranks.ensures.empty),
+      bests_opening (record { parts = c.parts-parts.result; lots = c.in-Ok-lots_of.lots.items }) _ c.in-Ok-empty_ranks.ranks.items
+          c.in-Ok-empty_bests.bests.items (omega (arith, c.in-Ok-empty_bests.ensures.symbols)) c.in-Ok-empty_ranks.ensures.empty
+          c.in-Ok-empty_bests.ensures.empty,
     )
