@@ -29,7 +29,7 @@ pub fn a_stream_is_cut_by_epochs()
 {}
 
 /// So a run is one script for each epoch: a client is shown, epoch by epoch, the line of one that it goes over to, and what that
-/// epoch's script tells it.
+/// epoch's script answers it.
 pub fn a_served_run_is_its_scripts(setup: &Setup)
     ensures { RunIsScripts setup.now }
 {

@@ -234,7 +234,7 @@ impl<'a, X: Write, Y: Write> Keeper<'a, X, Y> {
     ///
     /// `TapeFull` exactly if the tape has as many changes as it may, or the change is not of the roster. It leaves all as it
     /// was, and so does `NoMemory` of the tape. If the publishing fails, the change is on the tape, and no desk sees it:
-    /// `changes` tells these apart.
+    /// `changes` distinguishes these.
     #[tactic(auto, using(crate::proofs::KeeperFacts::longer_appended))]
     pub fn take_in<R: Wait>(&mut self, rt: &R, change: &Change) -> Result<(), ServeFault>
         ensures shown { OnOk result ((self.new ≡ with_change self.old change.now)
@@ -279,7 +279,7 @@ impl<'a, X: Write, Y: Write> Keeper<'a, X, Y> {
 
     /// Writes the waiting changes to the tape's file, and the tape's length to the file beside it, and then publishes them. If
     /// either can't be written, nothing is published: so both writes have ended well before any desk sees the changes.
-    /// `waiting` tells whether there are any.
+    /// `waiting` returns how many there are.
     ///
     /// `NotWritten` if a writer fails, which may have taken a first part, or `NoMemory`. Then the changes still wait, and no
     /// desk sees them.
