@@ -1,2 +1,4 @@
+pub mod Offered
+pub mod PlainFacts
 pub mod SafeFacts
 pub mod WriteFacts

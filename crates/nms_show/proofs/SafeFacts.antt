@@ -1,8 +1,8 @@
 -- Printable text and safe text, joined.
 use Rattle.std.proofs.Common.{ℕ, zero, suc, ℤ, pos, negsuc, ◌≡◌, ◌+◌, ◌/◌, ◌%◌, ◌<◌, ◌≤◌, ◌==◌, ◌&&◌, Bool, true, false, cond}
 use Rattle.std.proofs.Common.{List, [], ◌∷◌, ◌++◌}
-use Rattle.std.proofs.Common.{refl, sym, ap, subst, ◌∙◌, take, length, append_assoc, arith}
-use Rattle.std.specs.Prelude.{flat_map, nat_le, nat_lt, ◌||◌, if◌then◌else◌}
+use Rattle.std.proofs.Common.{refl, sym, ap, subst, ◌∙◌, take, append_assoc, arith}
+use Rattle.std.specs.Prelude.{flat_map, nat_lt, ◌||◌, if◌then◌else◌}
 use Rattle.std.specs.Char.{digit_char, encode_utf8}
 use Rattle.std.specs.Fmt.{decimal, digit_glyph, digits, digits_onto}
 use Rattle.std.specs.Int.{is_in_range}
@@ -38,7 +38,7 @@ other_true false b is = is
 pub letter_shown : (c : ℕ) → is_letter c ≡ true → is_shown c ≡ true
 letter_shown c is = other_true (is_in_range 32 126 c) (is_letter c) is
 
-both_true : (a b : Bool) → (a && b) ≡ true → (a ≡ true) × (b ≡ true)
+pub both_true : (a b : Bool) → (a && b) ≡ true → (a ≡ true) × (b ≡ true)
 both_true true b is = (refl, is)
 both_true false b is = absurd (cc)
 

@@ -5,7 +5,6 @@ use Rattle.std.specs.Prelude.{Err, Ok, OnOk, Result}
 use Rattle.std.specs.Result.{IsErr}
 use Rattle.std.specs.Io.KnownBytes.{Appends}
 use Rattle.std.proofs.lemmas.List.{append-nil}
-use Rattle.nms_lines.specs.Written.{AppendsPart}
 use Rattle.nms_lines.proofs.Offered.{part_more}
 use Rattle.nms_show.specs.Safe.{IsPrintable, IsSafe}
 use Rattle.nms_show.specs.Written.{Adds, AddsPart, Writes}

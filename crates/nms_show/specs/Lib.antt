@@ -1,3 +1,4 @@
+pub mod Endings
 pub mod Json
 pub mod Safe
 pub mod Written

@@ -1,4 +1,6 @@
-//! The end of a served request.
+//! The end of a served request: `specs/Endings`.
+ghost use Rattle.std.specs.Prelude.{◌≡◌};
+ghost use Rattle.nms_show.specs.Endings.{status_of};
 
 /// The end of a served request: all that was asked for was printed.
 #[derive(Clone, Copy)]
@@ -15,7 +17,9 @@ pub enum Ending {
 
 impl Ending {
     /// The exit status: 0, 4 for a doubt, 6 for a record or a plan's text, 3 for a setup.
-    pub fn status(self) -> u8 {
+    pub fn status(self) -> u8
+        ensures { result ≡ status_of self }
+    {
         match self {
             Ending::Done => 0,
             Ending::Doubted => 4,

@@ -1,4 +1,6 @@
-//! The form in which answers are printed.
+//! The form in which answers are printed: `specs/Endings`.
+ghost use Rattle.std.specs.Prelude.{◌≡◌};
+ghost use Rattle.nms_show.specs.Endings.{is_json};
 
 /// The form in which answers are printed.
 #[derive(Clone, Copy, PartialEq, Eq)]
@@ -14,7 +16,9 @@ pub enum Form {
 
 impl Form {
     /// Whether answers are JSON.
-    pub fn is_json(self) -> bool {
+    pub fn is_json(self) -> bool
+        ensures { result ≡ is_json self }
+    {
         self == Form::Json
     }
 

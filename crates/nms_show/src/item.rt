@@ -1,6 +1,8 @@
 //! What a line is made of.
+ghost use Rattle.std.specs.Prelude.{◌≡◌};
 ghost use Rattle.nms_show.specs.Safe.{IsPrintable, own_text};
 ghost use Rattle.nms_show.specs.Written.{Writes};
+ghost use Rattle.nms_show.specs.declared.item.Item.TheVariants as item;
 
 use crate::show_fault::ShowFault;
 use crate::shown::write_shown;
@@ -45,12 +47,16 @@ pub struct Column<'a> {
 
 impl Item<'_> {
     /// A price. It is kept as a number, so that an item is copied as numbers are.
-    pub fn of_price(price: Price) -> Self {
+    pub fn of_price(price: Price) -> Self
+        ensures { result ≡ item.Price price }
+    {
         Item::Price(price.get())
     }
 
     /// Money, also as a number.
-    pub fn of_money(money: Money) -> Self {
+    pub fn of_money(money: Money) -> Self
+        ensures { result ≡ item.Money money }
+    {
         Item::Money(money.get())
     }
 }

@@ -1,4 +1,7 @@
-//! Why times were not read, or no version was found.
+//! Why times were not read, or no version was found: `specs/Faults`.
+ghost use Rattle.std.specs.Prelude.{◌≡◌};
+ghost use Rattle.nms_times.specs.Faults.{line_of};
+
 use std::alloc::AllocError;
 use thiserror::Error;
 
@@ -26,7 +29,9 @@ pub enum TimesFault {
 
 impl TimesFault {
     /// The line of the fault, from 1, if it has one.
-    pub fn line(self) -> Option<u64> {
+    pub fn line(self) -> Option<u64>
+        ensures { result ≡ line_of self }
+    {
         match self {
             TimesFault::NotTime { line }
             | TimesFault::TimesFall { line }

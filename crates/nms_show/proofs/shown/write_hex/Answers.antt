@@ -1,5 +1,5 @@
 -- `write_hex`: one digit more, or none.
-use Rattle.std.proofs.Common.{refl, subst, sym}
+use Rattle.std.proofs.Common.{subst, sym}
 use Rattle.nms_show.specs.Safe.{IsPrintable, no_text}
 use Rattle.nms_show.specs.Written.{Adds}
 use Rattle.nms_show.proofs.SafeFacts.{in_range, printable_cons}
