@@ -1,21 +1,21 @@
 -- The best rows that a board keeps follow a change of one cell.
-use Rattle.std.proofs.Common.{◌≡◌, ◌≢◌, ℕ, ◌<◌, List, length, slice_get, slice_set, Option, Some, None}
+use Rattle.std.proofs.Common.{◌≡◌, ◌≢◌, ℕ, ◌<◌, ◌≤◌, List, [], ◌∷◌, get_or, [], ◌∷◌, length, slice_get, slice_set, Option, Some, None}
 use Rattle.std.proofs.Common.{option_and_then, refl, sym, ap, subst, ◌∙◌, inl, inr, arith}
 use Rattle.std.specs.Prelude.{All}
 use Rattle.std.proofs.lemmas.Bool.{cases_eq}
 use Rattle.std.proofs.lemmas.List.{get_or-set_other, length-set}
 use Rattle.std.proofs.lemmas.List.Elements.{All-contains}
-use Rattle.std.proofs.lemmas.Option.{get_or_from_slice_get, slice_get-get_or, slice_get_within}
+use Rattle.std.proofs.lemmas.Option.{get_or_from_slice_get, slice_get-get_or, slice_get_past, slice_get_within}
 use Rattle.nms_quote.specs.Roster.{Sizes}
 use Rattle.nms_quote.specs.declared.side_quote.Side.{Side}
 use Rattle.nms_quote.specs.declared.side_quote.Side.TheVariants.{Bid, Offer}
 use Rattle.nms_board.specs.History.{on_side}
-use Rattle.nms_board.specs.Bests.{AreBests, HasNone, IsOfOthers, best_on, first_row, row_if_any}
+use Rattle.nms_board.specs.Bests.{AreBests, HasNone, IsUnlessOf, best_on, first_row, row_if_any}
 use Rattle.nms_board.specs.Cells.{Board, IsBoard, change_cell, place_of, present}
 use Rattle.nms_board.specs.Kept.{AreRanks, IsEmpty, order_on, row_shown, symbol_cells, with_lot}
-use Rattle.nms_board.specs.Ranks.{AreOwn, KeptOrder, row_among, with_row}
+use Rattle.nms_board.specs.Ranks.{KeptOrder, first_place, row_among, with_row}
 use Rattle.nms_board.specs.Ranking.{ranked_at}
-use Rattle.nms_board.specs.Shown.{row_held, rows_held}
+use Rattle.nms_board.specs.Shown.{row_held, row_of_cell, rows_held}
 use Rattle.nms_board.specs.declared.cell.Cell.{Cell}
 use Rattle.nms_board.specs.declared.row.Row.{Row}
 use Rattle.nms_board.specs.declared.symbol_best.SymbolBest.{SymbolBest}
@@ -32,16 +32,26 @@ pub none_on_both : (bid offer : Row) → bid.size ≡ 0 → offer.size ≡ 0 →
 none_on_both bid offer no_bid no_offer Bid = none_if_no_shares bid no_bid
 none_on_both bid offer no_bid no_offer Offer = none_if_no_shares offer no_offer
 
--- a participant's cell changed: the row that was first is still a quotation, unless it was that participant's
-pub first_is_of_others : (part : ℕ) (old : Option Row) (before after : ℕ → Option Row) (kept : KeptOrder) (best : Option Row)
-    → with_row part old after ≡ before → AreOwn before → best ≡ first_row before kept → IsOfOthers part after best
-first_is_of_others part old before after kept best was own is = λ row found other. by (slice_get kept.places 0) row (sym is ∙ found) other
+-- the quotation at the first place, if nobody has one at the place of nobody
+pub row_at_first : (quotes : ℕ → Option Row) (kept : KeptOrder) → quotes 32 ≡ None → quotes (first_place kept) ≡ first_row quotes kept
+row_at_first quotes kept nobody = by kept.places
   where
-    by : (first : Option ℕ) (row : Row) → option_and_then before first ≡ Some row → row.part ≢ part → after row.part ≡ Some row
-    by None row e other = absurd (cc)
-    by (Some k) row e other =
-        sym (with_away part old after row.part other) ∙ ap (λ (quotes : ℕ → Option Row). quotes row.part) was
-        ∙ ap before (own.own k row e) ∙ e
+    by : (places : List ℕ) → quotes (get_or places 0 32) ≡ option_and_then quotes (slice_get places 0)
+    by [] = nobody
+    by (place ∷ places) = refl
+
+pub nobody_among : (lot : ℕ) (cells : List Cell) (side : Side) → length cells ≤ 32 → row_among lot cells side 32 ≡ None
+nobody_among lot cells side few = ap (option_and_then (row_of_cell lot 32 side)) (slice_get_past cells 32 few)
+
+-- a participant's cell changed: unless it was the first, the row of the first is still its quotation
+pub first_stays : (part : ℕ) (old : Option Row) (before after : ℕ → Option Row) (kept : KeptOrder) (best : Option Row)
+    → with_row part old after ≡ before → after 32 ≡ None → best ≡ first_row before kept → IsUnlessOf part after (first_place kept) best
+first_stays part old before after kept best was nobody is = λ other. is ∙ by kept.places other
+  where
+    by : (places : List ℕ) → get_or places 0 32 ≢ part → option_and_then before (slice_get places 0) ≡ after (get_or places 0 32)
+    by [] other = sym nobody
+    by (place ∷ places) other =
+        ap (λ (quotes : ℕ → Option Row). quotes place) (sym was) ∙ with_away part old after place other
 
 -- a symbol's orders and best rows are set, and the other symbols show the same as before
 bests_set : (sizes others : Sizes) (cells changed : List Cell) (ranks : List SymbolRanks) (bests : List SymbolBest) (sym : ℕ)

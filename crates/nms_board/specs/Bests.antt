@@ -1,6 +1,6 @@
 -- The best rows that a board keeps of every symbol beside its rank orders, so that a look at them reads nothing else. This
 -- product's own rule.
-use Rattle.std.specs.Prelude.{ℕ, ◌≡◌, ◌≢◌, ◌==◌, Bool, false, List, length, slice_get, Option, Some, None, if◌then◌else◌}
+use Rattle.std.specs.Prelude.{ℕ, ◌≡◌, ◌≢◌, ◌==◌, List, length, slice_get, Option, Some, None, if◌then◌else◌}
 use Rattle.std.specs.Option.{option_and_then}
 use Rattle.nms_quote.specs.Roster.{Sizes}
 use Rattle.nms_quote.specs.declared.side_quote.Side.{Side}
@@ -28,14 +28,9 @@ HasNone best = (side : Side) → best_on side best ≡ None
 abbrev pub first_row : (ℕ → Option Row) → KeptOrder → Option Row
 first_row quotes kept = option_and_then quotes (slice_get kept.places 0)
 
--- a row is its participant's quotation, unless that is the participant
-abbrev pub IsOfOthers : ℕ → (ℕ → Option Row) → Option Row → Type 0
-IsOfOthers part quotes best = (row : Row) → best ≡ Some row → row.part ≢ part → quotes row.part ≡ Some row
-
--- whether a participant is the one at the first place, if that is taken
-abbrev pub is_first : ℕ → Option ℕ → Bool
-is_first part None = false
-is_first part (Some first) = first == part
+-- a row is the quotation of the participant at a place, unless that is the participant
+abbrev pub IsUnlessOf : ℕ → (ℕ → Option Row) → ℕ → Option Row → Type 0
+IsUnlessOf part quotes place best = place ≢ part → best ≡ quotes place
 
 -- the best rows kept of every symbol are those of the first participants of its orders
 pub record AreBests (sizes : Sizes) (cells : List Cell) (ranks : List SymbolRanks) (bests : List SymbolBest) : Type 0 where

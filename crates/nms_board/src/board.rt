@@ -465,8 +465,9 @@ fn alter(
     cell.alter(number, change);
     let shown = symbol_cells(cells, sym, parts);
     let orders = &mut ranks[sym];
+    let firsts = orders.firsts();
     orders.settle(part, lot, &was, shown);
-    bests[sym].follow(part, lot, orders, shown);
+    bests[sym].follow(part, lot, firsts, orders, shown);
 }
 
 /// Gives a symbol another round lot, in which both its sides rank anew.

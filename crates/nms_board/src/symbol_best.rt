@@ -1,7 +1,8 @@
 //! The best row of each side of a symbol, kept beside its rank orders: `specs/Bests`.
-ghost use Rattle.std.specs.Prelude.{◌≡◌, ◌≤◌, All, IfOk, length, slice_get};
+ghost use Rattle.std.specs.Prelude.{◌≡◌, ◌≤◌, All, IfOk, length};
 ghost use Rattle.nms_quote.specs.declared.side_quote.Side.{Side};
-ghost use Rattle.nms_board.specs.Bests.{HasNone, IsOfOthers, best_on, first_row, is_first, row_if_any};
+ghost use Rattle.nms_board.specs.Bests.{HasNone, IsUnlessOf, best_on, first_row, row_if_any};
+ghost use Rattle.nms_board.specs.History.{on_side};
 ghost use Rattle.nms_board.specs.Kept.{order_on};
 ghost use Rattle.nms_board.specs.Ranks.{row_among};
 
@@ -9,7 +10,7 @@ use crate::MOST_ROWS;
 use crate::cell::Cell;
 use crate::ranks::Ranks;
 use crate::row::Row;
-use crate::symbol_ranks::SymbolRanks;
+use crate::symbol_ranks::{Firsts, SymbolRanks};
 use nms_quote::{MOST_SYMBOLS, Part, Side};
 use nms_units::Lot;
 use std::alloc::{AllocError, Global};
@@ -38,8 +39,8 @@ impl SymbolBest {
         ensures { (side : Side) → best_on side result ≡ first_row (row_among lot cells.now side) (order_on side orders.now) }
     {
         SymbolBest {
-            bid: read_first(Side::Bid, lot, &orders.bids, cells),
-            offer: read_first(Side::Offer, lot, &orders.offers, cells),
+            bid: row_of(Side::Bid, lot, orders.bids.first(), cells),
+            offer: row_of(Side::Offer, lot, orders.offers.first(), cells),
         }
     }
 
@@ -55,62 +56,82 @@ impl SymbolBest {
         if row.size == 0 { None } else { Some(row) }
     }
 
-    /// Takes the first rows of the orders after a change of a participant's cell.
+    /// Takes the first rows of the orders after a change of a participant's cell, given who was first before it. A side
+    /// whose first participant is the same, and is not that one, stays: so a cell is seldom read.
     #[inline(always)]
-    pub(crate) fn follow(&mut self, part: Part, lot: Lot, orders: &SymbolRanks, cells: &[Cell])
+    pub(crate) fn follow(
+        &mut self,
+        part: Part,
+        lot: Lot,
+        was: Firsts,
+        orders: &SymbolRanks,
+        cells: &[Cell],
+    )
         requires parts { length cells.now ≤ MOST_ROWS }
-        requires others { (side : Side) → IsOfOthers part (row_among lot cells.now side) (best_on side self.old) }
+        requires others { (side : Side) → IsUnlessOf part (row_among lot cells.now side) (on_side side was.bid was.offer) (best_on side self.old) }
         ensures { (side : Side) → best_on side self.new ≡ first_row (row_among lot cells.now side) (order_on side orders.now) }
     {
-        self.bid = first_row(Side::Bid, &self.bid, part, lot, &orders.bids, cells);
-        self.offer = first_row(Side::Offer, &self.offer, part, lot, &orders.offers, cells);
+        follow_side(
+            Side::Bid,
+            &mut self.bid,
+            part,
+            lot,
+            was.bid,
+            &orders.bids,
+            cells,
+        );
+        follow_side(
+            Side::Offer,
+            &mut self.offer,
+            part,
+            lot,
+            was.offer,
+            &orders.offers,
+            cells,
+        );
     }
 }
 
-/// The row of the first participant of a side's order. It is the one that was best if its participant is still the first
-/// and is not the one whose cell changed: so a cell is seldom read.
+/// Takes the first row of a side's order after a change of a participant's cell, given who was first before it.
 #[inline(always)]
-fn first_row(side: Side, best: &Row, part: Part, lot: Lot, order: &Ranks, cells: &[Cell]) -> Row
+fn follow_side(
+    side: Side,
+    best: &mut Row,
+    part: Part,
+    lot: Lot,
+    was: u8,
+    order: &Ranks,
+    cells: &[Cell],
+)
     requires parts { length cells.now ≤ MOST_ROWS }
-    requires others { IsOfOthers part (row_among lot cells.now side) (row_if_any best.now) }
-    ensures { row_if_any result ≡ first_row (row_among lot cells.now side) order.now }
+    requires others { IsUnlessOf part (row_among lot cells.now side) was (row_if_any best.old) }
+    ensures { row_if_any best.new ≡ first_row (row_among lot cells.now side) order.now }
 {
-    if best.size > 0 && best.part != part && is_first(best.part, order) {
-        return *best;
-    }
-    read_first(side, lot, order, cells)
-}
-
-/// Whether a participant is the first of an order.
-#[inline(always)]
-fn is_first(part: Part, order: &Ranks) -> bool
-    ensures { result ≡ is_first part (slice_get order.now.places 0) }
-{
-    match order.places().first() {
-        Some(first) => *first == part.get(),
-        None => false,
+    let first = order.first();
+    if first != was || first == part.get() {
+        *best = row_of(side, lot, first, cells);
     }
 }
 
-/// The row of the first participant of a side's order, read from its cell.
-fn read_first(side: Side, lot: Lot, order: &Ranks, cells: &[Cell]) -> Row
+/// The row of the participant at a place, from its cell; one of no shares if there is none.
+fn row_of(side: Side, lot: Lot, place: u8, cells: &[Cell]) -> Row
     requires { length cells.now ≤ MOST_ROWS }
-    ensures { row_if_any result ≡ first_row (row_among lot cells.now side) order.now }
+    ensures { row_if_any result ≡ row_among lot cells.now side place }
 {
-    match find_first(side, lot, order, cells) {
+    match find_row(side, lot, place, cells) {
         Some(row) => row,
         None => Row::nothing(),
     }
 }
 
-/// The row of the first participant of a side's order, if there is one.
-fn find_first(side: Side, lot: Lot, order: &Ranks, cells: &[Cell]) -> Option<Row>
+/// The row of the participant at a place, if it has one.
+#[inline(always)]
+fn find_row(side: Side, lot: Lot, place: u8, cells: &[Cell]) -> Option<Row>
     requires { length cells.now ≤ MOST_ROWS }
-    ensures { result ≡ first_row (row_among lot cells.now side) order.now }
+    ensures { result ≡ row_among lot cells.now side place }
 {
-    let first = *order.places().first()?;
-    let cell = cells.get(usize::from(first))?;
-    cell.row(side, Part::new(first)?, lot)
+    let cell = cells.get(usize::from(place))?;
+    cell.row(side, Part::new(place)?, lot)
 }
 
 /// The best rows of that many symbols with no rows.

@@ -7,7 +7,7 @@ use Rattle.nms_board.specs.Bests.{best_on, first_row}
 use Rattle.nms_board.specs.Kept.{order_on}
 use Rattle.nms_board.specs.Ranks.{AreOwn, IsKept, row_among}
 use Rattle.nms_board.specs.declared.row.Row.{Row}
-use Rattle.nms_board.proofs.BestLemmas.{bests_altered, first_is_of_others}
+use Rattle.nms_board.proofs.BestLemmas.{bests_altered, first_stays, nobody_among}
 use Rattle.nms_board.proofs.BoardLemmas.{change_cell_written, length-change_cell}
 use Rattle.nms_board.proofs.KeptLemmas.{IsCellOf, altered_is, ranks_altered}
 use Rattle.nms_board.proofs.board.alter.Goals as goal
@@ -80,11 +80,12 @@ follow-requires-clause-others c = λ side.
     (omega arith) c.index-cells-sym.is c.index-lots-sym.is refl c.alter.ensures c.symbol_cells-shown.ensures in
     let orders = get_or c.args.ranks.now c.args.sym c.index-ranks-sym.result in
     let best = get_or c.args.bests.now c.args.sym c.index-bests-sym.result in
-    first_is_of_others c.args.part _ _ _ (order_on side orders)
-    (best_on side best) (known.before side) (c.requires.ranks.own c.args.sym side c.requires.sym)
+    rw (c.firsts-firsts.ensures side)
+    (first_stays c.args.part _ _ _ (order_on side orders) (best_on side best) (known.before side)
+    (nobody_among c.index-lots-sym.result c.symbol_cells-shown.result.now side (omega (arith, known.long, c.requires.parts)))
     (c.requires.bests.first c.args.sym orders best side
     (slice_get-get_or c.args.ranks.now c.args.sym c.index-ranks-sym.result (omega (arith, c.requires.ranks.symbols, c.requires.sym)))
-    (slice_get-get_or c.args.bests.now c.args.sym c.index-bests-sym.result (omega (arith, c.requires.bests.symbols, c.requires.sym))))
+    (slice_get-get_or c.args.bests.now c.args.sym c.index-bests-sym.result (omega (arith, c.requires.bests.symbols, c.requires.sym)))))
 
 pub returns-clause-cells : goal.returns-clause-cells
 returns-clause-cells c =
