@@ -5,6 +5,7 @@ mod CutoffLemmas
 mod ExactLemmas
 mod FillingLemmas
 mod FitLemmas
+mod FrontLemmas
 mod HeldLemmas
 mod LegLemmas
 mod MarginalLemmas

@@ -3,6 +3,7 @@ ghost use Rattle.std.specs.Prelude.{◌≡◌, [], ◌≤◌, ◌<◌, ◌+◌, 
 ghost use Rattle.nms_rules.specs.Cutoff.{swept, swept_part};
 ghost use Rattle.nms_rules.specs.Faultless.{sum_of};
 ghost use Rattle.nms_sweep.specs.Choice.{below, below_part, is_below, is_level, left_after, legs_chosen, legs_of, share_of};
+ghost use Rattle.nms_sweep.specs.Order.{IsByPrice, StopAt};
 
 use crate::choice::Choice;
 use crate::priced_row::PricedRow;
@@ -22,14 +23,31 @@ pub(crate) fn put_legs(
 )
     requires rows { length rows.now ≤ MOST_ROWS }
     requires empty { legs.old.items ≡ [] }
+    requires ordered { IsByPrice rows.now }
     requires few { sum_of (legs_chosen rows.now most choice.now rows.now) ≤ MOST_SHARES }
     ensures { legs.new.items ≡ legs_chosen rows.now most choice.now rows.now }
 {
     if let Some(choice) = choice {
+        let rows = at_or_better(rows, choice.cutoff);
         let before = taken_before(rows, choice.cutoff, choice.marginal);
         let left = most.saturating_sub(before);
         put_legs_at(choice.cutoff, choice.marginal, left, rows, legs);
     }
+}
+
+/// The rows at a price of that rank or better: the first ones of rows in the order of their prices. No other one gets
+/// shares at that cutoff.
+fn at_or_better(rows: &[PricedRow], cutoff: Rank) -> &[PricedRow]
+    requires ordered { IsByPrice rows.now }
+    ensures { StopAt cutoff rows.now result.now }
+{
+    for at in 0..rows.len() {
+        let row = &rows[at];
+        if row.is_beyond(cutoff) {
+            return &rows[..at];
+        }
+    }
+    rows
 }
 
 /// As `put_legs`, but at a cutoff, with that many shares left at the marginal.

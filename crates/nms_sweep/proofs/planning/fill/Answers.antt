@@ -16,7 +16,7 @@ use Rattle.nms_rules.proofs.Offered.{none_of_faultless, accepted_optimal}
 use Rattle.nms_sweep.specs.Choice.{cost_chosen, legs_chosen}
 use Rattle.nms_sweep.specs.Cutoffs.{IsCutoffOf}
 use Rattle.nms_sweep.specs.Filling.{AreExact}
-use Rattle.nms_sweep.specs.Order.{AreInOrder}
+use Rattle.nms_sweep.specs.Order.{AreInOrder, IsByPrice}
 use Rattle.nms_sweep.specs.Planned.{IsTable}
 use Rattle.nms_sweep.specs.declared.choice.Choice.{Choice}
 use Rattle.nms_sweep.specs.declared.cutoffs.Cutoff.{Cutoff}
@@ -52,6 +52,9 @@ put_legs-requires-clause-few c =
     let same : legs_chosen c.rows-3.result.now most found c.rows-3.result.now ≡ legs_chosen rows most found by_price =
     ap (λ (some : List Usable). legs_chosen some most found some) last ∙ legs_same rows by_price walk.rows most found in
     omega (arith, ap sum_of same, fills.sum, all.fillable_is, c.fillable-most.ensures.within)
+
+pub put_legs-requires-clause-ordered : goal.put_legs-requires-clause-ordered
+put_legs-requires-clause-ordered c = subst IsByPrice (sym (c.rows-3.ensures.rows ∙ c.put_cuts-choice.ensures.rows)) c.requires.table.2.ordered
 
 pub put_cuts-choice-requires-clause-sums : goal.put_cuts-choice-requires-clause-sums
 put_cuts-choice-requires-clause-sums c =
