@@ -57,7 +57,7 @@ far-passes cutoff row far (inr (inl at)) =
     le-true row.rank cutoff (and_parts (int_le row.rank cutoff) (not (is_swept cutoff row)) at.pooled).0 in absurd (omega (arith, ints, near, far))
 far-passes cutoff row far (inr (inr at)) = at
 
-passes : (cutoff : ℤ) (row : Usable) → cutoff <ℤ row.rank → Passes cutoff row
+pub passes : (cutoff : ℤ) (row : Usable) → cutoff <ℤ row.rank → Passes cutoff row
 passes cutoff row far = far-passes cutoff row far (places cutoff row)
 
 legs-none : (cutoff marginal : ℤ) (left : ℕ) (rows : List Usable) → AreBeyond cutoff rows → legs_of cutoff marginal left rows ≡ []

@@ -9,6 +9,7 @@ mod FrontLemmas
 mod HeldLemmas
 mod LegLemmas
 mod MarginalLemmas
+mod NearLemmas
 mod OrderLemmas
 mod PlaceLemmas
 mod PlanLemmas

@@ -37,7 +37,7 @@ pub(crate) fn put_legs(
 
 /// The rows at a price of that rank or better: the first ones of rows in the order of their prices. No other one gets
 /// shares at that cutoff.
-fn at_or_better(rows: &[PricedRow], cutoff: Rank) -> &[PricedRow]
+pub(crate) fn at_or_better(rows: &[PricedRow], cutoff: Rank) -> &[PricedRow]
     requires ordered { IsByPrice rows.now }
     ensures { StopAt cutoff rows.now result.now }
 {

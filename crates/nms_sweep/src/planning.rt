@@ -1,20 +1,21 @@
 //! The plan of least cost for an order, and the certificate that shows it: `specs/Accepted` of `nms_rules`.
-ghost use Rattle.std.specs.Prelude.{◌≡◌, ◌≤◌, [], None, length};
+ghost use Rattle.std.specs.Prelude.{ℤ, ◌≡◌, ◌≤◌, [], None, length};
 ghost use Rattle.nms_board.specs.View.{Seen};
 ghost use Rattle.nms_fee_book.specs.Fees.{Charges};
 ghost use Rattle.nms_rules.specs.Accepted.{IsAccepted};
 ghost use Rattle.nms_rules.specs.Assignment.{IsOptimal, fillable, total};
 ghost use Rattle.nms_rules.specs.Breach.{breach_of};
+ghost use Rattle.nms_rules.specs.Cutoff.{swept};
 ghost use Rattle.nms_rules.specs.Faultless.{given_by};
 ghost use Rattle.nms_rules.specs.Usable.{usable};
 ghost use Rattle.nms_sweep.specs.Filling.{AreExact, FillsInOrder};
-ghost use Rattle.nms_sweep.specs.Order.{AreInOrder};
+ghost use Rattle.nms_sweep.specs.Order.{AreInOrder, IsByPrice, StopAt};
 ghost use Rattle.nms_sweep.specs.Planned.{IsPlanned, IsTable};
 
 use crate::choice::cost_chosen;
-use crate::cutoffs::Cutoffs;
+use crate::cutoffs::{Cutoffs, protected_part};
 use crate::cutting::put_cuts;
-use crate::legs::put_legs;
+use crate::legs::{at_or_better, put_legs};
 use crate::priced_row::PricedRow;
 use crate::row_order::{Key, put_in_order};
 use arrayvec::ArrayVec;
@@ -92,7 +93,7 @@ pub(crate) fn fill(
     ensures { (seen : Seen) (fees : Charges) → IsTable seen order.now fees version cutoffs.old → IsPlanned seen order.now fees plan.new cuts.new.items }
 {
     let most = fillable(cutoffs.rows(), order.shares);
-    put_in_order(Key::Cost, cutoffs.rows(), by_cost);
+    put_in_order(Key::Cost, reachable(cutoffs.rows(), most), by_cost);
     cuts.clear();
     let choice = put_cuts(order.side, by_cost.as_slice(), most, cutoffs, cuts);
     plan.legs.clear();
@@ -101,6 +102,26 @@ pub(crate) fn fill(
     plan.order = *order;
     plan.filled = most as u32;
     plan.cost = cost_chosen(&choice);
+}
+
+/// The first of the rows, in the order of their prices: at the price of any other one more must be swept than that many
+/// shares. So no plan of that many trades there.
+#[tactic(auto, using(crate::proofs::SumFacts::total_none, crate::proofs::SumFacts::total_more))]
+fn reachable(rows: &[PricedRow], most: u64) -> &[PricedRow]
+    requires few { length rows.now ≤ MOST_ROWS }
+    requires ordered { IsByPrice rows.now }
+    ensures reach { (cutoff : ℤ) → swept cutoff rows.now ≤ most → StopAt cutoff rows.now result.now }
+    ensures few { length result.now ≤ MOST_ROWS }
+{
+    let mut sum = 0;
+    for at in 0..rows.len() {
+        let row = &rows[at];
+        sum += protected_part(row);
+        if most < sum {
+            return at_or_better(rows, row.rank);
+        }
+    }
+    rows
 }
 
 /// How many shares can be filled: all that the rows show, or what is asked if that is less.
