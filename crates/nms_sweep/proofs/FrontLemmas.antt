@@ -1,5 +1,6 @@
 -- Of rows in the order of their prices the first ones, at a cutoff or better, are all that get shares there.
-use Rattle.std.proofs.Common.{ℕ, zero, suc, ◌≡◌, ◌<◌, ◌+◌, ◌-◌, ◌++◌, ◌⊎◌, inl, inr, List, [], ◌∷◌, length, take, drop, get_or, refl, ap, sym, ◌∙◌}
+use Rattle.std.proofs.Common.{ℕ, zero, suc, ◌≡◌, ◌<◌, ◌+◌, ◌-◌, ◌++◌, ◌⊎◌, inl, inr, List, [], ◌∷◌, length, take, drop, get_or, refl, ap}
+use Rattle.std.proofs.Common.{sym, ◌∙◌}
 use Rattle.std.proofs.Common.{arith}
 use Rattle.std.specs.Prelude.{ℤ, ◌<ℤ◌, ◌≤ℤ◌, not}
 use Rattle.std.specs.Int.RustNames.{int_le, int_lt}
@@ -48,13 +49,15 @@ stop_at cutoff rows at row is below own far = (
 
 -- ---- what the others get
 
-far-passes : (cutoff : ℤ) (row : Usable) → cutoff <ℤ row.rank → Sweeps cutoff row ⊎ (Pools cutoff row ⊎ Passes cutoff row) → Passes cutoff row
+far-passes : (cutoff : ℤ) (row : Usable) → cutoff <ℤ row.rank → Sweeps cutoff row ⊎ (Pools cutoff row ⊎ Passes cutoff row)
+    → Passes cutoff row
 far-passes cutoff row far (inl at) =
     let near : row.rank <ℤ cutoff =
     lt-true row.rank cutoff (and_parts row.protected (int_lt row.rank cutoff) at.is).1 in absurd (omega (arith, ints, near, far))
 far-passes cutoff row far (inr (inl at)) =
     let near : row.rank ≤ℤ cutoff =
-    le-true row.rank cutoff (and_parts (int_le row.rank cutoff) (not (is_swept cutoff row)) at.pooled).0 in absurd (omega (arith, ints, near, far))
+    le-true row.rank cutoff (and_parts (int_le row.rank cutoff) (not (is_swept cutoff row)) at.pooled).0 in
+    absurd (omega (arith, ints, near, far))
 far-passes cutoff row far (inr (inr at)) = at
 
 pub passes : (cutoff : ℤ) (row : Usable) → cutoff <ℤ row.rank → Passes cutoff row
@@ -81,7 +84,8 @@ legs-front : (cutoff marginal : ℤ) (left : ℕ) (some others : List Usable) �
 unfolding legs_of
 legs-front cutoff marginal left [] others each = legs-none cutoff marginal left others each
 legs-front cutoff marginal left (row ∷ some) others each =
-    ap (with_leg row (share_of cutoff marginal left row)) (legs-front cutoff marginal (left_after cutoff marginal left row) some others each)
+    ap (with_leg row (share_of cutoff marginal left row))
+    (legs-front cutoff marginal (left_after cutoff marginal left row) some others each)
 
 -- the legs of the first ones are those of all rows
 pub front_legs : (cutoff marginal : ℤ) (most before left : ℕ) (rows some : List Usable) → StopAt cutoff rows some

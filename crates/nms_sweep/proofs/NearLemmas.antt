@@ -1,6 +1,7 @@
 -- At a price at which no more has to be swept than can be filled, the rows that are reached give the cut and the cost
 -- that all rows give: the others are at worse prices.
-use Rattle.std.proofs.Common.{ℕ, ◌≡◌, ◌<◌, ◌≤◌, ◌+◌, ◌-◌, ◌++◌, ◌&&◌, ◌⊎◌, inl, inr, true, false, List, [], ◌∷◌, All, Any, Option, Some, None, length, map}
+use Rattle.std.proofs.Common.{ℕ, ◌≡◌, ◌<◌, ◌≤◌, ◌+◌, ◌-◌, ◌++◌, ◌&&◌, ◌⊎◌, inl, inr, true, false, List, [], ◌∷◌, All, Any, Option, Some}
+use Rattle.std.proofs.Common.{None, length, map}
 use Rattle.std.proofs.Common.{take, drop, get_or, refl, ap, sym, ◌∙◌, subst, arith, nat_le}
 use Rattle.std.specs.Prelude.{ℤ, pos, ◌<ℤ◌, ◌≤ℤ◌}
 use Rattle.std.specs.List.Sorted.{IsPermutation}
@@ -415,7 +416,8 @@ sums_near side most rows by_price some near cutoffs one reach two are =
     record {
       swept = is.swept ∙ sym (near-total rank (swept_part rank) by_price some near (λ row far. swept-not rank row far.is) stop two
           ∙ total_same (swept_part rank) rows by_price one);
-      swept_cost = is.swept_cost ∙ sym (near-amount rank (swept_cost_part rank) by_price some near (λ row far. cost-not rank row far.is) stop two
+      swept_cost = is.swept_cost
+          ∙ sym (near-amount rank (swept_cost_part rank) by_price some near (λ row far. cost-not rank row far.is) stop two
           ∙ amount_same (swept_cost_part rank) rows by_price one);
       pool = is.pool ∙ sym (near-total rank (pool_part rank) by_price some near (λ row far. pool-not rank row far.pooled) stop two
           ∙ total_same (pool_part rank) rows by_price one);
@@ -469,6 +471,6 @@ found_near seen asked fees terms first some near coming by_price cuts most found
     let found_is : found ≡ chosen side all most None (map (cut_by side all most) coming) =
     choice ∙ ap (chosen terms.side near most None) cuts_are ∙ ap (λ it. chosen it near most None (map (cut_by side all most) coming)) sided
     ∙ choice_near side most by_price some near all is coming each None in
-    found_from seen asked fees asked first by_price all coming by_price all cuts most found refl bids offers rows_same ordered comes one refl
-    refl (same_all by_price) (ordered_all by_price)
+    found_from seen asked fees asked first by_price all coming by_price all cuts most found refl bids offers rows_same ordered comes one
+    refl refl (same_all by_price) (ordered_all by_price)
     (count ∙ ap (λ (it : Terms). fillable first it.shares) same) (made ∙ cuts_are) found_is

@@ -58,7 +58,8 @@ put_legs-requires-clause-few c =
     omega (arith, ap sum_of same, fills.sum, all.fillable_is, c.fillable-most.ensures.within)
 
 pub put_legs-requires-clause-ordered : goal.put_legs-requires-clause-ordered
-put_legs-requires-clause-ordered c = subst IsByPrice (sym (c.rows-3.ensures.rows ∙ c.put_cuts-choice.ensures.rows)) c.requires.table.2.ordered
+put_legs-requires-clause-ordered c =
+    subst IsByPrice (sym (c.rows-3.ensures.rows ∙ c.put_cuts-choice.ensures.rows)) c.requires.table.2.ordered
 
 pub reachable-requires-clause-ordered : goal.reachable-requires-clause-ordered
 reachable-requires-clause-ordered c = subst IsByPrice (sym c.rows-2.ensures.rows) c.requires.table.2.ordered
