@@ -37,6 +37,12 @@ beyond-from cutoff (first ∷ rows) zero row is below own far =
     (near, beyond-more cutoff first rows near is.0)
 beyond-from cutoff (first ∷ rows) (suc at) row is below own far = beyond-from cutoff rows at row is.1 (omega (arith, below)) own far
 
+-- a row of the list is the same, whatever stands for others
+pub same_at : (rows : List Usable) (at : ℕ) (one other : Usable) → at < length rows → get_or rows at one ≡ get_or rows at other
+same_at [] at one other below = absurd (omega (arith, below))
+same_at (first ∷ rows) zero one other below = refl
+same_at (first ∷ rows) (suc at) one other below = same_at rows at one other (omega (arith, below))
+
 -- before the first row at a price of a worse rank
 pub stop_at : (cutoff : ℤ) (rows : List Usable) (at : ℕ) (row : Usable) → IsByPrice rows → at < length rows → row ≡ get_or rows at row
     → cutoff <ℤ row.rank → StopAt cutoff rows (take at rows)

@@ -34,21 +34,6 @@ pub(crate) fn put_legs(
     }
 }
 
-/// The rows at a price of that rank or better: the first ones of rows in the order of their prices. No other one gets
-/// shares at that cutoff.
-pub(crate) fn at_or_better(rows: &[PricedRow], cutoff: Rank) -> &[PricedRow]
-    requires ordered { IsByPrice rows.now }
-    ensures { StopAt cutoff rows.now result.now }
-{
-    for at in 0..rows.len() {
-        let row = &rows[at];
-        if row.is_beyond(cutoff) {
-            return &rows[..at];
-        }
-    }
-    rows
-}
-
 /// As `put_legs`, but at a cutoff, with that many shares left at the marginal.
 #[tactic(auto, unfolding(crate::specs::Choice::legs_of))]
 fn put_legs_at(

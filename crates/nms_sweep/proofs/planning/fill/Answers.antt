@@ -16,7 +16,7 @@ use Rattle.nms_rules.proofs.Offered.{none_of_faultless, accepted_optimal}
 use Rattle.nms_sweep.specs.Choice.{cost_chosen, legs_chosen}
 use Rattle.nms_sweep.specs.Cutoffs.{IsCutoffOf}
 use Rattle.nms_sweep.specs.Filling.{AreExact}
-use Rattle.nms_sweep.specs.Order.{AreInOrder, IsByPrice, IsOrdered}
+use Rattle.nms_sweep.specs.Order.{AreInOrder, HasReached, IsByPrice, IsOrdered}
 use Rattle.nms_sweep.specs.Planned.{IsTable}
 use Rattle.nms_sweep.specs.declared.choice.Choice.{Choice}
 use Rattle.nms_sweep.specs.declared.cutoffs.Cutoff.{Cutoff}
@@ -44,13 +44,14 @@ put_legs-requires-clause-few c =
     let found : Option Choice = c.put_cuts-choice.result in
     let last : c.rows-3.result.now ≡ by_price = c.rows-3.ensures.rows ∙ c.put_cuts-choice.ensures.rows in
     let near : List Usable = c.as_slice.result.now in
+    let reached : HasReached most c.rows-2.result.now c.put_reachable.new.by_cost.items = c.put_reachable.ensures.reach in
     let all : Found seen asked fees by_price by_cost cuts most found =
-    found_near seen asked fees (the_view c.order.inside) c.rows.result.now c.reachable.result.now near
+    found_near seen asked fees (the_view c.order.inside) c.rows.result.now reached.0 near
     c.args.cutoffs.now.to_come by_price cuts most found
     c.order.view_is walk.bids walk.offers walk.rows walk.ordered walk.all walk.cutoffs c.rows.ensures.rows
-    (reach_of most c.rows-2.result.now by_price c.reachable.result.now c.rows-2.ensures.rows c.reachable.ensures.reach)
-    (subst (IsPermutation c.reachable.result.now) (sym c.as_slice.ensures.value) c.put_in_order.ensures.same)
-    (subst (IsOrdered Cost) (sym c.as_slice.ensures.value) c.put_in_order.ensures.ordered)
+    (reach_of most c.rows-2.result.now by_price reached.0 c.rows-2.ensures.rows reached.2)
+    (subst (IsPermutation reached.0) (sym c.as_slice.ensures.value) reached.1)
+    (subst (IsOrdered Cost) (sym c.as_slice.ensures.value) c.put_reachable.ensures.ordered)
     c.fillable-most.ensures.most c.put_cuts-choice.ensures.cuts c.put_cuts-choice.ensures.best in
     let fills = legs_found seen asked fees by_price by_cost cuts most found all in
     let same : legs_chosen c.rows-3.result.now most found c.rows-3.result.now ≡ legs_chosen rows most found by_price =
@@ -61,8 +62,8 @@ pub put_legs-requires-clause-ordered : goal.put_legs-requires-clause-ordered
 put_legs-requires-clause-ordered c =
     subst IsByPrice (sym (c.rows-3.ensures.rows ∙ c.put_cuts-choice.ensures.rows)) c.requires.table.2.ordered
 
-pub reachable-requires-clause-ordered : goal.reachable-requires-clause-ordered
-reachable-requires-clause-ordered c = subst IsByPrice (sym c.rows-2.ensures.rows) c.requires.table.2.ordered
+pub put_reachable-requires-clause-prices : goal.put_reachable-requires-clause-prices
+put_reachable-requires-clause-prices c = subst IsByPrice (sym c.rows-2.ensures.rows) c.requires.table.2.ordered
 
 pub put_cuts-choice-requires-clause-sums : goal.put_cuts-choice-requires-clause-sums
 put_cuts-choice-requires-clause-sums c =
@@ -72,12 +73,13 @@ put_cuts-choice-requires-clause-sums c =
     let by_price : List Usable = c.args.cutoffs.now.rows in
     let most = c.fillable-most.result in
     let near : List Usable = c.as_slice.result.now in
+    let reached : HasReached most c.rows-2.result.now c.put_reachable.new.by_cost.items = c.put_reachable.ensures.reach in
     let asked = ap (λ (some : Terms). some.side) c.order.view_is in
     subst (λ side. All (λ (cutoff : Cutoff). cutoff.swept ≤ most → IsCutoffOf side near cutoff) c.args.cutoffs.now.to_come) (sym asked)
-    (sums_near c.args.order.now.side most (usable seen c.args.order.now fees) by_price c.reachable.result.now near
+    (sums_near c.args.order.now.side most (usable seen c.args.order.now fees) by_price reached.0 near
     c.args.cutoffs.now.to_come walk.rows
-    (reach_of most c.rows-2.result.now by_price c.reachable.result.now c.rows-2.ensures.rows c.reachable.ensures.reach)
-    (subst (IsPermutation c.reachable.result.now) (sym c.as_slice.ensures.value) c.put_in_order.ensures.same) walk.cutoffs)
+    (reach_of most c.rows-2.result.now by_price reached.0 c.rows-2.ensures.rows reached.2)
+    (subst (IsPermutation reached.0) (sym c.as_slice.ensures.value) reached.1) walk.cutoffs)
 
 pub returns : goal.returns
 returns c = λ (seen : Seen) (fees : Charges) (walk : IsTable seen c.args.order.now fees c.args.version c.args.cutoffs.now).
@@ -90,13 +92,14 @@ returns c = λ (seen : Seen) (fees : Charges) (walk : IsTable seen c.args.order.
     let found : Option Choice = c.put_cuts-choice.result in
     let last : c.rows-3.result.now ≡ by_price = c.rows-3.ensures.rows ∙ c.put_cuts-choice.ensures.rows in
     let near : List Usable = c.as_slice.result.now in
+    let reached : HasReached most c.rows-2.result.now c.put_reachable.new.by_cost.items = c.put_reachable.ensures.reach in
     let all : Found seen asked fees by_price by_cost cuts most found =
-    found_near seen asked fees (the_view c.order.inside) c.rows.result.now c.reachable.result.now near
+    found_near seen asked fees (the_view c.order.inside) c.rows.result.now reached.0 near
     c.args.cutoffs.now.to_come by_price cuts most found
     c.order.view_is walk.bids walk.offers walk.rows walk.ordered walk.all walk.cutoffs c.rows.ensures.rows
-    (reach_of most c.rows-2.result.now by_price c.reachable.result.now c.rows-2.ensures.rows c.reachable.ensures.reach)
-    (subst (IsPermutation c.reachable.result.now) (sym c.as_slice.ensures.value) c.put_in_order.ensures.same)
-    (subst (IsOrdered Cost) (sym c.as_slice.ensures.value) c.put_in_order.ensures.ordered)
+    (reach_of most c.rows-2.result.now by_price reached.0 c.rows-2.ensures.rows reached.2)
+    (subst (IsPermutation reached.0) (sym c.as_slice.ensures.value) reached.1)
+    (subst (IsOrdered Cost) (sym c.as_slice.ensures.value) c.put_reachable.ensures.ordered)
     c.fillable-most.ensures.most c.put_cuts-choice.ensures.cuts c.put_cuts-choice.ensures.best in
     let fills = legs_found seen asked fees by_price by_cost cuts most found all in
     let same : legs_chosen c.rows-3.result.now most found c.rows-3.result.now ≡ legs_chosen rows most found by_price =
