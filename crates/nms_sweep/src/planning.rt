@@ -76,8 +76,8 @@ pub fn plan_into(
     fill(version, order, &mut cutoffs, &mut by_cost, plan, cuts);
 }
 
-/// Plans an order on the cutoffs of a version, all of them still to come. The list takes the rows in the order of their
-/// costs.
+/// Plans an order on the cutoffs of a version, all of them still to come. The list takes the rows that
+/// a plan can reach, in the order of their costs.
 pub(crate) fn fill(
     version: u64,
     order: &Order,
