@@ -1,8 +1,8 @@
 -- The cutoffs of the usable rows: each usable price once, best first, with the sums at it.
-use Rattle.std.proofs.Common.{◌≡◌, ◌≤◌, List, length, All, Any, refl, ap, sym, ◌∙◌, subst}
+use Rattle.std.proofs.Common.{◌≡◌, ◌≤◌, List, length, Any, refl, ap, sym, ◌∙◌, subst}
 use Rattle.std.specs.Prelude.{pos}
 use Rattle.std.specs.List.Sorted.{IsPermutation}
-use Rattle.std.proofs.lemmas.List.Sorted.{IsPermutation-sym, IsPermutation-trans}
+use Rattle.std.proofs.lemmas.List.Sorted.{IsPermutation-sym}
 use Rattle.nms_quote.specs.Terms.{Terms}
 use Rattle.nms_quote.specs.declared.order.OrderSide.{OrderSide}
 use Rattle.nms_board.specs.View.{Seen}
@@ -10,7 +10,7 @@ use Rattle.nms_board.specs.declared.TheConstants.{MOST_ROWS}
 use Rattle.nms_fee_book.specs.Fees.{Charges}
 use Rattle.nms_rules.specs.Cutoff.{pool, pool_part, swept, swept_cost, swept_cost_part, swept_part}
 use Rattle.nms_rules.specs.Usable.{Usable, rank_of, usable}
-use Rattle.nms_rules.proofs.Offered.{All-In, Any-In, In, In-All}
+use Rattle.nms_rules.proofs.Offered.{All-In, Any-In, In}
 use Rattle.nms_sweep.specs.Cutoffs.{AreCutoffs, IsCutoffOf, cutoff_at, cutoffs_of}
 use Rattle.nms_sweep.specs.Order.{IsOrdered}
 use Rattle.nms_sweep.specs.Passed.{AreByPrice, IsPassed}
@@ -84,19 +84,3 @@ begins_with seen asked fees by_price passed same ordered few is =
     } in
     begins by_price passed are (ap (λ (one : Passed). one.rows) is) (ap (λ (one : Passed). one.shown) is)
     (ap (λ (one : Passed). one.protected) is) (ap (λ (one : Passed). one.cost) is)
-
--- and in the order of their costs they have the same sums
-pub sums_by_cost : (side : OrderSide) (rows by_price by_cost costs : List Usable) (cutoffs : List Cutoff) → IsPermutation rows by_price
-    → IsPermutation by_price by_cost → costs ≡ by_cost → AreCutoffs side rows cutoffs
-    → All (λ cutoff. IsCutoffOf side costs cutoff) cutoffs
-sums_by_cost side rows by_price by_cost costs cutoffs one two cheap are =
-    let same = IsPermutation-trans rows by_price by_cost one two in
-    subst (λ (some : List Usable). All (λ cutoff. IsCutoffOf side some cutoff) cutoffs) (sym cheap)
-    (All-In (λ (cutoff : Cutoff). IsCutoffOf side by_cost cutoff) cutoffs (λ cutoff within.
-    let is = In-All (λ (one : Cutoff). IsCutoffOf side rows one) cutoffs are.sums cutoff within in
-    let rank = rank_of side cutoff.price in
-    record {
-      swept = is.swept ∙ sym (total_same (swept_part rank) rows by_cost same);
-      swept_cost = is.swept_cost ∙ sym (amount_same (swept_cost_part rank) rows by_cost same);
-      pool = is.pool ∙ sym (total_same (pool_part rank) rows by_cost same);
-    }))

@@ -52,11 +52,11 @@ up_to-is cutoff cost (row ∷ rows) = omega (arith, up_to-parts cutoff cost row 
 -- ---- what a share costs, of rows in the order of their costs
 
 -- it is what some row of the pool costs, and cheaper shares are fewer
-record IsCostOf (cutoff : ℤ) (rows : List Usable) (number : ℕ) (cost : ℤ) : Type 0 where
+pub record IsCostOf (cutoff : ℤ) (rows : List Usable) (number : ℕ) (cost : ℤ) : Type 0 where
   pub some : (row : Usable) × In row rows × (is_pooled cutoff row ≡ true) × (row.cost ≡ cost)
   pub fewer : below cutoff cost rows < max number 1
 
-HasPooled : ℤ → List Usable → Type 0
+unfoldable pub HasPooled : ℤ → List Usable → Type 0
 HasPooled cutoff rows = (row : Usable) × In row rows × (is_pooled cutoff row ≡ true)
 
 -- if the pool has shares, it has a row
@@ -89,7 +89,7 @@ below-within : (cutoff cost : ℤ) (row : Usable) → (is_below cutoff cost row 
 below-within cutoff cost row (inl is) = omega (arith, cond-true (is_below cutoff cost row) row.size 0 is)
 below-within cutoff cost row (inr not_below) = omega (arith, cond-false (is_below cutoff cost row) row.size 0 not_below)
 
-later-cases : (cutoff : ℤ) (number : ℕ) (row : Usable) → (is_pooled cutoff row && nat_le number row.size ≡ false)
+pub later-cases : (cutoff : ℤ) (number : ℕ) (row : Usable) → (is_pooled cutoff row && nat_le number row.size ≡ false)
     → (is_pooled cutoff row ≡ true) ⊎ (is_pooled cutoff row ≡ false)
     → (is_pooled cutoff row ≡ false) ⊎ ((is_pooled cutoff row ≡ true) × (row.size < number))
 later-cases cutoff number row later (inr out) = inl out
@@ -131,7 +131,7 @@ unfolding total
 rest-pooled cutoff number row rows few pooled (inl out) = later-pooled cutoff row rows out pooled
 rest-pooled cutoff number row rows few pooled (inr over) = pool-some cutoff rows (omega (arith, few, pool-is cutoff row over.0, over.1))
 
-cost_of_number : (cutoff : ℤ) (number : ℕ) (last : ℤ) (rows : List Usable) → Ordered Cost rows → number ≤ pool cutoff rows
+pub cost_of_number : (cutoff : ℤ) (number : ℕ) (last : ℤ) (rows : List Usable) → Ordered Cost rows → number ≤ pool cutoff rows
     → HasPooled cutoff rows → IsCostOf cutoff rows number (share_cost cutoff number last rows)
 unfolding share_cost total HasPooled
 cost_of_number cutoff number last [] ordered few pooled = absurd pooled.1
@@ -159,7 +159,7 @@ cost_of_number cutoff number last (row ∷ rows) ordered few pooled =
 -- ---- a cut
 
 -- at its own price a row is in the pool
-own-step : (row : Usable) → Sweeps row.rank row ⊎ (Pools row.rank row ⊎ Passes row.rank row) → is_pooled row.rank row ≡ true
+pub own-step : (row : Usable) → Sweeps row.rank row ⊎ (Pools row.rank row ⊎ Passes row.rank row) → is_pooled row.rank row ≡ true
 own-step row (inl at) = let less = lt-true row.rank row.rank (and_parts row.protected (int_lt row.rank row.rank) at.is).1 in
     absurd (omega (arith, ints, less))
 own-step row (inr (inl at)) = at.pooled

@@ -5,9 +5,11 @@ mod CutoffLemmas
 mod ExactLemmas
 mod FillingLemmas
 mod FitLemmas
+mod FrontLemmas
 mod HeldLemmas
 mod LegLemmas
 mod MarginalLemmas
+mod NearLemmas
 mod OrderLemmas
 mod PlaceLemmas
 mod PlanLemmas

@@ -65,7 +65,7 @@ no-less-at : (first : Usable) (before : List Usable) (row : Usable) (later : Lis
 no-less-at first [] row later each = each.0
 no-less-at first (one ∷ before) row later each = no-less-at first before row later each.1
 
-least-before : (before : List Usable) (row : Usable) (later : List Usable) → Ordered Price (before ++ row ∷ later)
+pub least-before : (before : List Usable) (row : Usable) (later : List Usable) → Ordered Price (before ++ row ∷ later)
     → AllByRecursion (λ one. one.rank ≤ℤ row.rank) before
 least-before [] row later ordered = tt
 least-before (first ∷ before) row later ordered = (no-less-at first before row later ordered.0, least-before before row later ordered.1)
@@ -88,7 +88,7 @@ pool-far-step cutoff row far (inr (inr at)) = pool-not cutoff row at.pooled
 
 -- ---- the sums
 
-near-sums : (rank cutoff : ℤ) (rows : List Usable) → rank <ℤ cutoff → AllByRecursion (λ one. one.rank ≤ℤ rank) rows
+pub near-sums : (rank cutoff : ℤ) (rows : List Usable) → rank <ℤ cutoff → AllByRecursion (λ one. one.rank ≤ℤ rank) rows
     → (swept cutoff rows ≡ total protected_part rows) × (swept_cost cutoff rows ≡ amount protected_cost_part rows)
 unfolding total amount
 near-sums rank cutoff [] less each = (refl, refl)

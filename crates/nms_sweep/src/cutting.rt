@@ -16,7 +16,7 @@ use nms_units::MOST_SHARES;
 
 /// Puts a cut for each cutoff to come into an empty certificate, if that many shares can be filled. It returns the cutoff
 /// of least cost, of equals the best price; `None` if no cutoff can be filled at. The rows come in the order of their
-/// costs.
+/// costs; they need not have those at prices where more must be swept than can be filled.
 pub(crate) fn put_cuts(
     side: OrderSide,
     by_cost: &[PricedRow],
@@ -29,7 +29,7 @@ pub(crate) fn put_cuts(
     requires rows { length by_cost.now ≤ MOST_ROWS }
     requires most { most ≤ MOST_SHARES }
     requires ordered { IsByCost by_cost.now }
-    requires sums { All (λ cutoff. IsCutoffOf side by_cost.now cutoff) cutoffs.old.to_come }
+    requires sums { All (λ cutoff. cutoff.swept ≤ most → IsCutoffOf side by_cost.now cutoff) cutoffs.old.to_come }
     ensures cuts { cuts.new.items ≡ map (cut_by side by_cost.now most) cutoffs.old.to_come }
     ensures range { All (λ cut. IsInRange cut.kind) cuts.new.items }
     ensures best { result ≡ chosen side by_cost.now most None (map (cut_by side by_cost.now most) cutoffs.old.to_come) }
@@ -57,7 +57,7 @@ fn tried(
     requires rows { length by_cost.now ≤ MOST_ROWS }
     requires most { most ≤ MOST_SHARES }
     requires ordered { IsByCost by_cost.now }
-    requires sums { IsCutoffOf side by_cost.now cutoff.now }
+    requires sums { cutoff.now.swept ≤ most → IsCutoffOf side by_cost.now cutoff.now }
     requires low { neg_ℤ (pos (2 ^ 106)) ≤ℤ cutoff.now.swept_cost }
     requires high { cutoff.now.swept_cost ≤ℤ pos (2 ^ 106) }
     ensures kind { result.0 ≡ kind_by by_cost.now most (rank_of side cutoff.now.price) cutoff.now.swept cutoff.now.pool }

@@ -3,6 +3,7 @@ ghost use Rattle.std.specs.Prelude.{◌≡◌, [], ◌≤◌, ◌<◌, ◌+◌, 
 ghost use Rattle.nms_rules.specs.Cutoff.{swept, swept_part};
 ghost use Rattle.nms_rules.specs.Faultless.{sum_of};
 ghost use Rattle.nms_sweep.specs.Choice.{below, below_part, is_below, is_level, left_after, legs_chosen, legs_of, share_of};
+ghost use Rattle.nms_sweep.specs.Order.{IsByPrice, StopAt};
 
 use crate::choice::Choice;
 use crate::priced_row::PricedRow;
@@ -22,11 +23,12 @@ pub(crate) fn put_legs(
 )
     requires rows { length rows.now ≤ MOST_ROWS }
     requires empty { legs.old.items ≡ [] }
+    requires ordered { IsByPrice rows.now }
     requires few { sum_of (legs_chosen rows.now most choice.now rows.now) ≤ MOST_SHARES }
     ensures { legs.new.items ≡ legs_chosen rows.now most choice.now rows.now }
 {
     if let Some(choice) = choice {
-        let before = taken_before(rows, choice.cutoff, choice.marginal);
+        let (before, rows) = taken_before(rows, choice.cutoff, choice.marginal);
         let left = most.saturating_sub(before);
         put_legs_at(choice.cutoff, choice.marginal, left, rows, legs);
     }
@@ -84,19 +86,26 @@ fn is_level(cutoff: Rank, marginal: Money, row: &PricedRow) -> bool
     row.is_pooled(cutoff) && !(row.unit_cost() < marginal) && !(marginal < row.unit_cost())
 }
 
-/// How many shares are taken before those at the marginal: what must be swept, and what costs less.
+/// How many shares are taken before those at the marginal: what must be swept, and what costs less. It returns the rows
+/// at the cutoff or better with them, since no other one has such shares.
 #[tactic(auto, using(crate::proofs::SumFacts::total_none, crate::proofs::SumFacts::total_more))]
-fn taken_before(rows: &[PricedRow], cutoff: Rank, marginal: Money) -> u64
-    requires { length rows.now ≤ MOST_ROWS }
-    ensures sum { result ≡ swept cutoff rows.now + below cutoff marginal rows.now }
-    ensures within { result ≤ 2 ^ 38 }
+fn taken_before(rows: &[PricedRow], cutoff: Rank, marginal: Money) -> (u64, &[PricedRow])
+    requires few { length rows.now ≤ MOST_ROWS }
+    requires ordered { IsByPrice rows.now }
+    ensures stop { StopAt cutoff rows.now result.1.now }
+    ensures few { length result.1.now ≤ MOST_ROWS }
+    ensures sum { result.0 ≡ swept cutoff result.1.now + below cutoff marginal result.1.now }
 {
     let mut sum = 0;
-    for row in rows {
+    for at in 0..rows.len() {
+        let row = &rows[at];
+        if row.is_beyond(cutoff) {
+            return (sum, &rows[..at]);
+        }
         sum += swept_part(row, cutoff);
         sum += below_part(row, cutoff, marginal);
     }
-    sum
+    (sum, rows)
 }
 
 /// How many of a row's shares must be swept.

@@ -1,22 +1,22 @@
 //! The plan of least cost for an order, and the certificate that shows it: `specs/Accepted` of `nms_rules`.
-ghost use Rattle.std.specs.Prelude.{◌≡◌, ◌≤◌, [], None, length};
+ghost use Rattle.std.specs.Prelude.{ℤ, ◌≡◌, ◌<◌, ◌≤◌, ◌+◌, [], None, true, length, slice_index_or, take};
 ghost use Rattle.nms_board.specs.View.{Seen};
 ghost use Rattle.nms_fee_book.specs.Fees.{Charges};
 ghost use Rattle.nms_rules.specs.Accepted.{IsAccepted};
 ghost use Rattle.nms_rules.specs.Assignment.{IsOptimal, fillable, total};
 ghost use Rattle.nms_rules.specs.Breach.{breach_of};
 ghost use Rattle.nms_rules.specs.Faultless.{given_by};
-ghost use Rattle.nms_rules.specs.Usable.{usable};
+ghost use Rattle.nms_rules.specs.Usable.{Usable, usable};
 ghost use Rattle.nms_sweep.specs.Filling.{AreExact, FillsInOrder};
-ghost use Rattle.nms_sweep.specs.Order.{AreInOrder};
+ghost use Rattle.nms_sweep.specs.Order.{AreInOrder, HasReached, IsByCost, IsByPrice, StopAt};
 ghost use Rattle.nms_sweep.specs.Planned.{IsPlanned, IsTable};
 
 use crate::choice::cost_chosen;
-use crate::cutoffs::Cutoffs;
+use crate::cutoffs::{Cutoffs, protected_part};
 use crate::cutting::put_cuts;
 use crate::legs::put_legs;
 use crate::priced_row::PricedRow;
-use crate::row_order::{Key, put_in_order};
+use crate::row_order::{Key, put_among};
 use arrayvec::ArrayVec;
 use nms_board::{MOST_ROWS, View};
 use nms_fee_book::FeeBook;
@@ -76,8 +76,8 @@ pub fn plan_into(
     fill(version, order, &mut cutoffs, &mut by_cost, plan, cuts);
 }
 
-/// Plans an order on the cutoffs of a version, all of them still to come. The list takes the rows in the order of their
-/// costs.
+/// Plans an order on the cutoffs of a version, all of them still to come. The list takes the rows that
+/// a plan can reach, in the order of their costs.
 pub(crate) fn fill(
     version: u64,
     order: &Order,
@@ -92,7 +92,7 @@ pub(crate) fn fill(
     ensures { (seen : Seen) (fees : Charges) → IsTable seen order.now fees version cutoffs.old → IsPlanned seen order.now fees plan.new cuts.new.items }
 {
     let most = fillable(cutoffs.rows(), order.shares);
-    put_in_order(Key::Cost, cutoffs.rows(), by_cost);
+    put_reachable(cutoffs.rows(), most, by_cost);
     cuts.clear();
     let choice = put_cuts(order.side, by_cost.as_slice(), most, cutoffs, cuts);
     plan.legs.clear();
@@ -101,6 +101,52 @@ pub(crate) fn fill(
     plan.order = *order;
     plan.filled = most as u32;
     plan.cost = cost_chosen(&choice);
+}
+
+/// Puts the first of rows, which come in the order of their prices, into an empty list in the order of their costs. At
+/// the price of any other row more must be swept than that many shares, so no plan of that many trades there.
+#[tactic(auto, using(crate::proofs::SumFacts::total_none, crate::proofs::SumFacts::total_more))]
+fn put_reachable(rows: &[PricedRow], most: u64, by_cost: &mut ArrayVec<PricedRow, MOST_ROWS>)
+    requires few { length rows.now ≤ MOST_ROWS }
+    requires empty { by_cost.old.items ≡ [] }
+    requires prices { IsByPrice rows.now }
+    ensures reach { HasReached most rows.now by_cost.new.items }
+    ensures ordered { IsByCost by_cost.new.items }
+    ensures few { length by_cost.new.items ≤ MOST_ROWS }
+{
+    let mut sum = 0;
+    for at in 0..rows.len() {
+        let row = &rows[at];
+        put_among(Key::Cost, row, by_cost);
+        sum += protected_part(row);
+        if is_last(rows, at, most, sum) {
+            return;
+        }
+    }
+}
+
+/// Whether all later rows are at worse prices, where more must be swept than that many shares if the protected ones so
+/// far show that sum.
+fn is_last(rows: &[PricedRow], at: usize, most: u64, sum: u64) -> bool
+    requires at { at < length rows.now }
+    requires ordered { IsByPrice rows.now }
+    ensures over { result ≡ true → most < sum }
+    ensures stop { (row : Usable) → result ≡ true → row ≡ slice_index_or rows.now at row → StopAt row.rank rows.now (take (at + 1) rows.now) }
+{
+    most < sum && ends_price(rows, at)
+}
+
+/// Whether all later rows are at worse prices.
+fn ends_price(rows: &[PricedRow], at: usize) -> bool
+    requires at { at < length rows.now }
+    requires ordered { IsByPrice rows.now }
+    ensures { (row : Usable) → result ≡ true → row ≡ slice_index_or rows.now at row → StopAt row.rank rows.now (take (at + 1) rows.now) }
+{
+    let row = &rows[at];
+    match rows.get(at + 1) {
+        Some(next) => next.is_beyond(row.rank),
+        None => true,
+    }
 }
 
 /// How many shares can be filled: all that the rows show, or what is asked if that is less.

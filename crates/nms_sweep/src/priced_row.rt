@@ -1,5 +1,6 @@
 //! A usable row as the planner keeps it: `specs/Usable` of `nms_rules`.
 ghost use Rattle.std.specs.Prelude.{◌≡◌, ◌^◌, ◌≤ℤ◌, neg_ℤ, pos};
+ghost use Rattle.std.specs.Int.RustNames.{int_lt};
 ghost use Rattle.nms_rules.specs.Cutoff.{is_pooled, is_swept};
 ghost use Rattle.nms_rules.specs.Usable.{usable_row};
 
@@ -101,6 +102,13 @@ impl PricedRow {
         ensures { result ≡ is_swept cutoff self.now }
     {
         self.protected && self.rank < cutoff
+    }
+
+    /// Whether it is at a worse price than one of that rank.
+    pub(crate) fn is_beyond(&self, cutoff: Rank) -> bool
+        ensures { result ≡ int_lt cutoff self.now.rank }
+    {
+        cutoff < self.rank
     }
 
     /// Whether it is in the pool at a price of that rank: it is at that price or better, and need not be swept.

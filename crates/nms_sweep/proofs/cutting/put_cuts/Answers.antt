@@ -1,5 +1,5 @@
 -- put_cuts: one more cut, and the better of two choices, by what tried and cheaper say (clauses cuts, best, range).
-use Rattle.std.proofs.Common.{◌≡◌, refl, List, [], ◌∷◌, ◌++◌, All, length, map, ap, sym, ◌∙◌, subst, arith}
+use Rattle.std.proofs.Common.{◌≡◌, ◌≤◌, refl, List, [], ◌∷◌, ◌++◌, All, length, map, ap, sym, ◌∙◌, subst, arith}
 use Rattle.std.proofs.lemmas.List.Elements.{All-push, All-tail}
 use Rattle.std.proofs.Math.Seq.{append_snoc}
 use Rattle.nms_quote.specs.declared.certificate.Cut.{Cut}
@@ -44,8 +44,8 @@ loop-cutoff-preserved c =
       range = subst (All (λ (one : Cut). IsInRange one.kind)) (sym pushed)
           (All-push (λ (one : Cut). IsInRange one.kind) items cut is.range
           (subst IsInRange c.tried-kind.ensures.kind c.tried-kind.ensures.range));
-      sums = All-tail (λ (one : Cutoff). IsCutoffOf side by_cost one) cutoff later
-          (subst (All (λ (one : Cutoff). IsCutoffOf side by_cost one)) coming is.sums);
+      sums = All-tail (λ (one : Cutoff). one.swept ≤ most → IsCutoffOf side by_cost one) cutoff later
+          (subst (All (λ (one : Cutoff). one.swept ≤ most → IsCutoffOf side by_cost one)) coming is.sums);
       room = omega (arith, is.room, ap length coming, c.push.ensures.len);
       rows = search;
     }

@@ -13,7 +13,7 @@ invariant-loop-cutoff l = record {
   best : chosen l.side l.by_cost l.most None (map (cut_by l.side l.by_cost l.most) l.fn.cutoffs.to_come)
       ≡ chosen l.side l.by_cost l.most l.best (map (cut_by l.side l.by_cost l.most) l.cutoffs.to_come);
   range : All (λ (cut : Cut). IsInRange cut.kind) l.cuts.items;
-  sums : All (λ (cutoff : Cutoff). IsCutoffOf l.side l.by_cost cutoff) l.cutoffs.to_come;
+  sums : All (λ (cutoff : Cutoff). cutoff.swept ≤ l.most → IsCutoffOf l.side l.by_cost cutoff) l.cutoffs.to_come;
   room : length l.cuts.items + length l.cutoffs.to_come ≤ MOST_ROWS;
   rows : l.cutoffs.rows ≡ l.fn.cutoffs.rows;
 }

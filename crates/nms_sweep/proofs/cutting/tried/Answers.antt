@@ -17,7 +17,8 @@ returns-clause-offer c =
     let marginal = c.take_cheapest-taken.result.marginal in
     let reaches : rest ≤ cutoff.pool = c.if-cutoff-rest.false in
     let cost : c.plus.result ≡ least_cost by_cost c.args.most rank marginal =
-    offer_is c.args.side by_cost c.args.most cutoff marginal c.plus.result c.requires.ordered c.requires.sums reaches
+    offer_is c.args.side by_cost c.args.most cutoff marginal c.plus.result c.requires.ordered
+    (c.requires.sums c.if-most-cutoff.false) reaches
     (c.take_cheapest-taken.ensures.marginal ∙ ap (λ z. share_cost z rest (pos 0) by_cost) c.of-rank.ensures)
     (c.plus.ensures ∙ ap (λ z. cutoff.swept_cost +ℤ z)
     (c.take_cheapest-taken.ensures.cost ∙ ap (λ z. taken_cost z rest by_cost) c.of-rank.ensures)) in

@@ -1,5 +1,5 @@
 -- fill: all that is planned, by what the walk found (PlanLemmas: Found) and how the legs at the chosen cutoff fill.
-use Rattle.std.proofs.Common.{◌≡◌, All, List, Option, refl, ap, sym, ◌∙◌, subst, arith}
+use Rattle.std.proofs.Common.{◌≡◌, ◌≤◌, All, List, Option, refl, ap, sym, ◌∙◌, subst, arith}
 use Rattle.std.specs.List.Sorted.{IsPermutation}
 use Rattle.nms_quote.specs.Terms.{Terms}
 use Rattle.nms_quote.specs.contracts.order.Order.{the_view}
@@ -16,14 +16,16 @@ use Rattle.nms_rules.proofs.Offered.{none_of_faultless, accepted_optimal}
 use Rattle.nms_sweep.specs.Choice.{cost_chosen, legs_chosen}
 use Rattle.nms_sweep.specs.Cutoffs.{IsCutoffOf}
 use Rattle.nms_sweep.specs.Filling.{AreExact}
-use Rattle.nms_sweep.specs.Order.{AreInOrder}
+use Rattle.nms_sweep.specs.Order.{AreInOrder, HasReached, IsByPrice, IsOrdered}
 use Rattle.nms_sweep.specs.Planned.{IsTable}
 use Rattle.nms_sweep.specs.declared.choice.Choice.{Choice}
 use Rattle.nms_sweep.specs.declared.cutoffs.Cutoff.{Cutoff}
-use Rattle.nms_sweep.proofs.CutoffLemmas.{sums_by_cost}
+use Rattle.nms_sweep.specs.declared.row_order.Key.TheVariants.{Cost}
 use Rattle.nms_sweep.proofs.ExactLemmas.{exact}
 use Rattle.nms_sweep.proofs.FillingLemmas.{filling}
-use Rattle.nms_sweep.proofs.PlanLemmas.{Fills, Found, accepted, faultless, found_from, legs_found, rising}
+use Rattle.nms_sweep.proofs.NearLemmas.{found_near, reach_of, sums_near}
+use Rattle.nms_sweep.proofs.OrderLemmas.{all_by_cost}
+use Rattle.nms_sweep.proofs.PlanLemmas.{Fills, Found, accepted, faultless, legs_found, rising}
 use Rattle.nms_sweep.proofs.SameLemmas.{legs_same}
 use Rattle.nms_sweep.proofs.StandLemmas.{chosen_in_order}
 use Rattle.nms_sweep.proofs.planning.fill.Goals as goal
@@ -36,22 +38,32 @@ put_legs-requires-clause-few c =
     let asked : Terms = c.args.order.now in
     let rows : List Usable = usable seen asked fees in
     let by_price : List Usable = c.args.cutoffs.now.rows in
-    let by_cost : List Usable = c.put_in_order.new.ordered.items in
+    let by_cost : List Usable = all_by_cost by_price in
     let cuts : List Cut = c.put_cuts-choice.new.cuts.items in
     let most = c.fillable-most.result in
     let found : Option Choice = c.put_cuts-choice.result in
     let last : c.rows-3.result.now ≡ by_price = c.rows-3.ensures.rows ∙ c.put_cuts-choice.ensures.rows in
+    let near : List Usable = c.as_slice.result.now in
+    let reached : HasReached most c.rows-2.result.now c.put_reachable.new.by_cost.items = c.put_reachable.ensures.reach in
     let all : Found seen asked fees by_price by_cost cuts most found =
-    found_from seen asked fees (the_view c.order.inside) c.rows.result.now c.rows-2.result.now c.as_slice.result.now
-    c.args.cutoffs.now.to_come by_price by_cost cuts most found
-    c.order.view_is walk.bids walk.offers walk.rows walk.ordered walk.all c.rows.ensures.rows
-    c.rows-2.ensures.rows c.as_slice.ensures.value
-    c.put_in_order.ensures.same c.put_in_order.ensures.ordered c.fillable-most.ensures.most c.put_cuts-choice.ensures.cuts
-    c.put_cuts-choice.ensures.best in
+    found_near seen asked fees (the_view c.order.inside) c.rows.result.now reached.0 near
+    c.args.cutoffs.now.to_come by_price cuts most found
+    c.order.view_is walk.bids walk.offers walk.rows walk.ordered walk.all walk.cutoffs c.rows.ensures.rows
+    (reach_of most c.rows-2.result.now by_price reached.0 c.rows-2.ensures.rows reached.2)
+    (subst (IsPermutation reached.0) (sym c.as_slice.ensures.value) reached.1)
+    (subst (IsOrdered Cost) (sym c.as_slice.ensures.value) c.put_reachable.ensures.ordered)
+    c.fillable-most.ensures.most c.put_cuts-choice.ensures.cuts c.put_cuts-choice.ensures.best in
     let fills = legs_found seen asked fees by_price by_cost cuts most found all in
     let same : legs_chosen c.rows-3.result.now most found c.rows-3.result.now ≡ legs_chosen rows most found by_price =
     ap (λ (some : List Usable). legs_chosen some most found some) last ∙ legs_same rows by_price walk.rows most found in
     omega (arith, ap sum_of same, fills.sum, all.fillable_is, c.fillable-most.ensures.within)
+
+pub put_legs-requires-clause-ordered : goal.put_legs-requires-clause-ordered
+put_legs-requires-clause-ordered c =
+    subst IsByPrice (sym (c.rows-3.ensures.rows ∙ c.put_cuts-choice.ensures.rows)) c.requires.table.2.ordered
+
+pub put_reachable-requires-clause-prices : goal.put_reachable-requires-clause-prices
+put_reachable-requires-clause-prices c = subst IsByPrice (sym c.rows-2.ensures.rows) c.requires.table.2.ordered
 
 pub put_cuts-choice-requires-clause-sums : goal.put_cuts-choice-requires-clause-sums
 put_cuts-choice-requires-clause-sums c =
@@ -59,30 +71,36 @@ put_cuts-choice-requires-clause-sums c =
     let fees : Charges = c.requires.table.1 in
     let walk = c.requires.table.2 in
     let by_price : List Usable = c.args.cutoffs.now.rows in
-    let same = subst (λ (some : List Usable). IsPermutation some c.put_in_order.new.ordered.items) c.rows-2.ensures.rows
-    c.put_in_order.ensures.same in
+    let most = c.fillable-most.result in
+    let near : List Usable = c.as_slice.result.now in
+    let reached : HasReached most c.rows-2.result.now c.put_reachable.new.by_cost.items = c.put_reachable.ensures.reach in
     let asked = ap (λ (some : Terms). some.side) c.order.view_is in
-    subst (λ side. All (λ (cutoff : Cutoff). IsCutoffOf side c.as_slice.result.now cutoff) c.args.cutoffs.now.to_come) (sym asked)
-    (sums_by_cost c.args.order.now.side (usable seen c.args.order.now fees) by_price c.put_in_order.new.ordered.items
-    c.as_slice.result.now c.args.cutoffs.now.to_come walk.rows same c.as_slice.ensures.value walk.cutoffs)
+    subst (λ side. All (λ (cutoff : Cutoff). cutoff.swept ≤ most → IsCutoffOf side near cutoff) c.args.cutoffs.now.to_come) (sym asked)
+    (sums_near c.args.order.now.side most (usable seen c.args.order.now fees) by_price reached.0 near
+    c.args.cutoffs.now.to_come walk.rows
+    (reach_of most c.rows-2.result.now by_price reached.0 c.rows-2.ensures.rows reached.2)
+    (subst (IsPermutation reached.0) (sym c.as_slice.ensures.value) reached.1) walk.cutoffs)
 
 pub returns : goal.returns
 returns c = λ (seen : Seen) (fees : Charges) (walk : IsTable seen c.args.order.now fees c.args.version c.args.cutoffs.now).
     let asked : Terms = c.args.order.now in
     let rows : List Usable = usable seen asked fees in
     let by_price : List Usable = c.args.cutoffs.now.rows in
-    let by_cost : List Usable = c.put_in_order.new.ordered.items in
+    let by_cost : List Usable = all_by_cost by_price in
     let cuts : List Cut = c.put_cuts-choice.new.cuts.items in
     let most = c.fillable-most.result in
     let found : Option Choice = c.put_cuts-choice.result in
     let last : c.rows-3.result.now ≡ by_price = c.rows-3.ensures.rows ∙ c.put_cuts-choice.ensures.rows in
+    let near : List Usable = c.as_slice.result.now in
+    let reached : HasReached most c.rows-2.result.now c.put_reachable.new.by_cost.items = c.put_reachable.ensures.reach in
     let all : Found seen asked fees by_price by_cost cuts most found =
-    found_from seen asked fees (the_view c.order.inside) c.rows.result.now c.rows-2.result.now c.as_slice.result.now
-    c.args.cutoffs.now.to_come by_price by_cost cuts most found
-    c.order.view_is walk.bids walk.offers walk.rows walk.ordered walk.all c.rows.ensures.rows
-    c.rows-2.ensures.rows c.as_slice.ensures.value
-    c.put_in_order.ensures.same c.put_in_order.ensures.ordered c.fillable-most.ensures.most c.put_cuts-choice.ensures.cuts
-    c.put_cuts-choice.ensures.best in
+    found_near seen asked fees (the_view c.order.inside) c.rows.result.now reached.0 near
+    c.args.cutoffs.now.to_come by_price cuts most found
+    c.order.view_is walk.bids walk.offers walk.rows walk.ordered walk.all walk.cutoffs c.rows.ensures.rows
+    (reach_of most c.rows-2.result.now by_price reached.0 c.rows-2.ensures.rows reached.2)
+    (subst (IsPermutation reached.0) (sym c.as_slice.ensures.value) reached.1)
+    (subst (IsOrdered Cost) (sym c.as_slice.ensures.value) c.put_reachable.ensures.ordered)
+    c.fillable-most.ensures.most c.put_cuts-choice.ensures.cuts c.put_cuts-choice.ensures.best in
     let fills = legs_found seen asked fees by_price by_cost cuts most found all in
     let same : legs_chosen c.rows-3.result.now most found c.rows-3.result.now ≡ legs_chosen rows most found by_price =
     ap (λ (some : List Usable). legs_chosen some most found some) last ∙ legs_same rows by_price walk.rows most found in
