@@ -139,12 +139,15 @@ def bundled():
 
 
 def longest():
-    """The longest script, with empty lines after it, one of a record more, and a feed of a byte more than it may have."""
+    """The longest script, with empty lines after it, one of a record more, a feed of a byte more than it may have, and one of
+    as many as it may, which is not read as records: orders that are refused end the call after the feeds are read."""
     records, answers = b"F\n" * 10_000_000, b"PUB,0\n" * 10_000_000
     yield "ten million records", Call(["script"], 0, answers, b"", given=records + b"\r\n\n")
     yield "ten million records and one", Call(["script"], 6, answers, b"nms_tool: E3\n", given=records + b"F\n")
     files = {"orders": b"", "a": 1_000_000_001, "b": b""}
     yield "a feed of a byte too many", Call(["live", "orders", "a", "b"], 6, b"", b"nms_tool: E3\n", files)
+    files = {"orders": b"?\n", "a": 1_000_000_000, "b": b""}
+    yield "a feed of as many bytes as it may have", Call(["live", "orders", "a", "b"], 6, b"", b"nms_tool: L1\n", files)
 
 
 def drawn(judge, count, file):
