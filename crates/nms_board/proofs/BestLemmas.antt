@@ -1,8 +1,8 @@
 -- The best rows that a board keeps follow a change of one cell.
 use Rattle.std.proofs.Common.{◌≡◌, ◌≢◌, ℕ, ◌<◌, ◌≤◌, List, [], ◌∷◌, get_or, [], ◌∷◌, length, slice_get, slice_set, Option, Some, None}
 use Rattle.std.proofs.Common.{option_and_then, refl, sym, ap, subst, ◌∙◌, inl, inr, arith}
-use Rattle.std.specs.Prelude.{All}
-use Rattle.std.proofs.lemmas.Bool.{cases_eq}
+use Rattle.std.specs.Prelude.{◌==◌, ◌||◌, All, Bool, false, not, true}
+use Rattle.std.proofs.lemmas.Bool.{cases_eq, eqb-false, eqb-true}
 use Rattle.std.proofs.lemmas.List.{get_or-set_other, length-set}
 use Rattle.std.proofs.lemmas.List.Elements.{All-contains}
 use Rattle.std.proofs.lemmas.Option.{get_or_from_slice_get, slice_get-get_or, slice_get_past, slice_get_within}
@@ -31,6 +31,17 @@ none_if_no_shares row none = rw none refl
 pub none_on_both : (bid offer : Row) → bid.size ≡ 0 → offer.size ≡ 0 → (side : Side) → row_if_any (on_side side bid offer) ≡ None
 none_on_both bid offer no_bid no_offer Bid = none_if_no_shares bid no_bid
 none_on_both bid offer no_bid no_offer Offer = none_if_no_shares offer no_offer
+
+-- the same participant is first as before, and is another one
+pub same_first : (first was part : ℕ) → not (first == was) || first == part ≡ false → (was ≡ first) × (was ≢ part)
+same_first first was part e = by (first == was) (first == part) refl refl e
+  where
+    by : (same mine : Bool) → first == was ≡ same → first == part ≡ mine → not same || mine ≡ false → (was ≡ first) × (was ≢ part)
+    by true false s m e =
+        let same : was ≡ first = sym (eqb-true first was s) in
+        (same, omega (arith, same, eqb-false first part m))
+    by true true s m e = absurd (cc)
+    by false mine s m e = absurd (cc)
 
 -- the quotation at the first place, if nobody has one at the place of nobody
 pub row_at_first : (quotes : ℕ → Option Row) (kept : KeptOrder) → quotes 32 ≡ None → quotes (first_place kept) ≡ first_row quotes kept

@@ -108,12 +108,14 @@ fn follow_side(
     ensures { row_if_any best.new ≡ first_row (row_among lot cells.now side) order.now }
 {
     let first = order.first();
-    if first != was || first == part.get() {
+    // One branch, seldom taken, and a call there: the common way keeps its registers.
+    if (first != was) | (first == part.get()) {
         *best = row_of(side, lot, first, cells);
     }
 }
 
 /// The row of the participant at a place, from its cell; one of no shares if there is none.
+#[inline(never)]
 fn row_of(side: Side, lot: Lot, place: u8, cells: &[Cell]) -> Row
     requires { length cells.now ≤ MOST_ROWS }
     ensures { row_if_any result ≡ row_among lot cells.now side place }
