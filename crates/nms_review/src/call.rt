@@ -13,7 +13,7 @@ use nms_show::{Ending, Form};
 use std::time::Clock;
 
 /// The form that a request asks for.
-pub(crate) fn form_of(screen: Screen, request: &Request) -> Form {
+pub(crate) fn form_of(screen: Screen, request: &Request<'_>) -> Form {
     if request.json {
         Form::Json
     } else {
@@ -24,14 +24,14 @@ pub(crate) fn form_of(screen: Screen, request: &Request) -> Form {
 }
 
 /// The symbol that a word names, if there is one and the setup has it.
-pub(crate) fn sym_at(setup: &Setup, request: &Request, place: usize) -> Option<Sym>
+pub(crate) fn sym_at(setup: &Setup, request: &Request<'_>, place: usize) -> Option<Sym>
     ensures { IfSome result (λ sym. sym < length setup.now.roster.syms) }
 {
     setup.roster().find_sym(word_at(request, place).as_bytes())
 }
 
 /// Whether a word stands there.
-pub(crate) fn has_word(request: &Request, place: usize) -> bool {
+pub(crate) fn has_word(request: &Request<'_>, place: usize) -> bool {
     request.words.len() > place
 }
 
@@ -44,7 +44,7 @@ pub(crate) fn no_sym(place: usize) -> Fault {
 }
 
 /// The version that the first word names.
-pub(crate) fn version_of(request: &Request) -> Result<u64, Fault> {
+pub(crate) fn version_of(request: &Request<'_>) -> Result<u64, Fault> {
     version_in(word_at(request, 0), About::Word(0))
 }
 
@@ -59,7 +59,7 @@ pub(crate) fn version_in(word: &str, about: About) -> Result<u64, Fault> {
 }
 
 /// The feed that `--feed` names, A if it is not given.
-pub(crate) fn feed_of(setup: &Setup, request: &Request) -> Result<Feed, Fault> {
+pub(crate) fn feed_of(setup: &Setup, request: &Request<'_>) -> Result<Feed, Fault> {
     let feed = letter_of(request)?;
     if feed.place() < setup.feeds() {
         Ok(feed)
@@ -69,12 +69,8 @@ pub(crate) fn feed_of(setup: &Setup, request: &Request) -> Result<Feed, Fault> {
 }
 
 /// As `feed_of`, before a setup is known, with the most feeds that one may have.
-pub(crate) fn letter_of(request: &Request) -> Result<Feed, Fault> {
-    let letter = match &request.feed {
-        Some(word) => word.as_str(),
-        None => "A",
-    };
-    feed_named(letter).ok_or(no_feed())
+pub(crate) fn letter_of(request: &Request<'_>) -> Result<Feed, Fault> {
+    feed_named(request.feed.unwrap_or("A")).ok_or(no_feed())
 }
 
 /// A word that names no feed.

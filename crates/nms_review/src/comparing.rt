@@ -37,19 +37,19 @@ pub(crate) fn serve_compare<T, W: Write>(
     rt: &T,
     screen: Screen,
     setup: &Setup,
-    request: &Request,
+    request: &Request<'_>,
     answers: &mut W,
 ) -> Result<Ending, Fault>
 where
     T: AllocGlobal + Clock + Eprint + Files,
 {
-    let name = text_of(&request.map);
+    let name = text_of(request.map);
     let text = read_file(rt, name, About::Map)?;
     let mapping = match mapping_of(rt.alloc(), &text) {
         Ok(mapping) => mapping,
         Err(fault) => return tell_map_fault(rt, name, &fault),
     };
-    let times = read_file(rt, text_of(&request.times), About::Times)?;
+    let times = read_file(rt, text_of(request.times), About::Times)?;
     let file = open_word(rt, request, CHANGES)?;
     let mut source = Source::new(rt, screen, file);
     let read = read_changes(rt.alloc(), setup, &mut source);
@@ -70,7 +70,7 @@ fn compare_changes<T, W: Write>(
     rt: &T,
     screen: Screen,
     setup: &Setup,
-    request: &Request,
+    request: &Request<'_>,
     mapping: NationalMapping,
     changes: &[Change],
     times: &[u8],
@@ -92,7 +92,7 @@ fn compare_file<T, W: Write>(
     rt: &T,
     screen: Screen,
     setup: &Setup,
-    request: &Request,
+    request: &Request<'_>,
     mapping: NationalMapping,
     changes: &[Change],
     keys: &[u64],
@@ -146,11 +146,8 @@ fn mapping_of(alloc: Global, text: &[u8]) -> Result<NationalMapping, MapFault> {
 }
 
 /// The text of an option that the parser asks for.
-fn text_of(option: &Option<String>) -> &str {
-    match option {
-        Some(text) => text.as_str(),
-        None => "",
-    }
+fn text_of(option: Option<&str>) -> &str {
+    option.unwrap_or("")
 }
 
 /// A fault of a comparison, in the file that it is about.

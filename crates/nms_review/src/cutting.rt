@@ -46,7 +46,7 @@ pub(crate) fn cut_files<T, W: Write>(
     rt: &T,
     screen: Screen,
     setup: &Setup,
-    request: &Request,
+    request: &Request<'_>,
     mapping: &Mapping,
     answers: &mut W,
 ) -> Result<Ending, Fault>
@@ -66,7 +66,7 @@ where
 }
 
 /// Reports that the mapping's order is not by symbol.
-fn refuse_order<T: AllocGlobal + Eprint>(rt: &T, request: &Request) -> Result<Ending, Fault> {
+fn refuse_order<T: AllocGlobal + Eprint>(rt: &T, request: &Request<'_>) -> Result<Ending, Fault> {
     let key = String::from_str(rt.alloc(), "order").map_err(|_| no_memory())?;
     let fault = MapFault::BadValue {
         table: "time",
@@ -80,7 +80,7 @@ fn refuse_order<T: AllocGlobal + Eprint>(rt: &T, request: &Request) -> Result<En
 fn begin_job<'a, T: AllocGlobal + Files>(
     rt: &T,
     setup: &Setup,
-    request: &'a Request,
+    request: &Request<'a>,
     mapping: &Mapping,
 ) -> Result<CutJob<'a, T::File>, Fault>
     requires room { LEAST_LIMIT ≤ setup.now.tape_limit }
@@ -109,7 +109,7 @@ fn cut_all<'a, T, W: Write>(
     rt: &T,
     screen: Screen,
     setup: &Setup,
-    request: &'a Request,
+    request: &Request<'a>,
     mapping: &Mapping,
     job: &mut CutJob<'a, T::File>,
     answers: &mut W,
@@ -132,7 +132,7 @@ fn cut_file<'a, T>(
     rt: &T,
     screen: Screen,
     setup: &Setup,
-    request: &'a Request,
+    request: &Request<'a>,
     mapping: &Mapping,
     place: usize,
     job: &mut CutJob<'a, T::File>,
@@ -171,7 +171,7 @@ where
 fn cut_rows<'a, T>(
     rt: &T,
     setup: &Setup,
-    request: &'a Request,
+    request: &Request<'a>,
     mapping: &Mapping,
     columns: &Columns,
     place: usize,
@@ -211,7 +211,7 @@ where
 fn next_shard<T>(
     rt: &T,
     setup: &Setup,
-    request: &Request,
+    request: &Request<'_>,
     job: &mut CutJob<'_, T::File>,
 ) -> Result<(), Fault>
 where
@@ -246,7 +246,7 @@ fn sum_of(count: u64, more: u64) -> Result<u64, Fault> {
 fn finish_shard<T>(
     rt: &T,
     setup: &Setup,
-    request: &Request,
+    request: &Request<'_>,
     job: &mut CutJob<'_, T::File>,
 ) -> Result<(), Fault>
 where
@@ -280,7 +280,7 @@ fn tell_shards<W: Write>(shards: u64, openings: u64, answers: &mut W) -> Result<
 /// A new file with the name that `--out` gives, the number of a shard and this end.
 fn create_in<T: AllocGlobal + Files>(
     rt: &T,
-    request: &Request,
+    request: &Request<'_>,
     shard: u64,
     end: &str,
 ) -> Result<Answers<T::File>, Fault> {

@@ -27,7 +27,7 @@ pub(crate) fn serve_draw<T, W: Write>(
     rt: &T,
     screen: Screen,
     setup: &Setup,
-    request: &Request,
+    request: &Request<'_>,
     answers: &mut W,
 ) -> Result<Ending, Fault>
 where
@@ -38,23 +38,13 @@ where
     };
     let times = given_times(rt, request)?;
     let frame = frame_of(rt, request, times.as_ref())?;
-    let plan = match &request.plan {
-        Some(path) => Some(read_file(rt, path.as_str(), About::Plan)?),
+    let plan = match request.plan {
+        Some(path) => Some(read_file(rt, path, About::Plan)?),
         None => None,
     };
     let plan = plan.as_ref().map(Vec::as_slice);
-    match &request.trades {
-        Some(path) => draw_trades(
-            rt,
-            screen,
-            setup,
-            request,
-            path.as_str(),
-            &frame,
-            sym,
-            plan,
-            answers,
-        ),
+    match request.trades {
+        Some(path) => draw_trades(rt, screen, setup, request, path, &frame, sym, plan, answers),
         None => draw_alone(rt, screen, setup, request, &frame, sym, plan, answers),
     }
 }
@@ -64,7 +54,7 @@ fn draw_alone<T, W: Write>(
     rt: &T,
     screen: Screen,
     setup: &Setup,
-    request: &Request,
+    request: &Request<'_>,
     frame: &Frame<'_>,
     sym: Sym,
     plan: Option<&[u8]>,
@@ -86,7 +76,7 @@ fn draw_trades<T, W: Write>(
     rt: &T,
     screen: Screen,
     setup: &Setup,
-    request: &Request,
+    request: &Request<'_>,
     path: &str,
     frame: &Frame<'_>,
     sym: Sym,
@@ -122,7 +112,7 @@ where
 }
 
 /// What names the last version that is drawn.
-fn last_of(request: &Request) -> About {
+fn last_of(request: &Request<'_>) -> About {
     if request.to.is_some() {
         About::To
     } else {
@@ -147,16 +137,16 @@ pub(crate) fn drawing_fault(fault: DrawingFault, version: About, changes: About)
 /// The versions that are drawn, and what the axis counts. With a file of symbols they are at most those of the symbol.
 fn frame_of<'a, T: AllocGlobal + Files>(
     rt: &T,
-    request: &Request,
+    request: &Request<'_>,
     times: Option<&'a Times>,
 ) -> Result<Frame<'a>, Fault> {
     let (first, last) = span_of(rt, request, times)?;
-    let from = match &request.from {
-        Some(word) => version_given(rt, request, times, word.as_str(), About::From)?,
+    let from = match request.from {
+        Some(word) => version_given(rt, request, times, word, About::From)?,
         None => 0,
     };
-    let to = match &request.to {
-        Some(word) => Some(version_given(rt, request, times, word.as_str(), About::To)?),
+    let to = match request.to {
+        Some(word) => Some(version_given(rt, request, times, word, About::To)?),
         None => None,
     };
     if let Some(to) = to {
@@ -179,16 +169,16 @@ fn frame_of<'a, T: AllocGlobal + Files>(
 /// The first and the last version of the symbol, by the file of symbols; without one, those of the changes.
 fn span_of<T: AllocGlobal + Files>(
     rt: &T,
-    request: &Request,
+    request: &Request<'_>,
     times: Option<&Times>,
 ) -> Result<(u64, Option<u64>), Fault> {
-    let Some(file) = &request.symbols else {
+    let Some(file) = request.symbols else {
         return Ok((0, None));
     };
     let Some(times) = times else {
         return Err(Fault::usage(About::Symbols, "--symbols needs --times"));
     };
-    let text = read_file(rt, file.as_str(), About::Symbols)?;
+    let text = read_file(rt, file, About::Symbols)?;
     match find_span(&text, word_at(request, SYMBOL).as_bytes(), times.len()) {
         Ok(Some(span)) => Ok((span.before as u64, Some(span.last as u64))),
         Ok(None) => Err(Fault::usage(
@@ -202,7 +192,7 @@ fn span_of<T: AllocGlobal + Files>(
 /// The version that a word names: a number, or `@` and a time, which is found among the given times.
 fn version_given<T: AllocGlobal + Files>(
     rt: &T,
-    request: &Request,
+    request: &Request<'_>,
     times: Option<&Times>,
     word: &str,
     about: About,

@@ -23,7 +23,7 @@ const FILE: usize = 1;
 pub(crate) fn serve_explain<T, W: Write>(
     rt: &T,
     screen: Screen,
-    request: &Request,
+    request: &Request<'_>,
     answers: &mut W,
 ) -> Result<Ending, Fault>
 where
@@ -45,7 +45,7 @@ where
 fn serve_setup<T, W: Write>(
     rt: &T,
     screen: Screen,
-    request: &Request,
+    request: &Request<'_>,
     answers: &mut W,
 ) -> Result<Ending, Fault>
 where
@@ -63,7 +63,7 @@ where
 fn serve_map<T, W: Write>(
     rt: &T,
     screen: Screen,
-    request: &Request,
+    request: &Request<'_>,
     answers: &mut W,
 ) -> Result<Ending, Fault>
 where
@@ -83,7 +83,7 @@ fn serve_kind<T, W: Write>(
     screen: Screen,
     setup: &Setup,
     kind: Kind,
-    request: &Request,
+    request: &Request<'_>,
     answers: &mut W,
 ) -> Result<Ending, Fault>
 where
@@ -104,7 +104,7 @@ fn serve_plan<T, W: Write>(
     rt: &T,
     screen: Screen,
     setup: &Setup,
-    request: &Request,
+    request: &Request<'_>,
     answers: &mut W,
 ) -> Result<Ending, Fault>
 where
@@ -130,7 +130,7 @@ fn serve_records<T, R, W: Write>(
     setup: &Setup,
     kind: Kind,
     feed: Feed,
-    request: &Request,
+    request: &Request<'_>,
     source: &mut Source<'_, T, R>,
     answers: &mut W,
 ) -> Result<Ending, Fault>

@@ -9,9 +9,9 @@ use std::rt::Files;
 use std::{fs, str};
 
 /// The subcommand's own word at a place, from 0. The parser makes sure that the needed ones are there.
-pub(crate) fn word_at(request: &Request, place: usize) -> &str {
+pub(crate) fn word_at<'a>(request: &Request<'a>, place: usize) -> &'a str {
     match request.words.get(place) {
-        Some(word) => word.as_str(),
+        Some(word) => *word,
         None => "",
     }
 }
@@ -19,7 +19,7 @@ pub(crate) fn word_at(request: &Request, place: usize) -> &str {
 /// Opens the file that a subcommand's own word names.
 pub(crate) fn open_word<T: Files>(
     rt: &T,
-    request: &Request,
+    request: &Request<'_>,
     place: usize,
 ) -> Result<T::File, Fault> {
     fs::open(rt, word_at(request, place)).map_err(|error| Fault::unread(error, About::Word(place)))
@@ -28,7 +28,7 @@ pub(crate) fn open_word<T: Files>(
 /// A new file at a path. A file that the request reads is never overwritten, by any name or link that leads to it.
 pub(crate) fn create_file<T: Files>(
     rt: &T,
-    request: &Request,
+    request: &Request<'_>,
     path: &str,
 ) -> Result<T::File, Fault> {
     if let Some(about) = input_at(rt, request, path) {
@@ -38,29 +38,29 @@ pub(crate) fn create_file<T: Files>(
 }
 
 /// The file at a path that the request reads, if there is one.
-fn input_at<T: Files>(rt: &T, request: &Request, path: &str) -> Option<About> {
+fn input_at<T: Files>(rt: &T, request: &Request<'_>, path: &str) -> Option<About> {
     let own = identity_of(rt, path)?;
     for place in 0..request.words.len() {
         if identity_of(rt, word_at(request, place)) == Some(own) {
             return Some(About::Word(place));
         }
     }
-    if is_at(rt, &request.setup, own) {
+    if is_at(rt, request.setup, own) {
         return Some(About::Setup);
     }
-    if is_at(rt, &request.times, own) {
+    if is_at(rt, request.times, own) {
         return Some(About::Times);
     }
-    if is_at(rt, &request.symbols, own) {
+    if is_at(rt, request.symbols, own) {
         return Some(About::Symbols);
     }
     None
 }
 
 /// Whether a word, if it was given, leads to this file.
-fn is_at<T: Files>(rt: &T, word: &Option<String>, own: (u64, u64)) -> bool {
+fn is_at<T: Files>(rt: &T, word: Option<&str>, own: (u64, u64)) -> bool {
     match word {
-        Some(word) => identity_of(rt, word.as_str()) == Some(own),
+        Some(word) => identity_of(rt, word) == Some(own),
         None => false,
     }
 }
@@ -83,11 +83,14 @@ pub(crate) fn read_file<T: Files + AllocGlobal>(
 }
 
 /// The setup of the file that the request names, or the built-in one.
-pub(crate) fn setup_of<T: Files + AllocGlobal>(rt: &T, request: &Request) -> Result<Setup, Fault> {
-    let Some(file) = &request.setup else {
+pub(crate) fn setup_of<T: Files + AllocGlobal>(
+    rt: &T,
+    request: &Request<'_>,
+) -> Result<Setup, Fault> {
+    let Some(file) = request.setup else {
         return read_text(rt.alloc(), SETUP_K);
     };
-    let bytes = read_file(rt, file.as_str(), About::Setup)?;
+    let bytes = read_file(rt, file, About::Setup)?;
     match str::from_utf8(&bytes) {
         Ok(text) => read_text(rt.alloc(), text),
         Err(_) => Err(Fault::of(Code::C1, About::Setup)),

@@ -28,7 +28,7 @@ pub(crate) fn serve_import<T, W: Write>(
     rt: &T,
     screen: Screen,
     setup: &Setup,
-    request: &Request,
+    request: &Request<'_>,
     answers: &mut W,
 ) -> Result<Ending, Fault>
 where
@@ -73,7 +73,7 @@ fn import_files<T, W: Write>(
     rt: &T,
     screen: Screen,
     setup: &Setup,
-    request: &Request,
+    request: &Request<'_>,
     mapping: &Mapping,
     answers: &mut W,
 ) -> Result<Ending, Fault>
@@ -104,7 +104,7 @@ fn import_file<'a, T>(
     rt: &T,
     screen: Screen,
     setup: &Setup,
-    request: &'a Request,
+    request: &Request<'a>,
     mapping: &Mapping,
     place: usize,
     job: &mut Job<'a, T::File>,
@@ -146,7 +146,7 @@ where
 fn finish<T, W: Write>(
     rt: &T,
     setup: &Setup,
-    request: &Request,
+    request: &Request<'_>,
     half: Half,
     job: &mut Job<'_, T::File>,
     answers: &mut W,
@@ -183,13 +183,10 @@ pub(crate) fn tell_counts<W: Write>(
 /// A new file with the name that `--out` gives, and this end.
 pub(crate) fn create<T: AllocGlobal + Files>(
     rt: &T,
-    request: &Request,
+    request: &Request<'_>,
     end: &str,
 ) -> Result<Answers<T::File>, Fault> {
-    let name = match &request.out {
-        Some(name) => name.as_str(),
-        None => "",
-    };
+    let name = request.out.unwrap_or("");
     let Ok(path) = format!(in rt.alloc(); "{name}{end}") else {
         return Err(no_memory());
     };

@@ -48,7 +48,7 @@ pub(crate) fn serve_import_trades<T, W: Write>(
     rt: &T,
     screen: Screen,
     setup: &Setup,
-    request: &Request,
+    request: &Request<'_>,
     text: &[u8],
     answers: &mut W,
 ) -> Result<Ending, Fault>
@@ -81,7 +81,7 @@ fn import_trade_files<T, W: Write>(
     rt: &T,
     screen: Screen,
     setup: &Setup,
-    request: &Request,
+    request: &Request<'_>,
     mapping: &TradeMapping,
     answers: &mut W,
 ) -> Result<Ending, Fault>
@@ -108,7 +108,7 @@ fn import_trade_file<'a, T>(
     rt: &T,
     screen: Screen,
     setup: &Setup,
-    request: &'a Request,
+    request: &Request<'a>,
     mapping: &TradeMapping,
     place: usize,
     job: &mut TradeJob<'a, T::File>,

@@ -75,7 +75,7 @@ where
 }
 
 /// Serves a request, and gives the exit status.
-fn answer_request<T, E: Write>(rt: &T, screen: Screen, request: &Request, errors: &mut E) -> u8
+fn answer_request<T, E: Write>(rt: &T, screen: Screen, request: &Request<'_>, errors: &mut E) -> u8
 where
     T: AllocGlobal + Clock + Eprint + Files + Print,
 {
@@ -86,7 +86,7 @@ where
 }
 
 /// Serves a request, and writes out all its answers, also if it could not be served to its end.
-fn serve_whole<T>(rt: &T, screen: Screen, request: &Request) -> Result<Ending, Fault>
+fn serve_whole<T>(rt: &T, screen: Screen, request: &Request<'_>) -> Result<Ending, Fault>
 where
     T: AllocGlobal + Clock + Eprint + Files + Print,
 {

@@ -27,7 +27,7 @@ pub(crate) fn serve_page<T, W: Write>(
     rt: &T,
     screen: Screen,
     setup: &Setup,
-    request: &Request,
+    request: &Request<'_>,
     timing: Option<&Timing<'_>>,
     path: &str,
     answers: &mut W,

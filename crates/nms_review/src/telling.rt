@@ -6,7 +6,7 @@ use nms_show::{Form, Item, ShowFault, write_line};
 use std::io::{ErrorKind, Write};
 
 /// Reports a fault of a request, and gives the exit status.
-pub(crate) fn tell_fault<E: Write>(fault: &Fault, request: &Request, errors: &mut E) -> u8 {
+pub(crate) fn tell_fault<E: Write>(fault: &Fault, request: &Request<'_>, errors: &mut E) -> u8 {
     if write_fault(fault, request, errors).is_ok() {
         let _ = write_tip(fault, request, errors);
     }
@@ -16,7 +16,7 @@ pub(crate) fn tell_fault<E: Write>(fault: &Fault, request: &Request, errors: &mu
 /// Writes the line of a fault: the file or the word, the code, and a sentence.
 fn write_fault<E: Write>(
     fault: &Fault,
-    request: &Request,
+    request: &Request<'_>,
     errors: &mut E,
 ) -> Result<(), ShowFault> {
     let name = word_of(fault.about, request);
@@ -39,16 +39,20 @@ fn write_fault<E: Write>(
 }
 
 /// Writes which call shows the place, for a file that was refused.
-fn write_tip<E: Write>(fault: &Fault, request: &Request, errors: &mut E) -> Result<(), ShowFault> {
+fn write_tip<E: Write>(
+    fault: &Fault,
+    request: &Request<'_>,
+    errors: &mut E,
+) -> Result<(), ShowFault> {
     let Some(kind) = kind_of(fault, request) else {
         return Ok(());
     };
     let setup = match fault.about {
         About::Setup => None,
-        _ => request.setup.as_ref(),
+        _ => request.setup,
     };
     let (option, setup) = match setup {
-        Some(setup) => (" --setup ", setup.as_str()),
+        Some(setup) => (" --setup ", setup),
         None => ("", ""),
     };
     let items = [
@@ -63,7 +67,7 @@ fn write_tip<E: Write>(fault: &Fault, request: &Request, errors: &mut E) -> Resu
 }
 
 /// The kind of the file that was refused, as `explain` names it: only records and setups have places that it shows.
-fn kind_of(fault: &Fault, request: &Request) -> Option<&'static str> {
+fn kind_of(fault: &Fault, request: &Request<'_>) -> Option<&'static str> {
     if request.command == Sub::Explain {
         return None;
     }
@@ -91,26 +95,23 @@ fn kind_of_records(about: About, command: Sub) -> Option<&'static str> {
 }
 
 /// The word that a fault is about; nothing if it is about none.
-fn word_of(about: About, request: &Request) -> &str {
+fn word_of<'a>(about: About, request: &Request<'a>) -> &'a str {
     let word = match about {
         About::Nothing => None,
-        About::Word(place) => request.words.get(place),
-        About::Setup => request.setup.as_ref(),
-        About::Feed => request.feed.as_ref(),
-        About::Plan => request.plan.as_ref(),
-        About::Times => request.times.as_ref(),
-        About::Symbols => request.symbols.as_ref(),
-        About::Symbol => request.symbol.as_ref(),
-        About::Version => request.version.as_ref(),
-        About::Map => request.map.as_ref(),
-        About::From => request.from.as_ref(),
-        About::To => request.to.as_ref(),
-        About::Trades => request.trades.as_ref(),
+        About::Word(place) => request.words.get(place).copied(),
+        About::Setup => request.setup,
+        About::Feed => request.feed,
+        About::Plan => request.plan,
+        About::Times => request.times,
+        About::Symbols => request.symbols,
+        About::Symbol => request.symbol,
+        About::Version => request.version,
+        About::Map => request.map,
+        About::From => request.from,
+        About::To => request.to,
+        About::Trades => request.trades,
     };
-    match word {
-        Some(word) => word.as_str(),
-        None => "",
-    }
+    word.unwrap_or("")
 }
 
 /// The sentence for a fault.

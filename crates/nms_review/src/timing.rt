@@ -18,7 +18,7 @@ const FIRST: usize = 1;
 pub(crate) fn serve_when<T, W: Write>(
     rt: &T,
     screen: Screen,
-    request: &Request,
+    request: &Request<'_>,
     answers: &mut W,
 ) -> Result<Ending, Fault>
 where
@@ -28,9 +28,9 @@ where
     let text = read_file(rt, word_at(request, 0), About::Word(0))?;
     let times = times_of(rt.alloc(), &text, About::Word(0))?;
     let form = form_of(screen, request);
-    match &request.version {
+    match request.version {
         Some(word) => {
-            let version = version_in(word.as_str(), About::Version)?;
+            let version = version_in(word, About::Version)?;
             tell_time(rt.alloc(), &text, &times, version, form, answers)
         }
         None => {
@@ -42,9 +42,9 @@ where
 }
 
 /// Whether the words go together, and each has its form. This is tested before any file is opened.
-fn check_words(request: &Request) -> Result<(), Fault> {
+fn check_words(request: &Request<'_>) -> Result<(), Fault> {
     let has_times = request.words.len() > FIRST;
-    let Some(version) = &request.version else {
+    let Some(version) = request.version else {
         if !has_times {
             return Err(Fault::usage(About::Nothing, "give a TIME, or --version"));
         }
@@ -61,12 +61,12 @@ fn check_words(request: &Request) -> Result<(), Fault> {
             "--version goes with no TIME, nor with --before, --symbols or --symbol",
         ));
     }
-    version_in(version.as_str(), About::Version)?;
+    version_in(version, About::Version)?;
     Ok(())
 }
 
 /// Whether a file of symbols was given with a symbol, or neither.
-fn check_symbol(request: &Request) -> Result<(), Fault> {
+fn check_symbol(request: &Request<'_>) -> Result<(), Fault> {
     if request.symbols.is_some() == request.symbol.is_some() {
         Ok(())
     } else {
@@ -90,12 +90,12 @@ pub(crate) fn times_of(alloc: Global, text: &[u8], about: About) -> Result<Times
 /// The times of the file that `--times` names, if it names one.
 pub(crate) fn given_times<T: AllocGlobal + Files>(
     rt: &T,
-    request: &Request,
+    request: &Request<'_>,
 ) -> Result<Option<Times>, Fault> {
-    let Some(file) = &request.times else {
+    let Some(file) = request.times else {
         return Ok(None);
     };
-    let text = read_file(rt, file.as_str(), About::Times)?;
+    let text = read_file(rt, file, About::Times)?;
     Ok(Some(times_of(rt.alloc(), &text, About::Times)?))
 }
 
@@ -103,7 +103,7 @@ pub(crate) fn given_times<T: AllocGlobal + Files>(
 /// symbols it is found for the symbol that the word at a place names.
 pub(crate) fn version_among<T: AllocGlobal + Files>(
     rt: &T,
-    request: &Request,
+    request: &Request<'_>,
     times: Option<&Times>,
     symbol: usize,
 ) -> Result<u64, Fault> {
@@ -124,25 +124,22 @@ pub(crate) fn version_among<T: AllocGlobal + Files>(
 }
 
 /// The symbol that `--symbol` names; nothing if it is not given.
-fn symbol_of(request: &Request) -> &str {
-    match &request.symbol {
-        Some(symbol) => symbol.as_str(),
-        None => "",
-    }
+fn symbol_of<'a>(request: &Request<'a>) -> &'a str {
+    request.symbol.unwrap_or("")
 }
 
 /// The times in which versions are found: all of them, or those of a symbol, if a file of symbols is named.
 pub(crate) fn rising_of<'a, T: AllocGlobal + Files>(
     rt: &T,
-    request: &Request,
+    request: &Request<'_>,
     symbol: (&str, About),
     times: &'a Times,
     about: About,
 ) -> Result<Rising<'a>, Fault> {
-    let found = match &request.symbols {
+    let found = match request.symbols {
         None => times.rising(),
         Some(file) => {
-            let text = read_file(rt, file.as_str(), About::Symbols)?;
+            let text = read_file(rt, file, About::Symbols)?;
             match find_span(&text, symbol.0.as_bytes(), times.len()) {
                 Ok(Some(span)) => times.rising_between(span.before, span.last),
                 Ok(None) => {
@@ -161,7 +158,7 @@ pub(crate) fn rising_of<'a, T: AllocGlobal + Files>(
 /// Writes the last version at or before each time that the words name.
 fn tell_versions<W: Write>(
     alloc: Global,
-    request: &Request,
+    request: &Request<'_>,
     rising: Rising<'_>,
     form: Form,
     answers: &mut W,

@@ -25,7 +25,7 @@ pub(crate) fn serve_trades<T, W: Write>(
     rt: &T,
     screen: Screen,
     setup: &Setup,
-    request: &Request,
+    request: &Request<'_>,
     answers: &mut W,
 ) -> Result<Ending, Fault>
 where
@@ -36,8 +36,7 @@ where
     let symbols = given_symbols(rt, request)?;
     let symbols = symbols.as_ref().map(Vec::as_slice);
     let timing = timing_of(times.as_ref(), symbols, request.before, window);
-    if let Some(path) = &request.html {
-        let path = path.as_str();
+    if let Some(path) = request.html {
         return serve_page(rt, screen, setup, request, timing.as_ref(), path, answers);
     }
     let changes = open_word(rt, request, CHANGES)?;
@@ -95,7 +94,7 @@ pub(crate) fn trades_fault(fault: TradesFault, executions: About) -> Fault {
 }
 
 /// The nanoseconds that `--window` gives; 0 if it is not given.
-fn window_of(request: &Request) -> Result<u64, Fault> {
+fn window_of(request: &Request<'_>) -> Result<u64, Fault> {
     let is_timed = request.times.is_some();
     if !is_timed && (request.window.is_some() || request.before || request.symbols.is_some()) {
         return Err(Fault::usage(
@@ -103,10 +102,10 @@ fn window_of(request: &Request) -> Result<u64, Fault> {
             "--window, --before and --symbols need --times",
         ));
     }
-    let Some(word) = &request.window else {
+    let Some(word) = request.window else {
         return Ok(0);
     };
-    nanoseconds_in(word.as_str()).ok_or(Fault::usage(
+    nanoseconds_in(word).ok_or(Fault::usage(
         About::Nothing,
         "--window takes nanoseconds, as a number of at most 15 digits",
     ))
@@ -124,10 +123,10 @@ fn nanoseconds_in(word: &str) -> Option<u64> {
 /// The text of the file that `--symbols` names, if it names one.
 pub(crate) fn given_symbols<T: AllocGlobal + Files>(
     rt: &T,
-    request: &Request,
+    request: &Request<'_>,
 ) -> Result<Option<Vec<u8>>, Fault> {
-    match &request.symbols {
-        Some(file) => Ok(Some(read_file(rt, file.as_str(), About::Symbols)?)),
+    match request.symbols {
+        Some(file) => Ok(Some(read_file(rt, file, About::Symbols)?)),
         None => Ok(None),
     }
 }

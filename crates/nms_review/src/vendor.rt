@@ -14,7 +14,7 @@ use std::time::Clock;
 pub(crate) fn open_vendor<'a, T>(
     rt: &'a T,
     screen: Screen,
-    request: &Request,
+    request: &Request<'_>,
     place: usize,
     form: FileForm,
     names: &mut ByteRecord,

@@ -15,7 +15,10 @@ tip: give options behind the subcommand: nms_review stream CHANGES --setup FILE
 /// Reads the words that follow the program's name: a subcommand, its own words and its options.
 ///
 /// `Parser` has the parser's text: a fault, or the help or the version that was asked for. `NoMemory` may replace any answer.
-pub(crate) fn read_words<'a>(alloc: Global, words: &'a [&'a str]) -> Result<Request, WordsFault> {
+pub(crate) fn read_words<'a>(
+    alloc: Global,
+    words: &'a [&'a str],
+) -> Result<Request<'a>, WordsFault> {
     match review_command(alloc)?.try_get_matches_from(words) {
         Ok(matches) => Ok(request_in(alloc, &matches)?),
         Err(error) => Err(fault_of(alloc, words, &error)),
@@ -51,7 +54,7 @@ fn is_option(word: &str) -> bool {
 }
 
 /// The request that the matches hold. The parser takes no words without a subcommand.
-fn request_in(alloc: Global, matches: &ArgMatches<'_>) -> Result<Request, AllocError> {
+fn request_in<'a>(alloc: Global, matches: &ArgMatches<'a>) -> Result<Request<'a>, AllocError> {
     let Some((name, inner)) = matches.subcommand() else {
         return Err(AllocError);
     };
@@ -61,35 +64,40 @@ fn request_in(alloc: Global, matches: &ArgMatches<'_>) -> Result<Request, AllocE
     Ok(Request {
         command,
         words: own_words(alloc, command, inner)?,
-        setup: value_text(alloc, inner, "setup")?,
-        feed: value_text(alloc, inner, "feed")?,
-        plan: value_text(alloc, inner, "plan")?,
-        map: value_text(alloc, inner, "map")?,
-        out: value_text(alloc, inner, "out")?,
-        times: value_text(alloc, inner, "times")?,
-        symbols: value_text(alloc, inner, "symbols")?,
-        symbol: value_text(alloc, inner, "symbol")?,
-        version: value_text(alloc, inner, "version")?,
-        trades: value_text(alloc, inner, "trades")?,
-        from: value_text(alloc, inner, "from")?,
-        to: value_text(alloc, inner, "to")?,
-        html: value_text(alloc, inner, "html")?,
-        window: value_text(alloc, inner, "window")?,
-        own: inner.get_str("own") == Some("true"),
-        rows: inner.get_str("rows") == Some("true"),
-        shards: inner.get_str("shards") == Some("true"),
-        before: inner.get_str("before") == Some("true"),
-        json: inner.get_str("json") == Some("true"),
-        table: inner.get_str("table") == Some("true"),
+        setup: inner.get_str("setup"),
+        feed: inner.get_str("feed"),
+        plan: inner.get_str("plan"),
+        map: inner.get_str("map"),
+        out: inner.get_str("out"),
+        times: inner.get_str("times"),
+        symbols: inner.get_str("symbols"),
+        symbol: inner.get_str("symbol"),
+        version: inner.get_str("version"),
+        trades: inner.get_str("trades"),
+        from: inner.get_str("from"),
+        to: inner.get_str("to"),
+        html: inner.get_str("html"),
+        window: inner.get_str("window"),
+        own: is_flagged(inner, "own"),
+        rows: is_flagged(inner, "rows"),
+        shards: is_flagged(inner, "shards"),
+        before: is_flagged(inner, "before"),
+        json: is_flagged(inner, "json"),
+        table: is_flagged(inner, "table"),
     })
 }
 
+/// Whether the matches hold the flag. The parser gives it the text `true` or `false`.
+fn is_flagged(matches: &ArgMatches<'_>, name: &str) -> bool {
+    matches.get_str(name) == Some("true")
+}
+
 /// The subcommand's own words, each that has a value.
-fn own_words(
+fn own_words<'a>(
     alloc: Global,
     command: Sub,
-    matches: &ArgMatches<'_>,
-) -> Result<Vec<String>, AllocError> {
+    matches: &ArgMatches<'a>,
+) -> Result<Vec<&'a str>, AllocError> {
     let mut words = Vec::new(alloc);
     for word in command.words() {
         if is_option_form(word.form) {
@@ -99,7 +107,7 @@ fn own_words(
             continue;
         };
         for value in values {
-            words.push(String::from_str(alloc, *value)?)?;
+            words.push(*value)?;
         }
     }
     Ok(words)
@@ -114,17 +122,5 @@ fn is_option_form(form: WordForm) -> bool {
         | WordForm::Optional
         | WordForm::AnyNumber => false,
         WordForm::Valued(_) | WordForm::NeededValue(_) | WordForm::Flag => true,
-    }
-}
-
-/// The text of an option's value, if it has one.
-fn value_text(
-    alloc: Global,
-    matches: &ArgMatches<'_>,
-    name: &str,
-) -> Result<Option<String>, AllocError> {
-    match matches.get_str(name) {
-        Some(value) => Ok(Some(String::from_str(alloc, value)?)),
-        None => Ok(None),
     }
 }

@@ -1,15 +1,12 @@
 //! Why the words of the command line are no request.
 use std::alloc::AllocError;
-use thiserror::Error;
 
 /// Why the words of the command line are no request.
-#[derive(Debug, Drop, Error)]
+#[derive(Drop)]
 pub(crate) enum WordsFault {
     /// G1: the parser's text: a fault or, if `help` holds, the help or the version that was asked for.
-    #[error("{text}")]
     Parser { text: String, help: bool },
     /// G2: out of memory.
-    #[error("G2: out of memory")]
     NoMemory,
 }
 
