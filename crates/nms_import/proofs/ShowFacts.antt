@@ -1,5 +1,5 @@
 -- What is shown of an import: texts that are printable, and what the writer took of them.
-use Rattle.std.proofs.Common.{All, ℕ, ◌≡◌, ◌&&◌, Bool, true, false, List, [], ◌∷◌, ◌++◌, Option, refl, sym, arith}
+use Rattle.std.proofs.Common.{All, ℕ, ◌≡◌, ◌&&◌, Bool, true, false, List, [], ◌∷◌, Option, refl, sym, arith}
 use Rattle.std.specs.Prelude.{Err, Ok, Result}
 use Rattle.std.specs.Int.{is_in_range}
 use Rattle.std.specs.List.{list_all}
