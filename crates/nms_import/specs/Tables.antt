@@ -1,5 +1,5 @@
 -- What the values of a mapping's tables are read as, or why they are refused. This product's own rule.
-use Rattle.std.specs.Prelude.{ℕ, codes, Bool, false, List, if◌then◌else◌, nat_le, length}
+use Rattle.std.specs.Prelude.{ℕ, codes, ◌==◌, ◌&&◌, not, Bool, true, false, List, if◌then◌else◌, nat_le, nat_lt, length}
 use Rattle.std.specs.Prelude.{Option, Some, None, option_map, option_and_then, Result, Ok, Err}
 use Rattle.std.specs.Str.{bytes_eq}
 use Rattle.toml.specs.Data.{Data, Members, as_bool, as_str, get_member}
@@ -80,3 +80,13 @@ abbrev pub is_nothing : Source → Bool
 is_nothing (source.Place place) = false
 is_nothing (source.Named name) = false
 is_nothing (source.Fixed text) = nat_le (length text.items) 0
+
+-- a column that has a number is one of the first 1,000
+abbrev pub is_within : Source → Bool
+is_within (source.Place place) = nat_lt place 1000
+is_within (source.Named name) = true
+is_within (source.Fixed text) = true
+
+-- a byte between fields: not a double quote, and not the end of a line
+abbrev pub is_delimiter : ℕ → Bool
+is_delimiter byte = not (byte == 34) && not (byte == 13) && not (byte == 10)

@@ -20,11 +20,11 @@ pub struct MapTable<'a> {
 }
 
 impl<'a> MapTable<'a> {
-    ghost use Rattle.std.specs.Prelude.{◌≡◌, ◌<◌, ◌≤◌, ◌≢◌, [], IfErr, IfOk, Some, Err, Ok, option_map, true};
+    ghost use Rattle.std.specs.Prelude.{◌≡◌, ◌<◌, ◌≤◌, ◌≢◌, IfErr, IfOk, IfSome, Some, Err, Ok, option_map, true};
     ghost use Rattle.toml.specs.Data.{as_table, get_member};
     ghost use Rattle.toml.specs.View.{table_view, view};
     ghost use Rattle.nms_import.specs.Refusals.{bad_value, is_of_document, refusal_of};
-    ghost use Rattle.nms_import.specs.Tables.{flag_at, is_nothing, members_in, name_in, text_at, value_at};
+    ghost use Rattle.nms_import.specs.Tables.{flag_at, is_nothing, is_within, members_in, name_in, text_at, value_at};
 
     /// The table of that name, which may be absent. It has no other keys than these, if any are given.
     pub fn of(
@@ -123,20 +123,21 @@ impl<'a> MapTable<'a> {
     pub(crate) fn number(
         self,
         key: &str,
-        most: i64,
+        most: u32,
         expected: &'static str,
     ) -> Result<Option<u32>, MapFault>
+        ensures range { IfOk result (λ number. IfSome number (λ n. (0 < n) × (n ≤ most))) }
         ensures kind { IfErr result (λ fault. is_of_document fault ≡ true) }
     {
         let Some(value) = self.value(key) else {
             return Ok(None);
         };
-        match value.as_integer() {
-            Some(number) if 1 <= number && number <= most => match u32::try_from(number) {
-                Ok(number) => Ok(Some(number)),
-                Err(_) => Err(self.bad(key, expected)),
-            },
-            _ => Err(self.bad(key, expected)),
+        let Some(number) = value.as_integer() else {
+            return Err(self.bad(key, expected));
+        };
+        match u32::try_from(number) {
+            Ok(number) if 1 <= number && number <= most => Ok(Some(number)),
+            Ok(_) | Err(_) => Err(self.bad(key, expected)),
         }
     }
 
@@ -163,6 +164,7 @@ impl<'a> MapTable<'a> {
 
     /// The column at a key, if there is one: a number, a name, or a table with the text that stands for it.
     pub fn column(self, key: &str, header: bool) -> Result<Option<Source>, MapFault>
+        ensures place { IfOk result (λ found. IfSome found (λ source. is_within source ≡ true)) }
         ensures kind { IfErr result (λ fault. is_of_document fault ≡ true) }
     {
         match self.value(key) {
@@ -173,6 +175,7 @@ impl<'a> MapTable<'a> {
 
     /// The column at a key that needs one.
     pub fn needed(self, key: &str, header: bool) -> Result<Source, MapFault>
+        ensures place { IfOk result (λ source. is_within source ≡ true) }
         ensures kind { IfErr result (λ fault. is_of_document fault ≡ true) }
     {
         match self.column(key, header)? {
@@ -210,6 +213,7 @@ impl<'a> MapTable<'a> {
 
     /// What a value says of a column.
     fn source(self, key: &str, value: &Value, header: bool) -> Result<Source, MapFault>
+        ensures place { IfOk result (λ source. is_within source ≡ true) }
         ensures kind { IfErr result (λ fault. is_of_document fault ≡ true) }
     {
         if let Some(number) = value.as_integer() {
@@ -231,6 +235,7 @@ impl<'a> MapTable<'a> {
 
     /// The text of a table `{ fixed = "TEXT" }`.
     fn fixed(self, key: &str, value: &Value, header: bool) -> Result<Source, MapFault>
+        ensures place { IfOk result (λ source. is_within source ≡ true) }
         ensures kind { IfErr result (λ fault. is_of_document fault ≡ true) }
     {
         let Some(members) = value.as_table() else {

@@ -2,8 +2,9 @@
 ghost use Rattle.std.specs.Prelude.{codes, ◌≡◌, ◌≢◌, ◌<◌, ◌≤◌, None, Some, Err, Ok, IfErr, IfOk, IfSome, true};
 ghost use Rattle.toml.specs.Parse.{parse_document};
 ghost use Rattle.toml.specs.View.{table_view};
+ghost use Rattle.nms_units.specs.declared.TheConstants.{MOST_LOT};
 ghost use Rattle.nms_import.specs.Refusals.{is_of_document, is_of_text, refusal_of};
-ghost use Rattle.nms_import.specs.Tables.{form_at, form_named, unit_at, unit_named};
+ghost use Rattle.nms_import.specs.Tables.{form_at, form_named, is_delimiter, unit_at, unit_named};
 
 use crate::map_fault::MapFault;
 use crate::map_table::{MapTable, copied, keep};
@@ -33,6 +34,9 @@ const A_TABLE: &str = "one of file, column, price, size, time, participant, symb
 
 /// Reads a mapping. The first fault that is found is answered, table by table.
 pub fn read_mapping(alloc: Global, text: &str) -> Result<Mapping, MapFault>
+    ensures delimiter { IfOk result (λ mapping. is_delimiter mapping.file.delimiter ≡ true) }
+    ensures day { IfOk result (λ mapping. mapping.meanings.zone < 86400) }
+    ensures unit { IfOk result (λ mapping. (0 < mapping.meanings.size_unit) × (mapping.meanings.size_unit ≤ MOST_LOT)) }
     ensures document { IfOk result (λ mapping. parse_document text.now ≢ None) }
     ensures text { IfErr result (λ fault. is_of_text fault ≡ true → parse_document text.now ≡ None) }
 {
@@ -72,6 +76,9 @@ fn line_at(text: &str, place: usize) -> u64 {
 
 /// The mapping of a document.
 pub fn mapping_of(alloc: Global, document: &Table) -> Result<Mapping, MapFault>
+    ensures delimiter { IfOk result (λ mapping. is_delimiter mapping.file.delimiter ≡ true) }
+    ensures day { IfOk result (λ mapping. mapping.meanings.zone < 86400) }
+    ensures unit { IfOk result (λ mapping. (0 < mapping.meanings.size_unit) × (mapping.meanings.size_unit ≤ MOST_LOT)) }
     ensures kind { IfErr result (λ fault. is_of_document fault ≡ true) }
 {
     no_others(alloc, document, &TABLES, A_TABLE)?;
@@ -110,6 +117,7 @@ pub fn file_of(
     document: &Table,
     kind: &'static str,
 ) -> Result<(FileForm, Vec<Word>), MapFault>
+    ensures delimiter { IfOk result (λ found. is_delimiter found.0.delimiter ≡ true) }
     ensures kind { IfErr result (λ fault. is_of_document fault ≡ true) }
 {
     let table = MapTable::of(
@@ -128,8 +136,7 @@ pub fn file_of(
     let delimiter = match table.text("delimiter", expected)? {
         None => b',',
         Some(text) => match text.as_bytes() {
-            [b'"' | b'\r' | b'\n'] => return Err(table.bad("delimiter", expected)),
-            [byte] => *byte,
+            [byte] if is_delimiter(*byte) => *byte,
             _ => return Err(table.bad("delimiter", expected)),
         },
     };
@@ -144,6 +151,13 @@ pub fn file_of(
         quotes: table.flag("quotes")?,
     };
     Ok((file, ends))
+}
+
+/// Whether a byte can be between fields: not a quote, and not the end of a line.
+fn is_delimiter(byte: u8) -> bool
+    ensures { result ≡ is_delimiter byte }
+{
+    byte != b'"' && byte != b'\r' && byte != b'\n'
 }
 
 /// The table `column`.
@@ -187,6 +201,7 @@ fn sources_of(alloc: Global, document: &Table, header: bool) -> Result<Sources, 
 
 /// The table `time`: the form, the zone in seconds, and the order of the rows.
 fn times_of(alloc: Global, document: &Table) -> Result<(TimeForm, u32, Order), MapFault>
+    ensures day { IfOk result (λ found. found.1 < 86400) }
     ensures kind { IfErr result (λ fault. is_of_document fault ≡ true) }
 {
     let table = MapTable::of(
@@ -295,6 +310,8 @@ fn meanings_of(
     time_form: TimeForm,
     zone: u32,
 ) -> Result<Meanings, MapFault>
+    ensures zone { IfOk result (λ meanings. meanings.zone ≡ zone) }
+    ensures unit { IfOk result (λ meanings. (0 < meanings.size_unit) × (meanings.size_unit ≤ MOST_LOT)) }
     ensures kind { IfErr result (λ fault. is_of_document fault ≡ true) }
 {
     let (price_unit, no_price) = prices_of(alloc, document)?;
@@ -365,6 +382,7 @@ fn unit_named(text: &str) -> Option<PriceUnit>
 
 /// The table `size`: the shares of a unit. It has no default: a wrong one is wrong by a hundred, and looks right.
 fn size_of(alloc: Global, document: &Table) -> Result<u32, MapFault>
+    ensures range { IfOk result (λ unit. (0 < unit) × (unit ≤ MOST_LOT)) }
     ensures kind { IfErr result (λ fault. is_of_document fault ≡ true) }
 {
     let table = MapTable::of(
@@ -375,7 +393,7 @@ fn size_of(alloc: Global, document: &Table) -> Result<u32, MapFault>
         "one of unit, lot",
     )?;
     let expected = "\"shares\", or \"lots\" beside lot = 100";
-    let lot = table.number("lot", i64::from(MOST_LOT), "a whole number from 1 to 1000")?;
+    let lot = table.number("lot", u32::from(MOST_LOT), "a whole number from 1 to 1000")?;
     match (table.text("unit", expected)?, lot) {
         (Some("shares"), None) => Ok(1),
         (Some("lots"), Some(lot)) => Ok(lot),
