@@ -2,3 +2,4 @@ mod ClockFacts
 mod RowFacts
 mod TextFacts
 mod TimeFacts
+mod ShowFacts

@@ -3,3 +3,9 @@ pub mod Mapping
 pub mod Rows
 pub mod Imported
 pub mod Examples
+pub mod Causes
+pub mod Noted
+pub mod Refusals
+pub mod Telling
+pub mod Tables
+pub mod Placing

@@ -1,4 +1,7 @@
-//! Why a row makes no change.
+//! Why a row makes no change: `specs/Causes`.
+ghost use Rattle.std.specs.Prelude.{◌≡◌};
+ghost use Rattle.nms_import.specs.Causes.{is_skipped};
+
 use nms_quote::Side;
 
 /// Why a row makes no change: the first that holds, in this order. The first nine refuse the row, the others skip it.
@@ -32,7 +35,9 @@ pub enum Cause {
 
 impl Cause {
     /// Whether the row is skipped, and not refused.
-    pub fn skips(self) -> bool {
+    pub fn skips(self) -> bool
+        ensures { result ≡ is_skipped self }
+    {
         match self {
             Cause::TooFewColumns
             | Cause::BadTime

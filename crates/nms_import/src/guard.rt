@@ -1,4 +1,7 @@
-//! What an import is doubted for: `Guard`.
+//! What an import is doubted for: `specs/Noted`.
+ghost use Rattle.std.specs.Prelude.{◌≡◌};
+ghost use Rattle.nms_import.specs.Noted.{guard_of};
+
 use crate::noting::Notes;
 use crate::tally::Sums;
 
@@ -15,7 +18,9 @@ pub enum Guard {
 
 impl Guard {
     /// What an import is doubted for, if for anything.
-    pub fn of(sums: &Sums, notes: &Notes) -> Option<Guard> {
+    pub fn of(sums: &Sums, notes: &Notes) -> Option<Guard>
+        ensures { result ≡ guard_of sums.now notes.now }
+    {
         if sums.refused > sums.rows / 2 {
             Some(Guard::MostRefused)
         } else if sums.changes > 0 && !notes.shows_lot() {

@@ -37,8 +37,13 @@ pub struct Work {
 }
 
 impl Work {
+    ghost use Rattle.std.specs.Prelude.{◌≡◌, []};
+    ghost use Rattle.csv.specs.Records.{fields_of};
+
     /// Room for a row. It takes no memory before the first.
-    pub fn new(alloc: Global) -> Work {
+    pub fn new(alloc: Global) -> Work
+        ensures { fields_of result.row ≡ [] }
+    {
         Work {
             row: ByteRecord::new(alloc),
             scratch: Vec::new(alloc),

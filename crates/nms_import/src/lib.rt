@@ -45,3 +45,6 @@ pub use tally::{MOST_ROWS, Sums, Tally};
 pub use telling::{Told, show_row, write_symbols, write_tally};
 pub use time::{append_clock, append_line, clock_of};
 pub use words::{is_listed, name_of};
+
+/// How many rows that make no change are shown, of all files together.
+pub const MOST_TOLD: u64 = 100;

@@ -1,5 +1,9 @@
-//! Why a mapping is refused.
-use std::alloc::AllocError;
+//! Why a mapping is refused: `specs/Refusals`.
+ghost use Rattle.std.specs.Prelude.{◌≡◌, ◌≢◌, true};
+ghost use Rattle.nms_import.specs.Refusals as refusal;
+ghost use Rattle.nms_import.specs.Refusals.{code_of, is_of_document, refusal_of};
+
+use std::alloc::{AllocError, Global};
 
 /// Why a mapping is refused: the first fault that is found, table by table.
 #[derive(Debug, Drop)]
@@ -49,7 +53,9 @@ pub enum MapFault {
 
 impl MapFault {
     /// Its code, `M1` to `M6`.
-    pub fn code(&self) -> &'static str {
+    pub fn code(&self) -> &'static str
+        ensures { result.now ≡ code_of self.now }
+    {
         match self {
             MapFault::NotToml { .. } => "M1",
             MapFault::Missing { .. } => "M2",
@@ -62,11 +68,15 @@ impl MapFault {
 
     /// A table lacks a key.
     pub(crate) fn missing(
+        alloc: Global,
         table: &'static str,
-        key: Result<String, AllocError>,
+        key: &str,
         expected: &'static str,
-    ) -> MapFault {
-        match key {
+    ) -> MapFault
+        ensures fault { result ≢ MapFault.NoMemory → refusal_of result ≡ refusal.missing table.now key.now expected.now }
+        ensures kind { is_of_document result ≡ true }
+    {
+        match String::from_str(alloc, key) {
             Ok(key) => MapFault::Missing {
                 table,
                 key,
@@ -78,11 +88,15 @@ impl MapFault {
 
     /// A table has another key.
     pub(crate) fn unknown(
+        alloc: Global,
         table: &'static str,
-        key: Result<String, AllocError>,
+        key: &str,
         expected: &'static str,
-    ) -> MapFault {
-        match key {
+    ) -> MapFault
+        ensures fault { result ≢ MapFault.NoMemory → refusal_of result ≡ refusal.unknown table.now key.now expected.now }
+        ensures kind { is_of_document result ≡ true }
+    {
+        match String::from_str(alloc, key) {
             Ok(key) => MapFault::Unknown {
                 table,
                 key,
@@ -94,11 +108,15 @@ impl MapFault {
 
     /// A value is not allowed.
     pub(crate) fn bad_value(
+        alloc: Global,
         table: &'static str,
-        key: Result<String, AllocError>,
+        key: &str,
         expected: &'static str,
-    ) -> MapFault {
-        match key {
+    ) -> MapFault
+        ensures fault { result ≢ MapFault.NoMemory → refusal_of result ≡ refusal.bad_value table.now key.now expected.now }
+        ensures kind { is_of_document result ≡ true }
+    {
+        match String::from_str(alloc, key) {
             Ok(key) => MapFault::BadValue {
                 table,
                 key,
@@ -109,8 +127,10 @@ impl MapFault {
     }
 
     /// The file has no such column.
-    pub(crate) fn no_column(key: Result<String, AllocError>, expected: &'static str) -> MapFault {
-        match key {
+    pub(crate) fn no_column(alloc: Global, key: &str, expected: &'static str) -> MapFault
+        ensures { result ≢ MapFault.NoMemory → refusal_of result ≡ refusal.no_column key.now expected.now }
+    {
+        match String::from_str(alloc, key) {
             Ok(key) => MapFault::NoColumn { key, expected },
             Err(_) => MapFault::NoMemory,
         }

@@ -1,4 +1,10 @@
-//! The values of a mapping's tables, each refused by its table and key if it is not what is expected there.
+//! The values of a mapping's tables, each refused by its table and key if it is not what is expected there
+//! (`specs/Tables`).
+ghost use Rattle.std.specs.Prelude.{codes, ◌≡◌, ◌++◌, ◌∷◌, ◌≤◌, ◌≢◌, [], IfErr, IfOk, OnErr, OnOk, Some, option_map, true};
+ghost use Rattle.toml.specs.Data.{as_table, get_member};
+ghost use Rattle.toml.specs.View.{table_view, view};
+ghost use Rattle.nms_import.specs.Refusals.{bad_value, is_of_document, refusal_of};
+
 use crate::map_fault::MapFault;
 use crate::mapping::Source;
 use crate::meanings::Word;
@@ -14,6 +20,12 @@ pub struct MapTable<'a> {
 }
 
 impl<'a> MapTable<'a> {
+    ghost use Rattle.std.specs.Prelude.{◌≡◌, ◌<◌, ◌≤◌, ◌≢◌, IfErr, IfOk, IfSome, Some, Err, Ok, option_map, true};
+    ghost use Rattle.toml.specs.Data.{as_table, get_member};
+    ghost use Rattle.toml.specs.View.{table_view, view};
+    ghost use Rattle.nms_import.specs.Refusals.{bad_value, is_of_document, refusal_of};
+    ghost use Rattle.nms_import.specs.Tables.{flag_at, is_nothing, is_within, members_in, name_in, text_at, value_at};
+
     /// The table of that name, which may be absent. It has no other keys than these, if any are given.
     pub fn of(
         alloc: Global,
@@ -21,7 +33,11 @@ impl<'a> MapTable<'a> {
         name: &'static str,
         keys: &[&'static str],
         expected: &'static str,
-    ) -> Result<MapTable<'a>, MapFault> {
+    ) -> Result<MapTable<'a>, MapFault>
+        ensures name { IfOk result (λ table. name_in table ≡ name.now) }
+        ensures members { IfOk result (λ table. option_map as_table (get_member name.now (table_view document.now)) ≡ option_map (λ members. Some members) (members_in table)) }
+        ensures kind { IfErr result (λ fault. is_of_document fault ≡ true) }
+    {
         let table = MapTable {
             alloc,
             name,
@@ -34,36 +50,51 @@ impl<'a> MapTable<'a> {
     }
 
     /// Refuses a key that is none of these.
-    fn refuse_others(self, keys: &[&'static str], expected: &'static str) -> Result<(), MapFault> {
+    fn refuse_others(self, keys: &[&'static str], expected: &'static str) -> Result<(), MapFault>
+        ensures kind { IfErr result (λ fault. is_of_document fault ≡ true) }
+    {
         let Some(members) = self.members else {
             return Ok(());
         };
         for key in members.keys() {
             if !keys.iter().any(|known| *known == key.as_str()) {
-                let key = String::from_str(self.alloc, key.as_str());
-                return Err(MapFault::unknown(self.name, key, expected));
+                return Err(MapFault::unknown(self.alloc, self.name, key.as_str(), expected));
             }
         }
         Ok(())
     }
 
     /// The members, none if the table is absent.
-    pub fn members(self) -> Option<&'a Table> {
+    pub(crate) fn members(self) -> Option<&'a Table>
+        ensures { option_map (λ members. table_view members.now) result ≡ members_in self.entry }
+    {
         self.members
     }
 
     /// The value at a key.
-    fn value(self, key: &str) -> Option<&'a Value> {
-        self.members?.get(key)
+    fn value(self, key: &str) -> Option<&'a Value>
+        ensures { option_map (λ value. view value.now) result ≡ value_at self.entry key.now }
+    {
+        match self.members {
+            Some(members) => value_in(members, key),
+            None => None,
+        }
     }
 
     /// The value at a key is not what is expected.
-    pub fn bad(self, key: &str, expected: &'static str) -> MapFault {
-        MapFault::bad_value(self.name, String::from_str(self.alloc, key), expected)
+    pub fn bad(self, key: &str, expected: &'static str) -> MapFault
+        ensures fault { result ≢ MapFault.NoMemory → refusal_of result ≡ bad_value (name_in self.entry) key.now expected.now }
+        ensures kind { is_of_document result ≡ true }
+    {
+        MapFault::bad_value(self.alloc, self.name, key, expected)
     }
 
     /// The text at a key, if there is one.
-    pub fn text(self, key: &str, expected: &'static str) -> Result<Option<&'a str>, MapFault> {
+    pub(crate) fn text(self, key: &str, expected: &'static str) -> Result<Option<&'a str>, MapFault>
+        ensures text { IfOk result (λ text. text_at self.entry key.now expected.now ≡ Ok (option_map (λ it. it.now) text)) }
+        ensures refused { IfErr result (λ fault. fault ≢ MapFault.NoMemory → text_at self.entry key.now expected.now ≡ Err (refusal_of fault)) }
+        ensures kind { IfErr result (λ fault. is_of_document fault ≡ true) }
+    {
         let Some(value) = self.value(key) else {
             return Ok(None);
         };
@@ -74,7 +105,11 @@ impl<'a> MapTable<'a> {
     }
 
     /// `true` or `false` at a key, `false` if there is none.
-    pub fn flag(self, key: &str) -> Result<bool, MapFault> {
+    pub(crate) fn flag(self, key: &str) -> Result<bool, MapFault>
+        ensures flag { IfOk result (λ flag. flag_at self.entry key.now ≡ Ok flag) }
+        ensures refused { IfErr result (λ fault. fault ≢ MapFault.NoMemory → flag_at self.entry key.now ≡ Err (refusal_of fault)) }
+        ensures kind { IfErr result (λ fault. is_of_document fault ≡ true) }
+    {
         let Some(value) = self.value(key) else {
             return Ok(false);
         };
@@ -85,26 +120,31 @@ impl<'a> MapTable<'a> {
     }
 
     /// The number from 1 to `most` at a key, if there is one.
-    pub fn number(
+    pub(crate) fn number(
         self,
         key: &str,
-        most: i64,
+        most: u32,
         expected: &'static str,
-    ) -> Result<Option<u32>, MapFault> {
+    ) -> Result<Option<u32>, MapFault>
+        ensures range { IfOk result (λ number. IfSome number (λ n. (0 < n) × (n ≤ most))) }
+        ensures kind { IfErr result (λ fault. is_of_document fault ≡ true) }
+    {
         let Some(value) = self.value(key) else {
             return Ok(None);
         };
-        match value.as_integer() {
-            Some(number) if 1 <= number && number <= most => match u32::try_from(number) {
-                Ok(number) => Ok(Some(number)),
-                Err(_) => Err(self.bad(key, expected)),
-            },
-            _ => Err(self.bad(key, expected)),
+        let Some(number) = value.as_integer() else {
+            return Err(self.bad(key, expected));
+        };
+        match u32::try_from(number) {
+            Ok(number) if 1 <= number && number <= most => Ok(Some(number)),
+            Ok(_) | Err(_) => Err(self.bad(key, expected)),
         }
     }
 
     /// The words at a key, none if it is absent.
-    pub fn words(self, key: &str) -> Result<Vec<Word>, MapFault> {
+    pub fn words(self, key: &str) -> Result<Vec<Word>, MapFault>
+        ensures kind { IfErr result (λ fault. is_of_document fault ≡ true) }
+    {
         let mut words = Vec::new(self.alloc);
         let Some(value) = self.value(key) else {
             return Ok(words);
@@ -116,14 +156,17 @@ impl<'a> MapTable<'a> {
             let Some(text) = value.as_str() else {
                 return Err(self.bad(key, WORDS));
             };
-            let text = Vec::from_slice(self.alloc, text.as_bytes())?;
+            let text = copied(self.alloc, text.as_bytes())?;
             keep(&mut words, Word { text })?;
         }
         Ok(words)
     }
 
     /// The column at a key, if there is one: a number, a name, or a table with the text that stands for it.
-    pub fn column(self, key: &str, header: bool) -> Result<Option<Source>, MapFault> {
+    pub fn column(self, key: &str, header: bool) -> Result<Option<Source>, MapFault>
+        ensures place { IfOk result (λ found. IfSome found (λ source. is_within source ≡ true)) }
+        ensures kind { IfErr result (λ fault. is_of_document fault ≡ true) }
+    {
         match self.value(key) {
             Some(value) => Ok(Some(self.source(key, value, header)?)),
             None => Ok(None),
@@ -131,18 +174,20 @@ impl<'a> MapTable<'a> {
     }
 
     /// The column at a key that needs one.
-    pub fn needed(self, key: &str, header: bool) -> Result<Source, MapFault> {
+    pub fn needed(self, key: &str, header: bool) -> Result<Source, MapFault>
+        ensures place { IfOk result (λ source. is_within source ≡ true) }
+        ensures kind { IfErr result (λ fault. is_of_document fault ≡ true) }
+    {
         match self.column(key, header)? {
             Some(source) => Ok(source),
-            None => {
-                let key = String::from_str(self.alloc, key);
-                Err(MapFault::missing(self.name, key, column_expected(header)))
-            }
+            None => Err(MapFault::missing(self.alloc, self.name, key, column_expected(header))),
         }
     }
 
     /// One or two columns at a key; an absent one is the empty text.
-    pub fn pair(self, key: &str, header: bool) -> Result<(Source, Source), MapFault> {
+    pub(crate) fn pair(self, key: &str, header: bool) -> Result<(Source, Source), MapFault>
+        ensures kind { IfErr result (λ fault. is_of_document fault ≡ true) }
+    {
         let Some(value) = self.value(key) else {
             return Ok((self.nothing(), self.nothing()));
         };
@@ -160,12 +205,17 @@ impl<'a> MapTable<'a> {
     }
 
     /// The empty text in every row.
-    pub fn nothing(self) -> Source {
+    pub fn nothing(self) -> Source
+        ensures { is_nothing result ≡ true }
+    {
         Source::Fixed(Vec::new(self.alloc))
     }
 
     /// What a value says of a column.
-    fn source(self, key: &str, value: &Value, header: bool) -> Result<Source, MapFault> {
+    fn source(self, key: &str, value: &Value, header: bool) -> Result<Source, MapFault>
+        ensures place { IfOk result (λ source. is_within source ≡ true) }
+        ensures kind { IfErr result (λ fault. is_of_document fault ≡ true) }
+    {
         if let Some(number) = value.as_integer() {
             return match u16::try_from(number) {
                 Ok(number) if 1 <= number && number <= MOST_COLUMNS => {
@@ -178,13 +228,16 @@ impl<'a> MapTable<'a> {
             if !header {
                 return Err(self.bad(key, column_expected(header)));
             }
-            return Ok(Source::Named(Vec::from_slice(self.alloc, name.as_bytes())?));
+            return Ok(Source::Named(copied(self.alloc, name.as_bytes())?));
         }
         self.fixed(key, value, header)
     }
 
     /// The text of a table `{ fixed = "TEXT" }`.
-    fn fixed(self, key: &str, value: &Value, header: bool) -> Result<Source, MapFault> {
+    fn fixed(self, key: &str, value: &Value, header: bool) -> Result<Source, MapFault>
+        ensures place { IfOk result (λ source. is_within source ≡ true) }
+        ensures kind { IfErr result (λ fault. is_of_document fault ≡ true) }
+    {
         let Some(members) = value.as_table() else {
             return Err(self.bad(key, column_expected(header)));
         };
@@ -193,7 +246,7 @@ impl<'a> MapTable<'a> {
         };
         match fixed.as_str() {
             Some(text) if members.len() == 1 => {
-                Ok(Source::Fixed(Vec::from_slice(self.alloc, text.as_bytes())?))
+                Ok(Source::Fixed(copied(self.alloc, text.as_bytes())?))
             }
             _ => Err(self.bad(key, column_expected(header))),
         }
@@ -214,26 +267,49 @@ fn column_expected(header: bool) -> &'static str {
     }
 }
 
+/// The value of a table at a key.
+fn value_in<'a>(table: &'a Table, key: &str) -> Option<&'a Value>
+    ensures { option_map (λ value. view value.now) result ≡ get_member key.now (table_view table.now) }
+{
+    table.get(key)
+}
+
 /// The members of the table of that name, if there is one.
 fn members_of<'a>(
     alloc: Global,
     document: &'a Table,
     name: &'static str,
-) -> Result<Option<&'a Table>, MapFault> {
-    let Some(value) = document.get(name) else {
+) -> Result<Option<&'a Table>, MapFault>
+    ensures members { IfOk result (λ members. option_map as_table (get_member name.now (table_view document.now)) ≡ option_map (λ it. Some (table_view it.now)) members) }
+    ensures refused { IfErr result (λ fault. fault ≢ MapFault.NoMemory → refusal_of fault ≡ bad_value [] name.now (codes "a table, as behind a line [file]")) }
+    ensures kind { IfErr result (λ fault. is_of_document fault ≡ true) }
+{
+    let Some(value) = value_in(document, name) else {
         return Ok(None);
     };
     match value.as_table() {
         Some(members) => Ok(Some(members)),
-        None => {
-            let key = String::from_str(alloc, name);
-            Err(MapFault::bad_value("", key, "a table, as behind a line [file]"))
-        }
+        None => Err(MapFault::bad_value(alloc, "", name, "a table, as behind a line [file]")),
+    }
+}
+
+/// A text of the mapping's own memory.
+pub(crate) fn copied(alloc: Global, text: &[u8]) -> Result<Vec<u8>, MapFault>
+    ensures text { IfOk result (λ copy. copy.items ≡ text.now) }
+    ensures memory { IfErr result (λ fault. fault ≡ MapFault.NoMemory) }
+{
+    match Vec::from_slice(alloc, text) {
+        Ok(copy) => Ok(copy),
+        Err(_) => Err(MapFault::NoMemory),
     }
 }
 
 /// Appends one to a list.
-pub fn keep<T: Drop>(all: &mut Vec<T>, one: T) -> Result<(), MapFault> {
+pub fn keep<T: Drop>(all: &mut Vec<T>, one: T) -> Result<(), MapFault>
+    ensures kept { OnOk result (all.new.items ≡ all.old.items ++ one ∷ []) }
+    ensures left { OnErr result (all.new.items ≡ all.old.items) }
+    ensures memory { IfErr result (λ fault. fault ≡ MapFault.NoMemory) }
+{
     match all.push(one) {
         Ok(()) => Ok(()),
         Err(_) => Err(MapFault::NoMemory),

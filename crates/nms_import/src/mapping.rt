@@ -1,11 +1,15 @@
 //! A mapping: how a vendor's file is laid out, which columns are read, and what their texts mean.
-ghost use Rattle.std.specs.Prelude.{◌<◌, IfSome};
+ghost use Rattle.std.specs.Prelude.{◌≡◌, ◌<◌, max, IfErr, IfOk, IfSome, OnErr, Some, true};
+ghost use Rattle.csv.specs.Records.{field_at, fields_of};
+ghost use Rattle.nms_import.specs.Placing.{IsPlaced, columns_needed};
+ghost use Rattle.nms_import.specs.Refusals.{is_of_first_row};
 
 use crate::column::{Column, Columns};
 use crate::map_fault::MapFault;
+use crate::map_table::copied;
 use crate::meanings::Meanings;
 use csv::ByteRecord;
-use std::alloc::{AllocError, Global};
+use std::alloc::Global;
 
 /// How a file is laid out.
 #[derive(Clone, Copy, Debug, PartialEq, Eq)]
@@ -71,10 +75,18 @@ pub struct Mapping {
 const A_COLUMN: &str = "the name of a column of the file's first line, letter for letter";
 
 impl Mapping {
+    ghost use Rattle.std.specs.Prelude.{◌≡◌, IfErr, IfOk, true};
+    ghost use Rattle.csv.specs.Records.{fields_of};
+    ghost use Rattle.nms_import.specs.Placing.{ArePlaced};
+    ghost use Rattle.nms_import.specs.Refusals.{is_of_first_row};
+
     /// The columns of a file whose first row is `names`; `names` is empty if the file has no header.
     ///
     /// `NoColumn` is the first key of the table `column` whose name the row lacks.
-    pub fn columns(&self, alloc: Global, names: &ByteRecord) -> Result<Columns, MapFault> {
+    pub fn columns(&self, alloc: Global, names: &ByteRecord) -> Result<Columns, MapFault>
+        ensures placed { IfOk result (λ columns. ArePlaced self.now (fields_of names.now) columns) }
+        ensures fault { IfErr result (λ fault. is_of_first_row fault ≡ true) }
+    {
         let all = &self.sources;
         let mut width = 0;
         let time = place_of(alloc, &all.time, "time", names, &mut width)?;
@@ -111,32 +123,33 @@ pub fn place_of(
     key: &'static str,
     names: &ByteRecord,
     width: &mut usize,
-) -> Result<Column, MapFault> {
+) -> Result<Column, MapFault>
+    ensures placed { IfOk result (λ column. IsPlaced source.now (fields_of names.now) column) }
+    ensures width { IfOk result (λ column. width.new ≡ max width.old (columns_needed column)) }
+    ensures kept { OnErr result (width.new ≡ width.old) }
+    ensures fault { IfErr result (λ fault. is_of_first_row fault ≡ true) }
+{
     match source {
         Source::Place(place) => {
             let place = usize::from(*place);
             *width = (*width).max(place + 1);
             Ok(Column::At(place))
         }
-        Source::Fixed(text) => Ok(Column::Fixed(Vec::from_slice(alloc, text)?)),
+        Source::Fixed(text) => Ok(Column::Fixed(copied(alloc, text)?)),
         Source::Named(name) => match named(names, name) {
             Some(place) => {
                 *width = (*width).max(place + 1);
                 Ok(Column::At(place))
             }
-            None => Err(no_column(alloc, key)),
+            None => Err(MapFault::no_column(alloc, key, A_COLUMN)),
         },
     }
 }
 
-/// The file has no column of the name at a key.
-fn no_column(alloc: Global, key: &str) -> MapFault {
-    MapFault::no_column(String::from_str(alloc, key), A_COLUMN)
-}
-
 /// The place of the first column of that name.
 fn named(names: &ByteRecord, name: &[u8]) -> Option<usize>
-    ensures { IfSome result (λ place. place < 18446744073709551615) }
+    ensures place { IfSome result (λ place. place < 18446744073709551615) }
+    ensures name { IfSome result (λ place. field_at (fields_of names.now) place ≡ Some name.now) }
 {
     for place in 0..names.len() {
         if names.get(place) == Some(name) {

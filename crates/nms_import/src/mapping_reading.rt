@@ -1,6 +1,13 @@
-//! A mapping from the text of its TOML document.
+//! A mapping from the text of its TOML document: `specs/Tables`.
+ghost use Rattle.std.specs.Prelude.{codes, ◌≡◌, ◌≢◌, ◌<◌, ◌≤◌, None, Some, Err, Ok, IfErr, IfOk, IfSome, true};
+ghost use Rattle.toml.specs.Parse.{parse_document};
+ghost use Rattle.toml.specs.View.{table_view};
+ghost use Rattle.nms_units.specs.declared.TheConstants.{MOST_LOT};
+ghost use Rattle.nms_import.specs.Refusals.{is_of_document, is_of_text, refusal_of};
+ghost use Rattle.nms_import.specs.Tables.{form_at, form_named, is_delimiter, unit_at, unit_named};
+
 use crate::map_fault::MapFault;
-use crate::map_table::{MapTable, keep};
+use crate::map_table::{MapTable, copied, keep};
 use crate::mapping::{FileForm, Mapping, Order, Sources};
 use crate::meanings::{
     Half, Meaning, Meanings, PriceUnit, Renamed, Replaced, Said, TimeForm, Word,
@@ -26,13 +33,23 @@ static TABLES: [&'static str; 9] = [
 const A_TABLE: &str = "one of file, column, price, size, time, participant, symbol, state, skip";
 
 /// Reads a mapping. The first fault that is found is answered, table by table.
-pub fn read_mapping(alloc: Global, text: &str) -> Result<Mapping, MapFault> {
+pub fn read_mapping(alloc: Global, text: &str) -> Result<Mapping, MapFault>
+    ensures delimiter { IfOk result (λ mapping. is_delimiter mapping.file.delimiter ≡ true) }
+    ensures day { IfOk result (λ mapping. mapping.meanings.zone < 86400) }
+    ensures unit { IfOk result (λ mapping. (0 < mapping.meanings.size_unit) × (mapping.meanings.size_unit ≤ MOST_LOT)) }
+    ensures document { IfOk result (λ mapping. parse_document text.now ≢ None) }
+    ensures text { IfErr result (λ fault. is_of_text fault ≡ true → parse_document text.now ≡ None) }
+{
     let document = document_of(alloc, text)?;
     mapping_of(alloc, &document)
 }
 
 /// The document of a text.
-pub fn document_of(alloc: Global, text: &str) -> Result<Table, MapFault> {
+pub fn document_of(alloc: Global, text: &str) -> Result<Table, MapFault>
+    ensures document { IfOk result (λ document. parse_document text.now ≡ Some (table_view document)) }
+    ensures refused { IfErr result (λ fault. fault ≢ MapFault.NoMemory → parse_document text.now ≡ None) }
+    ensures kind { IfErr result (λ fault. fault ≢ MapFault.NoMemory → is_of_text fault ≡ true) }
+{
     match toml::table_from_str(alloc, text) {
         Ok(document) => Ok(document),
         Err(error) if error.is_memory() => Err(MapFault::NoMemory),
@@ -58,7 +75,12 @@ fn line_at(text: &str, place: usize) -> u64 {
 }
 
 /// The mapping of a document.
-pub fn mapping_of(alloc: Global, document: &Table) -> Result<Mapping, MapFault> {
+pub fn mapping_of(alloc: Global, document: &Table) -> Result<Mapping, MapFault>
+    ensures delimiter { IfOk result (λ mapping. is_delimiter mapping.file.delimiter ≡ true) }
+    ensures day { IfOk result (λ mapping. mapping.meanings.zone < 86400) }
+    ensures unit { IfOk result (λ mapping. (0 < mapping.meanings.size_unit) × (mapping.meanings.size_unit ≤ MOST_LOT)) }
+    ensures kind { IfErr result (λ fault. is_of_document fault ≡ true) }
+{
     no_others(alloc, document, &TABLES, A_TABLE)?;
     let (file, ends) = file_of(alloc, document, "quotes")?;
     let sources = sources_of(alloc, document, file.header)?;
@@ -78,11 +100,12 @@ pub fn no_others(
     document: &Table,
     tables: &[&'static str],
     expected: &'static str,
-) -> Result<(), MapFault> {
+) -> Result<(), MapFault>
+    ensures kind { IfErr result (λ fault. is_of_document fault ≡ true) }
+{
     for key in document.keys() {
         if !tables.iter().any(|known| *known == key.as_str()) {
-            let key = String::from_str(alloc, key.as_str());
-            return Err(MapFault::unknown("", key, expected));
+            return Err(MapFault::unknown(alloc, "", key.as_str(), expected));
         }
     }
     Ok(())
@@ -93,7 +116,10 @@ pub fn file_of(
     alloc: Global,
     document: &Table,
     kind: &'static str,
-) -> Result<(FileForm, Vec<Word>), MapFault> {
+) -> Result<(FileForm, Vec<Word>), MapFault>
+    ensures delimiter { IfOk result (λ found. is_delimiter found.0.delimiter ≡ true) }
+    ensures kind { IfErr result (λ fault. is_of_document fault ≡ true) }
+{
     let table = MapTable::of(
         alloc,
         document,
@@ -110,14 +136,13 @@ pub fn file_of(
     let delimiter = match table.text("delimiter", expected)? {
         None => b',',
         Some(text) => match text.as_bytes() {
-            [b'"' | b'\r' | b'\n'] => return Err(table.bad("delimiter", expected)),
-            [byte] => *byte,
+            [byte] if is_delimiter(*byte) => *byte,
             _ => return Err(table.bad("delimiter", expected)),
         },
     };
     let mut ends = Vec::new(alloc);
     if let Some(text) = table.text("end", "a text, as \"END\"")? {
-        let text = Vec::from_slice(alloc, text.as_bytes())?;
+        let text = copied(alloc, text.as_bytes())?;
         keep(&mut ends, Word { text })?;
     }
     let file = FileForm {
@@ -128,8 +153,17 @@ pub fn file_of(
     Ok((file, ends))
 }
 
+/// Whether a byte can be between fields: not a quote, and not the end of a line.
+fn is_delimiter(byte: u8) -> bool
+    ensures { result ≡ is_delimiter byte }
+{
+    byte != b'"' && byte != b'\r' && byte != b'\n'
+}
+
 /// The table `column`.
-fn sources_of(alloc: Global, document: &Table, header: bool) -> Result<Sources, MapFault> {
+fn sources_of(alloc: Global, document: &Table, header: bool) -> Result<Sources, MapFault>
+    ensures kind { IfErr result (λ fault. is_of_document fault ≡ true) }
+{
     let table = MapTable::of(
         alloc,
         document,
@@ -166,7 +200,10 @@ fn sources_of(alloc: Global, document: &Table, header: bool) -> Result<Sources, 
 }
 
 /// The table `time`: the form, the zone in seconds, and the order of the rows.
-fn times_of(alloc: Global, document: &Table) -> Result<(TimeForm, u32, Order), MapFault> {
+fn times_of(alloc: Global, document: &Table) -> Result<(TimeForm, u32, Order), MapFault>
+    ensures day { IfOk result (λ found. found.1 < 86400) }
+    ensures kind { IfErr result (λ fault. is_of_document fault ≡ true) }
+{
     let table = MapTable::of(
         alloc,
         document,
@@ -185,21 +222,49 @@ fn times_of(alloc: Global, document: &Table) -> Result<(TimeForm, u32, Order), M
 }
 
 /// The form of times, and the zone in seconds.
-pub fn form_of(table: MapTable<'_>) -> Result<(TimeForm, u32), MapFault> {
-    let expected = "\"HHMMSSn\", \"seconds\", \"unix_ns\" or \"iso\"";
-    let form = match table.text("form", expected)? {
-        None | Some("HHMMSSn") => TimeForm::Clock,
-        Some("seconds") => TimeForm::Seconds,
-        Some("unix_ns") => TimeForm::UnixNanoseconds,
-        Some("iso") => TimeForm::Iso,
-        Some(_) => return Err(table.bad("form", expected)),
-    };
+pub fn form_of(table: MapTable<'_>) -> Result<(TimeForm, u32), MapFault>
+    ensures form { IfOk result (λ found. form_at table.entry (codes "\"HHMMSSn\", \"seconds\", \"unix_ns\" or \"iso\"") ≡ Ok found.0) }
+    ensures day { IfOk result (λ found. found.1 < 86400) }
+    ensures kind { IfErr result (λ fault. is_of_document fault ≡ true) }
+{
+    let form = time_form_of(table)?;
     let zone = zone_of(table, form)?;
     Ok((form, zone))
 }
 
+/// The form of times.
+fn time_form_of(table: MapTable<'_>) -> Result<TimeForm, MapFault>
+    ensures form { IfOk result (λ form. form_at table.entry (codes "\"HHMMSSn\", \"seconds\", \"unix_ns\" or \"iso\"") ≡ Ok form) }
+    ensures kind { IfErr result (λ fault. is_of_document fault ≡ true) }
+{
+    let expected = "\"HHMMSSn\", \"seconds\", \"unix_ns\" or \"iso\"";
+    let Some(text) = table.text("form", expected)? else {
+        return Ok(TimeForm::Clock);
+    };
+    match form_named(text) {
+        Some(form) => Ok(form),
+        None => Err(table.bad("form", expected)),
+    }
+}
+
+/// The form of times that a text names.
+fn form_named(text: &str) -> Option<TimeForm>
+    ensures { result ≡ form_named text.now }
+{
+    match text {
+        "HHMMSSn" => Some(TimeForm::Clock),
+        "seconds" => Some(TimeForm::Seconds),
+        "unix_ns" => Some(TimeForm::UnixNanoseconds),
+        "iso" => Some(TimeForm::Iso),
+        _ => None,
+    }
+}
+
 /// The seconds by which a time is moved on, over midnight: 68,400 for `-0500`.
-fn zone_of(table: MapTable<'_>, form: TimeForm) -> Result<u32, MapFault> {
+fn zone_of(table: MapTable<'_>, form: TimeForm) -> Result<u32, MapFault>
+    ensures day { IfOk result (λ zone. zone < 86400) }
+    ensures kind { IfErr result (λ fault. is_of_document fault ≡ true) }
+{
     let expected = "a sign and HHMM, as \"-0500\", beside form = \"unix_ns\" or \"iso\"";
     let Some(text) = table.text("zone_offset", expected)? else {
         return Ok(0);
@@ -215,7 +280,9 @@ fn zone_of(table: MapTable<'_>, form: TimeForm) -> Result<u32, MapFault> {
 }
 
 /// The seconds that a sign and HHMM say.
-fn zone_in(text: &[u8]) -> Option<u32> {
+fn zone_in(text: &[u8]) -> Option<u32>
+    ensures { IfSome result (λ zone. zone < 86400) }
+{
     let [sign, digits @ ..] = text else {
         return None;
     };
@@ -242,7 +309,11 @@ fn meanings_of(
     ends: Vec<Word>,
     time_form: TimeForm,
     zone: u32,
-) -> Result<Meanings, MapFault> {
+) -> Result<Meanings, MapFault>
+    ensures zone { IfOk result (λ meanings. meanings.zone ≡ zone) }
+    ensures unit { IfOk result (λ meanings. (0 < meanings.size_unit) × (meanings.size_unit ≤ MOST_LOT)) }
+    ensures kind { IfErr result (λ fault. is_of_document fault ≡ true) }
+{
     let (price_unit, no_price) = prices_of(alloc, document)?;
     let size_unit = size_of(alloc, document)?;
     let (names, same) = names_of(alloc, document)?;
@@ -267,7 +338,9 @@ fn meanings_of(
 }
 
 /// The table `price`.
-fn prices_of(alloc: Global, document: &Table) -> Result<(PriceUnit, Vec<Word>), MapFault> {
+fn prices_of(alloc: Global, document: &Table) -> Result<(PriceUnit, Vec<Word>), MapFault>
+    ensures kind { IfErr result (λ fault. is_of_document fault ≡ true) }
+{
     let table = MapTable::of(
         alloc,
         document,
@@ -280,18 +353,38 @@ fn prices_of(alloc: Global, document: &Table) -> Result<(PriceUnit, Vec<Word>), 
 }
 
 /// What a price counts.
-pub fn unit_of(table: MapTable<'_>) -> Result<PriceUnit, MapFault> {
+pub fn unit_of(table: MapTable<'_>) -> Result<PriceUnit, MapFault>
+    ensures unit { IfOk result (λ unit. unit_at table.entry (codes "\"dollars\", \"1e-4\" or \"1e-9\"") ≡ Ok unit) }
+    ensures refused { IfErr result (λ fault. fault ≢ MapFault.NoMemory → unit_at table.entry (codes "\"dollars\", \"1e-4\" or \"1e-9\"") ≡ Err (refusal_of fault)) }
+    ensures kind { IfErr result (λ fault. is_of_document fault ≡ true) }
+{
     let expected = "\"dollars\", \"1e-4\" or \"1e-9\"";
-    match table.text("unit", expected)? {
-        None | Some("dollars") => Ok(PriceUnit::Dollars),
-        Some("1e-4") => Ok(PriceUnit::TenThousandths),
-        Some("1e-9") => Ok(PriceUnit::Nanodollars),
-        Some(_) => Err(table.bad("unit", expected)),
+    let Some(text) = table.text("unit", expected)? else {
+        return Ok(PriceUnit::Dollars);
+    };
+    match unit_named(text) {
+        Some(unit) => Ok(unit),
+        None => Err(table.bad("unit", expected)),
+    }
+}
+
+/// The unit of prices that a text names.
+fn unit_named(text: &str) -> Option<PriceUnit>
+    ensures { result ≡ unit_named text.now }
+{
+    match text {
+        "dollars" => Some(PriceUnit::Dollars),
+        "1e-4" => Some(PriceUnit::TenThousandths),
+        "1e-9" => Some(PriceUnit::Nanodollars),
+        _ => None,
     }
 }
 
 /// The table `size`: the shares of a unit. It has no default: a wrong one is wrong by a hundred, and looks right.
-fn size_of(alloc: Global, document: &Table) -> Result<u32, MapFault> {
+fn size_of(alloc: Global, document: &Table) -> Result<u32, MapFault>
+    ensures range { IfOk result (λ unit. (0 < unit) × (unit ≤ MOST_LOT)) }
+    ensures kind { IfErr result (λ fault. is_of_document fault ≡ true) }
+{
     let table = MapTable::of(
         alloc,
         document,
@@ -300,17 +393,19 @@ fn size_of(alloc: Global, document: &Table) -> Result<u32, MapFault> {
         "one of unit, lot",
     )?;
     let expected = "\"shares\", or \"lots\" beside lot = 100";
-    let lot = table.number("lot", i64::from(MOST_LOT), "a whole number from 1 to 1000")?;
+    let lot = table.number("lot", u32::from(MOST_LOT), "a whole number from 1 to 1000")?;
     match (table.text("unit", expected)?, lot) {
         (Some("shares"), None) => Ok(1),
         (Some("lots"), Some(lot)) => Ok(lot),
         (Some(_), _) => Err(table.bad("unit", expected)),
-        (None, _) => Err(MapFault::missing("size", String::from_str(alloc, "unit"), expected)),
+        (None, _) => Err(MapFault::missing(alloc, "size", "unit", expected)),
     }
 }
 
 /// The table `participant`: the names that are listed, and whether any other word is its own name.
-pub fn names_of(alloc: Global, document: &Table) -> Result<(Vec<Renamed>, bool), MapFault> {
+pub fn names_of(alloc: Global, document: &Table) -> Result<(Vec<Renamed>, bool), MapFault>
+    ensures kind { IfErr result (λ fault. is_of_document fault ≡ true) }
+{
     let table = MapTable::of(alloc, document, "participant", &[], "")?;
     let expected = "the participant's name on the roster, as a text";
     let mut names = Vec::new(alloc);
@@ -330,15 +425,17 @@ pub fn names_of(alloc: Global, document: &Table) -> Result<(Vec<Renamed>, bool),
             same = true;
             continue;
         }
-        let word = Vec::from_slice(alloc, word.as_bytes())?;
-        let name = Vec::from_slice(alloc, name.as_bytes())?;
+        let word = copied(alloc, word.as_bytes())?;
+        let name = copied(alloc, name.as_bytes())?;
         keep(&mut names, Renamed { word, name })?;
     }
     Ok((names, same))
 }
 
 /// The table `symbol`: what is replaced, and whether unknown symbols are skipped.
-pub fn symbols_of(alloc: Global, document: &Table) -> Result<(Vec<Replaced>, bool), MapFault> {
+pub fn symbols_of(alloc: Global, document: &Table) -> Result<(Vec<Replaced>, bool), MapFault>
+    ensures kind { IfErr result (λ fault. is_of_document fault ≡ true) }
+{
     let table = MapTable::of(
         alloc,
         document,
@@ -371,7 +468,9 @@ pub fn symbols_of(alloc: Global, document: &Table) -> Result<(Vec<Replaced>, boo
 
 /// The table `state`: the conditions, and what becomes of a row of which one side alone is manual. Without the table the
 /// empty condition alone is one, and it is automated.
-fn states_of(alloc: Global, document: &Table) -> Result<(Vec<Said>, Half), MapFault> {
+fn states_of(alloc: Global, document: &Table) -> Result<(Vec<Said>, Half), MapFault>
+    ensures kind { IfErr result (λ fault. is_of_document fault ≡ true) }
+{
     let table = MapTable::of(
         alloc,
         document,

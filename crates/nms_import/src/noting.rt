@@ -1,10 +1,15 @@
-//! What is noted of the accepted rows: the span of each symbol, whether times fall, and whether any row shows a whole lot.
+//! What is noted of the accepted rows: the span of each symbol, whether times fall, and whether any row shows a whole lot
+//! (`specs/Noted`).
+ghost use Rattle.std.specs.Prelude.{◌≡◌, None, IfOk, replicate, slice_get, slice_set, unwrap_or};
+ghost use Rattle.nms_import.specs.Noted.{bound_by, is_lot_shown, shares_shown, with_change};
+
 use crate::entry::Entry;
 use crate::import_fault::ImportFault;
 use crate::mapping::Order;
 use csv::ByteRecord;
 use nms_quote::{Change, Roster, SideQuote, Sym};
 use std::alloc::{AllocError, Global};
+use std::marker::Model;
 
 /// The changes of a symbol: the first and the last version that they made, and the time of the last.
 #[derive(Clone, Copy, Debug)]
@@ -30,58 +35,82 @@ pub struct Notes {
     spans: Vec<Option<Span>>,
 }
 
+impl Model for Notes {
+    ghost use Rattle.nms_import.specs.Noted.{Noted};
+
+    ghost Value = { Noted };
+
+    ghost view = { λ n. record {
+      order = n.order;
+      changes = n.changes;
+      time = n.time;
+      falls = n.falls;
+      shows_lot = n.shows_lot;
+      spans = n.spans.items;
+    } };
+}
+
 impl Notes {
+    ghost use Rattle.std.specs.Prelude.{◌≡◌, ◌<◌, ◌≤◌, ◌-◌, ◌^◌, ◌&&◌, not, length, None, IfErr, IfOk, OnErr, OnOk, slice_set};
+    ghost use Rattle.nms_import.specs.Noted.{after_entry, noted_nothing};
+
     /// Of no rows.
-    pub fn new(alloc: Global, roster: &Roster, order: Order) -> Result<Notes, AllocError> {
+    pub fn new(alloc: Global, roster: &Roster, order: Order) -> Result<Notes, AllocError>
+        ensures { IfOk result (λ notes. notes ≡ noted_nothing order (length roster.now.syms)) }
+    {
         Notes::of_symbols(alloc, roster.syms(), order)
     }
 
     /// Of no rows, with room for that many symbols.
-    pub fn of_symbols(alloc: Global, symbols: usize, order: Order) -> Result<Notes, AllocError> {
-        let mut spans = Vec::with_capacity(alloc, symbols)?;
-        for _ in 0..symbols {
-            spans.push(None)?;
-        }
+    pub fn of_symbols(alloc: Global, symbols: usize, order: Order) -> Result<Notes, AllocError>
+        ensures { IfOk result (λ notes. notes ≡ noted_nothing order symbols) }
+    {
         Ok(Notes {
             order,
             changes: 0,
             time: 0,
             falls: false,
             shows_lot: false,
-            spans,
+            spans: no_spans(alloc, symbols)?,
         })
     }
 
-    /// How many changes there are, of all files.
-    pub fn changes(&self) -> u64 {
-        self.changes
-    }
-
     /// Whether a time is before that of an earlier row, though the mapping says that none is.
-    pub fn falls(&self) -> bool {
+    pub(crate) fn falls(&self) -> bool
+        ensures { result ≡ self.now.falls }
+    {
         self.falls
     }
 
     /// Whether any row shows at least a round lot on a side.
-    pub fn shows_lot(&self) -> bool {
+    pub(crate) fn shows_lot(&self) -> bool
+        ensures { result ≡ self.now.shows_lot }
+    {
         self.shows_lot
     }
 
     /// The spans of the symbols, in the order of the roster.
-    pub fn spans(&self) -> &[Option<Span>] {
+    pub(crate) fn spans(&self) -> &[Option<Span>]
+        ensures { result.now ≡ self.now.spans }
+    {
         &self.spans
     }
 
     /// Begins with another symbol in the first place of the roster.
-    pub fn begin_symbol(&mut self) {
-        if let Some(span) = self.spans.get_mut(0) {
-            *span = None;
-        }
+    pub fn begin_symbol(&mut self)
+        ensures { self.new ≡ record self.old { spans = slice_set self.old.spans 0 None } }
+    {
+        put(&mut self.spans, 0, None);
     }
 
     /// Notes an accepted row, and returns whether its time is the first that falls. `TooLong` comes after 2^64 - 1
     /// changes.
-    pub fn note(&mut self, roster: &Roster, entry: &Entry) -> Result<bool, ImportFault> {
+    pub fn note(&mut self, roster: &Roster, entry: &Entry) -> Result<bool, ImportFault>
+        ensures noted { OnOk result (self.new ≡ after_entry roster.now self.old entry.now) }
+        ensures first { IfOk result (λ first. first ≡ (not self.old.falls && self.new.falls)) }
+        ensures full { IfErr result (λ fault. (fault ≡ ImportFault.TooLong) × (2 ^ 64 - 1 ≤ self.old.changes)) }
+        ensures kept { OnErr result (self.new ≡ self.old) }
+    {
         let Some(version) = self.changes.checked_add(1) else {
             return Err(ImportFault::TooLong);
         };
@@ -95,53 +124,101 @@ impl Notes {
         else {
             return Ok(false);
         };
-        self.note_sizes(roster, sym, &bid, &offer);
-        let before = self.note_span(sym, version, entry.time);
-        let is_first = entry.time < before && !self.falls;
-        self.falls = self.falls || is_first;
+        let place = usize::from(sym.get());
+        let span = span_at(&self.spans, place);
+        let falls = entry.time < bound_by(self.order, self.time, &span);
+        let is_first = !self.falls && falls;
+        self.falls = self.falls || falls;
+        self.shows_lot = self.shows_lot || is_lot_shown(roster, sym, &bid, &offer);
+        self.time = entry.time;
+        put(
+            &mut self.spans,
+            place,
+            Some(with_change(&span, sym, version, entry.time)),
+        );
         Ok(is_first)
-    }
-
-    /// Notes whether a side shows a round lot.
-    fn note_sizes(
-        &mut self,
-        roster: &Roster,
-        sym: Sym,
-        bid: &Option<SideQuote>,
-        offer: &Option<SideQuote>,
-    ) {
-        if self.shows_lot || !roster.has_sym(sym) {
-            return;
-        }
-        let lot = u32::from(roster.lot_of(sym).get());
-        self.shows_lot = shares_of(bid) >= lot || shares_of(offer) >= lot;
-    }
-
-    /// Notes a change of a symbol. Returns the time that it may not be before.
-    fn note_span(&mut self, sym: Sym, version: u64, time: u64) -> u64 {
-        let before = self.time;
-        self.time = time;
-        let Some(span) = self.spans.get_mut(usize::from(sym.get())) else {
-            return 0;
-        };
-        let own = span.map_or(0, |span| span.time);
-        let first = span.map_or(version, |span| span.first);
-        *span = Some(Span {
-            sym,
-            first,
-            last: version,
-            time,
-        });
-        match self.order {
-            Order::Given => before,
-            Order::Symbol => own,
-            Order::Free => 0,
-        }
     }
 }
 
+/// No changes yet, of that many symbols.
+fn no_spans(alloc: Global, symbols: usize) -> Result<Vec<Option<Span>>, AllocError>
+    ensures { IfOk result (λ spans. spans.items ≡ replicate symbols None) }
+{
+    let mut spans = Vec::new(alloc);
+    spans.resize(symbols, None)?;
+    Ok(spans)
+}
+
+/// The changes of the symbol at a place, `None` past the last.
+fn span_at(spans: &[Option<Span>], place: usize) -> Option<Span>
+    ensures { result ≡ unwrap_or (slice_get spans.now place) None }
+{
+    if place < spans.len() {
+        spans[place]
+    } else {
+        None
+    }
+}
+
+/// Puts the changes of the symbol at a place; nothing past the last.
+fn put(spans: &mut [Option<Span>], place: usize, span: Option<Span>)
+    ensures { spans.new ≡ slice_set spans.old place span }
+{
+    if place < spans.len() {
+        spans[place] = span;
+    }
+}
+
+/// The time that a row may not be before, by that of the last row and the changes of its symbol.
+fn bound_by(order: Order, time: u64, span: &Option<Span>) -> u64
+    ensures { result ≡ bound_by order time span.now }
+{
+    match order {
+        Order::Given => time,
+        Order::Symbol => match span {
+            Some(span) => span.time,
+            None => 0,
+        },
+        Order::Free => 0,
+    }
+}
+
+/// The changes of a symbol with one more.
+fn with_change(span: &Option<Span>, sym: Sym, version: u64, time: u64) -> Span
+    ensures { result ≡ with_change span.now sym version time }
+{
+    let first = match span {
+        Some(span) => span.first,
+        None => version,
+    };
+    Span {
+        sym,
+        first,
+        last: version,
+        time,
+    }
+}
+
+/// Whether a side shows at least the symbol's round lot.
+fn is_lot_shown(
+    roster: &Roster,
+    sym: Sym,
+    bid: &Option<SideQuote>,
+    offer: &Option<SideQuote>,
+) -> bool
+    ensures { result ≡ is_lot_shown roster.now sym bid.now offer.now }
+{
+    if !roster.has_sym(sym) {
+        return false;
+    }
+    let lot = u32::from(roster.lot_of(sym).get());
+    lot <= shares_shown(bid) || lot <= shares_shown(offer)
+}
+
 /// The shares of a side, 0 if there is no quotation.
-fn shares_of(side: &Option<SideQuote>) -> u32 {
+fn shares_shown(side: &Option<SideQuote>) -> u32
+    ensures { result ≡ shares_shown side.now }
+{
     match side {
         Some(quote) => quote.shares.get(),
         None => 0,

@@ -1,18 +1,21 @@
-//! What is printed of an import: the rows that make no change, the counts, and the symbols.
+//! What is printed of an import: the rows that make no change, the counts, and the symbols (`specs/Telling`).
+ghost use Rattle.std.specs.Prelude.{◌≡◌, true};
+ghost use Rattle.std.specs.List.{list_all};
+ghost use Rattle.nms_show.specs.Safe.{IsSafe};
+ghost use Rattle.nms_show.specs.Written.{AddsPart, Writes};
+ghost use Rattle.nms_import.specs.Telling.{is_plain, is_own_plain};
+
+use crate::MOST_TOLD;
 use crate::cause::Cause;
 use crate::column::{Column, Columns};
 use crate::import_fault::ImportFault;
 use crate::meanings::Half;
-use crate::noting::{Notes, line_of};
+use crate::noting::{Notes, Span, line_of};
 use crate::tally::{Sums, Tally};
 use csv::ByteRecord;
-use nms_lines::name_of_sym;
-use nms_quote::{Roster, Side};
+use nms_quote::{Roster, Side, Sym};
 use nms_show::{Form, Item, ShowFault, write_line};
 use std::io::Write;
-
-/// How many rows that make no change are shown, of all files together.
-const MOST_TOLD: u64 = 100;
 
 /// Where rows that make no change are shown.
 #[derive(Drop)]
@@ -24,8 +27,18 @@ pub struct Told<'a, E> {
 }
 
 impl<'a, E: Write> Told<'a, E> {
+    ghost use Rattle.std.specs.Prelude.{◌≡◌, ◌-◌, []};
+    ghost use Rattle.nms_show.specs.Safe.{IsSafe};
+    ghost use Rattle.nms_show.specs.Written.{AddsPart};
+    ghost use Rattle.nms_import.specs.Telling.{file_of, left_after, left_of};
+    ghost use Rattle.nms_import.specs.declared.TheConstants.{MOST_TOLD};
+
     /// On a writer, in no file yet.
-    pub fn new(errors: E) -> Told<'a, E> {
+    pub fn new(errors: E) -> Told<'a, E>
+        ensures writer { result.errors ≡ errors }
+        ensures file { file_of result ≡ [] }
+        ensures left { left_of result ≡ MOST_TOLD }
+    {
         Told {
             errors,
             file: "",
@@ -34,34 +47,43 @@ impl<'a, E: Write> Told<'a, E> {
     }
 
     /// Goes on with a file.
-    pub fn enter(&mut self, file: &'a str) {
+    pub fn enter(&mut self, file: &'a str)
+        ensures writer { self.new.errors ≡ self.old.errors }
+        ensures file { file_of self.new ≡ file.now }
+        ensures left { left_of self.new ≡ left_of self.old }
+    {
         self.file = file;
     }
 
     /// Shows a row that makes no change: its file, line, column and text, and the cause. The first 100 are shown. What
     /// the writer does not take is dropped: the counts have each row.
-    pub fn tell(&mut self, columns: &Columns, row: &ByteRecord, cause: Cause) {
+    pub fn tell(&mut self, columns: &Columns, row: &ByteRecord, cause: Cause)
+        ensures safe { AddsPart IsSafe (E.contents self.old.errors) (E.contents self.new.errors) }
+        ensures few { left_of self.old ≡ 0 → self.new ≡ self.old }
+        ensures file { file_of self.new ≡ file_of self.old }
+        ensures left { left_of self.new ≡ left_after cause (left_of self.old) }
+    {
         if self.left == 0 || cause == Cause::Trailer {
             return;
         }
         self.left -= 1;
-        let what = if cause.skips() {
-            "skipped: "
-        } else {
-            "refused: "
-        };
         show_row(
             &mut self.errors,
             self.file,
             row,
             column_of(columns, cause),
-            what,
+            outcome_of(cause),
             sentence_of(cause),
         );
     }
 
     /// Shows a row whose symbol came back after its end, as `tell` shows others.
-    pub fn tell_returned(&mut self, columns: &Columns, row: &ByteRecord) {
+    pub fn tell_returned(&mut self, columns: &Columns, row: &ByteRecord)
+        ensures safe { AddsPart IsSafe (E.contents self.old.errors) (E.contents self.new.errors) }
+        ensures few { left_of self.old ≡ 0 → self.new ≡ self.old }
+        ensures file { file_of self.new ≡ file_of self.old }
+        ensures left { left_of self.new ≡ left_of self.old - 1 }
+    {
         if self.left == 0 {
             return;
         }
@@ -77,7 +99,11 @@ impl<'a, E: Write> Told<'a, E> {
     }
 
     /// Shows the first row whose time falls.
-    pub fn tell_fall(&mut self, columns: &Columns, row: &ByteRecord) {
+    pub fn tell_fall(&mut self, columns: &Columns, row: &ByteRecord)
+        ensures safe { AddsPart IsSafe (E.contents self.old.errors) (E.contents self.new.errors) }
+        ensures file { file_of self.new ≡ file_of self.old }
+        ensures left { left_of self.new ≡ left_of self.old }
+    {
         let sentence = "the first time that is before an earlier one";
         show_row(
             &mut self.errors,
@@ -98,7 +124,9 @@ pub fn show_row<'x, E: Write>(
     column: Option<&'x Column>,
     what: &'x str,
     sentence: &'x str,
-) {
+)
+    ensures safe { is_plain what.now ≡ true → is_plain sentence.now ≡ true → AddsPart IsSafe (E.contents errors.old) (E.contents errors.new) }
+{
     let place = match column {
         Some(Column::At(place)) if *place < row.len() => (*place + 1) as u64,
         Some(Column::At(_) | Column::Fixed(_)) | None => 0,
@@ -108,20 +136,34 @@ pub fn show_row<'x, E: Write>(
         Item::Bytes(file.as_bytes()),
         Item::Text(":"),
         Item::Number(line_of(row)),
-        Item::Text(if place == 0 { "" } else { ": column " }),
-        if place == 0 {
-            Item::Absent
-        } else {
-            Item::Number(place)
-        },
+        Item::Text(if_placed(place, ": column ")),
+        item_of_place(place),
         Item::Text(": "),
         Item::Text(what),
         Item::Text(sentence),
-        Item::Text(if place == 0 { "" } else { ": `" }),
+        Item::Text(if_placed(place, ": `")),
         Item::Bytes(text),
-        Item::Text(if place == 0 { "" } else { "`" }),
+        Item::Text(if_placed(place, "`")),
     ];
-    let _ = write_line(errors, Form::Text { colours: false }, &items);
+    let _ = line(errors, &items);
+}
+
+/// A text, or none if there is no place.
+fn if_placed(place: u64, text: &'static str) -> &'static str
+    ensures { is_plain text.now ≡ true → is_plain result.now ≡ true }
+{
+    if place == 0 { "" } else { text }
+}
+
+/// A place, or nothing if there is none.
+fn item_of_place(place: u64) -> Item<'static>
+    ensures { is_own_plain result ≡ true }
+{
+    if place == 0 {
+        Item::Absent
+    } else {
+        Item::Number(place)
+    }
 }
 
 /// The column that a cause is about.
@@ -140,8 +182,21 @@ fn column_of(columns: &Columns, cause: Cause) -> Option<&Column> {
     }
 }
 
+/// What becomes of the row.
+fn outcome_of(cause: Cause) -> &'static str
+    ensures { is_plain result.now ≡ true }
+{
+    if cause.skips() {
+        "skipped: "
+    } else {
+        "refused: "
+    }
+}
+
 /// What a cause says.
-fn sentence_of(cause: Cause) -> &'static str {
+fn sentence_of(cause: Cause) -> &'static str
+    ensures { is_plain result.now ≡ true }
+{
     match cause {
         Cause::TooFewColumns => "fewer columns than the mapping names",
         Cause::BadTime => "no time of day of the mapping's form",
@@ -168,8 +223,10 @@ pub fn write_tally<W: Write>(
     half: Half,
     tally: &Tally,
     sums: &Sums,
-) -> Result<(), ImportFault> {
-    for (count, what) in [
+) -> Result<(), ImportFault>
+    ensures safe { Writes IsSafe (W.contents out.old) (W.contents out.new) result }
+{
+    let counts = [
         (tally.too_few_columns, "refused: too few columns"),
         (tally.bad_time, "refused: bad time"),
         (tally.unknown_participant, "refused: unknown participant"),
@@ -184,14 +241,8 @@ pub fn write_tally<W: Write>(
         (tally.listed, "skipped: word to skip"),
         (tally.other_symbol, "skipped: other symbol"),
         (tally.halves, halves_are(half)),
-    ] {
-        if count > 0 {
-            line(
-                out,
-                &[Item::Number(count), Item::Text(" "), Item::Text(what)],
-            )?;
-        }
-    }
+    ];
+    write_counts(out, &counts)?;
     line(
         out,
         &[
@@ -207,8 +258,33 @@ pub fn write_tally<W: Write>(
     )
 }
 
+/// Writes a line for each count that is not zero.
+fn write_counts<W: Write>(out: &mut W, counts: &[(u64, &'static str)]) -> Result<(), ImportFault>
+    ensures { list_all (λ count. is_plain count.1.now) counts.now ≡ true → Writes IsSafe (W.contents out.old) (W.contents out.new) result }
+{
+    for count in counts {
+        write_count(out, count.0, count.1)?;
+    }
+    Ok(())
+}
+
+/// Writes a line for a count that is not zero.
+fn write_count<W: Write>(out: &mut W, count: u64, what: &'static str) -> Result<(), ImportFault>
+    ensures { is_plain what.now ≡ true → Writes IsSafe (W.contents out.old) (W.contents out.new) result }
+{
+    if count == 0 {
+        return Ok(());
+    }
+    line(
+        out,
+        &[Item::Number(count), Item::Text(" "), Item::Text(what)],
+    )
+}
+
 /// What became of rows of which one side alone is manual.
-fn halves_are(half: Half) -> &'static str {
+fn halves_are(half: Half) -> &'static str
+    ensures { is_plain result.now ≡ true }
+{
     match half {
         Half::Refuse => "changes: one side manual",
         Half::Manual => "changes: one side manual, both made manual",
@@ -221,25 +297,54 @@ pub fn write_symbols<W: Write>(
     out: &mut W,
     roster: &Roster,
     notes: &Notes,
-) -> Result<(), ImportFault> {
+) -> Result<(), ImportFault>
+    ensures safe { Writes IsSafe (W.contents out.old) (W.contents out.new) result }
+{
     for span in notes.spans() {
-        if let Some(span) = span {
-            line(
-                out,
-                &[
-                    Item::Text(name_of_sym(roster, span.sym)),
-                    Item::Text(","),
-                    Item::Number(span.first),
-                    Item::Text(","),
-                    Item::Number(span.last),
-                ],
-            )?;
-        }
+        write_span(out, roster, span)?;
     }
     Ok(())
 }
 
-fn line<W: Write>(out: &mut W, items: &[Item<'_>]) -> Result<(), ImportFault> {
+/// Writes the line of a symbol that has changes.
+fn write_span<W: Write>(
+    out: &mut W,
+    roster: &Roster,
+    span: &Option<Span>,
+) -> Result<(), ImportFault>
+    ensures { Writes IsSafe (W.contents out.old) (W.contents out.new) result }
+{
+    let Some(span) = span else {
+        return Ok(());
+    };
+    line(
+        out,
+        &[
+            Item::Text(shown_name(roster, span.sym)),
+            Item::Text(","),
+            Item::Number(span.first),
+            Item::Text(","),
+            Item::Number(span.last),
+        ],
+    )
+}
+
+/// The name of a symbol, which is empty if it is not of the roster.
+fn shown_name(roster: &Roster, sym: Sym) -> &str
+    ensures { is_plain result.now ≡ true }
+{
+    if roster.has_sym(sym) {
+        roster.sym_name(sym)
+    } else {
+        ""
+    }
+}
+
+/// Writes a line.
+#[tactic(auto, using(crate::proofs::ShowFacts::all_own))]
+fn line<W: Write>(out: &mut W, items: &[Item<'_>]) -> Result<(), ImportFault>
+    ensures { list_all is_own_plain items.now ≡ true → Writes IsSafe (W.contents out.old) (W.contents out.new) result }
+{
     match write_line(out, Form::Text { colours: false }, items) {
         Ok(()) => Ok(()),
         Err(ShowFault::NoMemory) => Err(ImportFault::NoMemory),

@@ -1,0 +1,18 @@
+-- `write_tally`: the counts, and the line of the sums.
+use Rattle.std.proofs.Common.{refl}
+use Rattle.nms_show.specs.Safe.{IsSafe}
+use Rattle.nms_show.proofs.WriteFacts.{safe_writes, writes_err}
+use Rattle.nms_import.proofs.telling.write_tally.Goals as goal
+
+pub returns-in_err-write_counts : goal.returns-in_err-write_counts
+returns-in_err-write_counts g c = record {
+  safe = writes_err IsSafe _ _ c.from_residual.result c.from_residual.ensures.0
+      (c.in_err-write_counts.ensures (rw c.halves_are.ensures refl));
+}
+
+pub returns : goal.returns
+returns g c = record {
+  safe = safe_writes c.line.result _ _ _
+      (c.in_ok-write_counts.ensures (rw c.halves_are.ensures refl))
+      (c.line.ensures refl);
+}

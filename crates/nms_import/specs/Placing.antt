@@ -1,0 +1,44 @@
+-- Where a mapping's columns stand in a file, by the file's first row. This product's own rule.
+use Rattle.std.specs.Prelude.{ℕ, ◌≡◌, ◌+◌, List, Option, Some, None, option_and_then}
+use Rattle.csv.specs.Records.{field_at}
+use Rattle.nms_lines.specs.Layout.{Record}
+use Rattle.nms_import.specs.declared.column.Column.{Column}
+use Rattle.nms_import.specs.declared.column.Column.TheVariants as column
+use Rattle.nms_import.specs.declared.column.Columns.{Columns}
+use Rattle.nms_import.specs.declared.mapping.Mapping.{Mapping}
+use Rattle.nms_import.specs.declared.mapping.Source.{Source}
+use Rattle.nms_import.specs.declared.mapping.Source.TheVariants as source
+
+-- the place of a column in each row
+abbrev pub column_place : Column → Option ℕ
+column_place (column.At place) = Some place
+column_place (column.Fixed text) = None
+
+-- the text that a column has in every row
+abbrev pub column_fixed : Column → Option (List ℕ)
+column_fixed (column.At place) = None
+column_fixed (column.Fixed text) = Some text.items
+
+-- how many columns a row needs to have this one
+abbrev pub columns_needed : Column → ℕ
+columns_needed (column.At place) = place + 1
+columns_needed (column.Fixed text) = 0
+
+-- a column stands at its number, or where the first row has its name, or is the text that the mapping fixes
+abbrev pub IsPlaced : Source → (names : Record) → Column → Type 0
+IsPlaced (source.Place place) names placed = column_place placed ≡ Some place
+IsPlaced (source.Named name) names placed = option_and_then (field_at names) (column_place placed) ≡ Some name.items
+IsPlaced (source.Fixed text) names placed = column_fixed placed ≡ Some text.items
+
+-- each column of a mapping is placed
+pub record ArePlaced (mapping : Mapping) (names : Record) (columns : Columns) : Type 0 where
+  pub time : IsPlaced mapping.sources.time names columns.time
+  pub participant : IsPlaced mapping.sources.participant names columns.participant
+  pub symbol : IsPlaced mapping.sources.symbol names columns.symbol
+  pub bid : IsPlaced mapping.sources.bid names columns.bid
+  pub bid_size : IsPlaced mapping.sources.bid_size names columns.bid_size
+  pub offer : IsPlaced mapping.sources.offer names columns.offer
+  pub offer_size : IsPlaced mapping.sources.offer_size names columns.offer_size
+  pub source : IsPlaced mapping.sources.source names columns.source
+  pub condition : IsPlaced mapping.sources.condition names columns.condition
+  pub skip : IsPlaced mapping.sources.skip names columns.skip
