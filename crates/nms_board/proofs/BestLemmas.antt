@@ -120,8 +120,8 @@ pub bests_relotted : (sizes : Sizes) (cells : List Cell) (ranks : List SymbolRan
     → ((side : Side) → best_on side best ≡ first_row (row_shown (with_lot sizes sym lot) cells sym side) (order_on side orders))
     → AreBests (with_lot sizes sym lot) cells (slice_set ranks sym orders) (slice_set bests sym best)
 bests_relotted sizes cells ranks bests symbol lot orders best below many are is =
-    bests_set sizes (with_lot sizes symbol lot) cells cells ranks bests symbol orders best (sym (length-set sizes.lots symbol lot)) below many
-    are is
+    bests_set sizes (with_lot sizes symbol lot) cells cells ranks bests symbol orders best (sym (length-set sizes.lots symbol lot))
+    below many are is
     (λ s side in_syms elsewhere. ap (λ (l : ℕ). row_among l (symbol_cells sizes.parts s cells) side) (sym
     (get_or-set_other sizes.lots symbol s lot 0 elsewhere)))
 
@@ -132,7 +132,8 @@ bests_opening sizes cells ranks bests symbols empty none =
     record {
       symbols = symbols;
       first = λ s orders best side orders_at best_at.
-          All-contains HasNone bests best none (s, slice_get_within bests s best best_at, get_or_from_slice_get bests s best best best_at) side
+          All-contains HasNone bests best none
+          (s, slice_get_within bests s best best_at, get_or_from_slice_get bests s best best best_at) side
           ∙ sym (ap (first_row (row_shown sizes cells s side))
           (All-contains IsEmpty ranks orders empty (
             s,

@@ -26,7 +26,8 @@ returns-clause-ranks c =
     ranks_relotted sizes c.args.cells.now c.args.ranks.now c.args.sym c.args.lot c.rank_anew.new.self c.requires.sym c.requires.ranks
     c.requires.own
     (λ side. subst (λ (g : ℕ → Option Row). IsKept side g c.args.parts (order_on side c.rank_anew.new.self))
-    (sym (shown_in sizes c.args.cells.now c.args.sym c.args.lot c.symbol_cells-shown.result.now side c.requires.sym c.symbol_cells-shown.ensures))
+    (sym (shown_in sizes c.args.cells.now c.args.sym c.args.lot c.symbol_cells-shown.result.now side c.requires.sym
+    c.symbol_cells-shown.ensures))
     (subst (λ (n : ℕ). IsKept side (row_among c.args.lot c.symbol_cells-shown.result.now side) n (order_on side c.rank_anew.new.self)) long
     (c.rank_anew.ensures side)))
 
@@ -36,5 +37,6 @@ returns-clause-bests c =
     bests_relotted sizes c.args.cells.now c.args.ranks.now c.args.bests.now c.args.sym c.args.lot c.rank_anew.new.self c.of.result
     c.requires.sym c.requires.ranks.symbols c.requires.bests
     (λ side. subst (λ (g : ℕ → Option Row). best_on side c.of.result ≡ first_row g (order_on side c.rank_anew.new.self))
-    (sym (shown_in sizes c.args.cells.now c.args.sym c.args.lot c.symbol_cells-shown.result.now side c.requires.sym c.symbol_cells-shown.ensures))
+    (sym (shown_in sizes c.args.cells.now c.args.sym c.args.lot c.symbol_cells-shown.result.now side c.requires.sym
+    c.symbol_cells-shown.ensures))
     (c.of.ensures side))

@@ -8,7 +8,11 @@ use Rattle.nms_board.proofs.board.withdraw_from.Goals as goal
 use Rattle.nms_board.proofs.board.withdraw_from.Goals.{then-has_quote, else-has_quote}
 
 pub loop-sym-init : goal.loop-sym-init
-loop-sym-init c = record { cells = sym (withdraw_from_none c.args.number c.args.part c.args.cells.now); ranks = c.requires.ranks; bests = c.requires.bests }
+loop-sym-init c = record {
+  cells = sym (withdraw_from_none c.args.number c.args.part c.args.cells.now);
+  ranks = c.requires.ranks;
+  bests = c.requires.bests;
+}
 
 pub alter-requires-clause-own : goal.alter-requires-clause-own
 alter-requires-clause-own c = λ side.
