@@ -1,4 +1,15 @@
 //! The records of a script, of a file of changes or of orders, and of a feed, explained.
+ghost use Rattle.std.specs.Prelude.{◌≡◌, ◌<◌, ◌+◌, ◌-◌, ◌^◌, ◌++◌, ◌∷◌, IfOk, [], ℕ, List, Option};
+ghost use Rattle.csv.specs.Records.{fields_of};
+ghost use Rattle.nms_lines.specs.ChangeReading.{change_reading, feed_reading};
+ghost use Rattle.nms_lines.specs.Layout.{Record};
+ghost use Rattle.nms_lines.specs.Lines.{reading};
+ghost use Rattle.nms_lines.specs.Records.{ReadsFrom};
+ghost use Rattle.nms_lines.specs.declared.line.Reading.TheVariants as read_as;
+ghost use Rattle.nms_files.specs.OrderFile.{order_reading};
+ghost use Rattle.nms_explain.specs.Counted.{EndsBy, IsFileTally, IsTallyOf, IsWithin, ending_by};
+ghost use Rattle.nms_explain.specs.Source.{left_of};
+
 use crate::expectation::{expected_field, layout_of};
 use crate::explain_fault::ExplainFault;
 use crate::hints::{hint_of, hint_of_feed, parted_number};
@@ -10,12 +21,15 @@ use crate::span::{Point, Span, name_span, open_quote, point_at, span_of};
 use crate::tally::{Tally, tell_remark};
 use nms_codes::Code;
 use nms_fees::Setup;
-use nms_lines::{ByteRecord, Kind, LineFault, Reader, Reading, read_line};
+use nms_lines::{ByteRecord, Kind, LineFault, Reader, Reading, RecordFault, read_line};
 use nms_places::{Counts, FieldName, FieldPlace, Place, kind_of, place_of, text_at, unknown_name};
 use nms_quote::{Feed, Roster};
 use nms_show::{Ending, Form, Item};
 use std::alloc::Global;
 use std::io::{Read, Write};
+
+/// The fault of a source of more records, lines or bytes than a number counts: there is none.
+pub(crate) const TOO_LONG: ExplainFault = ExplainFault::Record(RecordFault::Failed);
 
 /// What the caller asks for.
 #[derive(Clone, Copy)]
@@ -38,16 +52,30 @@ pub fn explain_script<R: Read + Drop, W: Write>(
     source: R,
     form: Form,
     answers: &mut W,
-) -> Result<Ending, ExplainFault> {
+) -> Result<Ending, ExplainFault>
+    ensures ending { IfOk result (EndsBy (reading setup.now.roster (read_as.Script setup.now.desks)) (R.remaining source)) }
+{
     let from = Reading::Script {
         desks: setup.desks(),
     };
     let tally = explain_file(alloc, setup, file, source, from, form, answers)?;
-    if !tally.publishes {
-        let remark = "nothing was published: no record `F` and no record `P` was taken";
-        tell_remark(alloc, file, form, remark, answers).map_err(ExplainFault::Show)?;
-    }
+    tell_unpublished(alloc, file, form, &tally, answers)?;
     Ok(ending_of(&tally))
+}
+
+/// Remarks that a script publishes nothing, if so.
+fn tell_unpublished<W: Write>(
+    alloc: Global,
+    file: &str,
+    form: Form,
+    tally: &Tally,
+    answers: &mut W,
+) -> Result<(), ExplainFault> {
+    if tally.publishes {
+        return Ok(());
+    }
+    let remark = "nothing was published: no record `F` and no record `P` was taken";
+    tell_remark(alloc, file, form, remark, answers).map_err(ExplainFault::Show)
 }
 
 /// Reports each refused record of a file of changes, as `explain_script` does.
@@ -58,7 +86,9 @@ pub fn explain_changes<R: Read + Drop, W: Write>(
     source: R,
     form: Form,
     answers: &mut W,
-) -> Result<Ending, ExplainFault> {
+) -> Result<Ending, ExplainFault>
+    ensures ending { IfOk result (EndsBy (change_reading setup.now.roster) (R.remaining source)) }
+{
     let from = Reading::Changes;
     let tally = explain_file(alloc, setup, file, source, from, form, answers)?;
     Ok(ending_of(&tally))
@@ -72,7 +102,9 @@ pub fn explain_orders<R: Read + Drop, W: Write>(
     source: R,
     form: Form,
     answers: &mut W,
-) -> Result<Ending, ExplainFault> {
+) -> Result<Ending, ExplainFault>
+    ensures ending { IfOk result (EndsBy (order_reading setup.now) (R.remaining source)) }
+{
     let from = Reading::Orders {
         desks: setup.desks(),
     };
@@ -89,22 +121,39 @@ pub fn explain_feed<R: Read + Drop, W: Write>(
     source: R,
     form: Form,
     answers: &mut W,
-) -> Result<Ending, ExplainFault> {
+) -> Result<Ending, ExplainFault>
+    ensures ending { IfOk result (EndsBy (feed_reading setup.now.roster feed) (R.remaining source)) }
+{
     let from = Reading::FromFeed(feed);
     let tally = explain_file(alloc, setup, file, source, from, form, answers)?;
-    if tally.records > 0 && tally.count(LineFault::WrongFeed) == tally.records {
-        let remark = if setup.feeds() > 2 {
-            "each record's participant is on another feed: swapped?"
-        } else {
-            "each record's participant is on the other feed: swapped?"
-        };
-        tell_remark(alloc, file, form, remark, answers).map_err(ExplainFault::Show)?;
-    }
+    tell_swapped(alloc, setup, file, form, &tally, answers)?;
     Ok(ending_of(&tally))
 }
 
-/// How a file ends that has that many refused records.
-fn ending_of(tally: &Tally) -> Ending {
+/// Remarks that all records of a feed's file are of other feeds, if so.
+fn tell_swapped<W: Write>(
+    alloc: Global,
+    setup: &Setup,
+    file: &str,
+    form: Form,
+    tally: &Tally,
+    answers: &mut W,
+) -> Result<(), ExplainFault> {
+    if tally.records == 0 || tally.count(LineFault::WrongFeed) != tally.records {
+        return Ok(());
+    }
+    let remark = if setup.feeds() > 2 {
+        "each record's participant is on another feed: swapped?"
+    } else {
+        "each record's participant is on the other feed: swapped?"
+    };
+    tell_remark(alloc, file, form, remark, answers).map_err(ExplainFault::Show)
+}
+
+/// How a report ends on a file with records so counted.
+fn ending_of(tally: &Tally) -> Ending
+    ensures { result ≡ ending_by tally.now.refused }
+{
     if tally.refused > 0 {
         Ending::Refused
     } else {
@@ -121,7 +170,9 @@ fn explain_file<R: Read + Drop, W: Write>(
     from: Reading,
     form: Form,
     answers: &mut W,
-) -> Result<Tally, ExplainFault> {
+) -> Result<Tally, ExplainFault>
+    ensures { IfOk result (IsFileTally (reading setup.now.roster from) (R.remaining source)) }
+{
     let asked = Asked {
         alloc,
         roster: setup.roster(),
@@ -141,7 +192,9 @@ fn explain_source<R: Read + Drop, W: Write>(
     asked: &Asked<'_>,
     source: R,
     answers: &mut W,
-) -> Result<Tally, ExplainFault> {
+) -> Result<Tally, ExplainFault>
+    ensures { IfOk result (IsFileTally (reading asked.now.roster.now asked.now.from) (R.remaining source)) }
+{
     let mut reader = open_source(asked.alloc, source);
     let mut row = ByteRecord::new(asked.alloc);
     explain_records(asked, &mut reader, &mut row, answers)
@@ -153,21 +206,47 @@ fn explain_records<R: Read, W: Write>(
     reader: &mut Reader<RecordSource<R>>,
     row: &mut ByteRecord,
     answers: &mut W,
-) -> Result<Tally, ExplainFault> {
+) -> Result<Tally, ExplainFault>
+    ensures { (bytes : Option (List ℕ)) → ReadsFrom (left_of R.remaining) reader.old bytes []
+        → IfOk result (IsFileTally (reading asked.now.roster.now asked.now.from) bytes) }
+{
     let mut tally = Tally::new();
-    for _ in 0..u64::MAX {
-        if !next_record(reader, row).map_err(ExplainFault::Record)? {
-            break;
-        }
-        match read_line(row, asked.roster, asked.from) {
-            Ok(line) => tally.take(&line),
-            Err(fault) => {
-                tally.refuse(fault);
-                tell_fault(asked, reader, tally.records, row, fault, answers)?;
-            }
+    for turn in 0..u64::MAX {
+        match next_record(reader, row) {
+            Ok(true) => explain_record(asked, reader, row, turn + 1, &mut tally, answers)?,
+            Ok(false) => return Ok(tally),
+            Err(fault) => return Err(ExplainFault::Record(fault)),
         }
     }
-    Ok(tally)
+    Err(TOO_LONG)
+}
+
+/// Counts the record of a number, and reports it if it is refused.
+fn explain_record<R: Read, W: Write>(
+    asked: &Asked<'_>,
+    reader: &Reader<RecordSource<R>>,
+    row: &ByteRecord,
+    number: u64,
+    tally: &mut Tally,
+    answers: &mut W,
+) -> Result<(), ExplainFault>
+    requires room { tally.old.records < 2 ^ 64 - 1 }
+    requires within { IsWithin tally.old }
+    ensures within { IsWithin tally.new }
+    ensures records { tally.new.records ≡ tally.old.records + 1 }
+    ensures counts { (seen : List Record) → IsTallyOf (reading asked.now.roster.now asked.now.from) seen tally.old
+        → IsTallyOf (reading asked.now.roster.now asked.now.from) (seen ++ fields_of row.now ∷ []) tally.new }
+{
+    match read_line(row, asked.roster, asked.from) {
+        Ok(line) => {
+            tally.take(&line);
+            Ok(())
+        }
+        Err(fault) => {
+            tally.refuse(fault);
+            tell_fault(asked, reader, number, row, fault, answers)
+        }
+    }
 }
 
 /// Reports a refused record by its number.
@@ -179,9 +258,14 @@ fn tell_fault<R: Read, W: Write>(
     fault: LineFault,
     answers: &mut W,
 ) -> Result<(), ExplainFault> {
-    let record = record_of(reader);
+    let Some(record) = record_of(reader) else {
+        return Err(TOO_LONG);
+    };
     let refusal = refusal_of(asked, record, number, row, fault);
-    tell_refusal(asked.alloc, asked.form, &refusal, answers).map_err(ExplainFault::Show)
+    let Some(point) = refusal.point() else {
+        return Err(TOO_LONG);
+    };
+    tell_refusal(asked.alloc, asked.form, &refusal, point, answers).map_err(ExplainFault::Show)
 }
 
 /// The report on a refused record.
@@ -239,10 +323,10 @@ fn has_sides(kind: Option<Kind>) -> bool {
     }
 }
 
-/// The place in the file of a quote that opens a field over a line end, in a record that begins on that line.
+/// The place in the file of a quote that opens a field over a line end, in a record that begins on that line; none if there
+/// is no such quote, or more lines than a number counts.
 pub(crate) fn quote_at(text: &[u8], line: u64) -> Option<Point> {
-    let at = open_quote(text)?;
-    Some(point_at(text, LineCount::at(line), at))
+    point_at(text, LineCount::at(line), open_quote(text)?)
 }
 
 /// What stands at which place, and what is expected there.
@@ -267,24 +351,24 @@ fn count_of<'a>(row: &'a ByteRecord, text: &'a [u8]) -> Finding<'a> {
 /// Where a record has too many fields, or its end if it has too few: the quote that opens a field over a line end, the number
 /// that a comma parts, the last comma, or else the fields past the most allowed.
 fn surplus_span(row: &ByteRecord, text: &[u8]) -> Span {
-    let end = text.len();
+    let (end, count) = (text.len(), row.len());
     if let Some(start) = open_quote(text) {
         return Span {
             start,
-            end: start.saturating_add(1),
+            end: start + 1,
         };
     }
     if let Some(place) = parted_number(row) {
         return Span {
             start: span_of(text, place).start,
-            end: span_of(text, place.saturating_add(1)).end,
+            end: span_of(text, place + 1).end,
         };
     }
     let most = kind_of(row).map_or(0, |kind| Counts::of_kind(kind).most);
     let start = span_of(text, most).start;
-    if start == end && row.len() > most {
+    if start == end && end > 0 && count > most {
         return Span {
-            start: end.saturating_sub(1),
+            start: end - 1,
             end,
         };
     }

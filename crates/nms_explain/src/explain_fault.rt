@@ -1,4 +1,7 @@
 //! Why a file was not explained to its end.
+ghost use Rattle.nms_codes.specs.Codes.{IsToldAs};
+ghost use Rattle.nms_explain.specs.Faults.{code_of, status_of};
+
 use nms_codes::Code;
 use nms_lines::RecordFault;
 use nms_show::ShowFault;
@@ -17,7 +20,9 @@ pub enum ExplainFault {
 
 impl ExplainFault {
     /// The code of the fault, `E1`, `E2` or `E4`.
-    pub fn code(self) -> Code {
+    pub fn code(self) -> Code
+        ensures { IsToldAs result (code_of self) (status_of self) }
+    {
         match self {
             ExplainFault::Record(fault) => Code::of_record(fault),
             ExplainFault::Show(fault) => Code::of_show(fault),

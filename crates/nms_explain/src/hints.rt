@@ -1,4 +1,7 @@
 //! What a refused record looks like instead.
+ghost use Rattle.std.specs.Prelude.{◌+◌, ◌<◌, ◌^◌, IfSome, length};
+ghost use Rattle.csv.specs.Records.{fields_of};
+
 use memchr::memchr;
 use nms_lines::{ByteRecord, LineFault};
 use nms_places::{Counts, kind_of, text_at};
@@ -133,15 +136,18 @@ fn has_more(row: &ByteRecord) -> bool {
 
 /// How many fields too many a record has for its kind.
 fn surplus(row: &ByteRecord) -> usize {
-    match kind_of(row) {
-        Some(kind) => row.len().saturating_sub(Counts::of_kind(kind).most),
-        None => 0,
-    }
+    let Some(kind) = kind_of(row) else {
+        return 0;
+    };
+    let (count, most) = (row.len(), Counts::of_kind(kind).most);
+    if count > most { count - most } else { 0 }
 }
 
 /// How many fields stand before a number that a comma parts in two, as in `1,000.00`, if such numbers account for all the
 /// fields that the record has too many.
-pub(crate) fn parted_number(row: &ByteRecord) -> Option<usize> {
+pub(crate) fn parted_number(row: &ByteRecord) -> Option<usize>
+    ensures { IfSome result (λ place. place + 1 < length (fields_of row.now)) }
+{
     let mut first = None;
     let mut count: usize = 0;
     let mut is_free = true;
@@ -149,7 +155,7 @@ pub(crate) fn parted_number(row: &ByteRecord) -> Option<usize> {
         let begins = is_free && is_head(text_at(row, place - 1)) && is_tail(text_at(row, place));
         if begins {
             first = first.or(Some(place - 1));
-            count = count.saturating_add(1);
+            count += 1;
         }
         is_free = !begins;
     }

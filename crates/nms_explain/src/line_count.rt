@@ -18,24 +18,24 @@ impl LineCount {
         }
     }
 
-    /// After a text.
-    pub(crate) fn behind(self, text: &[u8]) -> Self {
+    /// After a text; none if there are more lines than a number counts.
+    pub(crate) fn after(self, text: &[u8]) -> Option<Self> {
         if self.after_return || memchr(b'\r', text).is_some() {
-            return self.behind_returns(text);
+            return self.after_returns(text);
         }
-        let feeds = memchr_iter(b'\n', text).count();
-        LineCount::at(self.line.saturating_add(feeds as u64))
+        let feeds = memchr_iter(b'\n', text).count() as u64;
+        Some(LineCount::at(self.line.checked_add(feeds)?))
     }
 
-    /// As `behind`, for a text with carriage returns.
-    fn behind_returns(self, text: &[u8]) -> Self {
+    /// As `after`, for a text with carriage returns.
+    fn after_returns(self, text: &[u8]) -> Option<Self> {
         let mut count = self;
         for byte in text {
             if *byte == b'\r' || *byte == b'\n' && !count.after_return {
-                count.line = count.line.saturating_add(1);
+                count.line = count.line.checked_add(1)?;
             }
             count.after_return = *byte == b'\r';
         }
-        count
+        Some(count)
     }
 }

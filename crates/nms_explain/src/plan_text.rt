@@ -1,5 +1,7 @@
 //! The text of a plan, explained.
-use crate::changes::quote_at;
+ghost use Rattle.std.specs.Prelude.{◌≡◌, ◌<◌, ◌≤◌, ◌^◌};
+
+use crate::changes::{TOO_LONG, quote_at};
 use crate::explain_fault::ExplainFault;
 use crate::hints::hint_of_kind;
 use crate::record_source::{RecordSource, RecordText, next_record, open_source, record_of};
@@ -55,11 +57,10 @@ pub fn explain_plan<W: Write>(
     };
     let mut reader = open_source(alloc, text);
     let mut row = ByteRecord::new(alloc);
-    match explain_records(&asked, &mut reader, &mut row, answers) {
-        Ok(came) => tell_end(&came, &asked, reader.get_ref().end(), answers).map_err(
-            ExplainFault::Show,
-        ),
-        Err(fault) => Err(fault),
+    let came = explain_records(&asked, &mut reader, &mut row, answers)?;
+    match reader.get_ref().end() {
+        Some(end) => tell_end(&came, &asked, end, answers).map_err(ExplainFault::Show),
+        None => Err(TOO_LONG),
     }
 }
 
@@ -75,18 +76,39 @@ fn explain_records<R: Read, W: Write>(
         records: 0,
         refused: 0,
     };
-    for _ in 0..u64::MAX {
-        if !next_record(reader, row).map_err(ExplainFault::Record)? {
-            break;
-        }
-        let due = came.walk.due;
-        came.records = came.records.saturating_add(1);
-        if let Some(trouble) = came.walk.next(row, asked.roster) {
-            came.refused = came.refused.saturating_add(1);
-            tell_trouble(asked, reader, came.records, row, due, trouble, answers)?;
+    for turn in 0..u64::MAX {
+        match next_record(reader, row) {
+            Ok(true) => explain_record(asked, reader, row, turn + 1, &mut came, answers)?,
+            Ok(false) => return Ok(came),
+            Err(fault) => return Err(ExplainFault::Record(fault)),
         }
     }
-    Ok(came)
+    Err(TOO_LONG)
+}
+
+/// Counts the record of a number, and reports it if it is wrong.
+fn explain_record<R: Read, W: Write>(
+    asked: &Asked<'_>,
+    reader: &Reader<RecordSource<R>>,
+    row: &ByteRecord,
+    number: u64,
+    came: &mut Came,
+    answers: &mut W,
+) -> Result<(), ExplainFault>
+    requires number { number < 2 ^ 64 }
+    requires refused { came.old.refused < number }
+    ensures records { came.new.records ≡ number }
+    ensures refused { came.new.refused ≤ number }
+{
+    let due = came.walk.due;
+    came.records = number;
+    match came.walk.next(row, asked.roster) {
+        Some(trouble) => {
+            came.refused += 1;
+            tell_trouble(asked, reader, number, row, due, trouble, answers)
+        }
+        None => Ok(()),
+    }
 }
 
 /// Reports a wrong record by its number.
@@ -99,9 +121,14 @@ fn tell_trouble<R: Read, W: Write>(
     trouble: PlanTrouble,
     answers: &mut W,
 ) -> Result<(), ExplainFault> {
-    let record = record_of(reader);
+    let Some(record) = record_of(reader) else {
+        return Err(TOO_LONG);
+    };
     let refusal = refusal_of(asked, record, number, row, due, trouble);
-    tell_refusal(asked.alloc, asked.form, &refusal, answers).map_err(ExplainFault::Show)
+    let Some(point) = refusal.point() else {
+        return Err(TOO_LONG);
+    };
+    tell_refusal(asked.alloc, asked.form, &refusal, point, answers).map_err(ExplainFault::Show)
 }
 
 /// Reports which record is missing at the end of the text, and how many there were.

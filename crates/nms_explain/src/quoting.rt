@@ -10,15 +10,15 @@ pub(crate) enum Quoting {
     /// Within quotes.
     Within,
     /// After a quote that closes, or is the first of two.
-    Behind,
+    After,
 }
 
 impl Quoting {
     /// The state of the next byte after this one.
-    pub(crate) fn behind(self, byte: u8) -> Self {
+    pub(crate) fn after(self, byte: u8) -> Self {
         match (self, byte) {
-            (Quoting::Start, b'"') | (Quoting::Behind, b'"') => Quoting::Within,
-            (Quoting::Within, b'"') => Quoting::Behind,
+            (Quoting::Start, b'"') | (Quoting::After, b'"') => Quoting::Within,
+            (Quoting::Within, b'"') => Quoting::After,
             (Quoting::Within, _) => Quoting::Within,
             (_, b',' | b'\n' | b'\r') => Quoting::Start,
             _ => Quoting::Plain,

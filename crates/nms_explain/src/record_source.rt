@@ -2,7 +2,13 @@
 //!
 //! It keeps whole records, however long they are, so that a report shows the very text that the reader of records read. It
 //! forgets what stands before the record being read.
-ghost use Rattle.std.specs.Prelude.{◌≤◌, length};
+ghost use Rattle.std.specs.Prelude.{◌≡◌, ◌≤◌, ◌++◌, ◌∷◌, [], ℕ, List, Option, Ok, true, false, length};
+ghost use Rattle.std.specs.Io.{ReadsAtMost};
+ghost use Rattle.std.specs.Io.KnownBytes.{ReadConsumes};
+ghost use Rattle.csv.specs.Records.{fields_of};
+ghost use Rattle.nms_lines.specs.Layout.{Record};
+ghost use Rattle.nms_lines.specs.Records.{AreAllRecords, ReadsFrom};
+ghost use Rattle.nms_explain.specs.Source.{left_of};
 
 use crate::line_count::LineCount;
 use crate::span::{Point, point_at};
@@ -40,7 +46,9 @@ pub(crate) struct RecordText<'a> {
 }
 
 /// A reader of the records of a source, which keeps the text of the record that was read last.
-pub(crate) fn open_source<R: Read>(alloc: Global, source: R) -> Reader<RecordSource<R>> {
+pub(crate) fn open_source<R: Read>(alloc: Global, source: R) -> Reader<RecordSource<R>>
+    ensures { ReadsFrom (left_of R.remaining) result (R.remaining source) [] }
+{
     open_records(alloc, RecordSource::new(alloc, source))
 }
 
@@ -48,25 +56,31 @@ pub(crate) fn open_source<R: Read>(alloc: Global, source: R) -> Reader<RecordSou
 pub(crate) fn next_record<R: Read>(
     reader: &mut Reader<RecordSource<R>>,
     row: &mut ByteRecord,
-) -> Result<bool, RecordFault> {
+) -> Result<bool, RecordFault>
+    ensures found { (bytes : Option (List ℕ)) (seen : List Record)
+        → ReadsFrom (left_of R.remaining) reader.old bytes seen → result ≡ Ok true
+        → ReadsFrom (left_of R.remaining) reader.new bytes (seen ++ fields_of row.new ∷ []) }
+    ensures end { (bytes : Option (List ℕ)) (seen : List Record)
+        → ReadsFrom (left_of R.remaining) reader.old bytes seen → result ≡ Ok false → AreAllRecords bytes seen }
+{
     reader.get_ref().ended.set(reader.position().byte);
-    match read_next(reader, row) {
-        Ok(found) => Ok(found),
-        Err(RecordFault::Failed) if reader.get_ref().is_out_of_memory => {
-            Err(RecordFault::NoMemory)
-        }
-        Err(fault) => Err(fault),
+    let next = read_next(reader, row);
+    if reader.get_ref().is_out_of_memory {
+        return Err(RecordFault::NoMemory);
     }
+    next
 }
 
-/// The text of the record that was read last, and its line.
-pub(crate) fn record_of<R: Read>(reader: &Reader<RecordSource<R>>) -> RecordText<'_> {
+/// The text of the record that was read last, and its line; none if there are more lines than a number counts.
+pub(crate) fn record_of<R: Read>(reader: &Reader<RecordSource<R>>) -> Option<RecordText<'_>> {
     reader.get_ref().record(reader.position().byte)
 }
 
 impl<R> RecordSource<R> {
     /// Over a source, of which nothing is read yet.
-    fn new(alloc: Global, source: R) -> Self {
+    fn new(alloc: Global, source: R) -> Self
+        ensures { result.source ≡ source }
+    {
         RecordSource {
             source,
             kept: Vec::new(alloc),
@@ -80,14 +94,14 @@ impl<R> RecordSource<R> {
     }
 
     /// The text of the record that was read last, given how many bytes were passed on by its end.
-    fn record(&self, end: u64) -> RecordText<'_> {
+    fn record(&self, end: u64) -> Option<RecordText<'_>> {
         let (start, end) = (self.place_of(self.ended.get()), self.place_of(end));
         let text = self.kept.get(start..end).unwrap_or(&[]);
-        trimmed(text, self.lines_at(start))
+        trimmed(text, self.lines_at(start)?)
     }
 
-    /// Where the text ends, once all of it was read.
-    pub(crate) fn end(&self) -> Point {
+    /// Where the text ends, once all of it was read; none if there are more lines than a number counts.
+    pub(crate) fn end(&self) -> Option<Point> {
         point_at(&self.kept, self.lines, self.kept.len())
     }
 
@@ -100,12 +114,12 @@ impl<R> RecordSource<R> {
         }
     }
 
-    /// The lines before a place among the kept bytes.
-    fn lines_at(&self, place: usize) -> LineCount {
+    /// The lines before a place among the kept bytes; none if there are more than a number counts.
+    fn lines_at(&self, place: usize) -> Option<LineCount> {
         if place < self.recent {
-            self.lines.behind(self.bytes(0, place))
+            self.lines.after(self.bytes(0, place))
         } else {
-            self.recent_lines.behind(self.bytes(self.recent, place))
+            self.recent_lines.after(self.bytes(self.recent, place))
         }
     }
 
@@ -114,20 +128,24 @@ impl<R> RecordSource<R> {
         self.kept.get(from..to).unwrap_or(&[])
     }
 
-    /// Forgets what stands before the record being read, because more is requested.
-    fn forget(&mut self) {
+    /// Forgets what stands before the record being read, because more is requested; none if there are more bytes or lines than
+    /// a number counts.
+    fn forget(&mut self) -> Option<()>
+        ensures { self.new.source ≡ self.old.source }
+    {
         let start = self.start().min(self.kept.len());
         if start > 0 {
-            let lines = self.lines_at(start);
-            self.passed = self.passed.saturating_add(start as u64);
+            let lines = self.lines_at(start)?;
+            self.passed = self.passed.checked_add(start as u64)?;
             self.kept.copy_within(start.., 0);
             self.kept.truncate(self.kept.len() - start);
             self.lines = lines;
             self.recent = 0;
             self.recent_lines = lines;
         }
-        self.recent_lines = self.lines_at(self.kept.len());
+        self.recent_lines = self.lines_at(self.kept.len())?;
         self.recent = self.kept.len();
+        Some(())
     }
 
     /// Where the record being read begins among the kept bytes: after the record before it, and after the line ends and the
@@ -146,14 +164,26 @@ impl<R> RecordSource<R> {
 }
 
 impl<R: Read> Read for RecordSource<R> {
-    fn read(&mut self, buf: &mut [u8]) -> io::Result<usize> {
-        self.forget();
+    ghost use Rattle.nms_explain.specs.Source.{left_of};
+
+    ghost remaining = { left_of R.remaining };
+
+    fn read(&mut self, buf: &mut [u8]) -> io::Result<usize>
+        ensures bound { ReadsAtMost result buf.new }
+        ensures bytes { ReadConsumes (left_of R.remaining self.old) (left_of R.remaining self.new) result buf.new }
+    {
+        if self.forget().is_none() {
+            // No source has that many bytes.
+            return Err(io::Error::from(io::ErrorKind::InvalidData));
+        }
         if self.kept.reserve(buf.len()).is_err() {
             self.is_out_of_memory = true;
             return Err(io::Error::from(io::ErrorKind::OutOfMemory));
         }
         let count = self.source.read(buf)?;
-        self.kept.extend_from_slice(&buf[..count])?;
+        if self.kept.extend_from_slice(&buf[..count]).is_err() {
+            self.is_out_of_memory = true;
+        }
         Ok(count)
     }
 }
@@ -168,11 +198,11 @@ fn blank_length(text: &[u8]) -> usize
 }
 
 /// A record without the line ends before it and the one after it, and its line.
-fn trimmed(text: &[u8], lines: LineCount) -> RecordText<'_> {
+fn trimmed(text: &[u8], lines: LineCount) -> Option<RecordText<'_>> {
     let (blank, text) = text.split_at(blank_length(text));
-    let line = lines.behind(blank).line;
+    let line = lines.after(blank)?.line;
     match text.split_last() {
-        Some((b'\n' | b'\r', text)) => RecordText { text, line },
-        _ => RecordText { text, line },
+        Some((b'\n' | b'\r', text)) => Some(RecordText { text, line }),
+        _ => Some(RecordText { text, line }),
     }
 }

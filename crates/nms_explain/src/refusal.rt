@@ -39,16 +39,22 @@ pub(crate) struct Refusal<'a> {
     pub(crate) quote: Option<Point>,
 }
 
+impl Refusal<'_> {
+    /// Where in the file the part begins that is wrong; none if there are more lines than a number counts.
+    pub(crate) fn point(&self) -> Option<Point> {
+        point_at(self.text, LineCount::at(self.line), self.span.start)
+    }
+}
+
 /// Writes a refusal: its place in the file, the record with carets under what is wrong, what was found and what is
 /// expected, and what to do.
 pub(crate) fn tell_refusal<W: Write>(
     alloc: Global,
     form: Form,
     refusal: &Refusal<'_>,
+    point: Point,
     answers: &mut W,
 ) -> Result<(), ShowFault> {
-    let lines = LineCount::at(refusal.line);
-    let point = point_at(refusal.text, lines, refusal.span.start);
     if form.is_json() {
         return tell_object(alloc, refusal, point, answers);
     }
@@ -100,9 +106,12 @@ fn words_of<'a>(field: Option<FieldPlace>) -> (&'a str, Item<'a>, &'a str, Item<
     }
 }
 
-/// The number of a field, from 1.
+/// The number of a field, from 1, if a number counts that far.
 fn number_of<'a>(at: FieldPlace) -> Item<'a> {
-    Item::Number((at.place as u64).saturating_add(1))
+    match (at.place as u64).checked_add(1) {
+        Some(number) => Item::Number(number),
+        None => Item::Absent,
+    }
 }
 
 /// Writes what was found, and what is expected.
@@ -111,7 +120,7 @@ fn tell_finding<W: Write>(
     refusal: &Refusal<'_>,
     answers: &mut W,
 ) -> Result<(), ShowFault> {
-    let (before, behind) = match (refusal.field, refusal.found) {
+    let (before, after) = match (refusal.field, refusal.found) {
         (None, _) => ("found ", "; expected "),
         (Some(_), Item::Bytes(b"")) => ("found nothing", "; expected "),
         (Some(_), _) => ("found `", "`; expected "),
@@ -120,7 +129,7 @@ fn tell_finding<W: Write>(
         Item::Text(INDENT),
         Item::Text(before),
         refusal.found,
-        Item::Text(behind),
+        Item::Text(after),
         Item::Text(refusal.expected),
     ];
     write_line(answers, form, &items)

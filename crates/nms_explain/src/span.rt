@@ -1,4 +1,6 @@
 //! Where a field stands in the text of its record, and where that is in the file.
+ghost use Rattle.std.specs.Prelude.{◌≤◌, IfSome, length};
+
 use crate::line_count::LineCount;
 use crate::quoting::Quoting;
 use memchr::memrchr2;
@@ -26,12 +28,12 @@ pub(crate) fn span_of(text: &[u8], place: usize) -> Span {
     let mut passed = 0;
     for at in 0..text.len() {
         let within = quoting == Quoting::Within;
-        quoting = quoting.behind(text[at]);
+        quoting = quoting.after(text[at]);
         if text[at] == b',' && !within {
             if passed == place {
                 return Span { start, end: at };
             }
-            passed = passed.saturating_add(1);
+            passed += 1;
             start = at + 1;
         }
     }
@@ -44,11 +46,13 @@ pub(crate) fn span_of(text: &[u8], place: usize) -> Span {
 }
 
 /// Where the first quote stands that opens a field which goes on over a line end, or to the end of the text.
-pub(crate) fn open_quote(text: &[u8]) -> Option<usize> {
+pub(crate) fn open_quote(text: &[u8]) -> Option<usize>
+    ensures { IfSome result (λ at. at ≤ length text.now) }
+{
     let mut quoting = Quoting::Start;
     let mut opened = 0;
     for at in 0..text.len() {
-        let next = quoting.behind(text[at]);
+        let next = quoting.after(text[at]);
         if next == Quoting::Within {
             if quoting == Quoting::Start {
                 opened = at;
@@ -66,17 +70,18 @@ pub(crate) fn open_quote(text: &[u8]) -> Option<usize> {
     }
 }
 
-/// The place in the file of a byte of a text that begins at the start of a line, with the lines before it.
-pub(crate) fn point_at(text: &[u8], lines: LineCount, at: usize) -> Point {
+/// The place in the file of a byte of a text that begins at the start of a line, with the lines before it; none if there are
+/// more lines than a number counts.
+pub(crate) fn point_at(text: &[u8], lines: LineCount, at: usize) -> Option<Point> {
     let before = text.get(..at).unwrap_or(text);
     let in_line = match memrchr2(b'\n', b'\r', before) {
-        Some(last) => before.len().saturating_sub(last),
-        None => before.len().saturating_add(1),
+        Some(last) => before.len() - last,
+        None => before.len() + 1,
     };
-    Point {
-        line: lines.behind(before).line,
+    Some(Point {
+        line: lines.after(before)?.line,
         column: in_line as u64,
-    }
+    })
 }
 
 /// Where the name after that many others stands, among those that a field joins by `+`.
@@ -88,7 +93,7 @@ pub(crate) fn name_span(text: &[u8], field: Span, nth: usize) -> Span {
             if passed == nth {
                 return Span { start, end: at };
             }
-            passed = passed.saturating_add(1);
+            passed += 1;
             start = at + 1;
         }
     }

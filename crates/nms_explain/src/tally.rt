@@ -1,5 +1,6 @@
 //! How many records were read, and how many were refused by each code.
-ghost use Rattle.std.specs.Prelude.{◌<◌};
+ghost use Rattle.std.specs.Prelude.{◌≡◌, ◌<◌, ◌+◌, ◌-◌, ◌^◌, ◌||◌, false};
+ghost use Rattle.nms_explain.specs.Counted.{IsWithin, publishes};
 
 use nms_codes::Code;
 use nms_lines::{Line, LineFault};
@@ -39,7 +40,12 @@ pub(crate) struct Tally {
 
 impl Tally {
     /// Before the first record.
-    pub(crate) fn new() -> Self {
+    pub(crate) fn new() -> Self
+        ensures records { result.records ≡ 0 }
+        ensures refused { result.refused ≡ 0 }
+        ensures publishes { result.publishes ≡ false }
+        ensures within { IsWithin result }
+    {
         Tally {
             records: 0,
             refused: 0,
@@ -49,19 +55,31 @@ impl Tally {
     }
 
     /// Counts a record that is not refused.
-    pub(crate) fn take(&mut self, line: &Line) {
-        self.records = self.records.saturating_add(1);
-        if matches!(*line, Line::TakeAll | Line::Publish) {
-            self.publishes = true;
-        }
+    pub(crate) fn take(&mut self, line: &Line)
+        requires room { self.old.records < 2 ^ 64 - 1 }
+        requires within { IsWithin self.old }
+        ensures records { self.new.records ≡ self.old.records + 1 }
+        ensures refused { self.new.refused ≡ self.old.refused }
+        ensures publishes { self.new.publishes ≡ self.old.publishes || publishes line.now }
+        ensures within { IsWithin self.new }
+    {
+        self.records += 1;
+        self.publishes = self.publishes || publishes(line);
     }
 
     /// Counts a refused record.
-    pub(crate) fn refuse(&mut self, fault: LineFault) {
-        self.records = self.records.saturating_add(1);
-        self.refused = self.refused.saturating_add(1);
-        let count = &mut self.by_fault[place_of_fault(fault)];
-        *count = count.saturating_add(1);
+    pub(crate) fn refuse(&mut self, fault: LineFault)
+        requires room { self.old.records < 2 ^ 64 - 1 }
+        requires within { IsWithin self.old }
+        ensures records { self.new.records ≡ self.old.records + 1 }
+        ensures refused { self.new.refused ≡ self.old.refused + 1 }
+        ensures publishes { self.new.publishes ≡ self.old.publishes }
+        ensures within { IsWithin self.new }
+    {
+        self.records += 1;
+        self.refused += 1;
+        let place = place_of_fault(fault);
+        self.by_fault[place] += 1;
     }
 
     /// How many records were refused by a fault.
@@ -85,6 +103,21 @@ impl Tally {
             }
         }
         Ok(())
+    }
+}
+
+/// Whether a line publishes.
+fn publishes(line: &Line) -> bool
+    ensures { result ≡ publishes line.now }
+{
+    match *line {
+        Line::TakeAll | Line::Publish => true,
+        Line::Change(_)
+        | Line::TakeOne
+        | Line::Tell { .. }
+        | Line::Best { .. }
+        | Line::Through { .. }
+        | Line::Sweep { .. } => false,
     }
 }
 

@@ -12,7 +12,7 @@ use Rattle.nms_explain_setup.specs.declared.nest.Nest.{Nest}
 abbrev pub is_bare : ℕ → Bool
 is_bare byte = (is_ascii_alphanumeric byte || byte == 95) || byte == 45
 
--- a key in quotes, behind the first of them, and what stands after it
+-- a key in quotes, after the first of them, and what stands after it
 abbrev pub quoted_key : ℕ → List ℕ → Option (List ℕ × List ℕ)
 quoted_key quote text = option_map (λ end. (take end text, drop (end + 1) text)) (position (λ byte. byte == quote) text)
 
@@ -72,7 +72,7 @@ value_length nest (byte ∷ rest) =
 abbrev pub value_in : List ℕ → List ℕ
 value_in text = trim_end (take (value_length outer_nest text) text)
 
--- what stands behind the `=` after a key; from the key on if a point stands there
+-- what stands after the `=` of a key; from the key on if a point stands there
 abbrev pub value_behind : List ℕ → List ℕ → Option (List ℕ)
 value_behind from_key rest =
     if begins (codes "=") (trim_start rest) then Some (trim_start (drop 1 (trim_start rest)))

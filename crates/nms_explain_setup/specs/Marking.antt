@@ -13,7 +13,7 @@ is_feed byte = byte == 10
 abbrev pub line_number : List ℕ → ℕ → ℕ
 line_number text place = 1 + count_by is_feed (take place text)
 
--- where that line begins: behind the last line feed before the place
+-- where that line begins: after the last line feed before the place
 abbrev pub line_begin : List ℕ → ℕ → ℕ
 line_begin text place = place - length (take_while (λ byte. not (is_feed byte)) (reverse (take place text)))
 
@@ -37,7 +37,7 @@ span start end = record { key = start; key_end = end; start = start; end = end }
 abbrev pub remarked : Marked → Pair → Marked
 remarked marked pair = record { line = marked.line; before = marked.before; number = marked.number; pair = pair }
 
--- the whole line, from behind the white space at its start
+-- the whole line, but for the white space at its start
 abbrev pub whole : Marked → Marked
 whole marked = remarked marked (span (length marked.line.now - length (trim_start marked.line.now)) (length marked.line.now))
 

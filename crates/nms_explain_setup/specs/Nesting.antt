@@ -14,7 +14,7 @@ begins sign text = starts_with nat_eq text sign
 abbrev pub outer_nest : Nest
 outer_nest = record { within = Plain; depth = 0; skipped = 0 }
 
--- what follows is read otherwise, behind so many more bytes of the sign that says so
+-- what follows is read otherwise, after the other bytes of the sign that says so: `more` of them
 abbrev pub entered : Within → ℕ → Nest → Nest
 entered within more nest = record { within = within; depth = nest.depth; skipped = more }
 

@@ -136,7 +136,7 @@ fn line_length(rest: &[u8]) -> usize
     rest.iter().take_while(|byte| **byte != b'\n').count()
 }
 
-/// How many bytes stand behind the last line feed.
+/// How many bytes stand after the last line feed.
 fn bytes_behind(before: &[u8]) -> usize
     ensures value { result ≡ length (take_while (λ byte. not (is_feed byte)) (reverse before.now)) }
     ensures within { result ≤ length before.now }

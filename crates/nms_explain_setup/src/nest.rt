@@ -164,7 +164,7 @@ impl Nest {
         self
     }
 
-    /// What follows is read as that, behind so many bytes.
+    /// What follows is read as that, after as many bytes as are skipped.
     fn entering(self, within: Within, skipped: u8) -> Nest
         ensures { result ≡ entered within skipped self }
     {

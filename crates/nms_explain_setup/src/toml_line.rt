@@ -83,7 +83,7 @@ pub fn pair_in(line: &[u8], key: &[u8]) -> Option<Pair>
     })
 }
 
-/// What stands behind the `=` after a key; from the key on if a point stands there.
+/// What stands after the `=` of a key; from the key on if a point stands there.
 fn value_behind<'a>(from_key: &'a [u8], rest: &'a [u8]) -> Option<&'a [u8]>
     requires { length rest.now ≤ length from_key.now }
     ensures value { option_map (λ from. from.now) result ≡ value_behind from_key.now rest.now }

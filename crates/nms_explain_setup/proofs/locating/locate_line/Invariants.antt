@@ -1,4 +1,4 @@
--- `locate_line`: a line begins in the text, and no more headers than bytes stand before it. Each line ends behind its start.
+-- `locate_line`: a line begins in the text, and no more headers than bytes stand before it. Each line ends after its start.
 use Rattle.std.proofs.Common.{length, ◌-◌, ◌≤◌}
 use Rattle.nms_explain_setup.proofs.locating.locate_line.Given as goal
 

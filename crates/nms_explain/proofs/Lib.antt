@@ -1,0 +1,2 @@
+pub mod CountFacts
+pub mod ReadingFacts
