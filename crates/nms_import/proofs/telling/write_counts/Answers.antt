@@ -12,9 +12,11 @@ pub returns-in_err-write_count : goal.returns-in_err-write_count
 returns-in_err-write_count g c = λ own.
     writes_err IsSafe _ _ c.from_residual.result c.from_residual.ensures.0
     (safe_part _ _ _ (c.loop-count.invariant own)
-    (c.in_err-write_count.ensures (all_true (λ count. is_plain count.1.now) c.args.counts.now own c.loop-count.count-index _ c.loop-count-test.true)))
+    (c.in_err-write_count.ensures (all_true (λ count. is_plain count.1.now) c.args.counts.now own c.loop-count.count-index _
+    c.loop-count-test.true)))
 
 pub loop-count-preserved : goal.loop-count-preserved
 loop-count-preserved g c = λ own.
     safe_then _ _ _ (c.loop-count.invariant own)
-    (c.in_ok-write_count.ensures (all_true (λ count. is_plain count.1.now) c.args.counts.now own c.loop-count.count-index _ c.loop-count-test.true))
+    (c.in_ok-write_count.ensures (all_true (λ count. is_plain count.1.now) c.args.counts.now own c.loop-count.count-index _
+    c.loop-count-test.true))
