@@ -1,5 +1,6 @@
 pub use Rattle.nms_lines.specs.FaultTable as FaultTable
 pub use Rattle.nms_lines.specs.Layout as Layout
+pub mod FieldNames
 pub mod FieldTable
 pub mod Looks
 pub mod Names

@@ -1,4 +1,6 @@
-//! What the fields of records are called.
+//! What the fields of records are called: `specs/FieldNames`.
+ghost use Rattle.std.specs.Prelude.{◌≡◌};
+ghost use Rattle.nms_places.specs.FieldNames.{text_of};
 
 /// A field of a record, by the name that the pages on the layouts give it.
 #[derive(Clone, Copy)]
@@ -51,7 +53,9 @@ pub enum FieldName {
 
 impl FieldName {
     /// The name as the pages write it, as `bidshares`.
-    pub fn text(self) -> &'static str {
+    pub fn text(self) -> &'static str
+        ensures { result.now ≡ text_of self }
+    {
         match self {
             FieldName::Kind => "kind",
             FieldName::Participant => "part",

@@ -8,9 +8,11 @@ use Rattle.nms_import.specs.Rows.{AreAllRows, RowsFrom}
 use Rattle.nms_shards.specs.declared.sharding.Shard.{Shard}
 use Rattle.nms_shards.specs.declared.sharding.Shard.TheVariants as shard
 
--- the changes of a shard, opening ones among them; the most that its setup's tape takes; its symbols
+-- the changes of a shard, opening ones among them; how many of them are opening ones; the most that its setup's tape takes; its
+-- symbols
 pub record Filled : Type 0 where
   pub changes : ℕ
+  pub opened : ℕ
   pub limit : ℕ
   pub symbols : ℕ
 

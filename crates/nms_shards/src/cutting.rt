@@ -74,9 +74,9 @@ impl Model for Cutting {
 
     ghost Value = { Filled };
 
-    ghost view = { λ c. record { changes = c.count; limit = c.limit; symbols = length c.listed.items } };
+    ghost view = { λ c. record { changes = c.count; opened = c.opened; limit = c.limit; symbols = length c.listed.items } };
 
-    ghost invariant = { λ c. (c.count ≤ c.limit) × (length c.listed.items ≤ MOST_SYMBOLS)
+    ghost invariant = { λ c. (c.opened ≤ c.count) × (c.count ≤ c.limit) × (length c.listed.items ≤ MOST_SYMBOLS)
         × (LEAST_LIMIT ≤ c.limit) × (c.limit ≤ MOST_CHANGES) × (c.board.sizes ≡ sizes_of c.own) };
 }
 
@@ -84,7 +84,7 @@ impl Cutting {
     /// Before the first row. The setup gives participants, feeds, fees and round lots, and the limit of changes.
     pub fn new(alloc: Global, lent: &Setup) -> Result<Cutting, ImportFault>
         requires room { LEAST_LIMIT ≤ lent.now.tape_limit }
-        ensures filled { IfOk result (λ cutting. cutting ≡ record { changes = 0; limit = lent.now.tape_limit; symbols = 0 }) }
+        ensures filled { IfOk result (λ cutting. cutting ≡ record { changes = 0; opened = 0; limit = lent.now.tape_limit; symbols = 0 }) }
     {
         let limit = lent.tape_limit();
         let bare = bare_roster(alloc, lent.roster())?;
@@ -126,7 +126,10 @@ impl Cutting {
     }
 
     /// How many opening changes the shard begins with.
-    pub fn opened(&self) -> u64 {
+    pub fn opened(&self) -> u64
+        ensures count { result ≡ self.now.opened }
+        ensures within { result ≤ self.now.changes }
+    {
         self.opened
     }
 
@@ -199,6 +202,7 @@ impl Cutting {
     pub(crate) fn begin_symbol(&mut self, lent: &Roster) -> Result<(), ImportFault>
         requires room { self.old.symbols < MOST_SYMBOLS }
         ensures changes { OnOk result (self.new.changes ≡ self.old.changes) }
+        ensures opened { OnOk result (self.new.opened ≡ self.old.opened) }
         ensures limit { OnOk result (self.new.limit ≡ self.old.limit) }
     {
         if !self.begun.add(name_of_sym(&self.next, first_sym())) {
@@ -218,6 +222,7 @@ impl Cutting {
     pub(crate) fn count(&mut self, number: u64, entry: &Entry)
         requires room { self.old.changes < self.old.limit }
         ensures changes { self.new.changes ≡ self.old.changes + 1 }
+        ensures opened { self.new.opened ≡ self.old.opened }
         ensures limit { self.new.limit ≡ self.old.limit }
     {
         self.count += 1;
@@ -234,7 +239,8 @@ impl Cutting {
         &mut self,
         lent: &Roster,
     ) -> Result<Option<OpeningChanges>, ImportFault>
-        ensures opened { IfOk result (λ opening. self.new.changes ≡ opened_with opening) }
+        ensures changes { IfOk result (λ opening. self.new.changes ≡ opened_with opening) }
+        ensures opened { IfOk result (λ opening. self.new.opened ≡ opened_with opening) }
         ensures limit { OnOk result (self.new.limit ≡ self.old.limit) }
     {
         self.listed.clear();

@@ -51,6 +51,7 @@ pub fn import_shard<R: Read, C: Write, T: Write, E: Write>(
         → IfOk result (λ shard. (rows : List Record) × AreRead config R.remaining reader.new bytes (seen ++ rows) shard
         × (rows_in tally.new + waiting_after shard ≡ rows_in tally.old + waiting waits + length rows)) }
     ensures changes { OnOk result (changes_in tally.new + cutting.old.changes ≡ changes_in tally.old + cutting.new.changes) }
+    ensures opened { OnOk result (cutting.new.opened ≡ cutting.old.opened) }
     ensures limit { OnOk result (cutting.new.limit ≡ cutting.old.limit) }
 {
     let Some(sums) = tally.sums() else {
@@ -122,6 +123,7 @@ fn import_row<C: Write, T: Write, E: Write>(
     requires few { rows_in tally.old < 1000000000000 }
     ensures rows { IfOk result (λ taken. rows_in tally.new ≡ rows_in tally.old + (if taken then 1 else 0)) }
     ensures changes { OnOk result (changes_in tally.new + cutting.old.changes ≡ changes_in tally.old + cutting.new.changes) }
+    ensures opened { OnOk result (cutting.new.opened ≡ cutting.old.opened) }
     ensures limit { OnOk result (cutting.new.limit ≡ cutting.old.limit) }
 {
     match cutting.read(columns, meanings, lent, row)? {
@@ -182,6 +184,7 @@ fn import_entry<C: Write, T: Write, E: Write>(
     ensures rows { OnOk result (rows_in tally.new ≡ rows_in tally.old + 1) }
     ensures changes { OnOk result (changes_in tally.new ≡ changes_in tally.old + 1) }
     ensures shard { OnOk result (cutting.new.changes ≡ cutting.old.changes + 1) }
+    ensures opened { OnOk result (cutting.new.opened ≡ cutting.old.opened) }
     ensures limit { OnOk result (cutting.new.limit ≡ cutting.old.limit) }
 {
     tally.count_change(entry.one_sided);
@@ -203,7 +206,8 @@ pub fn begin_shard<C: Write, T: Write>(
     changes: &mut C,
     times: &mut T,
 ) -> Result<u64, ImportFault>
-    ensures opened { IfOk result (λ count. cutting.new.changes ≡ count) }
+    ensures changes { IfOk result (λ count. cutting.new.changes ≡ count) }
+    ensures opened { IfOk result (λ count. cutting.new.opened ≡ count) }
     ensures few { IfOk result (λ count. count ≤ MOST_OPENING) }
     ensures limit { OnOk result (cutting.new.limit ≡ cutting.old.limit) }
 {

@@ -13,6 +13,7 @@ loop-done-init g c = (
   sym c.in-Some.ensures.rows,
   omega arith,
   refl,
+  refl,
   λ config bytes seen reads. (
     [],
     subst (λ (rows : List Record). RowsFrom {R = g.row.R.Denot} config g.R.Read.remaining c.args.reader.now bytes rows)
@@ -24,7 +25,7 @@ loop-done-init g c = (
 -- the file has no more rows
 pub returns-then-not-branch-clause-rows : goal.returns-then-not-branch-clause-rows
 returns-then-not-branch-clause-rows g c = λ config bytes seen reads.
-    let had = c.loop-done.invariant.3 config bytes seen reads in
+    let had = c.loop-done.invariant.4 config bytes seen reads in
     let is_none : c.in_ok-fetch_row.field-0 ≡ false = cc in
     let end = c.in_ok-fetch_row.ensures.end config bytes (seen ++ had.0) had.1 (ap (λ (b : Bool). Ok b) is_none) in
     (had.0, end.0, omega (arith, had.2, end.1))
@@ -32,7 +33,7 @@ returns-then-not-branch-clause-rows g c = λ config bytes seen reads.
 -- the current row waits
 pub returns-then-not-is_taken-clause-rows : goal.returns-then-not-is_taken-clause-rows
 returns-then-not-is_taken-clause-rows g c = λ config bytes seen reads.
-    let had = c.loop-done.invariant.3 config bytes seen reads in
+    let had = c.loop-done.invariant.4 config bytes seen reads in
     let is_found : c.in_ok-fetch_row.field-0 ≡ true = cc in
     let found = c.in_ok-fetch_row.ensures.found config bytes (seen ++ had.0) had.1 (ap (λ (b : Bool). Ok b) is_found) in
     let is_left : c.in_ok-is_taken.is_taken ≡ false = cc in
@@ -52,8 +53,9 @@ loop-done-preserved g c =
       one ∙ ap (λ n. n + 1) c.loop-done.invariant.0,
       omega (arith, c.in_ok-is_taken.ensures.changes, c.loop-done.invariant.1),
       c.in_ok-is_taken.ensures.limit ∙ c.loop-done.invariant.2,
+      c.in_ok-is_taken.ensures.opened ∙ c.loop-done.invariant.3,
       λ config bytes seen reads.
-          let had = c.loop-done.invariant.3 config bytes seen reads in
+          let had = c.loop-done.invariant.4 config bytes seen reads in
           let is_found : c.in_ok-fetch_row.field-0 ≡ true = cc in
           let found = c.in_ok-fetch_row.ensures.found config bytes (seen ++ had.0) had.1 (ap (λ (b : Bool). Ok b) is_found) in
           let counted : rows_in c.import_row.new.tally + 0

@@ -11,7 +11,7 @@ use Rattle.nms_shards.proofs.sharding.import_shard.Given as goal
 abbrev pub invariant-loop-done : goal.invariant-loop-done
 invariant-loop-done g l = (rows_in l.tally ≡ l.done)
     × (changes_in l.tally + l.fn.cutting.changes ≡ changes_in l.fn.tally + l.cutting.changes)
-    × (l.cutting.limit ≡ l.fn.cutting.limit)
+    × (l.cutting.limit ≡ l.fn.cutting.limit) × (l.cutting.opened ≡ l.fn.cutting.opened)
     × ((config : Config) (bytes : Option (List ℕ)) (seen : List Record) → RowsFrom config g.R.Read.remaining l.fn.reader bytes seen
     → (rows : List Record) × RowsFrom config g.R.Read.remaining l.reader bytes (seen ++ rows)
     × (rows_in l.tally + waiting l.at_hand ≡ rows_in l.fn.tally + waiting l.waits + length rows))
