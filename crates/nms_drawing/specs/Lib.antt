@@ -1,0 +1,10 @@
+pub use Rattle.nms_quote.specs.Tape as Tape
+pub use Rattle.nms_board.specs.View as View
+pub use Rattle.nms_opening.specs.Opening as Opening
+pub use Rattle.nms_text.specs.Report as Report
+pub use Rattle.nms_files.specs.ChangeFile as ChangeFile
+pub use Rattle.nms_stream.specs.StreamFile as StreamFile
+pub mod Faults
+pub mod Versions
+pub mod Streamed
+pub mod Days

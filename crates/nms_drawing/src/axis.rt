@@ -1,11 +1,28 @@
 //! What the axis of a picture counts: versions, the changes of the symbol alone, or clock time.
-use crate::clock::{Clock, SECOND, clock_of, nanoseconds_of, time_at};
+ghost use Rattle.std.specs.Prelude.{◌<◌};
+
+use crate::clock::{Clock, SECOND, clock_of, time_at};
 use crate::scale::step_of;
 use nms_times::Rising;
 
-/// The steps of seconds between ticks of clock time: the axis takes the least that goes into a range twelve times at most.
-const SECONDS: [u64; 15] = [
-    1, 2, 5, 10, 15, 30, 60, 120, 300, 600, 900, 1800, 3600, 7200, 14400,
+/// The steps between ticks of clock time, 1 second to 4 hours, in nanoseconds: the axis takes the least that goes into a range
+/// twelve times at most.
+const CLOCK_STEPS: [u64; 15] = [
+    1_000_000_000,
+    2_000_000_000,
+    5_000_000_000,
+    10_000_000_000,
+    15_000_000_000,
+    30_000_000_000,
+    60_000_000_000,
+    120_000_000_000,
+    300_000_000_000,
+    600_000_000_000,
+    900_000_000_000,
+    1_800_000_000_000,
+    3_600_000_000_000,
+    7_200_000_000_000,
+    14_400_000_000_000,
 ];
 
 /// What the axis counts.
@@ -46,26 +63,22 @@ pub(crate) enum Label {
 impl Axis<'_> {
     /// The place of a version that is drawn: that of its last change.
     pub(crate) fn place(&self, version: u64) -> u64 {
-        let after = version.saturating_sub(self.from);
+        let after = version.max(self.from) - self.from;
         match &self.kind {
             Kind::Versions => after,
             Kind::Own(versions) => versions.partition_point(|own| *own <= version) as u64,
-            Kind::Clock(rising) => match after.checked_sub(1) {
-                None => 0,
-                Some(place) => match rising.times.get(place as usize) {
-                    Some(time) => nanoseconds_of(*time).saturating_sub(self.base()),
-                    None => 0,
-                },
-            },
+            Kind::Clock(rising) => clock_place(rising, after),
         }
     }
 
     /// The last place. Clock time goes on for a little after the last change, so that the view after it is seen.
     pub(crate) fn last(&self) -> u64 {
-        let last = self.place(self.to);
         match &self.kind {
-            Kind::Versions | Kind::Own(_) => last,
-            Kind::Clock(_) => last.saturating_add(last / 40),
+            Kind::Versions | Kind::Own(_) => self.place(self.to),
+            Kind::Clock(rising) => {
+                let last = clock_place(rising, self.to.max(self.from) - self.from);
+                last + last / 40
+            }
         }
     }
 
@@ -74,10 +87,7 @@ impl Axis<'_> {
         match &self.kind {
             Kind::Versions => self.from,
             Kind::Own(_) => 0,
-            Kind::Clock(rising) => match rising.times.first() {
-                Some(time) => nanoseconds_of(*time),
-                None => 0,
-            },
+            Kind::Clock(rising) => begin_of(rising),
         }
     }
 
@@ -88,18 +98,16 @@ impl Axis<'_> {
             Kind::Clock(_) => clock_step(self.last()),
         };
         let base = self.base();
-        let over = base.checked_rem(step).unwrap_or(0);
-        let first = if over == 0 {
-            0
-        } else {
-            step.saturating_sub(over)
+        let first = match base.checked_rem(step) {
+            None | Some(0) => 0,
+            Some(over) => step.abs_diff(over),
         };
         (first, step)
     }
 
     /// The label at the tick of a place. `None` if there is no time, or it is of no day.
     pub(crate) fn label(&self, place: u64, step: u64) -> Option<Label> {
-        let counted = self.base().saturating_add(place);
+        let counted = self.base().checked_add(place)?;
         match &self.kind {
             Kind::Versions => Some(Label::Version(counted)),
             Kind::Own(versions) => {
@@ -117,16 +125,39 @@ impl Axis<'_> {
     }
 }
 
+/// The nanoseconds after midnight of the first time, 0 if there is none.
+fn begin_of(rising: &Rising<'_>) -> u64 {
+    match rising.times.first() {
+        Some(time) => time.since_midnight(),
+        None => 0,
+    }
+}
+
+/// The nanoseconds from the first time to the time of a version that comes so many after the one before it.
+fn clock_place(rising: &Rising<'_>, after: u64) -> u64
+    ensures { result < 86400000000000 }
+{
+    let Some(place) = after.checked_sub(1) else {
+        return 0;
+    };
+    match rising.times.get(place as usize) {
+        Some(time) => {
+            let begin = begin_of(rising);
+            time.since_midnight().max(begin) - begin
+        }
+        None => 0,
+    }
+}
+
 /// A step of clock time that goes into a range twelve times at most, or hardly more often.
 fn clock_step(range: u64) -> u64 {
     if range / 12 <= SECOND / 2 {
         return step_of(range);
     }
-    for seconds in SECONDS {
-        let step = SECOND.saturating_mul(seconds);
+    for step in CLOCK_STEPS {
         if range / 12 <= step {
             return step;
         }
     }
-    SECOND.saturating_mul(14400)
+    14_400_000_000_000
 }

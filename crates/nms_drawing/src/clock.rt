@@ -1,4 +1,4 @@
-//! Times of day in a picture: as nanoseconds after midnight, and as text.
+//! Times of day in a picture, as text.
 use nms_times::TimeOfDay;
 
 /// The nanoseconds of a second.
@@ -39,18 +39,6 @@ fn shown_of(step: u64) -> usize {
         unit /= 10;
     }
     18
-}
-
-/// The nanoseconds from midnight to a time.
-pub(crate) fn nanoseconds_of(time: TimeOfDay) -> u64 {
-    let digits = time.get();
-    let hours = digits / 10_000_000_000_000;
-    let minutes = digits / 100_000_000_000 % 100;
-    let seconds = digits / SECOND % 100;
-    let whole = hours
-        .saturating_mul(3600)
-        .saturating_add(minutes * 60 + seconds);
-    whole.saturating_mul(SECOND).saturating_add(digits % SECOND)
 }
 
 /// The time that many nanoseconds after midnight, if it is of the same day.

@@ -47,17 +47,15 @@ fn write_curve<W: Write>(
     answers: &mut W,
 ) -> Result<(), ShowFault> {
     let mut was = 0;
-    let mut end = 0_u64;
-    for column in &day.columns {
-        let span = column.span(side, shown);
+    for place in 0..day.columns.len() {
+        let span = day.columns[place].span(side, shown);
         if was != span.first || span.low != span.high {
-            turn(scale, shown, end, was, span.first, answers)?;
+            turn(scale, shown, place as u64, was, span.first, answers)?;
         }
-        end = end.saturating_add(1);
-        write_within(&span, scale, shown, end, answers)?;
+        write_within(&span, scale, shown, place as u64 + 1, answers)?;
         was = span.last;
     }
-    turn(scale, shown, end, was, 0, answers)
+    turn(scale, shown, day.columns.len() as u64, was, 0, answers)
 }
 
 /// Goes on to a column, and there from the value before to another one, each 0 for none.

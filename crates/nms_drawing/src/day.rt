@@ -224,7 +224,8 @@ fn add(
 ) -> Result<(), AllocError> {
     let start = axis.place(first);
     let end = if last < axis.to {
-        axis.place(last + 1).saturating_sub(1)
+        let next = axis.place(last + 1);
+        next - next.min(1)
     } else {
         axis.last()
     };

@@ -1,7 +1,9 @@
-//! A symbol's day as a picture, with a plan and executions on the versions on which they were made.
-ghost use Rattle.std.specs.Prelude.{◌≡◌, ◌≤◌, All, length, true};
-ghost use Rattle.nms_quote.specs.Roster.{holds, sizes_of};
+//! A symbol's day as a picture, with a plan and executions on the versions on which they were made: `specs/Days`.
+ghost use Rattle.std.specs.Prelude.{◌≡◌, ℕ, ◌≤◌, All, IfErr, IfOk, IfSome, List, OnOk, Option, false, length, option_copied, true};
+ghost use Rattle.nms_quote.specs.Roster.{Listing, holds, sizes_of};
 ghost use Rattle.nms_quote.specs.declared.TheConstants.{MOST_CHANGES};
+ghost use Rattle.nms_drawing.specs.Days.{Fits, FitsFile, IsDayFault, IsFileDayFault, IsPlanText, last_drawn};
+ghost use Rattle.nms_drawing.specs.Faults.{is_begun, is_of_input};
 
 use crate::axis::{Axis, Kind};
 use crate::day::{concerns, day_of};
@@ -71,7 +73,13 @@ pub fn draw_changes<R: Read + Drop, W: Write>(
     sym: Sym,
     plan: Option<&[u8]>,
     answers: &mut W,
-) -> Result<Ending, DrawingFault> {
+) -> Result<Ending, DrawingFault>
+    ensures drawn { OnOk result (FitsFile setup.now (R.remaining source) frame.now.from frame.now.to frame.now.own (option_copied frame.now.times)) }
+    ensures plan { OnOk result (IfSome (option_copied plan.entry) (IsPlanText setup.now.roster)) }
+    ensures refused { IfErr result (IsFileDayFault setup.now (R.remaining source) frame.now.from frame.now.to frame.now.own
+        (option_copied frame.now.times) (option_copied plan.entry)) }
+    ensures unwritten { IfErr result (λ fault. is_begun fault ≡ false → W.contents answers.new ≡ W.contents answers.old) }
+{
     match read_changes(alloc, setup, source) {
         Ok(changes) => draw_day(alloc, setup, &changes, frame, sym, plan, None, answers),
         Err(fault) => Err(DrawingFault::Changes(fault)),
@@ -97,8 +105,16 @@ pub fn draw_day<W: Write>(
 ) -> Result<Ending, DrawingFault>
     requires held { All (λ change. holds (sizes_of setup.now.roster) change ≡ true) changes.now }
     requires few { length changes.now ≤ MOST_CHANGES }
+    ensures drawn { OnOk result (Fits frame.now.from frame.now.to frame.now.own (option_copied frame.now.times) changes.now) }
+    ensures plan { OnOk result (IfSome (option_copied plan.entry) (IsPlanText setup.now.roster)) }
+    ensures refused { IfErr result (IsDayFault setup.now.roster changes.now frame.now.from frame.now.to frame.now.own
+        (option_copied frame.now.times) (option_copied plan.entry)) }
+    ensures unwritten { IfErr result (λ fault. is_begun fault ≡ false → W.contents answers.new ≡ W.contents answers.old) }
 {
-    let axis = axis_of(alloc, changes, frame, sym)?;
+    let axis = match axis_of(alloc, changes, frame, sym) {
+        Ok(axis) => axis,
+        Err(fault) => return Err(fault),
+    };
     let Some(text) = plan else {
         return draw_on(
             alloc,
@@ -135,7 +151,12 @@ fn axis_of<'a>(
     changes: &[Change],
     frame: &Frame<'a>,
     sym: Sym,
-) -> Result<Axis<'a>, DrawingFault> {
+) -> Result<Axis<'a>, DrawingFault>
+    ensures fits { IfOk result (λ axis. Fits frame.now.from frame.now.to frame.now.own (option_copied frame.now.times) changes.now) }
+    ensures ends { IfOk result (λ axis. (axis.from ≡ frame.now.from) × (axis.to ≡ last_drawn frame.now.to changes.now)) }
+    ensures refused { (roster : Listing) (plan : Option (List ℕ)) → IfErr result (IsDayFault roster changes.now frame.now.from frame.now.to
+        frame.now.own (option_copied frame.now.times) plan) }
+{
     let all = changes.len() as u64;
     let from = frame.from;
     let to = match frame.to {
@@ -146,16 +167,19 @@ fn axis_of<'a>(
         return Err(DrawingFault::VersionBeyondTape);
     }
     let versions = to - from + 1;
-    let kind = match frame.times {
-        Some(times) if !frame.own => {
-            times.check_len(changes.len())?;
-            Kind::Clock(times.rising_between(from as usize, to as usize)?)
-        }
-        Some(_) | None if frame.own => match own_versions(alloc, changes, sym, from, to) {
+    let kind = if frame.own {
+        match own_versions(alloc, changes, sym, from, to) {
             Ok(versions) => Kind::Own(versions),
             Err(_) => return Err(DrawingFault::NoMemory),
-        },
-        Some(_) | None => Kind::Versions,
+        }
+    } else {
+        match frame.times {
+            Some(times) => {
+                times.check_len(changes.len())?;
+                Kind::Clock(times.rising_between(from as usize, to as usize)?)
+            }
+            None => Kind::Versions,
+        }
     };
     Ok(Axis {
         from,
@@ -195,7 +219,10 @@ fn draw_on<W: Write>(
     plan: Option<(&Plan, Option<&Judged>)>,
     marks: Option<&[Mark]>,
     answers: &mut W,
-) -> Result<Ending, DrawingFault> {
+) -> Result<Ending, DrawingFault>
+    ensures own { IfErr result (λ fault. is_of_input fault ≡ false) }
+    ensures unwritten { IfErr result (λ fault. is_begun fault ≡ false → W.contents answers.new ≡ W.contents answers.old) }
+{
     let mut board = match Boards::new(alloc, roster) {
         Ok(board) => board,
         Err(fault) => return Err(DrawingFault::Board(fault)),

@@ -1,4 +1,7 @@
-//! Why an answer was not written whole.
+//! Why an answer was not written whole: `specs/Faults`.
+ghost use Rattle.nms_codes.specs.Codes.{IsToldAs};
+ghost use Rattle.nms_drawing.specs.Faults.{code_of, status_of};
+
 use nms_board::BoardFault;
 use nms_codes::Code;
 use nms_files::ChangesFault;
@@ -35,8 +38,10 @@ pub enum DrawingFault {
 }
 
 impl DrawingFault {
-    /// The code of the fault.
-    pub fn code(self) -> Code {
+    /// The code of the fault: that of the changes, the plan or the times, `B1`, `A1`, `E2` or `E4`.
+    pub fn code(self) -> Code
+        ensures { IsToldAs result (code_of self) (status_of self) }
+    {
         match self {
             DrawingFault::Changes(fault) => Code::of_changes(fault),
             DrawingFault::Board(fault) => Code::of_board(fault),
@@ -50,6 +55,11 @@ impl DrawingFault {
 }
 
 impl From<ShowFault> for DrawingFault {
+    ghost use Rattle.std.specs.Prelude.{◌≡◌};
+    ghost use Rattle.nms_drawing.specs.Faults.{of_show};
+
+    ghost from_gives = { λ own fault. fault ≡ of_show own };
+
     fn from(fault: ShowFault) -> Self {
         match fault {
             ShowFault::WriteFault => DrawingFault::WriteFault,
@@ -59,6 +69,11 @@ impl From<ShowFault> for DrawingFault {
 }
 
 impl From<StreamFault> for DrawingFault {
+    ghost use Rattle.std.specs.Prelude.{◌≡◌};
+    ghost use Rattle.nms_drawing.specs.Faults.{of_stream};
+
+    ghost from_gives = { λ own fault. fault ≡ of_stream own };
+
     fn from(fault: StreamFault) -> Self {
         match fault {
             StreamFault::Changes(fault) => DrawingFault::Changes(fault),
@@ -70,6 +85,11 @@ impl From<StreamFault> for DrawingFault {
 }
 
 impl From<TimesFault> for DrawingFault {
+    ghost use Rattle.std.specs.Prelude.{◌≡◌};
+    ghost use Rattle.nms_drawing.specs.declared.drawing_fault.DrawingFault.TheVariants.{Times};
+
+    ghost from_gives = { λ own fault. fault ≡ Times own };
+
     fn from(fault: TimesFault) -> Self {
         DrawingFault::Times(fault)
     }

@@ -121,19 +121,16 @@ fn write_fields<W: Write>(
 fn members_of<'a>(line: &'a [u8]) -> [(&'static str, Item<'a>); 10] {
     let mut members = [("", Item::Absent); 10];
     members[0] = ("what", Item::Text("line"));
-    let mut place: usize = 1;
     let mut rest = line;
-    for (key, is_number) in COLUMNS {
+    for place in 0..9 {
+        let (key, is_number) = COLUMNS[place];
         let (field, behind) = field_of(rest);
-        if let Some(member) = members.get_mut(place) {
-            let item = if is_number {
-                number_in(field)
-            } else {
-                text_in(field)
-            };
-            *member = (key, item);
-        }
-        place = place.saturating_add(1);
+        let item = if is_number {
+            number_in(field)
+        } else {
+            text_in(field)
+        };
+        members[place + 1] = (key, item);
         rest = behind;
     }
     members
@@ -142,10 +139,7 @@ fn members_of<'a>(line: &'a [u8]) -> [(&'static str, Item<'a>); 10] {
 /// The first field of a line, and what stands after its comma.
 pub(crate) fn field_of(line: &[u8]) -> (&[u8], &[u8]) {
     match line.iter().position(|byte| *byte == b',') {
-        Some(end) => (
-            line.get(..end).unwrap_or(line),
-            line.get(end.saturating_add(1)..).unwrap_or(&[]),
-        ),
+        Some(end) => (&line[..end], &line[end + 1..]),
         None => (line, &[]),
     }
 }

@@ -1,7 +1,8 @@
 //! The finding on a plan on its own version: its verdict, and the quotations that it passed over.
-ghost use Rattle.std.specs.Prelude.{◌≡◌, ◌≤◌, All, length, true};
+ghost use Rattle.std.specs.Prelude.{◌≡◌, ◌≤◌, All, IfErr, false, length, true};
 ghost use Rattle.nms_quote.specs.Roster.{holds, sizes_of};
 ghost use Rattle.nms_quote.specs.declared.TheConstants.{MOST_CHANGES};
+ghost use Rattle.nms_drawing.specs.Faults.{is_of_input};
 
 use crate::drawing_fault::DrawingFault;
 use crate::version::board_after;
@@ -45,11 +46,15 @@ pub(crate) fn judge_plan(
 ) -> Result<Option<Judged>, DrawingFault>
     requires held { All (λ change. holds (sizes_of setup.now.roster) change ≡ true) changes.now }
     requires few { length changes.now ≤ MOST_CHANGES }
+    ensures { IfErr result (λ fault. is_of_input fault ≡ false) }
 {
     if plan.version > changes.len() as u64 {
         return Ok(None);
     }
-    let board = board_after(alloc, setup.roster(), &changes[..plan.version as usize])?;
+    let board = match board_after(alloc, setup.roster(), &changes[..plan.version as usize]) {
+        Ok(board) => board,
+        Err(fault) => return Err(DrawingFault::Board(fault)),
+    };
     if !board.has_sym(plan.order.sym) {
         return Ok(None);
     }

@@ -1,5 +1,7 @@
 //! A plan in a picture: a dotted line at its version, on it the legs and the quotations that were passed over, each with a thin
 //! leader to its words at the right, and the limit as a dashed line.
+ghost use Rattle.std.specs.Prelude.{◌≤◌};
+
 use crate::judged::{Judged, Passed};
 use crate::picture::put;
 use crate::scale::{BOTTOM, HIGH, Scale, TOP};
@@ -44,7 +46,10 @@ pub(crate) fn write_plan_marks<W: Write>(
     x: u64,
     scale: &Scale,
     answers: &mut W,
-) -> Result<(), ShowFault> {
+) -> Result<(), ShowFault>
+    requires left { 150 ≤ x }
+    requires right { x ≤ 1650 }
+{
     let Ok(labels) = labels_of(alloc, plan, judged, scale) else {
         return Err(ShowFault::NoMemory);
     };
@@ -91,26 +96,33 @@ fn labels_of(
 }
 
 /// Adds a mark.
-fn push_label(labels: &mut Vec<Label>, marked: Marked, down: u64) -> Result<(), AllocError> {
+fn push_label(labels: &mut Vec<Label>, marked: Marked, down: u64) -> Result<(), AllocError>
+    requires { 115 ≤ down }
+{
     labels.push(Label {
         marked,
         down,
-        words: down.saturating_sub(ABOVE),
+        words: down - ABOVE,
     })?;
     Ok(())
 }
 
 /// Moves words apart: down as far as the ones above need, then up again from the plot's lower end.
-fn spread(labels: &mut [Label], apart: u64) {
-    let mut least = TOP.saturating_add(14);
+fn spread(labels: &mut [Label], apart: u64)
+    requires { apart ≤ 24 }
+{
+    let end = TOP + HIGH;
+    let mut least = TOP + 14;
     for label in labels.iter_mut() {
-        label.words = label.words.max(least);
-        least = label.words.saturating_add(apart);
+        let words = label.words.max(least).min(end);
+        label.words = words;
+        least = words + apart;
     }
-    let mut most = TOP.saturating_add(HIGH);
+    let mut most = end;
     for label in labels.iter_mut().rev() {
-        label.words = label.words.min(most);
-        most = label.words.saturating_sub(apart);
+        let words = label.words.min(most);
+        label.words = words;
+        most = words - words.min(apart);
     }
 }
 
@@ -141,7 +153,7 @@ fn write_limit<W: Write>(
             Item::Text("H1650\"/><text class=\"over\" font-size=\"18\" text-anchor=\""),
             Item::Text(anchor),
             Item::Text("\" y=\""),
-            Item::Number(y.saturating_sub(7)),
+            Item::Number(y - 7),
             Item::Text("\">limit "),
             Item::of_price(plan.order.limit),
             Item::Text("</text>"),
@@ -166,7 +178,9 @@ fn write_line_of<W: Write>(x: u64, answers: &mut W) -> Result<(), ShowFault> {
 }
 
 /// Writes the leader from a mark to its words.
-fn write_leader<W: Write>(label: &Label, x: u64, answers: &mut W) -> Result<(), ShowFault> {
+fn write_leader<W: Write>(label: &Label, x: u64, answers: &mut W) -> Result<(), ShowFault>
+    requires { x ≤ 1650 }
+{
     put(
         answers,
         &[
@@ -175,7 +189,7 @@ fn write_leader<W: Write>(label: &Label, x: u64, answers: &mut W) -> Result<(), 
             Item::Text(" "),
             Item::Number(label.down),
             Item::Text("L"),
-            Item::Number(x.saturating_add(ASIDE).saturating_sub(6)),
+            Item::Number(x + ASIDE - 6),
             Item::Text(" "),
             Item::Number(label.words),
             Item::Text("\"/>"),
@@ -189,7 +203,12 @@ fn write_label<W: Write>(
     label: &Label,
     x: u64,
     answers: &mut W,
-) -> Result<(), ShowFault> {
+) -> Result<(), ShowFault>
+    requires left { 150 ≤ x }
+    requires right { x ≤ 1650 }
+{
+    // No words stand below the plot, and a line of them ends a little below its middle.
+    let base = label.words.min(BOTTOM) + 6;
     match &label.marked {
         Marked::Leg(number, leg) => {
             put(
@@ -202,35 +221,37 @@ fn write_label<W: Write>(
                     Item::Text("\"/>"),
                 ],
             )?;
-            write_leg(roster, *number, leg, label.words, x, answers)
+            write_leg(roster, *number, leg, base, x, answers)
         }
         Marked::Passed(passed) => {
             put(
                 answers,
                 &[
                     Item::Text("<path fill=\"#fff\" stroke=\"#000\" stroke-width=\"2.5\" d=\"M"),
-                    Item::Number(x.saturating_sub(11)),
+                    Item::Number(x - 11),
                     Item::Text(" "),
                     Item::Number(label.down),
                     Item::Text("l11 -11l11 11l-11 11z\"/>"),
                 ],
             )?;
-            write_passed(roster, passed, label.words, x, answers)
+            write_passed(roster, passed, base, x, answers)
         }
     }
 }
 
 /// Begins words at the right of a plan's line.
-fn write_begun<W: Write>(style: &str, y: u64, x: u64, answers: &mut W) -> Result<(), ShowFault> {
+fn write_begun<W: Write>(style: &str, y: u64, x: u64, answers: &mut W) -> Result<(), ShowFault>
+    requires { x ≤ 1650 }
+{
     put(
         answers,
         &[
             Item::Text("<text class=\"over\" font-size=\"18\""),
             Item::Text(style),
             Item::Text(" x=\""),
-            Item::Number(x.saturating_add(ASIDE)),
+            Item::Number(x + ASIDE),
             Item::Text("\" y=\""),
-            Item::Number(y.saturating_add(6)),
+            Item::Number(y),
             Item::Text("\">"),
         ],
     )
@@ -244,7 +265,9 @@ fn write_leg<W: Write>(
     y: u64,
     x: u64,
     answers: &mut W,
-) -> Result<(), ShowFault> {
+) -> Result<(), ShowFault>
+    requires { x ≤ 1650 }
+{
     write_begun("", y, x, answers)?;
     put(
         answers,
@@ -269,7 +292,9 @@ fn write_passed<W: Write>(
     y: u64,
     x: u64,
     answers: &mut W,
-) -> Result<(), ShowFault> {
+) -> Result<(), ShowFault>
+    requires { x ≤ 1650 }
+{
     write_begun(" font-weight=\"bold\"", y, x, answers)?;
     put(
         answers,

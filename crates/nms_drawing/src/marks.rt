@@ -1,5 +1,7 @@
 //! Executions in a picture: a cross for each that traded through, a small circle for each other one, at its version and its
 //! price; and counts, if many are close together.
+ghost use Rattle.std.specs.Prelude.{◌<◌, ◌≤◌};
+
 use crate::axis::Axis;
 use crate::picture::put;
 use crate::scale::{LEFT, Scale, TOP};
@@ -95,9 +97,11 @@ pub(crate) fn write_marks<W: Write>(
             }
         }
     }
-    for (group, place) in groups.iter().zip(0..GROUPS) {
-        if group.count > MOST_SINGLE {
-            write_group(group, place, scale, answers)?;
+    for place in 0..GROUPS {
+        if let Some(group) = groups.get(place as usize) {
+            if group.count > MOST_SINGLE {
+                write_group(group, LEFT + WIDE * place, scale, answers)?;
+            }
         }
     }
     Ok(())
@@ -126,12 +130,16 @@ fn groups_of(
 }
 
 /// The group in which a mark stands.
-fn place_of(x: u64) -> usize {
-    (x.saturating_sub(LEFT) / WIDE).min(GROUPS - 1) as usize
+fn place_of(x: u64) -> usize
+    requires { 150 ≤ x }
+{
+    ((x - LEFT) / WIDE).min(GROUPS - 1) as usize
 }
 
 /// The group in which a mark stands.
-fn group_at(groups: &[Group], x: u64) -> Group {
+fn group_at(groups: &[Group], x: u64) -> Group
+    requires { 150 ≤ x }
+{
     groups.get(place_of(x)).copied().unwrap_or(EMPTY)
 }
 
@@ -164,7 +172,10 @@ fn with(range: (u64, u64), price: u64) -> (u64, u64) {
 }
 
 /// Writes an execution.
-fn write_mark<W: Write>(mark: &Mark, x: u64, y: u64, answers: &mut W) -> Result<(), ShowFault> {
+fn write_mark<W: Write>(mark: &Mark, x: u64, y: u64, answers: &mut W) -> Result<(), ShowFault>
+    requires across { 150 ≤ x }
+    requires down { 115 ≤ y }
+{
     if !mark.through {
         return put(
             answers,
@@ -184,9 +195,9 @@ fn write_mark<W: Write>(mark: &Mark, x: u64, y: u64, answers: &mut W) -> Result<
                 Item::Text("<path stroke=\""),
                 Item::Text(stroke),
                 Item::Text("\" d=\"M"),
-                Item::Number(x.saturating_sub(8)),
+                Item::Number(x - 8),
                 Item::Text(" "),
-                Item::Number(y.saturating_sub(8)),
+                Item::Number(y - 8),
                 Item::Text("l16 16m0 -16l-16 16\"/>"),
             ],
         )?;
@@ -197,11 +208,12 @@ fn write_mark<W: Write>(mark: &Mark, x: u64, y: u64, answers: &mut W) -> Result<
 /// Writes a group: a bar from its lowest price to its highest, a broad one of those that traded through, and the counts.
 fn write_group<W: Write>(
     group: &Group,
-    place: u64,
+    x: u64,
     scale: &Scale,
     answers: &mut W,
-) -> Result<(), ShowFault> {
-    let x = LEFT.saturating_add(WIDE.saturating_mul(place));
+) -> Result<(), ShowFault>
+    requires { x ≤ 1650 }
+{
     write_bar("#888\" stroke-width=\"2", group.all, x, scale, answers)?;
     if group.through > 0 {
         write_bar("#000\" stroke-width=\"5", group.worst, x, scale, answers)?;
@@ -212,9 +224,9 @@ fn write_group<W: Write>(
             Item::Text(
                 "<text class=\"over\" font-size=\"15\" text-anchor=\"end\" transform=\"translate(",
             ),
-            Item::Number(x.saturating_add(21)),
+            Item::Number(x + 21),
             Item::Text(" "),
-            Item::Number(TOP.saturating_add(5)),
+            Item::Number(TOP + 5),
             Item::Text(") rotate(-90)\">"),
             Item::Number(group.through),
             Item::Text(" of "),
@@ -231,18 +243,20 @@ fn write_bar<W: Write>(
     x: u64,
     scale: &Scale,
     answers: &mut W,
-) -> Result<(), ShowFault> {
+) -> Result<(), ShowFault>
+    requires { x ≤ 1650 }
+{
     put(
         answers,
         &[
             Item::Text("<path stroke=\""),
             Item::Text(stroke),
             Item::Text("\" d=\"M"),
-            Item::Number(x.saturating_add(WIDE / 2)),
+            Item::Number(x + WIDE / 2),
             Item::Text(" "),
-            Item::Number(scale.millionths(range.1).saturating_sub(2)),
+            Item::Number(scale.millionths(range.1) - 2),
             Item::Text("V"),
-            Item::Number(scale.millionths(range.0).saturating_add(2)),
+            Item::Number(scale.millionths(range.0) + 2),
             Item::Text("\"/>"),
         ],
     )

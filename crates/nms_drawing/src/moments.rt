@@ -1,4 +1,7 @@
 //! Small pictures of the moments at which executions traded through: a few changes of the symbol before each and after it.
+ghost use Rattle.std.specs.Prelude.{◌≡◌, IfErr, true};
+ghost use Rattle.nms_drawing.specs.Faults.{is_of_memory};
+
 use crate::day::{Moment, concerns, moment_of};
 use crate::drawing_fault::DrawingFault;
 use crate::marks::Mark;
@@ -44,13 +47,15 @@ struct Kept {
     open: Vec<usize>,
 }
 
-/// The moments of executions, in the order given.
+/// The moments of executions, in the order given. Its only fault is that memory ran out.
 pub fn scenes_of(
     alloc: Global,
     roster: &Roster,
     changes: &[Change],
     executions: &[(Sym, Mark)],
-) -> Result<Vec<Scene>, DrawingFault> {
+) -> Result<Vec<Scene>, DrawingFault>
+    ensures { IfErr result (λ fault. is_of_memory fault ≡ true) }
+{
     let mut board = match Boards::new(alloc, roster) {
         Ok(board) => board,
         Err(fault) => return Err(DrawingFault::Board(fault)),

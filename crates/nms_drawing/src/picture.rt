@@ -130,23 +130,22 @@ fn write_strip<W: Write>(
     answers: &mut W,
 ) -> Result<(), ShowFault> {
     let mut begun = None;
-    let mut end = 0_u64;
-    for column in &day.columns {
+    for (column, place) in day.columns.iter().zip(0..u64::MAX) {
         let is_marked = if crossed {
             column.crossed
         } else {
             column.locked
         };
         match (begun, is_marked) {
-            (None, true) => begun = Some(end),
+            (None, true) => begun = Some(place),
             (Some(from), false) => {
-                write_hatching(look, scale, from, end, answers)?;
+                write_hatching(look, scale, from, place, answers)?;
                 begun = None;
             }
             (None, false) | (Some(_), true) => {}
         }
-        end = end.saturating_add(1);
     }
+    let end = day.columns.len() as u64;
     match begun {
         Some(from) => write_hatching(look, scale, from, end, answers),
         None => Ok(()),
@@ -162,7 +161,7 @@ fn write_hatching<W: Write>(
     answers: &mut W,
 ) -> Result<(), ShowFault> {
     let start = scale.column(from);
-    let width = scale.column(to).saturating_sub(start).max(3);
+    let width = scale.column(to).abs_diff(start).max(3);
     put(
         answers,
         &[
@@ -205,7 +204,9 @@ fn write_axes<W: Write>(axis: &Axis<'_>, scale: &Scale, answers: &mut W) -> Resu
 
 /// Writes the ticks of prices.
 fn write_price_ticks<W: Write>(scale: &Scale, answers: &mut W) -> Result<(), ShowFault> {
-    let (first, step) = scale.price_ticks();
+    let Some((first, step)) = scale.price_ticks() else {
+        return Ok(());
+    };
     let mut price = first;
     for _ in 0..MOST_TICKS {
         if price > scale.high {
@@ -218,13 +219,16 @@ fn write_price_ticks<W: Write>(scale: &Scale, answers: &mut W) -> Result<(), Sho
                 Item::Text("<path stroke=\"#bbb\" d=\"M150 "),
                 Item::Number(y),
                 Item::Text("H1650\"/><text text-anchor=\"end\" x=\"142\" y=\""),
-                Item::Number(y.saturating_add(7)),
+                Item::Number(y + 7),
                 Item::Text("\">"),
                 Item::Price(price),
                 Item::Text("</text>"),
             ],
         )?;
-        price = price.saturating_add(step);
+        match price.checked_add(step) {
+            Some(next) => price = next,
+            None => break,
+        }
     }
     Ok(())
 }
@@ -239,7 +243,7 @@ fn write_size_ticks<W: Write>(scale: &Scale, answers: &mut W) -> Result<(), Show
                 Item::Text("<path stroke=\"#bbb\" d=\"M150 "),
                 Item::Number(y),
                 Item::Text("H1650\"/><text text-anchor=\"end\" x=\"142\" y=\""),
-                Item::Number(y.saturating_add(7)),
+                Item::Number(y + 7),
                 Item::Text("\">"),
                 Item::Number(shares),
                 Item::Text("</text>"),
@@ -260,7 +264,10 @@ fn write_ticks<W: Write>(axis: &Axis<'_>, scale: &Scale, answers: &mut W) -> Res
         if let Some(label) = axis.label(place, step) {
             write_tick(&label, scale.across(place), answers)?;
         }
-        place = place.saturating_add(step);
+        match place.checked_add(step) {
+            Some(next) => place = next,
+            None => break,
+        }
     }
     Ok(())
 }

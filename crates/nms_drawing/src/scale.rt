@@ -1,4 +1,6 @@
 //! The places of versions, prices and sizes in a picture, and the ticks of its axes.
+ghost use Rattle.std.specs.Prelude.{◌<◌, ◌≤◌, ◌^◌};
+
 use crate::axis::Axis;
 use crate::day::{Day, Shown, Span};
 use crate::judged::Judged;
@@ -9,6 +11,7 @@ pub(crate) const LEFT: u64 = 150;
 
 pub(crate) const TOP: u64 = 115;
 
+/// How wide it is.
 const WIDE: u64 = 1500;
 
 pub(crate) const HIGH: u64 = 520;
@@ -24,13 +27,13 @@ const STEPS: [u64; 3] = [1, 2, 5];
 pub(crate) const MOST_TICKS: u64 = 14;
 
 /// The prices of the plot, lowest and highest, in 1/10,000 dollar, both 0 if nothing is quoted; the greatest size in shares;
-/// and how many places it has.
+/// and how many columns it has, each of how many places.
 #[derive(Clone, Copy)]
 pub(crate) struct Scale {
     pub(crate) low: u64,
     pub(crate) high: u64,
     pub(crate) shares: u64,
-    places: u64,
+    columns: u64,
     each: u64,
 }
 
@@ -41,7 +44,7 @@ impl Scale {
             low: 0,
             high: 0,
             shares: 0,
-            places: day.each.saturating_mul(day.columns.len() as u64),
+            columns: day.columns.len() as u64,
             each: day.each,
         };
         for column in &day.columns {
@@ -62,9 +65,19 @@ impl Scale {
             self.hold(passed.row.price.get());
         }
         let limit = plan.order.limit.get();
-        let room = self.high.saturating_sub(self.low).max(100);
-        if limit >= self.low.saturating_sub(room) && limit <= self.high.saturating_add(room) {
+        if self.beyond(limit) <= self.high.abs_diff(self.low).max(100) {
             self.hold(limit);
+        }
+    }
+
+    /// How far below or above the plot a price is, 0 if it stands in the plot.
+    fn beyond(&self, price: u64) -> u64 {
+        if price < self.low {
+            self.low - price
+        } else if price > self.high {
+            price - self.high
+        } else {
+            0
         }
     }
 
@@ -93,65 +106,94 @@ impl Scale {
     /// Leaves room below and above the prices.
     pub(crate) fn widen(&mut self) {
         if self.high > 0 {
-            let room = (self.high.saturating_sub(self.low) / 16).max(5);
-            self.low = self.low.saturating_sub(room);
-            self.high = self.high.saturating_add(room);
+            let room = (self.high.abs_diff(self.low) / 16).max(5);
+            self.low -= room.min(self.low);
+            // There is no price so high that there is no room above it.
+            if let Some(high) = self.high.checked_add(room) {
+                self.high = high;
+            }
         }
     }
 
     /// Where a place of the axis begins.
-    pub(crate) fn across(&self, place: u64) -> u64 {
-        LEFT.saturating_add(share(WIDE, place, self.places))
+    pub(crate) fn across(&self, place: u64) -> u64
+        ensures left { 150 ≤ result }
+        ensures right { result ≤ 1650 }
+    {
+        let along = 1500 * u128::from(place) / u128::from(self.each.max(1));
+        LEFT + share(along, u128::from(self.columns), WIDE)
     }
 
     /// Where a version that is drawn begins.
-    pub(crate) fn version(&self, axis: &Axis<'_>, version: u64) -> u64 {
+    pub(crate) fn version(&self, axis: &Axis<'_>, version: u64) -> u64
+        ensures left { 150 ≤ result }
+        ensures right { result ≤ 1650 }
+    {
         self.across(axis.place(version))
     }
 
     /// Where a column begins.
     pub(crate) fn column(&self, place: u64) -> u64 {
-        self.across(self.each.saturating_mul(place))
+        LEFT + share(1500 * u128::from(place), u128::from(self.columns), WIDE)
     }
 
     /// Where a price or a size stands.
-    pub(crate) fn down(&self, shown: Shown, value: u64) -> u64 {
+    pub(crate) fn down(&self, shown: Shown, value: u64) -> u64
+        ensures { result ≤ 850 }
+    {
         match shown {
             Shown::Price => self.price(value),
             Shown::Size => {
-                let up = share(SIZES_HIGH, value, self.shares);
-                SIZES_TOP.saturating_add(SIZES_HIGH).saturating_sub(up)
+                SIZES_TOP + SIZES_HIGH
+                    - share(120 * u128::from(value), u128::from(self.shares), SIZES_HIGH)
             }
         }
     }
 
     /// Where a price stands.
-    pub(crate) fn price(&self, price: u64) -> u64 {
-        self.millionths(price.saturating_mul(100))
+    pub(crate) fn price(&self, price: u64) -> u64
+        ensures top { 115 ≤ result }
+        ensures bottom { result ≤ 635 }
+    {
+        self.at(u128::from(price) * 100)
     }
 
     /// Where a price in 1/1,000,000 dollar stands.
-    pub(crate) fn millionths(&self, price: u64) -> u64 {
-        let low = self.low.saturating_mul(100);
-        let up = share(
-            HIGH,
-            price.saturating_sub(low),
-            self.high.saturating_sub(self.low).saturating_mul(100),
-        );
-        TOP.saturating_add(HIGH).saturating_sub(up)
+    pub(crate) fn millionths(&self, price: u64) -> u64
+        ensures top { 115 ≤ result }
+        ensures bottom { result ≤ 635 }
+    {
+        self.at(u128::from(price))
     }
 
-    /// The first price of a tick, and the step from it to the next.
-    pub(crate) fn price_ticks(&self) -> (u64, u64) {
-        let step = step_of(self.high.saturating_sub(self.low));
-        let below = self.low.checked_div(step).unwrap_or(0);
-        (below.saturating_add(1).saturating_mul(step), step)
+    /// As above, of any price.
+    fn at(&self, millionths: u128) -> u64
+        requires { millionths < 2 ^ 72 }
+        ensures top { 115 ≤ result }
+        ensures bottom { result ≤ 635 }
+    {
+        let low = u128::from(self.low) * 100;
+        let up = millionths.max(low) - low;
+        let whole = u128::from(self.high.abs_diff(self.low)) * 100;
+        TOP + HIGH - share(520 * up, whole, HIGH)
+    }
+
+    /// The first price of a tick above the lowest one, and the step from it to the next. `None` if no price is that high.
+    pub(crate) fn price_ticks(&self) -> Option<(u64, u64)> {
+        let step = step_of(self.high.abs_diff(self.low));
+        let over = self.low.checked_rem(step)?;
+        Some((self.low.checked_add(step.abs_diff(over))?, step))
     }
 }
 
-/// A part of a length, given as a part of another whole.
-pub(crate) fn share(length: u64, part: u64, whole: u64) -> u64 {
-    length.saturating_mul(part).checked_div(whole).unwrap_or(0)
+/// A quotient, if it is not more than the most that is wanted.
+pub(crate) fn share(part: u128, whole: u128, most: u64) -> u64
+    ensures { result ≤ most }
+{
+    match u64::try_from(part / whole.max(1)) {
+        Ok(share) => share.min(most),
+        Err(_) => most,
+    }
 }
 
 /// A round step that goes into a range twelve times at most, or hardly more often.
@@ -159,12 +201,15 @@ pub(crate) fn step_of(range: u64) -> u64 {
     let mut power = 1_u64;
     for _ in 0..19 {
         for step in STEPS {
-            let step = power.saturating_mul(step);
-            if range / 12 <= step {
-                return step;
+            match power.checked_mul(step) {
+                Some(step) if range / 12 <= step => return step,
+                Some(_) | None => {}
             }
         }
-        power = power.saturating_mul(10);
+        match power.checked_mul(10) {
+            Some(next) => power = next,
+            None => break,
+        }
     }
     power
 }

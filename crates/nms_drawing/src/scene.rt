@@ -1,5 +1,7 @@
 //! A moment as a small SVG: the steps of the best bid and the best offer, the execution as a cross at its price, and the
 //! protected quotations that it traded through as hollow marks.
+ghost use Rattle.std.specs.Prelude.{◌<◌, ◌≤◌, ◌^◌};
+
 use crate::moments::{Scene, Step};
 use crate::picture::put;
 use crate::scale::share;
@@ -22,6 +24,8 @@ const WIDE: u64 = 420;
 const MOST_ROWS: usize = 8;
 /// How far apart the words at the right stand.
 const APART: u64 = 18;
+/// No words stand lower than this.
+const LOWEST: u64 = 240;
 
 /// The prices of a scene, in 1/10,000 dollar.
 #[derive(Clone, Copy)]
@@ -43,12 +47,24 @@ impl Prices {
         self.high = self.high.max(price);
     }
 
+    /// Where a price stands.
+    fn price(&self, price: u64) -> u64
+        ensures top { 24 ≤ result }
+        ensures bottom { result ≤ 204 }
+    {
+        self.down(u128::from(price) * 100)
+    }
+
     /// Where a price in 1/1,000,000 dollar stands.
-    fn down(&self, millionths: u64) -> u64 {
-        let low = self.low.saturating_mul(100);
-        let whole = self.high.saturating_sub(self.low).saturating_mul(100);
-        let up = share(HIGH, millionths.saturating_sub(low), whole);
-        TOP.saturating_add(HIGH).saturating_sub(up)
+    fn down(&self, millionths: u128) -> u64
+        requires { millionths < 2 ^ 72 }
+        ensures top { 24 ≤ result }
+        ensures bottom { result ≤ 204 }
+    {
+        let low = u128::from(self.low) * 100;
+        let up = millionths.max(low) - low;
+        let whole = u128::from(self.high.abs_diff(self.low)) * 100;
+        TOP + HIGH - share(180 * up, whole, HIGH)
     }
 }
 
@@ -112,15 +128,25 @@ fn write_ends<W: Write>(prices: &Prices, answers: &mut W) -> Result<(), ShowFaul
 }
 
 /// Where a step begins.
-fn across(scene: &Scene, place: usize) -> u64 {
-    LEFT.saturating_add(share(WIDE, place as u64, scene.steps.len() as u64))
+fn across(scene: &Scene, place: usize) -> u64
+    ensures left { 80 ≤ result }
+    ensures right { result ≤ 500 }
+{
+    let steps = u128::from(scene.steps.len() as u64);
+    LEFT + share(420 * u128::from(place as u64), steps, WIDE)
 }
 
 /// Where the execution stands: in the middle of the step in force.
-fn own_place(scene: &Scene) -> u64 {
+fn own_place(scene: &Scene) -> u64
+    ensures left { 80 ≤ result }
+    ensures right { result ≤ 500 }
+{
     let end = across(scene, scene.before);
-    let start = across(scene, scene.before.saturating_sub(1));
-    (start.saturating_add(end)) / 2
+    let start = match scene.before.checked_sub(1) {
+        Some(place) => across(scene, place),
+        None => end,
+    };
+    (start + end) / 2
 }
 
 /// Writes the version of each step.
@@ -135,7 +161,7 @@ fn write_steps<W: Write>(scene: &Scene, answers: &mut W) -> Result<(), ShowFault
                 Item::Text(
                     " 204v5\"/><text text-anchor=\"end\" font-size=\"11\" transform=\"translate(",
                 ),
-                Item::Number(x.saturating_add(4)),
+                Item::Number(x + 4),
                 Item::Text(" 213) rotate(-40)\">"),
                 Item::Number(step.version),
                 Item::Text("</text>"),
@@ -173,8 +199,8 @@ fn write_side<W: Write>(
         ],
     )?;
     let mut was = 0;
-    for (place, step) in scene.steps.iter().enumerate() {
-        let price = price_of(step, side);
+    for place in 0..scene.steps.len() {
+        let price = price_of(&scene.steps[place], side);
         if price > 0 {
             let command = if was == 0 { "M" } else { "L" };
             put(
@@ -183,9 +209,9 @@ fn write_side<W: Write>(
                     Item::Text(command),
                     Item::Number(across(scene, place)),
                     Item::Text(" "),
-                    Item::Number(prices.down(price.saturating_mul(100))),
+                    Item::Number(prices.price(price)),
                     Item::Text("H"),
-                    Item::Number(across(scene, place.saturating_add(1))),
+                    Item::Number(across(scene, place + 1)),
                 ],
             )?;
         }
@@ -201,20 +227,20 @@ fn write_execution<W: Write>(
     answers: &mut W,
 ) -> Result<(), ShowFault> {
     let x = own_place(scene);
-    let y = prices.down(scene.mark.millionths);
+    let y = prices.down(u128::from(scene.mark.millionths));
     put(
         answers,
         &[
             Item::Text("<path stroke=\"#000\" stroke-dasharray=\"2 4\" d=\"M"),
             Item::Number(x),
             Item::Text(" 20V204\"/><path stroke=\"#fff\" stroke-width=\"8\" d=\"M"),
-            Item::Number(x.saturating_sub(7)),
+            Item::Number(x - 7),
             Item::Text(" "),
-            Item::Number(y.saturating_sub(7)),
+            Item::Number(y - 7),
             Item::Text("l14 14m0 -14l-14 14\"/><path stroke=\"#000\" stroke-width=\"3\" d=\"M"),
-            Item::Number(x.saturating_sub(7)),
+            Item::Number(x - 7),
             Item::Text(" "),
-            Item::Number(y.saturating_sub(7)),
+            Item::Number(y - 7),
             Item::Text("l14 14m0 -14l-14 14\"/>"),
         ],
     )
@@ -254,8 +280,8 @@ fn write_row<W: Write>(
     answers: &mut W,
 ) -> Result<u64, ShowFault> {
     let x = own_place(scene);
-    let y = prices.down(row.price.get().saturating_mul(100));
-    let words = least.max(y.min(TOP.saturating_add(HIGH / 3)));
+    let y = prices.price(row.price.get());
+    let words = least.max(y.min(TOP + HIGH / 3)).min(LOWEST);
     put(
         answers,
         &[
@@ -266,11 +292,11 @@ fn write_row<W: Write>(
             Item::Text("L520 "),
             Item::Number(words),
             Item::Text("\"/><path fill=\"#fff\" stroke=\"#000\" stroke-width=\"2\" d=\"M"),
-            Item::Number(x.saturating_sub(8)),
+            Item::Number(x - 8),
             Item::Text(" "),
             Item::Number(y),
             Item::Text("l8 -8l8 8l-8 8z\"/><text x=\"524\" y=\""),
-            Item::Number(words.saturating_add(5)),
+            Item::Number(words + 5),
             Item::Text("\">"),
             Item::Text(name_of_part(roster, row.part)),
             Item::Text(" at "),
@@ -280,5 +306,5 @@ fn write_row<W: Write>(
             Item::Text(" shares</text>"),
         ],
     )?;
-    Ok(words.saturating_add(APART))
+    Ok(words + APART)
 }

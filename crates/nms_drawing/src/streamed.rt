@@ -1,5 +1,9 @@
-//! The stream of a file in the requested form.
-ghost use Rattle.std.specs.Prelude.{◌<◌, IfSome, length};
+//! The stream of a file in the requested form: `specs/Streamed`.
+ghost use Rattle.std.specs.Prelude.{◌≡◌, ◌<◌, IfErr, IfSome, None, OnOk, Some, false, length, option_copied, true};
+ghost use Rattle.nms_lines.specs.Written.{WritesPart};
+ghost use Rattle.nms_stream.specs.StreamFile.{StreamsFile, is_of_file};
+ghost use Rattle.nms_drawing.specs.Faults.{is_begun, is_of_input};
+ghost use Rattle.nms_drawing.specs.Streamed.{IsStreamedFault, is_plain};
 
 use crate::drawing_fault::DrawingFault;
 use crate::json_lines::JsonLines;
@@ -16,6 +20,8 @@ use std::io::{Read, Write};
 /// Streams the changes of a file: as the proved stream writes it, or each of its lines as a JSON object. An object has the
 /// names of the columns as keys, numbers as numbers and prices as texts, `null` if a side has none. With times each line has
 /// that of its version, last.
+///
+/// `Changes` and `Times` leave nothing written. It is not flushed.
 pub fn stream_changes<R: Read + Drop, W: Write>(
     alloc: Global,
     setup: &Setup,
@@ -26,25 +32,69 @@ pub fn stream_changes<R: Read + Drop, W: Write>(
     answers: &mut W,
 ) -> Result<Ending, DrawingFault>
     requires { IfSome sym (λ sym. sym < length setup.now.roster.syms) }
+    ensures written { is_plain (option_copied times.entry) form ≡ true → OnOk result
+        (StreamsFile setup.now (R.remaining source) sym (W.contents answers.old) (W.contents answers.new)) }
+    ensures cut { is_plain (option_copied times.entry) form ≡ true → IfErr result (λ fault. is_begun fault ≡ true → WritesPart
+        (StreamsFile setup.now (R.remaining source) sym (W.contents answers.old)) (W.contents answers.old) (W.contents answers.new)) }
+    ensures whole { is_plain (option_copied times.entry) form ≡ true → IfErr result (λ fault. is_begun fault ≡ false
+        → W.contents answers.new ≡ W.contents answers.old) }
+    ensures refused { IfErr result (IsStreamedFault setup.now (R.remaining source) (option_copied times.entry)) }
+    ensures unwritten { IfErr result (λ fault. is_of_input fault ≡ true → W.contents answers.new ≡ W.contents answers.old) }
 {
-    if let Some(times) = times {
-        return stream_timed(alloc, setup, source, times, sym, form, answers);
+    match times {
+        Some(times) => stream_timed(alloc, setup, source, times, sym, form, answers),
+        None => match form {
+            Form::Json => stream_json(alloc, setup, source, sym, answers),
+            Form::Text { .. } => stream_plain(alloc, setup, source, sym, answers),
+        },
     }
-    if form.is_json() {
-        let mut lines = JsonLines::new(alloc, answers);
-        return match stream_file(alloc, setup, source, sym, &mut lines) {
-            Ok(()) => Ok(Ending::Done),
-            Err(StreamFault::WriteFault) if lines.wants_memory() => Err(DrawingFault::NoMemory),
-            Err(fault) => Err(DrawingFault::from(fault)),
-        };
-    }
+}
+
+/// Streams the changes of a file as text.
+fn stream_plain<R: Read + Drop, W: Write>(
+    alloc: Global,
+    setup: &Setup,
+    source: R,
+    sym: Option<Sym>,
+    answers: &mut W,
+) -> Result<Ending, DrawingFault>
+    requires { IfSome sym (λ sym. sym < length setup.now.roster.syms) }
+    ensures written { OnOk result (StreamsFile setup.now (R.remaining source) sym (W.contents answers.old) (W.contents answers.new)) }
+    ensures cut { IfErr result (λ fault. is_begun fault ≡ true → WritesPart
+        (StreamsFile setup.now (R.remaining source) sym (W.contents answers.old)) (W.contents answers.old) (W.contents answers.new)) }
+    ensures refused { IfErr result (IsStreamedFault setup.now (R.remaining source) None) }
+    ensures unwritten { IfErr result (λ fault. is_begun fault ≡ false → W.contents answers.new ≡ W.contents answers.old) }
+{
     match stream_file(alloc, setup, source, sym, answers) {
         Ok(()) => Ok(Ending::Done),
         Err(fault) => Err(DrawingFault::from(fault)),
     }
 }
 
-/// As above, with the time of each line's version.
+/// Streams the changes of a file as objects.
+fn stream_json<R: Read + Drop, W: Write>(
+    alloc: Global,
+    setup: &Setup,
+    source: R,
+    sym: Option<Sym>,
+    answers: &mut W,
+) -> Result<Ending, DrawingFault>
+    requires { IfSome sym (λ sym. sym < length setup.now.roster.syms) }
+    ensures refused { IfErr result (IsStreamedFault setup.now (R.remaining source) None) }
+    ensures unwritten { IfErr result (λ fault. is_of_input fault ≡ true → W.contents answers.new ≡ W.contents answers.old) }
+{
+    let changes = match read_changes(alloc, setup, source) {
+        Ok(changes) => changes,
+        Err(fault) => return Err(DrawingFault::Changes(fault)),
+    };
+    let mut lines = JsonLines::new(alloc, answers);
+    match stream(alloc, setup.roster(), &changes, sym, &mut lines) {
+        Ok(()) => Ok(Ending::Done),
+        Err(fault) => Err(passed_on(fault, lines.wants_memory())),
+    }
+}
+
+/// Streams the changes of a file with the time of each line's version.
 fn stream_timed<R: Read + Drop, W: Write>(
     alloc: Global,
     setup: &Setup,
@@ -55,6 +105,8 @@ fn stream_timed<R: Read + Drop, W: Write>(
     answers: &mut W,
 ) -> Result<Ending, DrawingFault>
     requires { IfSome sym (λ sym. sym < length setup.now.roster.syms) }
+    ensures refused { IfErr result (IsStreamedFault setup.now (R.remaining source) (Some times.now)) }
+    ensures unwritten { IfErr result (λ fault. is_of_input fault ≡ true → W.contents answers.new ≡ W.contents answers.old) }
 {
     let changes = match read_changes(alloc, setup, source) {
         Ok(changes) => changes,
@@ -64,7 +116,19 @@ fn stream_timed<R: Read + Drop, W: Write>(
     let mut lines = TimedLines::new(alloc, times, form, answers);
     match stream(alloc, setup.roster(), &changes, sym, &mut lines) {
         Ok(()) => Ok(Ending::Done),
-        Err(StreamFault::WriteFault) if lines.wants_memory() => Err(DrawingFault::NoMemory),
-        Err(fault) => Err(DrawingFault::from(fault)),
+        Err(fault) => Err(passed_on(fault, lines.wants_memory())),
+    }
+}
+
+/// Why a stream that a writer passed on was not written whole: memory, if that is why the writer failed.
+fn passed_on(fault: StreamFault, wants_memory: bool) -> DrawingFault
+    ensures { is_of_input result ≡ is_of_file fault }
+{
+    match fault {
+        StreamFault::WriteFault if wants_memory => DrawingFault::NoMemory,
+        StreamFault::Changes(_)
+        | StreamFault::Board(_)
+        | StreamFault::WriteFault
+        | StreamFault::NoMemory => DrawingFault::from(fault),
     }
 }

@@ -1,13 +1,19 @@
 //! The state at any version: the report of one symbol, or a table of all.
-ghost use Rattle.std.specs.Prelude.{◌≡◌, ◌<◌, ◌≤◌, All, IfOk, IfSome, length, true};
+ghost use Rattle.std.specs.Prelude.{◌≡◌, ℕ, ◌<◌, ◌≤◌, All, IfErr, IfOk, IfSome, List, OnOk, Option, length, option_copied, true, false};
 ghost use Rattle.nms_quote.specs.Roster.{holds, sizes_of};
+ghost use Rattle.nms_quote.specs.Tape.{Tape};
 ghost use Rattle.nms_quote.specs.declared.TheConstants.{MOST_CHANGES};
+ghost use Rattle.nms_board.specs.Cells.{StandsFor};
+ghost use Rattle.nms_quote.specs.declared.side_quote.Side.{Side};
+ghost use Rattle.nms_board.specs.View.{rows_on, view_of};
+ghost use Rattle.nms_drawing.specs.Faults.{is_begun};
+ghost use Rattle.nms_drawing.specs.Versions.{HasVersion, IsBoardOf, IsVersionBoard, IsVersionFault, Reports, ShowsVersion, is_text};
 
 use crate::drawing_fault::DrawingFault;
-use nms_board::{Boards, Row, View};
+use nms_board::{BoardFault, Boards, Row, View};
 use nms_fees::Setup;
 use nms_files::read_changes;
-use nms_lines::{name_of_part, name_of_sym, word_of_side};
+use nms_lines::{name_of_part, name_of_sym, word_of_side, write_text};
 use nms_nbbo::{Pair, PairPlace, best, market, market_between, next_pair};
 use nms_quote::{Change, Roster, Side, Sym};
 use nms_show::{Column, Ending, Form, Item, ShowFault, write_object, write_row};
@@ -33,13 +39,41 @@ pub fn show_version<R: Read + Drop, W: Write>(
     answers: &mut W,
 ) -> Result<Ending, DrawingFault>
     requires { IfSome sym (λ sym. sym < length setup.now.roster.syms) }
+    ensures shown { is_text form ≡ true → IfSome sym (λ sym. OnOk result
+        (ShowsVersion setup.now (R.remaining source) (option_copied times.entry) version sym (W.contents answers.old) (W.contents answers.new))) }
+    ensures of { OnOk result ((tape : Tape) × HasVersion setup.now (R.remaining source) (option_copied times.entry) version tape) }
+    ensures refused { IfErr result (IsVersionFault setup.now (R.remaining source) (option_copied times.entry) version) }
+    ensures unwritten { IfErr result (λ fault. is_begun fault ≡ false → W.contents answers.new ≡ W.contents answers.old) }
 {
     let board = board_at(alloc, setup, source, times, version)?;
-    match sym {
-        Some(sym) => show_symbol(alloc, setup.roster(), &board, sym, form, answers)?,
-        None => show_all(alloc, setup.roster(), &board, form, answers)?,
+    match show_board(alloc, setup.roster(), &board, sym, form, answers) {
+        Ok(()) => Ok(Ending::Done),
+        Err(fault) => Err(fault),
     }
-    Ok(Ending::Done)
+}
+
+/// Writes what a board shows of a symbol, or of all.
+fn show_board<W: Write>(
+    alloc: Global,
+    roster: &Roster,
+    board: &Boards,
+    sym: Option<Sym>,
+    form: Form,
+    answers: &mut W,
+) -> Result<(), DrawingFault>
+    requires sizes { board.now.sizes ≡ sizes_of roster.now }
+    requires sym { IfSome sym (λ sym. sym < length roster.now.syms) }
+    ensures shown { is_text form ≡ true → IfSome sym (λ sym. (tape : Tape) → StandsFor board.now tape → OnOk result
+        (Reports roster.now (view_of (sizes_of roster.now) tape sym) (W.contents answers.old) (W.contents answers.new))) }
+    ensures begun { IfErr result (λ fault. is_begun fault ≡ true) }
+{
+    match sym {
+        Some(sym) => show_symbol(alloc, roster, board, sym, form, answers),
+        None => match show_all(alloc, roster, board, form, answers) {
+            Ok(()) => Ok(()),
+            Err(fault) => Err(DrawingFault::from(fault)),
+        },
+    }
 }
 
 /// The board of a version, after that many first changes of a file.
@@ -52,7 +86,8 @@ pub(crate) fn board_at<R: Read + Drop>(
     times: Option<&Times>,
     version: u64,
 ) -> Result<Boards, DrawingFault>
-    ensures { IfOk result (λ board. board.sizes ≡ sizes_of setup.now.roster) }
+    ensures board { IfOk result (IsVersionBoard setup.now (R.remaining source) (option_copied times.entry) version) }
+    ensures refused { IfErr result (λ fault. (is_begun fault ≡ false) × IsVersionFault setup.now (R.remaining source) (option_copied times.entry) version fault) }
 {
     let changes = match read_changes(alloc, setup, source) {
         Ok(changes) => changes,
@@ -64,7 +99,10 @@ pub(crate) fn board_at<R: Read + Drop>(
     if version > changes.len() as u64 {
         return Err(DrawingFault::VersionBeyondTape);
     }
-    board_after(alloc, setup.roster(), &changes[..version as usize])
+    match board_after(alloc, setup.roster(), &changes[..version as usize]) {
+        Ok(board) => Ok(board),
+        Err(fault) => Err(DrawingFault::Board(fault)),
+    }
 }
 
 /// The board after these changes.
@@ -72,18 +110,14 @@ pub(crate) fn board_after(
     alloc: Global,
     roster: &Roster,
     changes: &[Change],
-) -> Result<Boards, DrawingFault>
+) -> Result<Boards, BoardFault>
     requires held { All (λ change. holds (sizes_of roster.now) change ≡ true) changes.now }
     requires few { length changes.now ≤ MOST_CHANGES }
-    ensures { IfOk result (λ board. board.sizes ≡ sizes_of roster.now) }
+    ensures { IfOk result (IsBoardOf (sizes_of roster.now) changes.now) }
 {
-    match Boards::new(alloc, roster) {
-        Ok(mut board) => {
-            board.apply_all(changes);
-            Ok(board)
-        }
-        Err(fault) => Err(DrawingFault::Board(fault)),
-    }
+    let mut board = Boards::new(alloc, roster)?;
+    board.apply_all(changes);
+    Ok(board)
 }
 
 /// Writes the report of a symbol.
@@ -97,16 +131,37 @@ fn show_symbol<W: Write>(
 ) -> Result<(), DrawingFault>
     requires sizes { board.now.sizes ≡ sizes_of roster.now }
     requires sym { sym < length roster.now.syms }
+    ensures shown { is_text form ≡ true → (tape : Tape) → StandsFor board.now tape → OnOk result
+        (Reports roster.now (view_of (sizes_of roster.now) tape sym) (W.contents answers.old) (W.contents answers.new)) }
+    ensures begun { IfErr result (λ fault. is_begun fault ≡ true) }
 {
     let view = board.view(sym);
-    if form.is_json() {
-        return show_view(alloc, roster, &view, answers).map_err(DrawingFault::from);
+    match form {
+        Form::Json => {
+            show_view(alloc, roster, &view, answers)?;
+            Ok(())
+        }
+        Form::Text { .. } => show_report(alloc, roster, &view, answers),
     }
+}
+
+/// Writes the report of a view.
+fn show_report<W: Write>(
+    alloc: Global,
+    roster: &Roster,
+    view: &View,
+    answers: &mut W,
+) -> Result<(), DrawingFault>
+    requires sym { view.now.sym < length roster.now.syms }
+    requires parts { (side : Side) → All (λ row. row.part < length roster.now.parts) (rows_on side view.now) }
+    ensures shown { OnOk result (Reports roster.now view.now (W.contents answers.old) (W.contents answers.new)) }
+    ensures begun { IfErr result (λ fault. is_begun fault ≡ true) }
+{
     let mut text = Vec::new(alloc);
-    if report(&view, roster, &mut text).is_err() {
+    if report(view, roster, &mut text).is_err() {
         return Err(DrawingFault::NoMemory);
     }
-    match answers.write_all(&text) {
+    match write_text(answers, &text) {
         Ok(()) => Ok(()),
         Err(_) => Err(DrawingFault::WriteFault),
     }
@@ -310,12 +365,8 @@ fn members_of<'a>(version: u64, items: [Item<'a>; 8]) -> [(&'static str, Item<'a
     let mut members = [("", Item::Absent); 10];
     members[0] = ("what", Item::Text("symbol"));
     members[1] = ("version", Item::Number(version));
-    let mut place: usize = 2;
-    for (key, item) in KEYS.iter().zip(items) {
-        if let Some(member) = members.get_mut(place) {
-            *member = (*key, item);
-        }
-        place = place.saturating_add(1);
+    for place in 0..8 {
+        members[place + 2] = (KEYS[place], items[place]);
     }
     members
 }
