@@ -8,7 +8,8 @@ use crate::change_numbers::NmsChange;
 use nms_quote::{Change, Part, QState, Roster, SideQuote, Sym};
 use nms_units::{Lot, Price, Shares};
 
-/// The change that numbers give on a roster, or the fault of least code.
+/// The change that numbers give on a roster, or the fault of least code. Inlined, so that the change is not copied.
+#[inline(always)]
 pub(crate) fn change_of(roster: &Roster, numbers: &NmsChange) -> Result<Change, CallFault>
     ensures change { result ≡ change_said (sizes_of roster.now) numbers.now }
     ensures held { IfOk result (λ change. holds (sizes_of roster.now) change ≡ true) }
@@ -26,6 +27,7 @@ pub(crate) fn change_of(roster: &Roster, numbers: &NmsChange) -> Result<Change, 
 }
 
 /// A quotation of both sides.
+#[inline(always)]
 fn quotation_of(roster: &Roster, numbers: &NmsChange) -> Result<Change, CallFault>
     ensures change { result ≡ quotation_said (sizes_of roster.now) numbers.now (state_said numbers.now.state)
         (side_said numbers.now.bid_price numbers.now.bid_shares) (side_said numbers.now.offer_price numbers.now.offer_shares) }
