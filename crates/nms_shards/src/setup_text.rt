@@ -1,7 +1,11 @@
 //! The two small texts beside a shard: its symbols, and its setup.
-ghost use Rattle.std.specs.Prelude.{◌<◌, ◌≤◌, ◌≤ℤ◌, length, negsuc, pos};
+ghost use Rattle.std.specs.Prelude.{◌<◌, ◌≡◌, ◌≤◌, ◌≤ℤ◌, length, negsuc, pos, true};
+ghost use Rattle.std.specs.List.{list_all};
+ghost use Rattle.nms_show.specs.Safe.{IsSafe};
+ghost use Rattle.nms_show.specs.Written.{Writes};
+ghost use Rattle.nms_import.specs.Telling.{is_own_plain, is_plain};
 
-use crate::cutting::Cutting;
+use crate::cutting::{Cutting, Listed};
 use nms_fee_book::Caps;
 use nms_fees::Setup;
 use nms_import::ImportFault;
@@ -10,13 +14,16 @@ use nms_show::{Form, Item, ShowFault, write_line};
 use nms_units::Price;
 use std::io::Write;
 
-/// Writes a line for each symbol of the shard: its name, and the versions after its first and its last change.
-pub fn write_listed<W: Write>(out: &mut W, cutting: &Cutting) -> Result<(), ImportFault> {
+/// Writes a line for each symbol of the shard: its name, and the versions after its first and its last change. What is written
+/// is safe to show on a terminal.
+pub fn write_listed<W: Write>(out: &mut W, cutting: &Cutting) -> Result<(), ImportFault>
+    ensures safe { Writes IsSafe (W.contents out.old) (W.contents out.new) result }
+{
     for listed in cutting.listed() {
         line(
             out,
             &[
-                Item::Text(listed.name.as_str()),
+                Item::Bytes(listed.name.as_bytes()),
                 Item::Text(","),
                 Item::Number(listed.first),
                 Item::Text(","),
@@ -28,34 +35,43 @@ pub fn write_listed<W: Write>(out: &mut W, cutting: &Cutting) -> Result<(), Impo
 }
 
 /// Writes the setup of the shard: the given one with the shard's symbols in place of its own. A comment at its start says how
-/// many opening changes the shard begins with.
+/// many opening changes the shard begins with. What is written is safe to show on a terminal.
 pub fn write_setup<W: Write>(
     out: &mut W,
     setup: &Setup,
     cutting: &Cutting,
-) -> Result<(), ImportFault> {
-    line(
-        out,
-        &[
-            Item::Text("# opening changes: "),
-            Item::Number(cutting.opened()),
-        ],
-    )?;
-    write_settings(out, setup)?;
+) -> Result<(), ImportFault>
+    ensures safe { Writes IsSafe (W.contents out.old) (W.contents out.new) result }
+{
+    write_top(out, setup, cutting)?;
     write_participants(out, setup)?;
     write_symbols(out, cutting)
 }
 
-/// Writes the keys before the tables.
-fn write_settings<W: Write>(out: &mut W, setup: &Setup) -> Result<(), ImportFault> {
-    for (key, number) in [
+/// Writes the comment, and the keys before the tables.
+fn write_top<W: Write>(out: &mut W, setup: &Setup, cutting: &Cutting) -> Result<(), ImportFault>
+    ensures { Writes IsSafe (W.contents out.old) (W.contents out.new) result }
+{
+    let settings = [
+        ("# opening changes: ", cutting.opened()),
         ("tape_limit = ", setup.tape_limit()),
         ("queue = ", setup.queue() as u64),
         ("desks = ", u64::from(setup.desks())),
         ("feeds = ", u64::from(setup.feeds())),
         ("caps = ", year_of(setup.caps())),
-    ] {
-        line(out, &[Item::Text(key), Item::Number(number)])?;
+    ];
+    write_settings(out, &settings)
+}
+
+/// Writes a line for each key, with its number.
+fn write_settings<W: Write>(
+    out: &mut W,
+    settings: &[(&'static str, u64)],
+) -> Result<(), ImportFault>
+    ensures { list_all (λ setting. is_plain setting.0.now) settings.now ≡ true → Writes IsSafe (W.contents out.old) (W.contents out.new) result }
+{
+    for setting in settings {
+        number_line(out, setting.0, setting.1)?;
     }
     Ok(())
 }
@@ -69,7 +85,9 @@ fn year_of(caps: Caps) -> u64 {
 }
 
 /// Writes a table for each participant, in order of place.
-fn write_participants<W: Write>(out: &mut W, setup: &Setup) -> Result<(), ImportFault> {
+fn write_participants<W: Write>(out: &mut W, setup: &Setup) -> Result<(), ImportFault>
+    ensures { Writes IsSafe (W.contents out.old) (W.contents out.new) result }
+{
     for place in 0..setup.roster().parts() as u8 {
         let part = Part::new(place).unwrap();
         write_participant(out, setup, part)?;
@@ -80,9 +98,10 @@ fn write_participants<W: Write>(out: &mut W, setup: &Setup) -> Result<(), Import
 /// Writes the table of a participant.
 fn write_participant<W: Write>(out: &mut W, setup: &Setup, part: Part) -> Result<(), ImportFault>
     requires { part < length setup.now.roster.parts }
+    ensures { Writes IsSafe (W.contents out.old) (W.contents out.new) result }
 {
     let roster = setup.roster();
-    text_line(out, "\n[[participant]]")?;
+    head_line(out, "[[participant]]")?;
     quoted_line(out, "name", roster.part_name(part))?;
     quoted_line(out, "feed", letter_of(roster.feed_of(part)))?;
     amount_line(out, "fee = ", fee_at(setup, part, 10_000))?;
@@ -117,55 +136,75 @@ fn letter_of(feed: Feed) -> &'static str {
 }
 
 /// Writes a table for each symbol of the shard.
-fn write_symbols<W: Write>(out: &mut W, cutting: &Cutting) -> Result<(), ImportFault> {
+fn write_symbols<W: Write>(out: &mut W, cutting: &Cutting) -> Result<(), ImportFault>
+    ensures { Writes IsSafe (W.contents out.old) (W.contents out.new) result }
+{
     for listed in cutting.listed() {
-        text_line(out, "\n[[symbol]]")?;
-        quoted_line(out, "name", listed.name.as_str())?;
-        line(
-            out,
-            &[
-                Item::Text("lot = "),
-                Item::Number(u64::from(listed.lot.get())),
-            ],
-        )?;
+        write_symbol(out, listed)?;
     }
     Ok(())
 }
 
+/// Writes the table of a symbol.
+fn write_symbol<W: Write>(out: &mut W, listed: &Listed) -> Result<(), ImportFault>
+    ensures { Writes IsSafe (W.contents out.old) (W.contents out.new) result }
+{
+    head_line(out, "[[symbol]]")?;
+    quoted_line(out, "name", listed.name.as_str())?;
+    number_line(out, "lot = ", u64::from(listed.lot.get()))
+}
+
+/// Writes an empty line, and the head of a table.
+fn head_line<W: Write>(out: &mut W, head: &str) -> Result<(), ImportFault>
+    ensures { is_plain head.now ≡ true → Writes IsSafe (W.contents out.old) (W.contents out.new) result }
+{
+    line(out, &[])?;
+    line(out, &[Item::Text(head)])
+}
+
 /// Writes a key with a text in quotes.
-fn quoted_line<'x, W: Write>(out: &mut W, key: &'x str, text: &'x str) -> Result<(), ImportFault> {
+fn quoted_line<'x, W: Write>(out: &mut W, key: &'x str, text: &'x str) -> Result<(), ImportFault>
+    ensures { is_plain key.now ≡ true → Writes IsSafe (W.contents out.old) (W.contents out.new) result }
+{
     line(
         out,
         &[
             Item::Text(key),
             Item::Text(" = \""),
-            Item::Text(text),
+            Item::Bytes(text.as_bytes()),
             Item::Text("\""),
         ],
     )
+}
+
+/// Writes a key with a number.
+fn number_line<W: Write>(out: &mut W, key: &str, number: u64) -> Result<(), ImportFault>
+    ensures { is_plain key.now ≡ true → Writes IsSafe (W.contents out.old) (W.contents out.new) result }
+{
+    line(out, &[Item::Text(key), Item::Number(number)])
 }
 
 /// Writes a key with a whole number, which may be negative.
 fn amount_line<W: Write>(out: &mut W, key: &str, amount: i128) -> Result<(), ImportFault>
     requires low { negsuc 10000001010000000 ≤ℤ amount }
     requires high { amount ≤ℤ pos 10000000010000000 }
+    ensures { is_plain key.now ≡ true → Writes IsSafe (W.contents out.old) (W.contents out.new) result }
 {
-    let sign = if amount < 0 { "-" } else { "" };
-    line(
-        out,
-        &[
-            Item::Text(key),
-            Item::Text(sign),
-            Item::Number(amount.unsigned_abs() as u64),
-        ],
-    )
+    let number = amount.unsigned_abs() as u64;
+    if amount < 0 {
+        return line(
+            out,
+            &[Item::Text(key), Item::Text("-"), Item::Number(number)],
+        );
+    }
+    number_line(out, key, number)
 }
 
-fn text_line<W: Write>(out: &mut W, text: &str) -> Result<(), ImportFault> {
-    line(out, &[Item::Text(text)])
-}
-
-fn line<W: Write>(out: &mut W, items: &[Item<'_>]) -> Result<(), ImportFault> {
+/// Writes a line.
+#[tactic(auto, using(crate::proofs::ShowFacts::all_own))]
+fn line<W: Write>(out: &mut W, items: &[Item<'_>]) -> Result<(), ImportFault>
+    ensures { list_all is_own_plain items.now ≡ true → Writes IsSafe (W.contents out.old) (W.contents out.new) result }
+{
     match write_line(out, Form::Text { colours: false }, items) {
         Ok(()) => Ok(()),
         Err(ShowFault::NoMemory) => Err(ImportFault::NoMemory),

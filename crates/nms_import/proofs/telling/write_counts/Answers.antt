@@ -1,6 +1,6 @@
 -- `write_counts`: one line more.
 use Rattle.nms_show.specs.Safe.{IsSafe, nothing}
-use Rattle.nms_show.proofs.WriteFacts.{adds_none, safe_part, safe_then, writes_err}
+use Rattle.nms_show.proofs.Offered.{adds_none, safe_part, safe_then, writes_err}
 use Rattle.nms_import.specs.Telling.{is_plain}
 use Rattle.nms_import.proofs.ShowFacts.{all_true}
 use Rattle.nms_import.proofs.telling.write_counts.Goals as goal

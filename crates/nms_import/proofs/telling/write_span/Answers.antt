@@ -1,7 +1,7 @@
 -- `write_span`: nothing, or a line whose texts are printable.
 use Rattle.std.proofs.Common.{refl}
 use Rattle.nms_show.specs.Safe.{IsSafe, nothing}
-use Rattle.nms_show.proofs.WriteFacts.{adds_none}
+use Rattle.nms_show.proofs.Offered.{adds_none}
 use Rattle.nms_import.proofs.telling.write_span.Goals as goal
 
 pub returns-in_default : goal.returns-in_default

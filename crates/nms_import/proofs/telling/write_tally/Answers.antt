@@ -1,7 +1,7 @@
 -- `write_tally`: the counts, and the line of the sums.
 use Rattle.std.proofs.Common.{refl}
 use Rattle.nms_show.specs.Safe.{IsSafe}
-use Rattle.nms_show.proofs.WriteFacts.{safe_writes, writes_err}
+use Rattle.nms_show.proofs.Offered.{safe_writes, writes_err}
 use Rattle.nms_import.proofs.telling.write_tally.Goals as goal
 
 pub returns-in_err-write_counts : goal.returns-in_err-write_counts

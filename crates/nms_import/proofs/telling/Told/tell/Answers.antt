@@ -1,6 +1,6 @@
 -- `tell`: what the writer took of the line is a first part of a safe text.
 use Rattle.nms_show.specs.Safe.{IsSafe, nothing}
-use Rattle.nms_show.proofs.WriteFacts.{adds_no_part}
+use Rattle.nms_show.proofs.Offered.{adds_no_part}
 use Rattle.nms_import.proofs.telling.Told.tell.Goals as goal
 
 pub returns-then-self-eq0-clause-safe : goal.returns-then-self-eq0-clause-safe

@@ -1,7 +1,7 @@
 -- `tell_returned`: what the writer took of the line is a first part of a safe text.
 use Rattle.std.proofs.Common.{refl}
 use Rattle.nms_show.specs.Safe.{IsSafe, nothing}
-use Rattle.nms_show.proofs.WriteFacts.{adds_no_part}
+use Rattle.nms_show.proofs.Offered.{adds_no_part}
 use Rattle.nms_import.proofs.telling.Told.tell_returned.Goals as goal
 
 pub returns-then-self-eq0-clause-safe : goal.returns-then-self-eq0-clause-safe
