@@ -3,7 +3,7 @@ use Rattle.std.proofs.Common.{ℕ, ◌≡◌, ◌*◌, ◌-◌, ◌^◌, ◌<◌
 use Rattle.std.proofs.Math.Nat.{mul-lt-mul_of_pos_right, one-le-pow}
 use Rattle.std.proofs.lemmas.Nat.{pow-add}
 
--- decimals behind a point, in units of the last of `most` of them
+-- decimals after a point, in units of the last of `most` of them
 pub scaled_below : (n i most : ℕ) → n < 10 ^ i → i ≤ most → n * 10 ^ (most - i) < 10 ^ most
 scaled_below n i most h le =
     let scale : n * 10 ^ (most - i) < 10 ^ i * 10 ^ (most - i) =

@@ -175,7 +175,7 @@ pub flickers_within : (execution : Execution) (shares : ℕ) (marked : List Mark
 flickers_within execution shares marked =
     omega (arith, count_by-le-length (λ (one : Marked). one.1) (rows_left execution marked), count_within execution shares marked)
 
--- at most so many after some of the quotations
+-- at most one for each of the quotations so far
 pub count_so_far : (execution : Execution) (finding : Finding) (place : ℕ) (sums : Sums) → place ≤ length finding.passed.items
     → sums ≡ sums_in execution execution.shares (marked_from finding 0 (take place finding.passed.items))
     → (sums.count ≤ place) × (sums.flickers ≤ place)

@@ -24,7 +24,7 @@ parts_order h m s n h' m' s' n' lm ls ln lm' ls' ln' within = elim (cases_lt h h
       ]
 ]
 
--- the parts of so many nanoseconds since midnight
+-- the parts of a number of nanoseconds since midnight
 nanoseconds_are : (k : ℕ)
     → k ≡ k / 3600000000000 * 3600000000000 + k / 60000000000 % 60 * 60000000000 + k / 1000000000 % 60 * 1000000000 + k % 1000000000
 nanoseconds_are k = omega arith

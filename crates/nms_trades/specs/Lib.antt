@@ -8,6 +8,7 @@ pub mod Causes
 pub mod Counts
 pub mod Examples
 pub mod Faults
+pub mod FileFaults
 pub mod FinePrice
 pub mod Found
 pub mod Judged

@@ -1,4 +1,9 @@
-//! Why executions were not judged.
+//! Why executions were not judged: `specs/FileFaults`.
+ghost use Rattle.std.specs.Prelude.{◌≡◌};
+ghost use Rattle.nms_codes.specs.Codes.{IsToldAs};
+ghost use Rattle.nms_codes.specs.declared.code.Code.TheVariants as code;
+ghost use Rattle.nms_trades.specs.FileFaults.{file_code, file_status, is_of_executions};
+
 use nms_board::BoardFault;
 use nms_codes::Code;
 use nms_files::ChangesFault;
@@ -35,7 +40,10 @@ pub enum TradesFault {
 
 impl TradesFault {
     /// The code of the fault: that of a file, `H2` to `H4`, `B1`, `E2`, `E3` or `E4`.
-    pub fn code(&self) -> Code {
+    pub fn code(&self) -> Code
+        ensures code { IsToldAs result (file_code self.now) (file_status self.now) }
+        ensures records { self.now ≡ TradesFault.TooLong → result ≡ code.E3 }
+    {
         match self {
             TradesFault::Changes(fault) => Code::of_changes(*fault),
             TradesFault::Executions(fault) => Code::of_record(*fault),
@@ -47,7 +55,9 @@ impl TradesFault {
     }
 
     /// Whether it is about the file of executions, and not about that of the changes.
-    pub fn is_of_executions(&self) -> bool {
+    pub fn is_of_executions(&self) -> bool
+        ensures { result ≡ is_of_executions self.now }
+    {
         match self {
             TradesFault::Executions(_) | TradesFault::TooLong => true,
             TradesFault::Changes(_)

@@ -255,7 +255,7 @@ checked_on settings bytes tape listed text (Ok it) e changes by =
     record { tape = tape; changes = changes; pieces = by.0; parted = by.1; by = same }
 checked_on settings bytes tape listed text (Err fault) e changes by = tt
 
--- the counts behind one piece more
+-- the counts after one piece more
 pub counts_next : (settings : Settings) (tape : Tape) (pieces : List Piece) (i : ℕ) (d : Piece) (counts after : Counts) (one : Outcome)
     → AreCounts settings tape (texts_of (take i pieces)) counts → i < length pieces
     → IsOutcome settings tape (get_or pieces i d).text.now one → after ≡ counted counts one
@@ -269,7 +269,7 @@ counts_next settings tape pieces i d counts after one had below found e =
     (subst (λ (it : Counts). AreCounts settings tape (texts_of (take i pieces) ++ text ∷ []) it) (sym e)
     (counts_more settings tape (texts_of (take i pieces)) text counts one had found))
 
--- behind the last piece
+-- after the last piece
 pub counts_all : (settings : Settings) (tape : Tape) (pieces : List Piece) (i : ℕ) (counts : Counts)
     → AreCounts settings tape (texts_of (take i pieces)) counts → length pieces ≤ i → AreCounts settings tape (texts_of pieces) counts
 counts_all settings tape pieces i counts had over =

@@ -23,7 +23,7 @@ take_join (suc m) n (byte ∷ more) =
     let same : suc (m + n) ≡ suc m + n = omega arith in
     ap (λ (rest : List ℕ). byte ∷ rest) (take_join m n more) ∙ ap (λ (k : ℕ). take k (byte ∷ more)) same
 
--- a part of a text, and the part behind it
+-- a part of a text, and the part after it
 pub part_join : (text : List ℕ) (a b c : ℕ) → a ≤ b → b ≤ c → slice_range text a b ++ slice_range text b c ≡ slice_range text a c
 part_join text a b c first then_ =
     let place : b ≡ a + (b - a) = omega (arith, first) in
@@ -74,7 +74,7 @@ taken_none text pieces = record {
   pieces = λ later. refl;
 }
 
--- behind one line more
+-- after one line more
 pub taken_more : (text : List ℕ) (old new after : List Piece) (start end line : ℕ) (begun next : Option Begun) (kind : Kind)
     → Taken text old new start line begun → start < length text → end ≡ start + first_length (drop start text) → start < end
     → end ≤ length text → IsKind (slice_range text start end) kind → IfSome next (λ it. it.start ≤ end)
@@ -109,7 +109,7 @@ taken_more text old new after start end line begun next kind had some is higher 
           ∙ had.pieces (one ∷ later) ∙ step (λ next. pieces_in next later);
     }
 
--- behind the last line
+-- after the last line
 pub all_taken : (text : List ℕ) (old new after : List Piece) (start line : ℕ) (begun : Option Begun)
     → Taken text old new start line begun → length text ≤ start
     → texts_of after ≡ texts_of new ++ option_to_list (begun_text text start begun)

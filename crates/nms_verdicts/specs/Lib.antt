@@ -8,5 +8,6 @@ pub use Rattle.nms_plan_places.specs.DoubtPlaces as DoubtPlaces
 pub mod Begun
 pub mod Checked
 pub mod Explained
+pub mod Faults
 pub mod Pieces
 pub mod Verdicts

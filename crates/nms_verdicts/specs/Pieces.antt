@@ -14,7 +14,7 @@ abbrev pub begins_with : ℕ → List ℕ → Bool
 begins_with byte [] = false
 begins_with byte (first ∷ more) = first == byte
 
--- whether a line ends behind a byte: behind a line feed, and behind a carriage return that no line feed follows
+-- whether a line ends after a byte: after a line feed, and after a carriage return that no line feed follows
 abbrev pub ends_behind : ℕ → List ℕ → Bool
 ends_behind byte more = byte == 10 || (byte == 13 && not (begins_with 10 more))
 
@@ -69,7 +69,7 @@ pub record Line : Type 0 where
   pub bytes : List ℕ
   pub is : Kind
 
--- the pieces at a line, from the one that has begun, if one has, and then those from the one that has begun behind it
+-- the pieces at a line, from the one that has begun, if one has, and then those from the one that has begun after it
 abbrev pub pieces_at : Kind → List ℕ → Option (List ℕ) → (Option (List ℕ) → List (List ℕ)) → List (List ℕ)
 pieces_at kind.Plan line begun behind = option_to_list begun ++ behind (Some line)
 pieces_at kind.Inner line begun behind = behind (Some (unwrap_or begun [] ++ line))

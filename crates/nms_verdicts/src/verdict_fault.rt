@@ -1,4 +1,7 @@
-//! Why plans were not judged.
+//! Why plans were not judged: `specs/Faults`.
+ghost use Rattle.nms_codes.specs.Codes.{IsToldAs};
+ghost use Rattle.nms_verdicts.specs.Faults.{code_of, status_of};
+
 use nms_board::BoardFault;
 use nms_codes::Code;
 use nms_files::ChangesFault;
@@ -30,7 +33,9 @@ pub enum VerdictFault {
 
 impl VerdictFault {
     /// The code of the fault: that of the file, `B1`, `L11`, `L12`, `E2` or `E4`.
-    pub fn code(&self) -> Code {
+    pub fn code(&self) -> Code
+        ensures { IsToldAs result (code_of self.now) (status_of self.now) }
+    {
         match self {
             VerdictFault::Changes(fault) => Code::of_changes(*fault),
             VerdictFault::Times(fault) => Code::of_times(*fault),
