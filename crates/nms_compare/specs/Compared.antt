@@ -1,5 +1,5 @@
 -- The findings on the rows of a vendor's file, and how often each came. This product's own rule.
-use Rattle.std.specs.Prelude.{ℕ, ◌+◌, Bool, true, false, List, fold, map, Result, Ok, Err}
+use Rattle.std.specs.Prelude.{ℕ, ◌+◌, Bool, true, false, List, fold, map, nat_lt, Result, Ok, Err}
 use Rattle.nms_quote.specs.Roster.{Listing, sizes_of}
 use Rattle.nms_quote.specs.Tape.{Tape, version}
 use Rattle.nms_lines.specs.Layout.{Record}
@@ -76,6 +76,10 @@ count_row counts (Err why) = count_cause counts (skips why)
 abbrev pub rows_in : Counts → ℕ
 rows_in counts =
     counts.equal + counts.other_price + counts.other_size + counts.other_venue + counts.no_counterpart + counts.refused + counts.skipped
+
+-- some row is neither equal nor skipped
+abbrev pub has_doubts : Counts → Bool
+has_doubts counts = nat_lt (counts.equal + counts.skipped) (rows_in counts)
 
 -- the counts of the rows of a file: each row counts once, by its finding
 abbrev pub counts_of : Vendor → Listing → Tape → List ℕ → List Record → Counts

@@ -1,5 +1,5 @@
 -- The finding on a vendor's national best and ours. This product's own rule.
-use Rattle.std.specs.Prelude.{ℕ, ◌==◌, ◌&&◌, Bool, true, false, Option, Some, None, if◌then◌else◌}
+use Rattle.std.specs.Prelude.{◌==◌, ◌&&◌, Bool, true, false, Option, Some, None, if◌then◌else◌}
 use Rattle.nms_board.specs.declared.row.Row.{Row}
 use Rattle.nms_stream.specs.declared.quoted.Quoted.{Quoted}
 use Rattle.nms_compare.specs.declared.finding.Finding.{Finding}

@@ -1,4 +1,6 @@
 pub mod National
+pub mod Faults
 pub mod Finding
 pub mod Standing
 pub mod Compared
+pub mod Showing

@@ -1,6 +1,6 @@
 -- The national best bid and offer that a row of a vendor's file says (17 CFR 242.600, "national best bid and national
 -- best offer"). How its texts are read is the rule of `import`.
-use Rattle.std.specs.Prelude.{ℕ, List, Option, Some, None, option_map, Result, Ok, Err}
+use Rattle.std.specs.Prelude.{ℕ, Option, Some, None, option_map, Result}
 use Rattle.nms_quote.specs.Content.{Content}
 use Rattle.nms_quote.specs.Roster.{Listing}
 use Rattle.nms_quote.specs.declared.change.Change.{Change}
@@ -10,6 +10,7 @@ use Rattle.nms_import.specs.Mapping.{◌>>=◌, entry_of, or_stop}
 use Rattle.nms_import.specs.declared.cause.Cause.{Cause}
 use Rattle.nms_import.specs.declared.cause.Cause.TheVariants as cause
 use Rattle.nms_import.specs.declared.column.Columns.{Columns}
+use Rattle.nms_import.specs.declared.mapping.Mapping.{Mapping}
 use Rattle.nms_import.specs.declared.meanings.Meanings.{Meanings}
 use Rattle.nms_compare.specs.declared.national.Best.{Best}
 use Rattle.nms_compare.specs.declared.national.National.{National}
@@ -40,3 +41,9 @@ national_of bids offers mapping roster row = do
   bid ← entry_of bids mapping roster row
   offer ← entry_of offers mapping roster row
   or_stop (national_in bid.time bid.change offer.change) cause.TooFewColumns
+
+-- a mapping of national bests, as two mappings of `import`: in one the venue of the best bid is the participant, in the other
+-- that of the best offer
+pub record BySide : Type 0 where
+  pub bids : Mapping
+  pub offers : Mapping

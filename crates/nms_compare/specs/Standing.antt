@@ -1,6 +1,6 @@
 -- The version at the time of a row of a vendor's file. This product's own rule.
-use Rattle.std.specs.Prelude.{ℕ, ◌≡◌, ◌+◌, ◌*◌, ◌≤◌, List, [], ◌∷◌, length, drop, take, slice_index}
-use Rattle.std.specs.Prelude.{Option, Some, None, nat_lt, if◌then◌else◌, ◌==◌, ◌&&◌}
+use Rattle.std.specs.Prelude.{ℕ, ◌≡◌, ◌+◌, ◌*◌, ◌≤◌, List, length, take, slice_index}
+use Rattle.std.specs.Prelude.{Option, None, nat_lt, if◌then◌else◌, ◌==◌, ◌&&◌}
 use Rattle.std.specs.List.{position_or_len}
 use Rattle.nms_units.specs.Digits.{number_in}
 use Rattle.nms_quote.specs.Tape.{Tape, version}

@@ -1,4 +1,7 @@
-//! Why a comparison ended early.
+//! Why a comparison ended early: `specs/Faults`.
+ghost use Rattle.std.specs.Prelude.{◌≡◌};
+ghost use Rattle.nms_compare.specs.Faults.{code_of};
+
 use nms_board::BoardFault;
 use nms_codes::Code;
 use nms_import::ImportFault;
@@ -37,7 +40,9 @@ pub enum CompareFault {
 
 impl CompareFault {
     /// Its code: `E1` to `E4`, `B1`, or `J1` to `J3`.
-    pub fn code(self) -> Code {
+    pub fn code(self) -> Code
+        ensures { result ≡ code_of self }
+    {
         match self {
             CompareFault::ReadFault => Code::E1,
             CompareFault::WriteFault => Code::E2,

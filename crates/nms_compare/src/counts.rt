@@ -1,6 +1,6 @@
 //! How many rows had each finding: `specs/Compared`.
 ghost use Rattle.std.specs.Prelude.{◌≡◌, ◌<◌, ◌+◌, Result};
-ghost use Rattle.nms_compare.specs.Compared.{count_cause, count_finding, count_row, no_counts, rows_in, skips};
+ghost use Rattle.nms_compare.specs.Compared.{count_cause, count_finding, count_row, has_doubts, no_counts, rows_in, skips};
 
 use crate::compare_fault::CompareFault;
 use crate::finding::Finding;
@@ -84,7 +84,9 @@ impl Counts {
     }
 
     /// Whether a row was refused, or differs from ours.
-    pub fn has_doubts(&self) -> bool {
+    pub fn has_doubts(&self) -> bool
+        ensures { result ≡ has_doubts self.now }
+    {
         self.other_price > 0
             || self.other_size > 0
             || self.other_venue > 0

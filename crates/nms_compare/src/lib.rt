@@ -12,6 +12,9 @@ mod national_mapping;
 mod showing;
 mod walk;
 
+/// The most rows of a comparison that are shown.
+pub const MOST_SHOWN: u64 = 100;
+
 pub use compare_fault::CompareFault;
 pub use comparing::{Vendor, compare_rows};
 pub use counts::{Counts, write_counts};

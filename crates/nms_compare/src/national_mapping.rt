@@ -1,8 +1,14 @@
-//! A mapping of a vendor's national bests: one of `import`, with two columns in place of that of the participant.
+//! A mapping of a vendor's national bests: one of `import`, with two columns in place of that of the participant
+//! (`specs/National`).
+ghost use Rattle.std.specs.Prelude.{◌≡◌, ◌≢◌, IfOk};
+ghost use Rattle.csv.specs.Records.{fields_of};
+ghost use Rattle.nms_import.specs.Placing.{ArePlaced};
+
 use crate::comparing::Vendor;
 use csv::ByteRecord;
 use nms_import::{FileForm, MapFault, Mapping, Order, read_mapping};
 use std::alloc::{AllocError, Global};
+use std::marker::Model;
 use toml::{Table, Value};
 
 /// The columns that say who quotes.
@@ -19,9 +25,19 @@ pub struct NationalMapping {
     offers: Mapping,
 }
 
+impl Model for NationalMapping {
+    ghost use Rattle.nms_compare.specs.National.{BySide};
+
+    ghost Value = { BySide };
+
+    ghost view = { λ m. record { bids = m.bids; offers = m.offers } };
+}
+
 /// Reads the mapping of a text. It is a mapping of `import`, but for the table `column`, which has `bid_participant` and
 /// `offer_participant` in place of `participant`; and `order` is not `free`.
-pub fn read_national_mapping(alloc: Global, text: &str) -> Result<NationalMapping, MapFault> {
+pub fn read_national_mapping(alloc: Global, text: &str) -> Result<NationalMapping, MapFault>
+    ensures timed { IfOk result (λ mapping. mapping.bids.order ≢ Order.Free) }
+{
     let bids = side_mapping(alloc, text, BID, OFFER)?;
     let offers = side_mapping(alloc, text, OFFER, BID)?;
     if bids.order == Order::Free {
@@ -91,18 +107,27 @@ fn rename(
 
 impl NationalMapping {
     /// How the file is laid out.
-    pub fn file(&self) -> FileForm {
+    pub fn file(&self) -> FileForm
+        ensures { result ≡ self.now.bids.file }
+    {
         self.bids.file
     }
 
     /// The order of the rows, which is that of the changes too.
-    pub fn order(&self) -> Order {
+    pub fn order(&self) -> Order
+        ensures { result ≡ self.now.bids.order }
+    {
         self.bids.order
     }
 
     /// How the rows of a file are read whose first row is `names`, empty if it has no header. `NoColumn` is the first key of
     /// the table `column` whose name is not in that row.
-    pub fn vendor(self, alloc: Global, names: &ByteRecord) -> Result<Vendor, MapFault> {
+    pub fn vendor(self, alloc: Global, names: &ByteRecord) -> Result<Vendor, MapFault>
+        ensures bids { IfOk result (λ vendor. ArePlaced self.bids (fields_of names.now) vendor.bids) }
+        ensures offers { IfOk result (λ vendor. ArePlaced self.offers (fields_of names.now) vendor.offers) }
+        ensures order { IfOk result (λ vendor. vendor.order ≡ self.bids.order) }
+        ensures meanings { IfOk result (λ vendor. vendor.meanings ≡ self.bids.meanings) }
+    {
         let bids = self.bids.columns(alloc, names)?;
         let offers = self.offers.columns(alloc, names)?;
         let order = self.bids.order;

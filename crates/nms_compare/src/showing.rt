@@ -1,4 +1,8 @@
 //! What is shown of rows that are not equal: the line, the version, the finding, theirs and ours.
+ghost use Rattle.std.specs.Prelude.{◌≡◌};
+ghost use Rattle.nms_compare.specs.declared.TheConstants.{MOST_SHOWN};
+
+use crate::MOST_SHOWN;
 use crate::compare_fault::CompareFault;
 use crate::finding::Finding;
 use crate::national::{Best, National};
@@ -11,9 +15,7 @@ use nms_show::{Form, Item, write_line};
 use nms_stream::quoted_on;
 use nms_units::Price;
 use std::io::Write;
-
-/// How many rows are shown.
-const MOST_SHOWN: u64 = 100;
+use std::marker::Model;
 
 /// Where rows that are not equal are shown.
 #[derive(Drop)]
@@ -23,9 +25,19 @@ pub struct Shown<'a, W> {
     left: u64,
 }
 
+impl<'a, W> Model for Shown<'a, W> {
+    ghost use Rattle.nms_compare.specs.Showing.{Showing};
+
+    ghost Value = { Showing W };
+
+    ghost view = { λ s. record { out = s.out.now; file = s.file.now; left = s.left } };
+}
+
 impl<'a, W: Write> Shown<'a, W> {
-    /// On a writer, of a file of this name.
-    pub fn new(out: &'a mut W, file: &'a str) -> Shown<'a, W> {
+    /// On a writer, of a file of this name. Nothing is written yet.
+    pub fn new(out: &'a mut W, file: &'a str) -> Shown<'a, W>
+        ensures { result ≡ record { out = out.old; file = file.now; left = MOST_SHOWN } }
+    {
         Shown {
             out,
             file,
