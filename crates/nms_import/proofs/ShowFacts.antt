@@ -7,10 +7,11 @@ use Rattle.std.proofs.lemmas.Bool.Decides.{nat_tests}
 use Rattle.std.proofs.lemmas.List.{append-nil}
 use Rattle.std.proofs.lemmas.List.Elements.{All-nil, All-cons}
 use Rattle.nms_quote.specs.Roster.{is_symbol_char, is_symbol_name}
-use Rattle.nms_show.specs.Safe.{IsSafe}
+use Rattle.nms_show.specs.Safe.{IsPrintable, IsSafe, own_text}
 use Rattle.nms_show.specs.Written.{AddsPart, Writes}
-use Rattle.nms_show.proofs.Offered.{both_true}
-use Rattle.nms_import.specs.Telling.{is_plain}
+use Rattle.nms_show.specs.declared.item.Item.{Item}
+use Rattle.nms_show.proofs.Offered.{both_true, plain_items}
+use Rattle.nms_import.specs.Telling.{is_own_plain, is_plain}
 
 -- whatever came of a call, the writer has a first part of a safe text
 pub shown_part : {T E : Type 0} (r : Result T E) (x y : Option (List ℕ)) → Writes IsSafe x y r → AddsPart IsSafe x y
@@ -27,6 +28,10 @@ all_true f [] is = All-nil (λ x. f x ≡ true)
 all_true f (x ∷ xs) is =
     let parts = both_true (f x) (list_all f xs) is in
     All-cons (λ x. f x ≡ true) x xs parts.0 (all_true f xs parts.1)
+
+-- items whose own texts are printable ASCII
+pub all_own : (items : List Item) → list_all is_own_plain items ≡ true → All (λ item. IsPrintable (own_text item)) items
+all_own items is = plain_items items is
 
 char_shown : (c : ℕ) → is_symbol_char c ≡ true → is_in_range 32 126 c ≡ true
 char_shown c is = grind (arith, nat_tests)
