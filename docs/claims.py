@@ -196,9 +196,14 @@ def listed(head, names):
     return [f"{head}: {', '.join(f'`{it}`' for it in names)}."] if names else []
 
 
+# A clause that stands alone, and what it says.
+ALONE = {"safe": "What is written is safe for a terminal (`safe`)", "kind": "Which faults can come (`kind`)"}
+
+
 def claims_of(crate):
     """The part of CLAIMS.md on a crate."""
     calls, laws, numbers, plain, bare = [], [], [], [], []
+    alone = {head: [] for head in ALONE.values()}
     for it in crate.functions:
         fault = fault_column(it)
         is_law = it.file.endswith("laws.rt") or it.says.startswith("A law")
@@ -211,12 +216,14 @@ def claims_of(crate):
             bare.append(it.name)
         elif it.is_number() and not fault:
             numbers.append(it.name)
+        elif len(it.clauses) == 1 and it.clauses[0] in ALONE:
+            alone[ALONE[it.clauses[0]]].append(it.name)
         elif it.clauses == [""] and not fault and not it.has_section:
             plain.append(it.name)
         else:
             calls.append(f"|`{it.name}`|{it.says}|{it.promised()}|{fault}|")
     pieces = table("|Call|Says|Clauses|Fault|", calls) + table("|Law|Says|Clauses|", laws)
-    for head, names in (("A number and its bounds", numbers), ("One clause each", plain), ("No clause", bare), ("Edits", edits_of(crate.name))):
+    for head, names in (("A number and its bounds", numbers), ("One clause each", plain), *alone.items(), ("No clause", bare), ("Edits", edits_of(crate.name))):
         pieces += listed(head, names)
     return "\n\n".join(pieces) + "\n"
 
