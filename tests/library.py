@@ -206,7 +206,7 @@ class Library:
             if lacks:
                 skip(f"docs/CALLING.md, {name}", " and no ".join(lacks))
                 continue
-            for line in commands.replace("/tmp/", f"{self.room}/page_").splitlines():
+            for line in commands.splitlines():
                 ran = subprocess.run(["bash", "-c", line], cwd=clone, stdout=subprocess.PIPE, stderr=subprocess.PIPE, timeout=MOST, check=False)
                 if not check(f"docs/CALLING.md, {name}: {line.strip()}", ran.returncode == 0, ran.stderr):
                     break

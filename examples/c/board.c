@@ -1,8 +1,8 @@
 /* The first example of README.md, through the library: three offers, the best of them, and a plan for 600 shares at 10.01
  * or better. Every call answers a code, and this program stops at the first that is not NMS_OK.
  *
- *     gcc -std=c11 -I include examples/c/board.c crates/nms_c/out/libnms.a -o /tmp/board
- *     /tmp/board examples/builtin.toml        prints examples/c/board.out
+ *     gcc -std=c11 -I include examples/c/board.c crates/nms_c/out/libnms.a -o board
+ *     ./board examples/builtin.toml        prints examples/c/board.out
  */
 #include <nms.h>
 #include <stdio.h>

@@ -1,8 +1,8 @@
 // A small order router: it reads a feed of changes from standard input, plans each order that comes among them, has each
 // plan confirmed, and prints the legs as child orders. At the end it prints the position of each symbol.
 //
-//     g++ -std=c++17 -I include examples/cpp/router.cpp crates/nms_c/out/libnms.a -o /tmp/router
-//     /tmp/router examples/builtin.toml < examples/cpp/day.feed      prints examples/cpp/router.out
+//     g++ -std=c++17 -I include examples/cpp/router.cpp crates/nms_c/out/libnms.a -o router
+//     ./router examples/builtin.toml < examples/cpp/day.feed      prints examples/cpp/router.out
 //
 // A line of the feed is a record of a file of changes (Q, S, X, R), or an order of a customer:
 //
