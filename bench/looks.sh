@@ -4,30 +4,23 @@
 # (bench/looks_peer). The best of RUNS runs counts (3 if it is not set), of LOOKS looks by each desk (3,000,000).
 # Takes about a minute on four processors that do nothing else. Needs cargo.
 set -eu
-bench=$(cd "$(dirname "$0")" && pwd)
+. "$(dirname "$0")/peers.sh"
 looks=${LOOKS:-3000000}
-desks=$bench/../crates/nms_bench/out/nms_bench
-peer=$bench/out/looks_peer/release/looks_peer
-[ -x "$desks" ] || (cd "$bench/../crates/nms_bench" && rt run <stdin >/dev/null)
-(cd "$bench/looks_peer" && cargo build --quiet --release --offline --target-dir "$bench/out/looks_peer")
+build_peer looks_peer
 
-# The microseconds of the best run of a program by that many desks. Each look has to show both its rows.
-best_of() {
-    local best= took from told
-    for ((run = 0; run < ${RUNS:-3}; run++)); do
-        from=${EPOCHREALTIME/./}
-        told=$("$1" <<<"looks $2 $looks")
-        took=$((${EPOCHREALTIME/./} - from))
-        [ "$told" = "looks $2 $looks $((2 * $2 * looks))" ] || { echo "$1: $told" >&2 && exit 1; }
-        [ -n "$best" ] && [ "$best" -le "$took" ] || best=$took
-    done
-    echo "$best"
+# The microseconds of one run of a program by that many desks. Each look has to show both its rows.
+microseconds() {
+    local from told
+    from=${EPOCHREALTIME/./}
+    told=$("$1" <<<"looks $2 $looks")
+    [ "$told" = "looks $2 $looks $((2 * $2 * looks))" ] || { echo "$1: $told" >&2 && exit 1; }
+    echo $((${EPOCHREALTIME/./} - from))
 }
 
 printf '%-6s %15s %15s %6s\n' desks looks/s mutex/s ratio
 for count in 1 2 4; do
-    ours=$(best_of "$desks" "$count")
-    theirs=$(best_of "$peer" "$count")
-    awk -v c="$count" -v n="$((count * looks))" -v a="$ours" -v b="$theirs" \
+    proved=$(least_of "${RUNS:-3}" microseconds "$ours" "$count")
+    plain=$(least_of "${RUNS:-3}" microseconds "$peer" "$count")
+    awk -v c="$count" -v n="$((count * looks))" -v a="$proved" -v b="$plain" \
         'BEGIN { printf "%-6d %15.0f %15.0f %6.2f\n", c, n * 1e6 / a, n * 1e6 / b, b / a }'
 done

@@ -7,7 +7,7 @@ built-in setup; some are refused. tests/cases/chance.cases has 40.
 import random
 import sys
 
-from rules import FEES, LOT, Machine, answers
+from rules import FEES, LOT, Machine, answers, plain_records
 
 SYMS = "ABC", "PNY"
 QUEUE, TAPE, DESKS = 16, 1000, 2
@@ -30,18 +30,12 @@ def drawn(chance):
         (bid, says_bid), (offer, says_offer) = drawn_side(chance), drawn_side(chance)
         change = "Q", part, sym, letter, {"BID": says_bid, "OFFER": says_offer}
         return f"Q,{part},{sym},{letter},{bid},{offer}", ("send", change)
-    return {
-        "S": (f"S,{part},{sym},{letter}", ("send", ("S", part, sym, letter))),
-        "X": (f"X,{part}", ("send", ("X", part))),
-        "T": ("T", ("take",)),
-        "F": ("F", ("all",)),
-        "P": ("P", ("publish",)),
-        "L": (f"L,{desk}", ("tell", desk)),
-        "N": (f"N,{desk},{sym}", ("look", desk, sym)),
+    refused = {
         "b": ("B", ("refused", "L1")),
         "a": (f"X,{part},", ("refused", "L2")),
         "d": (f"L,{DESKS}", ("refused", "L10")),
-    }[kind]
+    }
+    return {**plain_records(part, sym, letter, desk), **refused}[kind]
 
 
 def case(chance, number):

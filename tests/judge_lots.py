@@ -14,7 +14,7 @@ import subprocess
 import sys
 import tempfile
 
-from rules import Machine, answers, dollars, lot_by, price_of
+from rules import Machine, answers, dollars, lot_by, plain_records, price_of
 from stored import MOST, programs
 from trials import Trial, Wrong, compare, least, run
 
@@ -86,16 +86,9 @@ def drawn(chance):
     if kind == "E":
         price = chance.randrange(99_900, 100_200, 100)
         return f"E,{desk},{sym},{dollars(price)}", ("through", desk, sym, price)
-    return {
-        "S": (f"S,{part},{sym},{letter}", ("send", ("S", part, sym, letter))),
-        "X": (f"X,{part}", ("send", ("X", part))),
-        "T": ("T", ("take",)),
-        "F": ("F", ("all",)),
-        "P": ("P", ("publish",)),
-        "L": (f"L,{desk}", ("tell", desk)),
-        "N": (f"N,{desk},{sym}", ("look", desk, sym)),
-        "r": (f"r,{sym},40", ("refused", "L1")),
-    }[kind]
+    if kind == "r":
+        return f"r,{sym},40", ("refused", "L1")
+    return plain_records(part, sym, letter, desk)[kind]
 
 
 def setup(lots):

@@ -154,6 +154,19 @@ class Machine:
         return words[0]
 
 
+def plain_records(part, sym, letter, desk):
+    """The records that every random script has, by their kinds, and what each asks."""
+    return {
+        "S": (f"S,{part},{sym},{letter}", ("send", ("S", part, sym, letter))),
+        "X": (f"X,{part}", ("send", ("X", part))),
+        "T": ("T", ("take",)),
+        "F": ("F", ("all",)),
+        "P": ("P", ("publish",)),
+        "L": (f"L,{desk}", ("tell", desk)),
+        "N": (f"N,{desk},{sym}", ("look", desk, sym)),
+    }
+
+
 def answers(machine, script):
     """The lines that answer a script, whose records are texts with what they ask, and how many records are refused."""
     lines, refused = [], 0

@@ -1,6 +1,10 @@
 //! The runs of `crates/nms_bench` in ordinary Rust over the upstream queue, with no proofs: one to eight threads send
 //! changes, one more takes them. Each line of standard input is `lane CAPACITY SENDERS CHANGES`.
 #![allow(dead_code)]
+#[path = "../../change.rs"]
+mod change;
+
+use change::QState;
 use crossbeam_queue::ArrayQueue;
 use std::io::Read;
 use std::sync::atomic::{AtomicBool, Ordering};
@@ -30,36 +34,12 @@ const FEEDS: [Feed; 8] = [
 ];
 
 #[derive(Clone, Copy)]
-enum QState {
-    Automated,
-    Manual,
-    Halted,
-}
-
-#[derive(Clone, Copy)]
 struct SideQuote {
     price: u64,
     shares: u32,
 }
 
-#[derive(Clone, Copy)]
-enum Change {
-    Quote {
-        part: u8,
-        sym: u16,
-        state: QState,
-        bid: Option<SideQuote>,
-        offer: Option<SideQuote>,
-    },
-    State {
-        part: u8,
-        sym: u16,
-        state: QState,
-    },
-    Withdraw {
-        part: u8,
-    },
-}
+type Change = change::Change<SideQuote>;
 
 #[derive(Clone, Copy)]
 struct Marked {

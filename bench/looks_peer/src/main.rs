@@ -2,6 +2,10 @@
 //! library alone: desks look while a publisher publishes every 64 changes. Each line of standard input is
 //! `looks DESKS LOOKS`. The board, the changes and the view of a look are those of `crates/nms_board`.
 #![allow(dead_code)]
+#[path = "../../change.rs"]
+mod change;
+
+use change::QState;
 use std::io::Read;
 use std::mem::MaybeUninit;
 use std::num::{NonZeroU32, NonZeroU64};
@@ -17,36 +21,12 @@ const BATCHES_TO_FILL: u32 = 50;
 const BATCH: u32 = 64;
 
 #[derive(Clone, Copy, PartialEq)]
-enum QState {
-    Automated,
-    Manual,
-    Halted,
-}
-
-#[derive(Clone, Copy, PartialEq)]
 struct SideQuote {
     price: NonZeroU64,
     shares: NonZeroU32,
 }
 
-#[derive(Clone, Copy)]
-enum Change {
-    Quote {
-        part: u8,
-        sym: u16,
-        state: QState,
-        bid: Option<SideQuote>,
-        offer: Option<SideQuote>,
-    },
-    State {
-        part: u8,
-        sym: u16,
-        state: QState,
-    },
-    Withdraw {
-        part: u8,
-    },
-}
+type Change = change::Change<SideQuote>;
 
 #[derive(Clone, Copy)]
 struct Held {
