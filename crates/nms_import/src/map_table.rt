@@ -281,7 +281,7 @@ fn members_of<'a>(
     name: &'static str,
 ) -> Result<Option<&'a Table>, MapFault>
     ensures members { IfOk result (λ members. option_map as_table (get_member name.now (table_view document.now)) ≡ option_map (λ it. Some (table_view it.now)) members) }
-    ensures refused { IfErr result (λ fault. fault ≢ MapFault.NoMemory → refusal_of fault ≡ bad_value [] name.now (codes "a table, as behind a line [file]")) }
+    ensures refused { IfErr result (λ fault. fault ≢ MapFault.NoMemory → refusal_of fault ≡ bad_value [] name.now (codes "a table, as after a line [file]")) }
     ensures kind { IfErr result (λ fault. is_of_document fault ≡ true) }
 {
     let Some(value) = value_in(document, name) else {
@@ -289,7 +289,7 @@ fn members_of<'a>(
     };
     match value.as_table() {
         Some(members) => Ok(Some(members)),
-        None => Err(MapFault::bad_value(alloc, "", name, "a table, as behind a line [file]")),
+        None => Err(MapFault::bad_value(alloc, "", name, "a table, as after a line [file]")),
     }
 }
 

@@ -70,7 +70,7 @@ fn of_doubt<'a>(place: &DoubtPlace, roster: &'a Roster, order: &Order) -> Findin
             other: number_of(later.number),
             ..of_cut(
                 cut,
-                "      it does not stand at a better price than cut |other| behind it, at |expected|",
+                "      it does not stand at a better price than cut |other| after it, at |expected|",
                 Item::of_price(cut.cut.price),
                 Item::of_price(later.cut.price),
             )

@@ -15,7 +15,7 @@ use clap::{ArgMatches, Error};
 use std::alloc::{AllocError, Global};
 
 const SETUP_TIP: &str = "
-tip: give --setup behind the subcommand: nms_tool script --setup FILE
+tip: give --setup after the subcommand: nms_tool script --setup FILE
 ";
 
 /// Reads the words that follow the program's name: a subcommand, its own words and its options.

@@ -9,7 +9,7 @@ use std::alloc::{AllocError, Global};
 
 /// What follows the parser's text if an option stands before its subcommand.
 const OPTION_TIP: &str = "
-tip: give options behind the subcommand: nms_review stream CHANGES --setup FILE
+tip: give options after the subcommand: nms_review stream CHANGES --setup FILE
 ";
 
 /// Reads the words that follow the program's name: a subcommand, its own words and its options.

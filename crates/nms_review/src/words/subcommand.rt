@@ -126,7 +126,7 @@ static EXPLAIN: [Word; 5] = [
     },
     Word {
         name: "feed",
-        help: "Of a feed: its letter, A where it is not given",
+        help: "Of a feed: its letter, A if it is not given",
         form: WordForm::Valued("LETTER"),
     },
     SETUP,
@@ -151,7 +151,7 @@ static AT: [Word; 7] = [
     CHANGES,
     Word {
         name: "SYM",
-        help: "The symbol; all of them in a table where it is not given",
+        help: "The symbol; all of them in a table if it is not given",
         form: WordForm::Optional,
     },
     TIMES,
@@ -174,7 +174,7 @@ static STREAM: [Word; 5] = [
     CHANGES,
     Word {
         name: "SYM",
-        help: "The symbol; all of them where it is not given",
+        help: "The symbol; all of them if it is not given",
         form: WordForm::Optional,
     },
     TIMES,
@@ -321,7 +321,7 @@ static TRADES: [Word; 10] = [
     },
     Word {
         name: "window",
-        help: "Judges each execution on all versions within so many nanoseconds of its time, with --times",
+        help: "Judges each execution on all versions within that many nanoseconds of its time, with --times",
         form: WordForm::Valued("NS"),
     },
     Word {
