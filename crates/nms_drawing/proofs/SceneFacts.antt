@@ -1,5 +1,5 @@
 -- A picture that is written in turn: its beginning, what is in it, its end.
-use Rattle.std.proofs.Common.{ℕ, ◌≡◌, ◌++◌, ◌∷◌, List, [], Option, Some, refl, subst, sym, ap, ◌∙◌, append_assoc}
+use Rattle.std.proofs.Common.{ℕ, ◌++◌, ◌∷◌, List, [], Option, Some, refl, subst, sym, ap, ◌∙◌, append_assoc}
 use Rattle.std.specs.Prelude.{Err, Ok, OnErr, OnOk, Result, codes}
 use Rattle.std.specs.Char.{encode_utf8}
 use Rattle.std.specs.Io.KnownBytes.{Appends}

@@ -10,8 +10,10 @@ returns-in_err-line-clause-safe g c = λ own.
 
 pub returns-in_err-write_levels-clause-safe : goal.returns-in_err-write_levels-clause-safe
 returns-in_err-write_levels-clause-safe g c = λ own.
-    writes_err IsSafe _ _ c.from_residual-in_err-write_levels.result c.from_residual-in_err-write_levels.ensures.0 (safe_part _ _ _ (c.in_ok-line.ensures.safe (rw own refl)) c.in_err-write_levels.ensures.safe)
+    writes_err IsSafe _ _ c.from_residual-in_err-write_levels.result c.from_residual-in_err-write_levels.ensures.0 (safe_part _ _
+    _ (c.in_ok-line.ensures.safe (rw own refl)) c.in_err-write_levels.ensures.safe)
 
 pub returns-clause-safe : goal.returns-clause-safe
 returns-clause-safe g c = λ own.
-    safe_writes c.line-2.result _ _ _ (safe_then _ _ _ (c.in_ok-line.ensures.safe (rw own refl)) c.in_ok-write_levels.ensures.safe) (c.line-2.ensures.safe refl)
+    safe_writes c.line-2.result _ _ _ (safe_then _ _ _ (c.in_ok-line.ensures.safe (rw own refl))
+    c.in_ok-write_levels.ensures.safe) (c.line-2.ensures.safe refl)

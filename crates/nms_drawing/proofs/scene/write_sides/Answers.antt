@@ -10,8 +10,10 @@ returns-in_err-write_side-clause-safe g c =
 
 pub returns-in_err-write_side-2-clause-safe : goal.returns-in_err-write_side-2-clause-safe
 returns-in_err-write_side-2-clause-safe g c =
-    writes_err IsSafe _ _ c.from_residual-in_err-write_side-2.result c.from_residual-in_err-write_side-2.ensures.0 (safe_part _ _ _ (c.in_ok-write_side.ensures.safe refl) (c.in_err-write_side-2.ensures.safe refl))
+    writes_err IsSafe _ _ c.from_residual-in_err-write_side-2.result c.from_residual-in_err-write_side-2.ensures.0 (safe_part _ _
+    _ (c.in_ok-write_side.ensures.safe refl) (c.in_err-write_side-2.ensures.safe refl))
 
 pub returns-clause-safe : goal.returns-clause-safe
 returns-clause-safe g c =
-    safe_writes c.write_side-3.result _ _ _ (safe_then _ _ _ (c.in_ok-write_side.ensures.safe refl) (c.in_ok-write_side-2.ensures.safe refl)) (c.write_side-3.ensures.safe refl)
+    safe_writes c.write_side-3.result _ _ _ (safe_then _ _ _ (c.in_ok-write_side.ensures.safe refl)
+    (c.in_ok-write_side-2.ensures.safe refl)) (c.write_side-3.ensures.safe refl)
