@@ -1,1 +1,2 @@
+mod SceneFacts
 mod VersionFacts

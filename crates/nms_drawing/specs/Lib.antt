@@ -8,3 +8,4 @@ pub mod Faults
 pub mod Versions
 pub mod Streamed
 pub mod Days
+pub mod Scenes

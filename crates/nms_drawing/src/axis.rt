@@ -133,7 +133,7 @@ fn begin_of(rising: &Rising<'_>) -> u64 {
     }
 }
 
-/// The nanoseconds from the first time to the time of a version that comes so many after the one before it.
+/// The nanoseconds from the first time to the time of a version. Its number of changes after the first version is given.
 fn clock_place(rising: &Rising<'_>, after: u64) -> u64
     ensures { result < 86400000000000 }
 {

@@ -12,7 +12,7 @@ pub(crate) struct JsonLines<'a, W> {
     answers: &'a mut W,
     /// The beginning of a line whose end was not yet written.
     begun: Vec<u8>,
-    is_behind_header: bool,
+    is_after_header: bool,
     wants_memory: bool,
 }
 
@@ -23,7 +23,7 @@ impl<'a, W: Write> JsonLines<'a, W> {
             alloc,
             answers,
             begun: Vec::new(alloc),
-            is_behind_header: false,
+            is_after_header: false,
             wants_memory: false,
         }
     }
@@ -56,10 +56,10 @@ impl<'a, W: Write> JsonLines<'a, W> {
 
     /// Passes a line on as an object.
     fn tell(&mut self, line: &[u8]) -> std::result::Result<(), ShowFault> {
-        if self.is_behind_header {
+        if self.is_after_header {
             return write_fields(self.alloc, self.answers, line);
         }
-        self.is_behind_header = true;
+        self.is_after_header = true;
         Ok(())
     }
 }
@@ -124,14 +124,14 @@ fn members_of<'a>(line: &'a [u8]) -> [(&'static str, Item<'a>); 10] {
     let mut rest = line;
     for place in 0..9 {
         let (key, is_number) = COLUMNS[place];
-        let (field, behind) = field_of(rest);
+        let (field, after) = field_of(rest);
         let item = if is_number {
             number_in(field)
         } else {
             text_in(field)
         };
         members[place + 1] = (key, item);
-        rest = behind;
+        rest = after;
     }
     members
 }

@@ -50,18 +50,56 @@ pub(crate) fn write_plan_marks<W: Write>(
     requires left { 150 ≤ x }
     requires right { x ≤ 1650 }
 {
-    let Ok(labels) = labels_of(alloc, plan, judged, scale) else {
-        return Err(ShowFault::NoMemory);
-    };
+    match labels_of(alloc, plan, judged, scale) {
+        Ok(labels) => write_marked_plan(roster, plan, judged, &labels, x, scale, answers),
+        Err(_) => Err(ShowFault::NoMemory),
+    }
+}
+
+/// Writes a plan with these marks.
+fn write_marked_plan<W: Write>(
+    roster: &Roster,
+    plan: &Plan,
+    judged: &Judged,
+    labels: &[Label],
+    x: u64,
+    scale: &Scale,
+    answers: &mut W,
+) -> Result<(), ShowFault>
+    requires left { 150 ≤ x }
+    requires right { x ≤ 1650 }
+{
     write_limit(plan, x, scale, answers)?;
     write_line_of(x, answers)?;
-    for label in &labels {
+    write_leaders(labels, x, answers)?;
+    write_labels(roster, labels, x, answers)?;
+    write_order(plan, judged, x, answers)
+}
+
+/// Writes the leader of each mark.
+fn write_leaders<W: Write>(labels: &[Label], x: u64, answers: &mut W) -> Result<(), ShowFault>
+    requires { x ≤ 1650 }
+{
+    for label in labels {
         write_leader(label, x, answers)?;
     }
-    for label in &labels {
+    Ok(())
+}
+
+/// Writes each mark with its words.
+fn write_labels<W: Write>(
+    roster: &Roster,
+    labels: &[Label],
+    x: u64,
+    answers: &mut W,
+) -> Result<(), ShowFault>
+    requires left { 150 ≤ x }
+    requires right { x ≤ 1650 }
+{
+    for label in labels {
         write_label(roster, label, x, answers)?;
     }
-    write_order(plan, judged, x, answers)
+    Ok(())
 }
 
 /// The marks of a plan from the highest price to the lowest, with room between their words.
@@ -136,13 +174,13 @@ fn write_limit<W: Write>(
     if !scale.has(plan.order.limit.get()) {
         return Ok(());
     }
-    let y = scale.price(plan.order.limit.get());
-    // The words stand at the end that is farther from the plan's own.
-    let anchor = if x > MIDDLE {
-        "start\" x=\"160"
-    } else {
-        "end\" x=\"1640"
-    };
+    write_limit_at(plan, scale.price(plan.order.limit.get()), x, answers)
+}
+
+/// Writes the order's limit at its height.
+fn write_limit_at<W: Write>(plan: &Plan, y: u64, x: u64, answers: &mut W) -> Result<(), ShowFault>
+    requires { 115 ≤ y }
+{
     put(
         answers,
         &[
@@ -151,7 +189,7 @@ fn write_limit<W: Write>(
             ),
             Item::Number(y),
             Item::Text("H1650\"/><text class=\"over\" font-size=\"18\" text-anchor=\""),
-            Item::Text(anchor),
+            Item::Text(limit_anchor(x)),
             Item::Text("\" y=\""),
             Item::Number(y - 7),
             Item::Text("\">limit "),
@@ -159,6 +197,15 @@ fn write_limit<W: Write>(
             Item::Text("</text>"),
         ],
     )
+}
+
+/// Where the words of a limit stand: at the end that is farther from the plan's own.
+fn limit_anchor(x: u64) -> &'static str {
+    if x > MIDDLE {
+        "start\" x=\"160"
+    } else {
+        "end\" x=\"1640"
+    }
 }
 
 /// Writes the line at the plan's version.
@@ -211,32 +258,44 @@ fn write_label<W: Write>(
     let base = label.words.min(BOTTOM) + 6;
     match &label.marked {
         Marked::Leg(number, leg) => {
-            put(
-                answers,
-                &[
-                    Item::Text("<circle r=\"6\" cx=\""),
-                    Item::Number(x),
-                    Item::Text("\" cy=\""),
-                    Item::Number(label.down),
-                    Item::Text("\"/>"),
-                ],
-            )?;
+            write_circle(label.down, x, answers)?;
             write_leg(roster, *number, leg, base, x, answers)
         }
         Marked::Passed(passed) => {
-            put(
-                answers,
-                &[
-                    Item::Text("<path fill=\"#fff\" stroke=\"#000\" stroke-width=\"2.5\" d=\"M"),
-                    Item::Number(x - 11),
-                    Item::Text(" "),
-                    Item::Number(label.down),
-                    Item::Text("l11 -11l11 11l-11 11z\"/>"),
-                ],
-            )?;
+            write_hollow(label.down, x, answers)?;
             write_passed(roster, passed, base, x, answers)
         }
     }
+}
+
+/// Writes the mark of a leg.
+fn write_circle<W: Write>(down: u64, x: u64, answers: &mut W) -> Result<(), ShowFault> {
+    put(
+        answers,
+        &[
+            Item::Text("<circle r=\"6\" cx=\""),
+            Item::Number(x),
+            Item::Text("\" cy=\""),
+            Item::Number(down),
+            Item::Text("\"/>"),
+        ],
+    )
+}
+
+/// Writes the mark of a quotation that was passed over.
+fn write_hollow<W: Write>(down: u64, x: u64, answers: &mut W) -> Result<(), ShowFault>
+    requires { 150 ≤ x }
+{
+    put(
+        answers,
+        &[
+            Item::Text("<path fill=\"#fff\" stroke=\"#000\" stroke-width=\"2.5\" d=\"M"),
+            Item::Number(x - 11),
+            Item::Text(" "),
+            Item::Number(down),
+            Item::Text("l11 -11l11 11l-11 11z\"/>"),
+        ],
+    )
 }
 
 /// Begins words at the right of a plan's line.
@@ -318,31 +377,42 @@ fn write_order<W: Write>(
     x: u64,
     answers: &mut W,
 ) -> Result<(), ShowFault> {
-    let anchor = if x > 1300 { "end" } else { "start" };
-    let verdict = if judged.doubt.is_some() {
-        "\">doubted plan "
-    } else {
-        "\">confirmed plan "
-    };
-    let side = match plan.order.side {
-        OrderSide::Buy => ": buys ",
-        OrderSide::Sell => ": sells ",
-    };
     put(
         answers,
         &[
             Item::Text("<text class=\"over\" font-size=\"18\" y=\"112\" text-anchor=\""),
-            Item::Text(anchor),
+            Item::Text(anchor_at(x)),
             Item::Text("\" x=\""),
             Item::Number(x),
-            Item::Text(verdict),
+            Item::Text(verdict_of(judged)),
             Item::Text("on version "),
             Item::Number(plan.version),
-            Item::Text(side),
+            Item::Text(side_of(plan)),
             Item::Number(u64::from(plan.filled)),
             Item::Text(" of "),
             Item::Number(u64::from(plan.order.shares.get())),
             Item::Text(" shares</text>"),
         ],
     )
+}
+
+/// The end of a plan's verdict at which its line is.
+fn anchor_at(x: u64) -> &'static str {
+    if x > 1300 { "end" } else { "start" }
+}
+
+/// A plan's verdict, in words.
+fn verdict_of(judged: &Judged) -> &'static str {
+    match judged.doubt {
+        Some(_) => "\">doubted plan ",
+        None => "\">confirmed plan ",
+    }
+}
+
+/// A plan's action, in words.
+fn side_of(plan: &Plan) -> &'static str {
+    match plan.order.side {
+        OrderSide::Buy => ": buys ",
+        OrderSide::Sell => ": sells ",
+    }
 }

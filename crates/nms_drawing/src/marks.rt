@@ -1,6 +1,6 @@
 //! Executions in a picture: a cross for each that traded through, a small circle for each other one, at its version and its
 //! price; and counts, if many are close together.
-ghost use Rattle.std.specs.Prelude.{◌<◌, ◌≤◌};
+ghost use Rattle.std.specs.Prelude.{◌≤◌};
 
 use crate::axis::Axis;
 use crate::picture::put;
@@ -84,19 +84,54 @@ pub(crate) fn write_marks<W: Write>(
     scale: &Scale,
     answers: &mut W,
 ) -> Result<(), ShowFault> {
-    let Ok(groups) = groups_of(alloc, marks, axis, scale) else {
-        return Err(ShowFault::NoMemory);
-    };
+    match groups_of(alloc, marks, axis, scale) {
+        Ok(groups) => {
+            write_singles(marks, &groups, axis, scale, answers)?;
+            write_groups(&groups, scale, answers)
+        }
+        Err(_) => Err(ShowFault::NoMemory),
+    }
+}
+
+/// Writes the executions that are drawn one by one.
+fn write_singles<W: Write>(
+    marks: &[Mark],
+    groups: &[Group],
+    axis: &Axis<'_>,
+    scale: &Scale,
+    answers: &mut W,
+) -> Result<(), ShowFault> {
     for through in [false, true] {
         for mark in marks {
             if mark.through == through && is_drawn(mark, axis) {
-                let x = scale.version(axis, mark.version);
-                if group_at(&groups, x).count <= MOST_SINGLE {
-                    write_mark(mark, x, scale.millionths(mark.millionths), answers)?;
-                }
+                write_single(mark, groups, axis, scale, answers)?;
             }
         }
     }
+    Ok(())
+}
+
+/// Writes an execution, if those close to it are few.
+fn write_single<W: Write>(
+    mark: &Mark,
+    groups: &[Group],
+    axis: &Axis<'_>,
+    scale: &Scale,
+    answers: &mut W,
+) -> Result<(), ShowFault> {
+    let x = scale.version(axis, mark.version);
+    if group_at(groups, x).count > MOST_SINGLE {
+        return Ok(());
+    }
+    write_mark(mark, x, scale.millionths(mark.millionths), answers)
+}
+
+/// Writes the groups of many executions.
+fn write_groups<W: Write>(
+    groups: &[Group],
+    scale: &Scale,
+    answers: &mut W,
+) -> Result<(), ShowFault> {
     for place in 0..GROUPS {
         if let Some(group) = groups.get(place as usize) {
             if group.count > MOST_SINGLE {
@@ -177,32 +212,43 @@ fn write_mark<W: Write>(mark: &Mark, x: u64, y: u64, answers: &mut W) -> Result<
     requires down { 115 ≤ y }
 {
     if !mark.through {
-        return put(
-            answers,
-            &[
-                Item::Text("<circle r=\"4\" fill=\"#fff\" stroke=\"#000\" cx=\""),
-                Item::Number(x),
-                Item::Text("\" cy=\""),
-                Item::Number(y),
-                Item::Text("\"/>"),
-            ],
-        );
+        return write_circle(x, y, answers);
     }
-    for stroke in ["#fff\" stroke-width=\"8", "#000\" stroke-width=\"4"] {
-        put(
-            answers,
-            &[
-                Item::Text("<path stroke=\""),
-                Item::Text(stroke),
-                Item::Text("\" d=\"M"),
-                Item::Number(x - 8),
-                Item::Text(" "),
-                Item::Number(y - 8),
-                Item::Text("l16 16m0 -16l-16 16\"/>"),
-            ],
-        )?;
-    }
-    Ok(())
+    write_cross("#fff\" stroke-width=\"8", x, y, answers)?;
+    write_cross("#000\" stroke-width=\"4", x, y, answers)
+}
+
+/// Writes an execution that traded through nothing.
+fn write_circle<W: Write>(x: u64, y: u64, answers: &mut W) -> Result<(), ShowFault> {
+    put(
+        answers,
+        &[
+            Item::Text("<circle r=\"4\" fill=\"#fff\" stroke=\"#000\" cx=\""),
+            Item::Number(x),
+            Item::Text("\" cy=\""),
+            Item::Number(y),
+            Item::Text("\"/>"),
+        ],
+    )
+}
+
+/// Writes a stroke of an execution that traded through.
+fn write_cross<W: Write>(stroke: &str, x: u64, y: u64, answers: &mut W) -> Result<(), ShowFault>
+    requires across { 150 ≤ x }
+    requires down { 115 ≤ y }
+{
+    put(
+        answers,
+        &[
+            Item::Text("<path stroke=\""),
+            Item::Text(stroke),
+            Item::Text("\" d=\"M"),
+            Item::Number(x - 8),
+            Item::Text(" "),
+            Item::Number(y - 8),
+            Item::Text("l16 16m0 -16l-16 16\"/>"),
+        ],
+    )
 }
 
 /// Writes a group: a bar from its lowest price to its highest, a broad one of those that traded through, and the counts.
@@ -218,13 +264,18 @@ fn write_group<W: Write>(
     if group.through > 0 {
         write_bar("#000\" stroke-width=\"5", group.worst, x, scale, answers)?;
     }
+    write_counts(group, x + 21, answers)
+}
+
+/// Writes the counts of a group at a place.
+fn write_counts<W: Write>(group: &Group, x: u64, answers: &mut W) -> Result<(), ShowFault> {
     put(
         answers,
         &[
             Item::Text(
                 "<text class=\"over\" font-size=\"15\" text-anchor=\"end\" transform=\"translate(",
             ),
-            Item::Number(x + 21),
+            Item::Number(x),
             Item::Text(" "),
             Item::Number(TOP + 5),
             Item::Text(") rotate(-90)\">"),
@@ -287,27 +338,37 @@ pub(crate) fn write_listed<W: Write>(
     for mark in marks {
         if listed < MOST_LISTED && mark.through && is_drawn(mark, axis) {
             listed += 1;
-            put(
-                answers,
-                &[
-                    Item::Text("The execution of record "),
-                    Item::Number(mark.number),
-                    Item::Text(", on version "),
-                    Item::Number(mark.version),
-                    Item::Text(", traded through."),
-                ],
-            )?;
+            write_through(mark, answers)?;
         }
     }
     match marked.through.checked_sub(listed) {
         None | Some(0) => Ok(()),
-        Some(more) => put(
-            answers,
-            &[
-                Item::Text("Further ones, which are drawn and not listed here: "),
-                Item::Number(more),
-                Item::Text("."),
-            ],
-        ),
+        Some(more) => write_further(more, answers),
     }
+}
+
+/// Writes in words that an execution traded through.
+fn write_through<W: Write>(mark: &Mark, answers: &mut W) -> Result<(), ShowFault> {
+    put(
+        answers,
+        &[
+            Item::Text("The execution of record "),
+            Item::Number(mark.number),
+            Item::Text(", on version "),
+            Item::Number(mark.version),
+            Item::Text(", traded through."),
+        ],
+    )
+}
+
+/// Writes how many more there are.
+fn write_further<W: Write>(more: u64, answers: &mut W) -> Result<(), ShowFault> {
+    put(
+        answers,
+        &[
+            Item::Text("Further ones, which are drawn and not listed here: "),
+            Item::Number(more),
+            Item::Text("."),
+        ],
+    )
 }

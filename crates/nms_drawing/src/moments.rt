@@ -2,7 +2,7 @@
 ghost use Rattle.std.specs.Prelude.{◌≡◌, IfErr, true};
 ghost use Rattle.nms_drawing.specs.Faults.{is_of_memory};
 
-use crate::day::{Moment, concerns, moment_of};
+use crate::day::{Moment, moment_of};
 use crate::drawing_fault::DrawingFault;
 use crate::marks::Mark;
 use nms_board::Boards;
@@ -77,18 +77,41 @@ fn all_scenes(
     let mut scenes = empty_scenes(alloc, executions)?;
     let order = by_version(alloc, executions)?;
     let mut kept = kept_of(alloc, roster, executions)?;
-    for place in 0..kept.len() {
-        look(&mut kept, &mut scenes, board, place, 0)?;
-    }
-    let mut next = begin_scenes(&mut kept, &mut scenes, &order, 0, 0)?;
+    fill_scenes(&mut kept, &mut scenes, &order, board, changes)?;
+    Ok(scenes)
+}
+
+/// Gives the scenes their steps. The places of executions are in the order of their versions.
+fn fill_scenes(
+    kept: &mut [Kept],
+    scenes: &mut [Scene],
+    order: &[(u64, usize)],
+    board: &mut Boards,
+    changes: &[Change],
+) -> Result<(), AllocError> {
+    look_at_all(kept, scenes, board, 0)?;
+    let mut next = begin_scenes(kept, scenes, order, 0, 0)?;
     for (change, version) in changes.iter().zip(1..u64::MAX) {
         if board.takes(change) {
             board.apply(*change);
         }
-        look_after(&mut kept, &mut scenes, board, change, version)?;
-        next = begin_scenes(&mut kept, &mut scenes, &order, next, version)?;
+        look_after(kept, scenes, board, change, version)?;
+        next = begin_scenes(kept, scenes, order, next, version)?;
     }
-    Ok(scenes)
+    Ok(())
+}
+
+/// Looks at all symbols.
+fn look_at_all(
+    kept: &mut [Kept],
+    scenes: &mut [Scene],
+    board: &Boards,
+    version: u64,
+) -> Result<(), AllocError> {
+    for place in 0..kept.len() {
+        look(kept, scenes, board, place, version)?;
+    }
+    Ok(())
 }
 
 /// A scene without steps for each execution.
@@ -149,12 +172,7 @@ fn look_after(
         Change::Quote { sym, .. } | Change::State { sym, .. } | Change::Lot { sym, .. } => {
             look(kept, scenes, board, usize::from(sym.get()), version)
         }
-        Change::Withdraw { .. } => {
-            for place in 0..kept.len() {
-                look(kept, scenes, board, place, version)?;
-            }
-            Ok(())
-        }
+        Change::Withdraw { .. } => look_at_all(kept, scenes, board, version),
     }
 }
 
@@ -179,16 +197,28 @@ fn look(
         version,
         shown: moment_of(board, sym),
     };
+    keep(own, step)?;
+    give(&own.open, scenes, step)?;
+    own.open.retain(|scene| waits(scenes, *scene));
+    Ok(())
+}
+
+/// Keeps a step as the last one.
+fn keep(own: &mut Kept, step: Step) -> Result<(), AllocError> {
     if own.last.len() >= BEFORE {
         own.last.remove(0);
     }
     own.last.push(step)?;
-    for scene in &own.open {
+    Ok(())
+}
+
+/// Gives a step to scenes.
+fn give(open: &[usize], scenes: &mut [Scene], step: Step) -> Result<(), AllocError> {
+    for scene in open {
         if let Some(scene) = scenes.get_mut(*scene) {
             scene.steps.push(step)?;
         }
     }
-    own.open.retain(|scene| waits(scenes, *scene));
     Ok(())
 }
 

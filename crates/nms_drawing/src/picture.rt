@@ -1,5 +1,7 @@
 //! A day as SVG: whole numbers throughout, only black, white and grey. Names of a roster have only capital letters, digits and
 //! the point, and all other words are the program's own, so nothing in it needs an escape.
+ghost use Rattle.std.specs.Prelude.{◌≤◌};
+
 use crate::axis::{Axis, Kind, Label};
 use crate::curve::write_curves;
 use crate::day::{Day, Shown};
@@ -212,19 +214,7 @@ fn write_price_ticks<W: Write>(scale: &Scale, answers: &mut W) -> Result<(), Sho
         if price > scale.high {
             break;
         }
-        let y = scale.price(price);
-        put(
-            answers,
-            &[
-                Item::Text("<path stroke=\"#bbb\" d=\"M150 "),
-                Item::Number(y),
-                Item::Text("H1650\"/><text text-anchor=\"end\" x=\"142\" y=\""),
-                Item::Number(y + 7),
-                Item::Text("\">"),
-                Item::Price(price),
-                Item::Text("</text>"),
-            ],
-        )?;
+        write_height(scale.price(price), Item::Price(price), answers)?;
         match price.checked_add(step) {
             Some(next) => price = next,
             None => break,
@@ -237,20 +227,27 @@ fn write_price_ticks<W: Write>(scale: &Scale, answers: &mut W) -> Result<(), Sho
 fn write_size_ticks<W: Write>(scale: &Scale, answers: &mut W) -> Result<(), ShowFault> {
     for shares in [0, scale.shares] {
         let y = scale.down(Shown::Size, shares);
-        put(
-            answers,
-            &[
-                Item::Text("<path stroke=\"#bbb\" d=\"M150 "),
-                Item::Number(y),
-                Item::Text("H1650\"/><text text-anchor=\"end\" x=\"142\" y=\""),
-                Item::Number(y + 7),
-                Item::Text("\">"),
-                Item::Number(shares),
-                Item::Text("</text>"),
-            ],
-        )?;
+        write_height(y, Item::Number(shares), answers)?;
     }
     Ok(())
+}
+
+/// Writes the tick of a price or a size at its height.
+fn write_height<W: Write>(y: u64, told: Item<'_>, answers: &mut W) -> Result<(), ShowFault>
+    requires { y ≤ 850 }
+{
+    put(
+        answers,
+        &[
+            Item::Text("<path stroke=\"#bbb\" d=\"M150 "),
+            Item::Number(y),
+            Item::Text("H1650\"/><text text-anchor=\"end\" x=\"142\" y=\""),
+            Item::Number(y + 7),
+            Item::Text("\">"),
+            told,
+            Item::Text("</text>"),
+        ],
+    )
 }
 
 /// Writes the ticks along the axis.
@@ -274,11 +271,21 @@ fn write_ticks<W: Write>(axis: &Axis<'_>, scale: &Scale, answers: &mut W) -> Res
 
 /// Writes a tick.
 fn write_tick<W: Write>(label: &Label, x: u64, answers: &mut W) -> Result<(), ShowFault> {
-    let (counted, version) = match label {
-        Label::Version(version) => (Item::Number(*version), None),
-        Label::Own(changes, version) => (Item::Number(*changes), Some(*version)),
-        Label::Clock(time, version) => (Item::Bytes(time.bytes()), Some(*version)),
-    };
+    match label {
+        Label::Version(version) => write_count(Item::Number(*version), x, answers),
+        Label::Own(changes, version) => {
+            write_count(Item::Number(*changes), x, answers)?;
+            write_version(*version, x, answers)
+        }
+        Label::Clock(time, version) => {
+            write_count(Item::Bytes(time.bytes()), x, answers)?;
+            write_version(*version, x, answers)
+        }
+    }
+}
+
+/// Writes a tick with what the axis counts.
+fn write_count<W: Write>(counted: Item<'_>, x: u64, answers: &mut W) -> Result<(), ShowFault> {
     put(
         answers,
         &[
@@ -290,18 +297,19 @@ fn write_tick<W: Write>(label: &Label, x: u64, answers: &mut W) -> Result<(), Sh
             counted,
             Item::Text("</text>"),
         ],
-    )?;
-    match version {
-        None => Ok(()),
-        Some(version) => put(
-            answers,
-            &[
-                Item::Text("<text font-size=\"15\" text-anchor=\"middle\" y=\"906\" x=\""),
-                Item::Number(x),
-                Item::Text("\">"),
-                Item::Number(version),
-                Item::Text("</text>"),
-            ],
-        ),
-    }
+    )
+}
+
+/// Writes the version of a tick below that.
+fn write_version<W: Write>(version: u64, x: u64, answers: &mut W) -> Result<(), ShowFault> {
+    put(
+        answers,
+        &[
+            Item::Text("<text font-size=\"15\" text-anchor=\"middle\" y=\"906\" x=\""),
+            Item::Number(x),
+            Item::Text("\">"),
+            Item::Number(version),
+            Item::Text("</text>"),
+        ],
+    )
 }

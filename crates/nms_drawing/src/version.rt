@@ -1,5 +1,5 @@
 //! The state at any version: the report of one symbol, or a table of all.
-ghost use Rattle.std.specs.Prelude.{◌≡◌, ℕ, ◌<◌, ◌≤◌, All, IfErr, IfOk, IfSome, List, OnOk, Option, length, option_copied, true, false};
+ghost use Rattle.std.specs.Prelude.{◌≡◌, ◌<◌, ◌≤◌, All, IfErr, IfOk, IfSome, OnOk, Option, length, option_copied, true, false};
 ghost use Rattle.nms_quote.specs.Roster.{holds, sizes_of};
 ghost use Rattle.nms_quote.specs.Tape.{Tape};
 ghost use Rattle.nms_quote.specs.declared.TheConstants.{MOST_CHANGES};
@@ -232,11 +232,11 @@ fn show_pairs<W: Write>(
         let Some(place) = from else {
             return Ok(());
         };
-        let Some((pair, behind)) = next_pair(view, place) else {
+        let Some((pair, next)) = next_pair(view, place) else {
             return Ok(());
         };
         show_pair(alloc, roster, &pair, answers)?;
-        from = Some(behind);
+        from = Some(next);
     }
     Ok(())
 }

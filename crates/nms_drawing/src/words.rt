@@ -2,10 +2,10 @@
 //! finding on a plan, and the executions.
 use crate::axis::{Axis, Kind};
 use crate::clock::clock_of;
-use crate::day::{Day, NOTHING, Shown, Span};
+use crate::day::{Day, NOTHING, Shown, Span, Stretch};
 use crate::drawing::Subject;
 use crate::judged::{Judged, Passed, why_of};
-use crate::marks::{write_listed, write_marked};
+use crate::marks::{Marked, write_listed, write_marked};
 use crate::picture::put;
 use nms_cert::Doubt;
 use nms_lines::{name_of_part, name_of_sym};
@@ -141,22 +141,36 @@ pub(crate) fn write_notes<W: Write>(
     put(answers, &[Item::Text("</text><text x=\"150\" y=\"1008\">")])?;
     write_left_out(subject.axis, day, answers)?;
     put(answers, &[Item::Text("</text><text x=\"150\" y=\"1038\">")])?;
-    match subject.whole_plan() {
-        Some((plan, judged)) => write_verdict(subject.roster, plan, judged, answers)?,
-        None => put(answers, &[Item::Text(subject.drawn.sentence())])?,
-    }
+    write_finding(subject, answers)?;
     put(answers, &[Item::Text("</text>")])?;
-    if let Some(marked) = &subject.marked {
-        let begun = if subject.drawn == Drawn::Nothing {
-            "<text x=\"150\" y=\"1038\">"
-        } else {
-            "<text x=\"150\" y=\"1068\">"
-        };
-        put(answers, &[Item::Text(begun)])?;
-        write_marked(marked, answers)?;
-        put(answers, &[Item::Text("</text>")])?;
+    match &subject.marked {
+        Some(marked) => write_marked_note(subject.drawn, marked, answers),
+        None => Ok(()),
     }
-    Ok(())
+}
+
+/// Writes the finding on a plan, or why it is not drawn.
+fn write_finding<W: Write>(subject: &Subject<'_>, answers: &mut W) -> Result<(), ShowFault> {
+    match subject.whole_plan() {
+        Some((plan, judged)) => write_verdict(subject.roster, plan, judged, answers),
+        None => put(answers, &[Item::Text(subject.drawn.sentence())]),
+    }
+}
+
+/// Writes how many executions there are, below what is said of a plan.
+fn write_marked_note<W: Write>(
+    drawn: Drawn,
+    marked: &Marked,
+    answers: &mut W,
+) -> Result<(), ShowFault> {
+    let begun = if drawn == Drawn::Nothing {
+        "<text x=\"150\" y=\"1038\">"
+    } else {
+        "<text x=\"150\" y=\"1068\">"
+    };
+    put(answers, &[Item::Text(begun)])?;
+    write_marked(marked, answers)?;
+    put(answers, &[Item::Text("</text>")])
 }
 
 /// The lowest, the highest and the last price of a side, each 0 if there is none.
@@ -272,33 +286,38 @@ fn write_counts<W: Write>(axis: &Axis<'_>, day: &Day, answers: &mut W) -> Result
 /// Writes the first stretches by their versions, and how many more there are.
 fn write_stretches<W: Write>(day: &Day, answers: &mut W) -> Result<(), ShowFault> {
     for stretch in &day.listed {
-        let kind = if stretch.crossed {
-            "Crossed from version "
-        } else {
-            "Locked from version "
-        };
-        put(
-            answers,
-            &[
-                Item::Text(kind),
-                Item::Number(stretch.from),
-                Item::Text(" to "),
-                Item::Number(stretch.to),
-                Item::Text("."),
-            ],
-        )?;
+        write_stretch(stretch, answers)?;
     }
-    if day.more > 0 {
-        put(
-            answers,
-            &[
-                Item::Text("Further such stretches, which are drawn and not listed here: "),
-                Item::Number(day.more),
-                Item::Text("."),
-            ],
-        )?;
+    if day.more == 0 {
+        return Ok(());
     }
-    Ok(())
+    put(
+        answers,
+        &[
+            Item::Text("Further such stretches, which are drawn and not listed here: "),
+            Item::Number(day.more),
+            Item::Text("."),
+        ],
+    )
+}
+
+/// Writes a stretch by its versions.
+fn write_stretch<W: Write>(stretch: &Stretch, answers: &mut W) -> Result<(), ShowFault> {
+    let kind = if stretch.crossed {
+        "Crossed from version "
+    } else {
+        "Locked from version "
+    };
+    put(
+        answers,
+        &[
+            Item::Text(kind),
+            Item::Number(stretch.from),
+            Item::Text(" to "),
+            Item::Number(stretch.to),
+            Item::Text("."),
+        ],
+    )
 }
 
 /// Writes what was left out.
@@ -324,6 +343,15 @@ fn write_left_out<W: Write>(axis: &Axis<'_>, day: &Day, answers: &mut W) -> Resu
 
 /// Writes a plan's order and its legs.
 fn write_plan<W: Write>(roster: &Roster, plan: &Plan, answers: &mut W) -> Result<(), ShowFault> {
+    write_order(plan, answers)?;
+    for (leg, number) in plan.legs.as_slice().iter().zip(1..33) {
+        put(answers, &items_of_leg(roster, "Leg ", number, leg, "."))?;
+    }
+    Ok(())
+}
+
+/// Writes a plan's version, its shares and its limit.
+fn write_order<W: Write>(plan: &Plan, answers: &mut W) -> Result<(), ShowFault> {
     put(
         answers,
         &[
@@ -335,11 +363,7 @@ fn write_plan<W: Write>(roster: &Roster, plan: &Plan, answers: &mut W) -> Result
             Item::of_price(plan.order.limit),
             Item::Text("."),
         ],
-    )?;
-    for (leg, number) in plan.legs.as_slice().iter().zip(1..33) {
-        put(answers, &items_of_leg(roster, "Leg ", number, leg, "."))?;
-    }
-    Ok(())
+    )
 }
 
 /// A leg in words.
@@ -373,6 +397,20 @@ fn write_verdict<W: Write>(
     let Some(doubt) = &judged.doubt else {
         return put(answers, &[Item::Text(CONFIRMED)]);
     };
+    write_doubt(doubt, answers)?;
+    if let Some((number, leg)) = &judged.leg {
+        put(answers, &items_of_leg(roster, " Leg ", *number, leg, ""))?;
+    }
+    match judged.passed.first() {
+        Some(first) if is_through(doubt) => {
+            write_first(roster, plan, first, judged.passed.len() as u64, answers)
+        }
+        Some(_) | None => Ok(()),
+    }
+}
+
+/// Writes a doubt.
+fn write_doubt<W: Write>(doubt: &Doubt, answers: &mut W) -> Result<(), ShowFault> {
     let (space, breach) = breach_in(doubt);
     put(
         answers,
@@ -385,16 +423,7 @@ fn write_verdict<W: Write>(
             Item::Text(why_of(doubt)),
             Item::Text("."),
         ],
-    )?;
-    if let Some((number, leg)) = &judged.leg {
-        put(answers, &items_of_leg(roster, " Leg ", *number, leg, ""))?;
-    }
-    match judged.passed.first() {
-        Some(first) if is_through(doubt) => {
-            write_first(roster, plan, first, judged.passed.len() as u64, answers)
-        }
-        Some(_) | None => Ok(()),
-    }
+    )
 }
 
 /// The code of the breach of a doubt, with a space before it.
@@ -423,24 +452,7 @@ fn write_first<W: Write>(
     all: u64,
     answers: &mut W,
 ) -> Result<(), ShowFault> {
-    let words = match plan.order.side {
-        OrderSide::Buy => " is past the better protected offer of ",
-        OrderSide::Sell => " is past the better protected bid of ",
-    };
-    put(
-        answers,
-        &[
-            Item::Text(words),
-            Item::Text(name_of_part(roster, passed.row.part)),
-            Item::Text(" at "),
-            Item::of_price(passed.row.price),
-            Item::Text(": "),
-            Item::Number(u64::from(passed.row.size)),
-            Item::Text(" displayed, "),
-            Item::Number(passed.given),
-            Item::Text(" sent there."),
-        ],
-    )?;
+    write_better(roster, plan.order.side, passed, answers)?;
     match all.checked_sub(1) {
         None | Some(0) => Ok(()),
         Some(more) => put(
@@ -451,6 +463,37 @@ fn write_first<W: Write>(
                 Item::Text("."),
             ],
         ),
+    }
+}
+
+/// Writes a quotation that an order of a side passed over.
+fn write_better<W: Write>(
+    roster: &Roster,
+    side: OrderSide,
+    passed: &Passed,
+    answers: &mut W,
+) -> Result<(), ShowFault> {
+    put(
+        answers,
+        &[
+            Item::Text(words_before(side)),
+            Item::Text(name_of_part(roster, passed.row.part)),
+            Item::Text(" at "),
+            Item::of_price(passed.row.price),
+            Item::Text(": "),
+            Item::Number(u64::from(passed.row.size)),
+            Item::Text(" displayed, "),
+            Item::Number(passed.given),
+            Item::Text(" sent there."),
+        ],
+    )
+}
+
+/// What comes before a quotation that an order of a side passed over.
+fn words_before(side: OrderSide) -> &'static str {
+    match side {
+        OrderSide::Buy => " is past the better protected offer of ",
+        OrderSide::Sell => " is past the better protected bid of ",
     }
 }
 

@@ -1,0 +1,7 @@
+-- `write_offers`: what was written so far is safe.
+use Rattle.nms_show.specs.Safe.{IsSafe}
+use Rattle.nms_show.specs.Written.{Adds}
+use Rattle.nms_drawing.proofs.scene.write_offers.Given as goal
+
+abbrev pub invariant-loop-side : goal.invariant-loop-side
+invariant-loop-side g l = Adds IsSafe (g.W.Write.contents l.fn.answers) (g.W.Write.contents l.answers)
