@@ -4,9 +4,6 @@ ghost use Rattle.nms_import_trades.specs.Executions.{refused_in, rows_in, skippe
 
 use crate::trade_cause::TradeCause;
 
-/// The most rows of an import.
-pub const MOST_ROWS: u64 = 1_000_000_000_000;
-
 /// How many rows had each outcome.
 #[derive(Clone, Copy, Debug, PartialEq, Eq)]
 pub struct TradeTally {
