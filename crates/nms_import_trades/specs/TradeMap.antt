@@ -1,13 +1,12 @@
 -- What a mapping of trades takes over of its document. This product's own rule.
-use Rattle.std.specs.Prelude.{ℕ, ◌≡◌, ◌<◌, ◌&&◌, codes, Bool, true, false, List, [], ◌∷◌, map, Option, Some, None, Ok, option_map}
+use Rattle.std.specs.Prelude.{ℕ, ◌≡◌, ◌<◌, ◌&&◌, codes, Bool, true, false, List, [], ◌∷◌, map, Option, Some, Ok, option_map}
 use Rattle.std.specs.Prelude.{option_and_then}
 use Rattle.std.specs.List.{list_all, list_any}
 use Rattle.std.specs.Option.{option_map_or}
 use Rattle.std.specs.Str.{bytes_eq}
-use Rattle.toml.specs.Data.{Data, Members, as_str, as_table, get_member}
+use Rattle.toml.specs.Data.{Members, as_str, as_table, get_member}
 use Rattle.nms_import.specs.Tables.{form_at, is_delimiter, is_within, members_in, name_in, unit_at}
 use Rattle.nms_import.specs.declared.map_table.MapTable.{MapTable}
-use Rattle.nms_import.specs.declared.mapping.Source.{Source}
 use Rattle.nms_import.specs.declared.meanings.Meanings.{Meanings}
 use Rattle.nms_import.specs.declared.meanings.PriceUnit.{PriceUnit}
 use Rattle.nms_import.specs.declared.meanings.TimeForm.{TimeForm}

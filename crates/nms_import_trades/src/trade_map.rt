@@ -1,15 +1,13 @@
 //! A mapping of a file of trades, from the text of its TOML document: `specs/TradeMap` and `specs/TradePlacing`.
-ghost use Rattle.std.specs.Prelude.{◌≡◌, ◌≢◌, max, map, false, true, None, Some, IfErr, IfOk, List, ℕ, option_map, option_and_then};
-ghost use Rattle.std.specs.Str.{bytes_eq};
+ghost use Rattle.std.specs.Prelude.{◌≡◌, ◌≢◌, max, map, true, None, Some, IfErr, IfOk, option_map, option_and_then};
 ghost use Rattle.csv.specs.Records.{fields_of};
 ghost use Rattle.toml.specs.Data.{Members, as_str, as_table, get_member};
 ghost use Rattle.toml.specs.Parse.{parse_document};
 ghost use Rattle.toml.specs.View.{table_view, view};
 ghost use Rattle.nms_import.specs.Refusals.{is_of_document, is_of_first_row, is_of_text};
 ghost use Rattle.nms_import.specs.Tables.{is_within};
-ghost use Rattle.nms_import_trades.specs.TradeMap.{AreClaims, AreReadOf, IsMappingOf, all_flags, are_within, says_trades};
+ghost use Rattle.nms_import_trades.specs.TradeMap.{AreClaims, AreReadOf, IsMappingOf, are_within, says_trades};
 ghost use Rattle.nms_import_trades.specs.TradePlacing.{IsIdPlaced, needed_by_id};
-ghost use Rattle.nms_import_trades.specs.TradeRow.{is_claim};
 
 use crate::claim::{Claim, Flag};
 use crate::condition::any_claims;
@@ -230,6 +228,7 @@ fn sources_of(alloc: Global, document: &Table, header: bool) -> Result<TradeSour
 }
 
 /// The column at a key; an absent one is the empty text.
+#[tactic(auto, using(crate::proofs::MapFacts::nothing_within))]
 fn or_nothing(table: MapTable<'_>, key: &str, header: bool) -> Result<Source, MapFault>
     ensures within { IfOk result (λ source. is_within source ≡ true) }
     ensures kind { IfErr result (λ fault. is_of_document fault ≡ true) }
