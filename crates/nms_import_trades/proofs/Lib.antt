@@ -1,1 +1,2 @@
 mod RecordFacts
+mod MapFacts

@@ -17,9 +17,9 @@ use Rattle.nms_import.specs.declared.meanings.PriceUnit.{PriceUnit}
 use Rattle.nms_import.specs.declared.meanings.PriceUnit.TheVariants as unit
 use Rattle.nms_trades.specs.FinePrice.{fine_number}
 use Rattle.nms_trades.specs.Reading.{is_name}
+use Rattle.nms_trades.specs.declared.millionths.TheConstants.{MOST_MILLIONTHS}
 use Rattle.nms_trades.specs.declared.execution.Deal.{Deal}
 use Rattle.nms_trades.specs.declared.execution.Deal.TheVariants as deal
-use Rattle.nms_import_trades.specs.declared.TheConstants.{MOST_MILLIONTHS}
 use Rattle.nms_import_trades.specs.declared.claim.Claim.{Claim}
 use Rattle.nms_import_trades.specs.declared.claim.Flag.{Flag}
 use Rattle.nms_import_trades.specs.declared.claim.Flag.TheVariants as flag
@@ -107,9 +107,13 @@ deal_of mapping text =
 abbrev pub has_letter : List ℕ → ℕ → Bool
 has_letter letters c = list_any (λ letter. letter == c) letters
 
+-- whether a letter claims a flag
+abbrev pub is_claim : List Claim → ℕ → Bool
+is_claim claims c = list_any (λ it. has_letter it.letters.items c) claims
+
 -- whether the mapping lists a letter
 abbrev pub is_known : TradeMeanings → ℕ → Bool
-is_known mapping c = has_letter mapping.nothing.items c || list_any (λ it. has_letter it.letters.items c) mapping.claims.items
+is_known mapping c = has_letter mapping.nothing.items c || is_claim mapping.claims.items c
 
 -- whether a trade is marked exempt; an empty text says that it is not
 abbrev pub mark_of : TradeMeanings → List ℕ → Result Bool TradeCause

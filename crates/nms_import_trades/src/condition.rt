@@ -2,7 +2,7 @@
 ghost use Rattle.std.specs.Prelude.{◌≡◌, ◌++◌, ◌&&◌, OnOk, drop};
 ghost use Rattle.std.specs.List.{list_all, list_any};
 ghost use Rattle.nms_import_trades.specs.Executions.{flags_text, plus_flags};
-ghost use Rattle.nms_import_trades.specs.TradeRow.{claims_it, has_letter, is_claimed, is_known, is_reason, lacks_reason};
+ghost use Rattle.nms_import_trades.specs.TradeRow.{claims_it, has_letter, is_claim, is_claimed, is_known, is_reason, lacks_reason};
 
 use crate::claim::Claim;
 use crate::trade_meanings::TradeMeanings;
@@ -21,9 +21,16 @@ fn is_known(meanings: &TradeMeanings, c: u8) -> bool
     has_letter(&meanings.nothing, c) || is_claim(&meanings.claims, c)
 }
 
+/// Whether any of the letters claims a flag.
+pub(crate) fn any_claims(claims: &[Claim], letters: &[u8]) -> bool
+    ensures { result ≡ list_any (is_claim claims.now) letters.now }
+{
+    letters.iter().any(|c| is_claim(claims, *c))
+}
+
 /// Whether a letter claims any flag.
 fn is_claim(claims: &[Claim], c: u8) -> bool
-    ensures { result ≡ list_any (λ it. has_letter it.letters.items c) claims.now }
+    ensures { result ≡ is_claim claims.now c }
 {
     claims.iter().any(|it| is_letter_of(it, c))
 }

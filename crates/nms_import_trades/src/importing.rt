@@ -13,10 +13,10 @@ use crate::trade::Trade;
 use crate::trade_columns::TradeColumns;
 use crate::trade_meanings::TradeMeanings;
 use crate::trade_row::read_trade;
-use crate::trade_tally::{MOST_ROWS, TradeTally};
+use crate::trade_tally::TradeTally;
 use crate::trade_telling::TradeTold;
 use csv::{ByteRecord, Reader};
-use nms_import::{ImportFault, next_row};
+use nms_import::{ImportFault, MOST_ROWS, next_row};
 use nms_lines::write_text;
 use nms_quote::Roster;
 use std::alloc::Global;
@@ -33,8 +33,13 @@ pub struct TradeWork {
 }
 
 impl TradeWork {
+    ghost use Rattle.std.specs.Prelude.{◌≡◌, []};
+    ghost use Rattle.csv.specs.Records.{fields_of};
+
     /// Room for a row. It takes no memory before the first.
-    pub fn new(alloc: Global) -> TradeWork {
+    pub fn new(alloc: Global) -> TradeWork
+        ensures { fields_of result.row ≡ [] }
+    {
         TradeWork {
             row: ByteRecord::new(alloc),
             scratch: Vec::new(alloc),

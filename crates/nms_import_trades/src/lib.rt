@@ -6,6 +6,7 @@ mod claim;
 mod condition;
 mod execution_writing;
 mod importing;
+mod laws;
 mod trade;
 mod trade_cause;
 mod trade_columns;
@@ -18,6 +19,7 @@ mod trade_telling;
 
 pub use claim::{Claim, Flag};
 pub use importing::{TradeWork, import_trades};
+pub use laws::worked_examples;
 pub use trade::Trade;
 pub use trade_cause::TradeCause;
 pub use trade_columns::TradeColumns;
@@ -26,6 +28,3 @@ pub use trade_meanings::TradeMeanings;
 pub use trade_row::read_trade;
 pub use trade_tally::{TradeSums, TradeTally};
 pub use trade_telling::{TradeTold, write_trade_tally};
-
-/// The highest price in 1/1,000,000 dollar, as `trades` reads one: 9,999,999.999999 dollars.
-pub const MOST_MILLIONTHS: u64 = 9_999_999_999_999;

@@ -1,4 +1,6 @@
-//! Why a row makes no execution.
+//! Why a row makes no execution: `specs/TradeCauses`.
+ghost use Rattle.std.specs.Prelude.{◌≡◌};
+ghost use Rattle.nms_import_trades.specs.TradeCauses.{is_skipped};
 
 /// Why a row makes no execution: the first that holds, as `specs/TradeRow` orders them. The last three skip the row, the
 /// others refuse it.
@@ -34,7 +36,9 @@ pub enum TradeCause {
 
 impl TradeCause {
     /// Whether the row is skipped, and not refused.
-    pub fn skips(self) -> bool {
+    pub fn skips(self) -> bool
+        ensures { result ≡ is_skipped self }
+    {
         match self {
             TradeCause::TooFewColumns
             | TradeCause::BadName

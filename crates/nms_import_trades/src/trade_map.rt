@@ -1,5 +1,16 @@
-//! A mapping of a file of trades, from the text of its TOML document.
+//! A mapping of a file of trades, from the text of its TOML document: `specs/TradeMap` and `specs/TradePlacing`.
+ghost use Rattle.std.specs.Prelude.{◌≡◌, ◌≢◌, max, map, true, None, Some, IfErr, IfOk, option_map, option_and_then};
+ghost use Rattle.csv.specs.Records.{fields_of};
+ghost use Rattle.toml.specs.Data.{Members, as_str, as_table, get_member};
+ghost use Rattle.toml.specs.Parse.{parse_document};
+ghost use Rattle.toml.specs.View.{table_view, view};
+ghost use Rattle.nms_import.specs.Refusals.{is_of_document, is_of_first_row, is_of_text};
+ghost use Rattle.nms_import.specs.Tables.{is_within};
+ghost use Rattle.nms_import_trades.specs.TradeMap.{AreClaims, AreReadOf, IsMappingOf, are_within, says_trades};
+ghost use Rattle.nms_import_trades.specs.TradePlacing.{IsIdPlaced, needed_by_id};
+
 use crate::claim::{Claim, Flag};
+use crate::condition::any_claims;
 use crate::trade_columns::TradeColumns;
 use crate::trade_meanings::TradeMeanings;
 use csv::ByteRecord;
@@ -8,7 +19,7 @@ use nms_import::{
     form_of, keep, names_of, no_others, place_of, symbols_of, unit_of,
 };
 use std::alloc::Global;
-use toml::Table;
+use toml::{Table, Value};
 
 /// The tables of a mapping of trades.
 static TABLES: [&'static str; 10] = [
@@ -53,16 +64,22 @@ pub struct TradeMapping {
 }
 
 impl TradeMapping {
+    ghost use Rattle.std.specs.Prelude.{◌≡◌, IfErr, IfOk, true};
+    ghost use Rattle.csv.specs.Records.{fields_of};
+    ghost use Rattle.nms_import.specs.Refusals.{is_of_first_row};
+    ghost use Rattle.nms_import_trades.specs.TradePlacing.{ArePlaced, width_of};
+
     /// The columns of a file whose first row is `names`; `names` is empty if the file has no header.
     ///
     /// `NoColumn` is the first key of the table `column` whose name the row lacks.
-    pub fn columns(&self, alloc: Global, names: &ByteRecord) -> Result<TradeColumns, MapFault> {
+    pub fn columns(&self, alloc: Global, names: &ByteRecord) -> Result<TradeColumns, MapFault>
+        ensures placed { IfOk result (λ columns. ArePlaced self.now (fields_of names.now) columns) }
+        ensures width { IfOk result (λ columns. columns.width ≡ width_of columns) }
+        ensures fault { IfErr result (λ fault. is_of_first_row fault ≡ true) }
+    {
         let all = &self.sources;
         let mut width = 0;
-        let id = match &all.id {
-            Some(source) => Some(place_of(alloc, source, "id", names, &mut width)?),
-            None => None,
-        };
+        let id = place_of_id(alloc, &all.id, names, &mut width)?;
         let time = place_of(alloc, &all.time, "time", names, &mut width)?;
         let participant = place_of(alloc, &all.participant, "participant", names, &mut width)?;
         let symbol = place_of(alloc, &all.symbol, "symbol", names, &mut width)?;
@@ -88,28 +105,79 @@ impl TradeMapping {
     }
 }
 
+/// Where the name of an execution stands, if the mapping has a column of it.
+fn place_of_id(
+    alloc: Global,
+    source: &Option<Source>,
+    names: &ByteRecord,
+    width: &mut usize,
+) -> Result<Option<Column>, MapFault>
+    ensures placed { IfOk result (λ id. IsIdPlaced source.now (fields_of names.now) id) }
+    ensures width { IfOk result (λ id. width.new ≡ max width.old (needed_by_id id)) }
+    ensures fault { IfErr result (λ fault. is_of_first_row fault ≡ true) }
+{
+    match source {
+        Some(source) => Ok(Some(place_of(alloc, source, "id", names, width)?)),
+        None => Ok(None),
+    }
+}
+
 /// Whether a document is a mapping of trades: `[file] kind = "trades"`.
-pub fn is_of_trades(document: &Table) -> bool {
-    let Some(file) = document.get("file") else {
+pub fn is_of_trades(document: &Table) -> bool
+    ensures { result ≡ says_trades (table_view document.now) }
+{
+    let Some(file) = table_in(document, "file") else {
         return false;
     };
-    let Some(members) = file.as_table() else {
-        return false;
-    };
-    match members.get("kind") {
-        Some(kind) => kind.as_str() == Some("trades"),
+    match text_in(file, "kind") {
+        Some(kind) => kind == "trades",
         None => false,
     }
 }
 
+/// The table at a key, if there is one.
+fn table_in<'a>(members: &'a Table, key: &str) -> Option<&'a Table>
+    ensures { option_map (λ it. table_view it.now) result ≡ option_and_then as_table (get_member key.now (table_view members.now)) }
+{
+    match value_in(members, key) {
+        Some(value) => value.as_table(),
+        None => None,
+    }
+}
+
+/// The text at a key, if there is one.
+fn text_in<'a>(members: &'a Table, key: &str) -> Option<&'a str>
+    ensures { option_map (λ it. it.now) result ≡ option_and_then as_str (get_member key.now (table_view members.now)) }
+{
+    match value_in(members, key) {
+        Some(value) => value.as_str(),
+        None => None,
+    }
+}
+
+/// The value at a key, if there is one.
+fn value_in<'a>(members: &'a Table, key: &str) -> Option<&'a Value>
+    ensures { option_map (λ value. view value.now) result ≡ get_member key.now (table_view members.now) }
+{
+    members.get(key)
+}
+
 /// Reads a mapping of trades. The first fault that is found is answered, table by table.
-pub fn read_trade_mapping(alloc: Global, text: &str) -> Result<TradeMapping, MapFault> {
+pub fn read_trade_mapping(alloc: Global, text: &str) -> Result<TradeMapping, MapFault>
+    ensures mapping { IfOk result (λ mapping. (document : Members) × (parse_document text.now ≡ Some document) × IsMappingOf document mapping) }
+    ensures text { IfErr result (λ fault. is_of_text fault ≡ true → parse_document text.now ≡ None) }
+    ensures no_document { IfErr result (λ fault. parse_document text.now ≡ None → fault ≢ MapFault.NoMemory → is_of_text fault ≡ true) }
+    ensures document { IfErr result (λ fault. parse_document text.now ≢ None → is_of_document fault ≡ true) }
+{
     let document = document_of(alloc, text)?;
     trade_mapping_of(alloc, &document)
 }
 
 /// The mapping of trades of a document.
-pub fn trade_mapping_of(alloc: Global, document: &Table) -> Result<TradeMapping, MapFault> {
+pub fn trade_mapping_of(alloc: Global, document: &Table) -> Result<TradeMapping, MapFault>
+    ensures mapping { IfOk result (λ mapping. IsMappingOf (table_view document.now) mapping) }
+    ensures kind { IfErr result (λ fault. is_of_document fault ≡ true) }
+{
     no_others(alloc, document, &TABLES, A_TABLE)?;
     let (file, ends) = file_of(alloc, document, "trades")?;
     let sources = sources_of(alloc, document, file.header)?;
@@ -123,7 +191,10 @@ pub fn trade_mapping_of(alloc: Global, document: &Table) -> Result<TradeMapping,
 }
 
 /// The table `column`.
-fn sources_of(alloc: Global, document: &Table, header: bool) -> Result<TradeSources, MapFault> {
+fn sources_of(alloc: Global, document: &Table, header: bool) -> Result<TradeSources, MapFault>
+    ensures within { IfOk result (λ sources. are_within sources ≡ true) }
+    ensures kind { IfErr result (λ fault. is_of_document fault ≡ true) }
+{
     let table = MapTable::of(
         alloc,
         document,
@@ -157,7 +228,11 @@ fn sources_of(alloc: Global, document: &Table, header: bool) -> Result<TradeSour
 }
 
 /// The column at a key; an absent one is the empty text.
-fn or_nothing(table: MapTable<'_>, key: &str, header: bool) -> Result<Source, MapFault> {
+#[tactic(auto, using(crate::proofs::MapFacts::nothing_within))]
+fn or_nothing(table: MapTable<'_>, key: &str, header: bool) -> Result<Source, MapFault>
+    ensures within { IfOk result (λ source. is_within source ≡ true) }
+    ensures kind { IfErr result (λ fault. is_of_document fault ≡ true) }
+{
     match table.column(key, header)? {
         Some(source) => Ok(source),
         None => Ok(table.nothing()),
@@ -165,7 +240,10 @@ fn or_nothing(table: MapTable<'_>, key: &str, header: bool) -> Result<Source, Ma
 }
 
 /// What is read as of quotes. What quotes alone have is empty.
-fn common_of(alloc: Global, document: &Table, ends: Vec<Word>) -> Result<Meanings, MapFault> {
+fn common_of(alloc: Global, document: &Table, ends: Vec<Word>) -> Result<Meanings, MapFault>
+    ensures common { IfOk result (λ common. AreReadOf (table_view document.now) common) }
+    ensures kind { IfErr result (λ fault. is_of_document fault ≡ true) }
+{
     let time = MapTable::of(
         alloc,
         document,
@@ -197,11 +275,11 @@ fn common_of(alloc: Global, document: &Table, ends: Vec<Word>) -> Result<Meaning
 }
 
 /// The tables `side`, `flags` and `exempt`.
-fn meanings_of(
-    alloc: Global,
-    document: &Table,
-    common: Meanings,
-) -> Result<TradeMeanings, MapFault> {
+fn meanings_of(alloc: Global, document: &Table, common: Meanings) -> Result<TradeMeanings, MapFault>
+    ensures common { IfOk result (λ meanings. meanings.common ≡ common) }
+    ensures claims { IfOk result (λ meanings. AreClaims meanings.claims.items meanings.nothing.items) }
+    ensures kind { IfErr result (λ fault. is_of_document fault ≡ true) }
+{
     let side = MapTable::of(
         alloc,
         document,
@@ -224,7 +302,10 @@ fn meanings_of(
 }
 
 /// The table `flags`: each flag with its letters, and the letters that claim nothing.
-fn claims_of(alloc: Global, document: &Table) -> Result<(Vec<Claim>, Vec<u8>), MapFault> {
+fn claims_of(alloc: Global, document: &Table) -> Result<(Vec<Claim>, Vec<u8>), MapFault>
+    ensures claims { IfOk result (λ found. AreClaims found.0.items found.1.items) }
+    ensures kind { IfErr result (λ fault. is_of_document fault ≡ true) }
+{
     let table = MapTable::of(
         alloc,
         document,
@@ -244,8 +325,7 @@ fn claims_of(alloc: Global, document: &Table) -> Result<(Vec<Claim>, Vec<u8>), M
         ],
         "one of not_regular, single_priced, sweep, swept, benchmark, stopped, contingent, exempt, outside_hours, out_of_sequence, nothing",
     )?;
-    let mut claims: Vec<Claim> = Vec::new(alloc);
-    for (key, flag) in [
+    let flags = [
         ("not_regular", Flag::NotRegular),
         ("single_priced", Flag::SinglePriced),
         ("sweep", Flag::Sweep),
@@ -256,21 +336,37 @@ fn claims_of(alloc: Global, document: &Table) -> Result<(Vec<Claim>, Vec<u8>), M
         ("exempt", Flag::Exempt),
         ("outside_hours", Flag::OutsideHours),
         ("out_of_sequence", Flag::OutOfSequence),
-    ] {
-        let letters = letters_of(alloc, table, key)?;
-        keep(&mut claims, Claim { flag, letters })?;
-    }
+    ];
+    let claims = claims_in(alloc, table, &flags)?;
     let nothing = letters_of(alloc, table, "nothing")?;
-    for letter in &nothing {
-        if claims.iter().any(|it| it.letters.contains(letter)) {
-            return Err(table.bad("nothing", "letters that stand in no other list"));
-        }
+    if any_claims(&claims, &nothing) {
+        return Err(table.bad("nothing", "letters that stand in no other list"));
     }
     Ok((claims, nothing))
 }
 
+/// Flags, each with the letters at its key.
+fn claims_in(
+    alloc: Global,
+    table: MapTable<'_>,
+    flags: &[(&'static str, Flag)],
+) -> Result<Vec<Claim>, MapFault>
+    ensures flags { IfOk result (λ claims. map (λ it. it.flag) claims.items ≡ map (λ it. it.1) flags.now) }
+    ensures kind { IfErr result (λ fault. is_of_document fault ≡ true) }
+{
+    let mut claims = Vec::new(alloc);
+    for named in flags {
+        let flag = named.1;
+        let letters = letters_of(alloc, table, named.0)?;
+        keep(&mut claims, Claim { flag, letters })?;
+    }
+    Ok(claims)
+}
+
 /// The letters at a key: texts of one byte.
-fn letters_of(alloc: Global, table: MapTable<'_>, key: &str) -> Result<Vec<u8>, MapFault> {
+fn letters_of(alloc: Global, table: MapTable<'_>, key: &str) -> Result<Vec<u8>, MapFault>
+    ensures kind { IfErr result (λ fault. is_of_document fault ≡ true) }
+{
     let mut letters = Vec::new(alloc);
     for word in table.words(key)? {
         match word.text.as_slice() {

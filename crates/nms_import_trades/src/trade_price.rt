@@ -2,9 +2,8 @@
 ghost use Rattle.std.specs.Prelude.{◌≡◌, ◌<◌, ◌≤◌, IfSome, Some};
 ghost use Rattle.nms_import_trades.specs.TradeRow.{in_range, millionths_of};
 
-use crate::MOST_MILLIONTHS;
 use nms_import::PriceUnit;
-use nms_trades::millionths_in;
+use nms_trades::{MOST_MILLIONTHS, millionths_in};
 use nms_units::parse_digits;
 
 /// A price in 1/1,000,000 dollar, above zero.

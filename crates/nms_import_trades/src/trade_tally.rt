@@ -4,9 +4,6 @@ ghost use Rattle.nms_import_trades.specs.Executions.{refused_in, rows_in, skippe
 
 use crate::trade_cause::TradeCause;
 
-/// The most rows of an import.
-pub const MOST_ROWS: u64 = 1_000_000_000_000;
-
 /// How many rows had each outcome.
 #[derive(Clone, Copy, Debug, PartialEq, Eq)]
 pub struct TradeTally {
@@ -116,21 +113,8 @@ impl TradeTally {
         ensures parts { IfSome result (λ sums. (sums.executions ≡ self.now.executions) × (sums.refused ≡ refused_in self.now) × (sums.skipped ≡ skipped_in self.now)) }
         ensures whole { IfSome result (λ sums. sums.rows ≡ sums.executions + sums.refused + sums.skipped) }
     {
-        let refused = self
-            .too_few_columns
-            .checked_add(self.bad_name)?
-            .checked_add(self.bad_time)?
-            .checked_add(self.unknown_participant)?
-            .checked_add(self.unknown_symbol)?
-            .checked_add(self.bad_price)?
-            .checked_add(self.bad_shares)?
-            .checked_add(self.unknown_side)?
-            .checked_add(self.unknown_condition)?
-            .checked_add(self.unknown_mark)?;
-        let skipped = self
-            .trailer
-            .checked_add(self.listed)?
-            .checked_add(self.other_symbol)?;
+        let refused = self.refused()?;
+        let skipped = self.skipped()?;
         let executions = self.executions;
         let rows = executions.checked_add(refused)?.checked_add(skipped)?;
         Some(TradeSums {
@@ -139,5 +123,30 @@ impl TradeTally {
             refused,
             skipped,
         })
+    }
+
+    /// The rows that were refused.
+    fn refused(&self) -> Option<u64>
+        ensures { IfSome result (λ refused. refused ≡ refused_in self.now) }
+    {
+        self.too_few_columns
+            .checked_add(self.bad_name)?
+            .checked_add(self.bad_time)?
+            .checked_add(self.unknown_participant)?
+            .checked_add(self.unknown_symbol)?
+            .checked_add(self.bad_price)?
+            .checked_add(self.bad_shares)?
+            .checked_add(self.unknown_side)?
+            .checked_add(self.unknown_condition)?
+            .checked_add(self.unknown_mark)
+    }
+
+    /// The rows that were skipped.
+    fn skipped(&self) -> Option<u64>
+        ensures { IfSome result (λ skipped. skipped ≡ skipped_in self.now) }
+    {
+        self.trailer
+            .checked_add(self.listed)?
+            .checked_add(self.other_symbol)
     }
 }

@@ -1,14 +1,17 @@
-//! What is printed of an import of trades: the rows that make no execution, and the counts.
+//! What is printed of an import of trades: the rows that make no execution, and the counts (`specs/TradeTelling`).
+ghost use Rattle.std.specs.Prelude.{◌≡◌, true};
+ghost use Rattle.std.specs.List.{list_all};
+ghost use Rattle.nms_show.specs.Safe.{IsSafe};
+ghost use Rattle.nms_show.specs.Written.{Writes};
+ghost use Rattle.nms_import.specs.Telling.{is_own_plain, is_plain};
+
 use crate::trade_cause::TradeCause;
 use crate::trade_columns::TradeColumns;
 use crate::trade_tally::{TradeSums, TradeTally};
 use csv::ByteRecord;
-use nms_import::{Column, show_row};
+use nms_import::{Column, MOST_TOLD, show_row};
 use nms_show::{Form, Item, ShowFault, write_line};
 use std::io::Write;
-
-/// How many rows that make no execution are shown, of all files together.
-const MOST_TOLD: u64 = 100;
 
 /// Where rows that make no execution are shown.
 #[derive(Drop)]
@@ -20,8 +23,16 @@ pub struct TradeTold<'a, E> {
 }
 
 impl<'a, E: Write> TradeTold<'a, E> {
+    ghost use Rattle.std.specs.Prelude.{◌≡◌, []};
+    ghost use Rattle.nms_import.specs.declared.TheConstants.{MOST_TOLD};
+    ghost use Rattle.nms_import_trades.specs.TradeTelling.{file_of, left_of};
+
     /// On a writer, in no file yet.
-    pub fn new(errors: E) -> TradeTold<'a, E> {
+    pub fn new(errors: E) -> TradeTold<'a, E>
+        ensures writer { result.errors ≡ errors }
+        ensures file { file_of result ≡ [] }
+        ensures left { left_of result ≡ MOST_TOLD }
+    {
         TradeTold {
             errors,
             file: "",
@@ -30,7 +41,11 @@ impl<'a, E: Write> TradeTold<'a, E> {
     }
 
     /// Goes on with a file.
-    pub fn enter(&mut self, file: &'a str) {
+    pub fn enter(&mut self, file: &'a str)
+        ensures writer { self.new.errors ≡ self.old.errors }
+        ensures file { file_of self.new ≡ file.now }
+        ensures left { left_of self.new ≡ left_of self.old }
+    {
         self.file = file;
     }
 
@@ -99,8 +114,10 @@ pub fn write_trade_tally<W: Write>(
     out: &mut W,
     tally: &TradeTally,
     sums: &TradeSums,
-) -> Result<(), ShowFault> {
-    for (count, what) in [
+) -> Result<(), ShowFault>
+    ensures safe { Writes IsSafe (W.contents out.old) (W.contents out.new) result }
+{
+    let counts = [
         (tally.too_few_columns, " refused: too few columns"),
         (tally.bad_name, " refused: bad name"),
         (tally.bad_time, " refused: bad time"),
@@ -114,11 +131,8 @@ pub fn write_trade_tally<W: Write>(
         (tally.trailer, " skipped: last line of a file"),
         (tally.listed, " skipped: word to skip"),
         (tally.other_symbol, " skipped: other symbol"),
-    ] {
-        if count > 0 {
-            line(out, &[Item::Number(count), Item::Text(what)])?;
-        }
-    }
+    ];
+    write_counts(out, &counts)?;
     line(
         out,
         &[
@@ -134,6 +148,29 @@ pub fn write_trade_tally<W: Write>(
     )
 }
 
-fn line<W: Write>(out: &mut W, items: &[Item<'_>]) -> Result<(), ShowFault> {
+/// Writes a line for each count that is not zero.
+fn write_counts<W: Write>(out: &mut W, counts: &[(u64, &'static str)]) -> Result<(), ShowFault>
+    ensures { list_all (λ count. is_plain count.1.now) counts.now ≡ true → Writes IsSafe (W.contents out.old) (W.contents out.new) result }
+{
+    for count in counts {
+        write_count(out, count.0, count.1)?;
+    }
+    Ok(())
+}
+
+/// Writes a line for a count that is not zero.
+fn write_count<W: Write>(out: &mut W, count: u64, what: &'static str) -> Result<(), ShowFault>
+    ensures { is_plain what.now ≡ true → Writes IsSafe (W.contents out.old) (W.contents out.new) result }
+{
+    if count == 0 {
+        return Ok(());
+    }
+    line(out, &[Item::Number(count), Item::Text(what)])
+}
+
+/// Writes a line.
+fn line<W: Write>(out: &mut W, items: &[Item<'_>]) -> Result<(), ShowFault>
+    ensures { list_all is_own_plain items.now ≡ true → Writes IsSafe (W.contents out.old) (W.contents out.new) result }
+{
     write_line(out, Form::Text { colours: false }, items)
 }
