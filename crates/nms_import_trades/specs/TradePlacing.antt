@@ -1,5 +1,5 @@
 -- Where the columns of a mapping of trades stand in a file, by the file's first row. This product's own rule.
-use Rattle.std.specs.Prelude.{ℕ, ◌≡◌, max, fold, List, [], ◌∷◌, map, Option, Some, None}
+use Rattle.std.specs.Prelude.{ℕ, max, fold, List, [], ◌∷◌, map, Option, Some, None}
 use Rattle.std.specs.Option.{option_map_or}
 use Rattle.nms_lines.specs.Layout.{Record}
 use Rattle.nms_import.specs.Placing.{IsPlaced, columns_needed}
