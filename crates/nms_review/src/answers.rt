@@ -49,11 +49,12 @@ impl<W: Write> Answers<W> {
 
 impl<W: Write> Write for Answers<W> {
     fn write(&mut self, bytes: &[u8]) -> io::Result<usize> {
-        if self.text.len().saturating_add(bytes.len()) > ROOM {
-            self.write_out()?;
-        }
         if bytes.len() > ROOM {
+            self.write_out()?;
             return self.writer.write(bytes);
+        }
+        if self.text.len() > ROOM - bytes.len() {
+            self.write_out()?;
         }
         self.text.extend_from_slice(bytes)?;
         if self.is_piece() {

@@ -5,10 +5,10 @@ ghost use Rattle.nms_quote.specs.declared.TheConstants.{MOST_CHANGES};
 
 use crate::call::ended;
 use crate::fault::{About, Fault};
-use crate::files::{open_word, read_file, word_at};
+use crate::files::{read_file, word_at};
 use crate::importing::tell_map_fault;
 use crate::screen::Screen;
-use crate::source::Source;
+use crate::source::open_source;
 use crate::vendor::open_vendor;
 use crate::words::Request;
 use nms_codes::Code;
@@ -50,8 +50,7 @@ where
         Err(fault) => return tell_map_fault(rt, name, &fault),
     };
     let times = read_file(rt, text_of(request.times), About::Times)?;
-    let file = open_word(rt, request, CHANGES)?;
-    let mut source = Source::new(rt, screen, file);
+    let mut source = open_source(rt, screen, request, CHANGES)?;
     let read = read_changes(rt.alloc(), setup, &mut source);
     source.clear();
     match read {

@@ -1,10 +1,10 @@
 //! The subcommand `draw`: which versions are drawn, with what, and along which axis.
 use crate::call::{ended, no_sym, sym_at, version_in};
 use crate::fault::{About, Fault};
-use crate::files::{open_word, read_file, word_at};
+use crate::files::{read_file, word_at};
 use crate::paging::{both_ended, page_fault};
 use crate::screen::Screen;
-use crate::source::Source;
+use crate::source::{Source, open_source};
 use crate::timing::{given_times, rising_of};
 use crate::trading::{given_symbols, timing_of};
 use crate::words::Request;
@@ -14,6 +14,7 @@ use nms_page::draw_executions;
 use nms_quote::Sym;
 use nms_show::Ending;
 use nms_times::{TimeOfDay, Times, find_span};
+use nms_trades::Timing;
 use std::fs;
 use std::io::Write;
 use std::rt::Files;
@@ -37,16 +38,52 @@ where
         return Err(no_sym(SYMBOL));
     };
     let times = given_times(rt, request)?;
-    let frame = frame_of(rt, request, times.as_ref())?;
-    let plan = match request.plan {
-        Some(path) => Some(read_file(rt, path, About::Plan)?),
-        None => None,
+    draw_timed(rt, screen, setup, request, sym, times.as_ref(), answers)
+}
+
+/// Draws a symbol's day, on whose versions these times are, if there are any.
+fn draw_timed<T, W: Write>(
+    rt: &T,
+    screen: Screen,
+    setup: &Setup,
+    request: &Request<'_>,
+    sym: Sym,
+    times: Option<&Times>,
+    answers: &mut W,
+) -> Result<Ending, Fault>
+where
+    T: AllocGlobal + Clock + Eprint + Files,
+{
+    let frame = frame_of(rt, request, times)?;
+    let Some(path) = request.plan else {
+        return draw_frame(rt, screen, setup, request, &frame, sym, None, answers);
     };
-    let plan = plan.as_ref().map(Vec::as_slice);
-    match request.trades {
-        Some(path) => draw_trades(rt, screen, setup, request, path, &frame, sym, plan, answers),
-        None => draw_alone(rt, screen, setup, request, &frame, sym, plan, answers),
-    }
+    let plan = read_file(rt, path, About::Plan)?;
+    draw_frame(rt, screen, setup, request, &frame, sym, Some(&plan), answers)
+}
+
+/// Draws the versions of a frame, with a plan and with executions if those were given.
+fn draw_frame<T, W: Write>(
+    rt: &T,
+    screen: Screen,
+    setup: &Setup,
+    request: &Request<'_>,
+    frame: &Frame<'_>,
+    sym: Sym,
+    plan: Option<&[u8]>,
+    answers: &mut W,
+) -> Result<Ending, Fault>
+where
+    T: AllocGlobal + Clock + Eprint + Files,
+{
+    let Some(path) = request.trades else {
+        return draw_alone(rt, screen, setup, request, frame, sym, plan, answers);
+    };
+    let symbols = given_symbols(rt, request)?;
+    let symbols = symbols.as_ref().map(Vec::as_slice);
+    let timing = timing_of(frame.times, symbols, false, 0);
+    let timing = timing.as_ref();
+    draw_trades(rt, screen, setup, request, path, frame, sym, plan, timing, answers)
 }
 
 /// Draws a day without executions.
@@ -63,8 +100,7 @@ fn draw_alone<T, W: Write>(
 where
     T: AllocGlobal + Clock + Eprint + Files,
 {
-    let file = open_word(rt, request, 0)?;
-    let mut source = Source::new(rt, screen, file);
+    let mut source = open_source(rt, screen, request, 0)?;
     let served = draw_changes(rt.alloc(), setup, &mut source, frame, sym, plan, answers).map_err(
         |fault| drawing_fault(fault, last_of(request), About::Word(0)),
     );
@@ -81,27 +117,23 @@ fn draw_trades<T, W: Write>(
     frame: &Frame<'_>,
     sym: Sym,
     plan: Option<&[u8]>,
+    timing: Option<&Timing<'_>>,
     answers: &mut W,
 ) -> Result<Ending, Fault>
 where
     T: AllocGlobal + Clock + Eprint + Files,
 {
-    let symbols = given_symbols(rt, request)?;
-    let symbols = symbols.as_ref().map(Vec::as_slice);
-    let timing = timing_of(frame.times, symbols, false, 0);
-    let changes = open_word(rt, request, 0)?;
-    let executions = match fs::open(rt, path) {
-        Ok(file) => file,
+    let mut changes = open_source(rt, screen, request, 0)?;
+    let mut executions = match fs::open(rt, path) {
+        Ok(file) => Source::new(rt, screen, file),
         Err(error) => return Err(Fault::unread(error, About::Trades)),
     };
-    let mut changes = Source::new(rt, screen, changes);
-    let mut executions = Source::new(rt, screen, executions);
     let served = draw_executions(
         rt.alloc(),
         setup,
         &mut changes,
         &mut executions,
-        timing.as_ref(),
+        timing,
         frame,
         sym,
         plan,

@@ -1,9 +1,9 @@
 //! The subcommand `explain`.
 use crate::call::{ended, feed_of, form_of, letter_of};
 use crate::fault::{About, Fault};
-use crate::files::{open_word, read_file, setup_of, word_at};
+use crate::files::{read_file, setup_of, word_at};
 use crate::screen::Screen;
-use crate::source::Source;
+use crate::source::{Source, open_source};
 use crate::words::{Kind, Request};
 use nms_codes::Code;
 use nms_explain::{explain_changes, explain_feed, explain_orders, explain_plan, explain_script};
@@ -93,8 +93,7 @@ where
     if kind == Kind::Plan {
         return serve_plan(rt, screen, setup, request, answers);
     }
-    let file = open_word(rt, request, FILE)?;
-    let mut source = Source::new(rt, screen, file);
+    let mut source = open_source(rt, screen, request, FILE)?;
     let served = serve_records(rt, screen, setup, kind, feed, request, &mut source, answers);
     ended(&mut source, served)
 }

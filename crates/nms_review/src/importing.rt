@@ -80,23 +80,54 @@ fn import_files<T, W: Write>(
 where
     T: AllocGlobal + Clock + Eprint + Files,
 {
+    match begin_job(rt, setup, request, mapping) {
+        Ok(mut job) => import_all(rt, screen, setup, request, mapping, &mut job, answers),
+        Err(fault) => Err(fault),
+    }
+}
+
+/// Makes the files that are written.
+fn begin_job<'a, T: AllocGlobal + Files>(
+    rt: &T,
+    setup: &Setup,
+    request: &Request<'a>,
+    mapping: &Mapping,
+) -> Result<Job<'a, T::File>, Fault> {
     let alloc = rt.alloc();
-    let mut job = Job {
-        changes: create(rt, request, ".changes")?,
-        times: create(rt, request, ".times")?,
-        symbols: create(rt, request, ".symbols")?,
+    let changes = create(rt, request, ".changes")?;
+    let times = create(rt, request, ".times")?;
+    let symbols = create(rt, request, ".symbols")?;
+    let notes = Notes::new(alloc, setup.roster(), mapping.order).map_err(|_| no_memory())?;
+    Ok(Job {
+        changes,
+        times,
+        symbols,
         work: Work::new(alloc),
-        notes: Notes::new(alloc, setup.roster(), mapping.order).map_err(|_| no_memory())?,
+        notes,
         told: Told::new(Vec::new(alloc)),
         tally: Tally::none(),
-    };
+    })
+}
+
+/// Makes changes of all files, and reports the counts.
+fn import_all<'a, T, W: Write>(
+    rt: &T,
+    screen: Screen,
+    setup: &Setup,
+    request: &Request<'a>,
+    mapping: &Mapping,
+    job: &mut Job<'a, T::File>,
+    answers: &mut W,
+) -> Result<Ending, Fault>
+where
+    T: AllocGlobal + Clock + Eprint + Files,
+{
     for place in FILES..request.words.len() {
-        if !import_file(rt, screen, setup, request, mapping, place, &mut job)? {
+        if !import_file(rt, screen, setup, request, mapping, place, job)? {
             return Ok(Ending::SetupRefused);
         }
     }
-    let half = mapping.meanings.half;
-    finish(rt, setup, request, half, &mut job, answers)
+    finish(setup, mapping.meanings.half, job, answers)
 }
 
 /// Makes changes of one file. Returns whether it has the columns that the mapping names; if not, that is reported.
@@ -143,17 +174,12 @@ where
 }
 
 /// Writes the rest, the symbols and the counts, and reports the doubts about the import.
-fn finish<T, W: Write>(
-    rt: &T,
+fn finish<F: Write, W: Write>(
     setup: &Setup,
-    request: &Request<'_>,
     half: Half,
-    job: &mut Job<'_, T::File>,
+    job: &mut Job<'_, F>,
     answers: &mut W,
-) -> Result<Ending, Fault>
-where
-    T: AllocGlobal + Eprint + Files,
-{
+) -> Result<Ending, Fault> {
     write_symbols(&mut job.symbols, setup.roster(), &job.notes).map_err(|fault| fault_in(
         fault, 0,
     ))?;

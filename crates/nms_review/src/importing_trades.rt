@@ -95,12 +95,28 @@ where
         told: TradeTold::new(Vec::new(alloc)),
         tally: TradeTally::none(),
     };
+    import_all(rt, screen, setup, request, mapping, &mut job, answers)
+}
+
+/// Makes executions of all files, and reports the counts.
+fn import_all<'a, T, W: Write>(
+    rt: &T,
+    screen: Screen,
+    setup: &Setup,
+    request: &Request<'a>,
+    mapping: &TradeMapping,
+    job: &mut TradeJob<'a, T::File>,
+    answers: &mut W,
+) -> Result<Ending, Fault>
+where
+    T: AllocGlobal + Clock + Eprint + Files,
+{
     for place in FILES..request.words.len() {
-        if !import_trade_file(rt, screen, setup, request, mapping, place, &mut job)? {
+        if !import_trade_file(rt, screen, setup, request, mapping, place, job)? {
             return Ok(Ending::SetupRefused);
         }
     }
-    finish(&mut job, answers)
+    finish(job, answers)
 }
 
 /// Makes executions of one file. Returns whether it has the columns that the mapping names; if not, that is reported.

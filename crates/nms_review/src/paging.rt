@@ -3,9 +3,9 @@ use crate::answers::Answers;
 use crate::call::form_of;
 use crate::drawing::drawing_fault;
 use crate::fault::{About, Fault};
-use crate::files::{create_file, open_word, word_at};
+use crate::files::{create_file, word_at};
 use crate::screen::Screen;
-use crate::source::Source;
+use crate::source::{Source, open_source};
 use crate::trading::trades_fault;
 use crate::words::Request;
 use nms_codes::Code;
@@ -35,10 +35,8 @@ pub(crate) fn serve_page<T, W: Write>(
 where
     T: AllocGlobal + Clock + Eprint + Files,
 {
-    let changes = open_word(rt, request, CHANGES)?;
-    let executions = open_word(rt, request, EXECUTIONS)?;
-    let mut changes = Source::new(rt, screen, changes);
-    let mut executions = Source::new(rt, screen, executions);
+    let mut changes = open_source(rt, screen, request, CHANGES)?;
+    let mut executions = open_source(rt, screen, request, EXECUTIONS)?;
     let file = create_file(rt, request, path)?;
     let Ok(mut page) = Answers::new(rt.alloc(), file, false) else {
         return Err(Fault::of(Code::E4, About::Nothing));

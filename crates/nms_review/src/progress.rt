@@ -17,7 +17,8 @@ pub(crate) struct Progress {
     lines: u64,
     began: Duration,
     shown: Duration,
-    next: Duration,
+    /// When it is shown next, if the clock goes that far.
+    next: Option<Duration>,
 }
 
 impl Progress {
@@ -29,35 +30,49 @@ impl Progress {
             lines: 0,
             began,
             shown: began,
-            next: began.saturating_add(Duration::from_millis(FIRST)),
+            next: began.checked_add(Duration::from_millis(FIRST)),
         }
     }
 
-    /// Counts the bytes read, and returns whether to show that now.
+    /// Counts the bytes read, and returns whether to show that now. It is not shown once a count passes 2^64 - 1.
     pub(crate) fn count<T: Clock>(&mut self, clock: &T, bytes: &[u8]) -> bool {
-        let lines = bytes.iter().filter(|byte| **byte == b'\n').count();
-        self.done = self.done.saturating_add(bytes.len() as u64);
-        self.lines = self.lines.saturating_add(lines as u64);
+        let ends = bytes.iter().filter(|byte| **byte == b'\n').count();
+        let done = self.done.checked_add(bytes.len() as u64);
+        let lines = self.lines.checked_add(ends as u64);
+        let (Some(done), Some(lines)) = (done, lines) else {
+            return false;
+        };
+        self.done = done;
+        self.lines = lines;
         self.is_due(clock)
     }
 
     /// Whether to show the progress now.
     fn is_due<T: Clock>(&mut self, clock: &T) -> bool {
-        let Ok(now) = clock.monotonic() else {
-            return false;
-        };
-        if now < self.next {
-            return false;
+        match (clock.monotonic(), self.next) {
+            (Ok(now), Some(next)) if now >= next => {
+                self.shown = now;
+                self.next = now.checked_add(Duration::from_millis(EACH));
+                true
+            }
+            (Ok(_) | Err(_), Some(_) | None) => false,
         }
-        self.shown = now;
-        self.next = now.saturating_add(Duration::from_millis(EACH));
-        true
     }
 
     /// Milliseconds from the start of the reading until this is shown.
     fn passed(&self) -> u64 {
-        let passed = self.shown.saturating_sub(self.began);
-        u64::try_from(passed.as_millis()).unwrap_or(u64::MAX)
+        match self.shown.checked_sub(self.began) {
+            Some(passed) => u64::try_from(passed.as_millis()).unwrap_or(u64::MAX),
+            None => 0,
+        }
+    }
+
+    /// Seconds until the whole file is read, rounded up, if the reading goes on as it did.
+    fn left(&self, passed: u64) -> u64 {
+        match self.total.checked_sub(self.done) {
+            Some(rest) => part_of(rest, passed, self.done).div_ceil(1000),
+            None => 0,
+        }
     }
 }
 
@@ -72,8 +87,7 @@ impl fmt::Display for Progress {
         }
         write!(f, "{speed} records a second")?;
         if self.total > 0 {
-            let left = part_of(self.total.saturating_sub(self.done), passed, self.done);
-            write!(f, ", {} s left", left.saturating_add(999) / 1000)?;
+            write!(f, ", {} s left", self.left(passed))?;
         }
         Ok(())
     }

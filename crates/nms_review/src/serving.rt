@@ -4,10 +4,10 @@ use crate::comparing::serve_compare;
 use crate::drawing::{drawing_fault, serve_draw};
 use crate::explaining::serve_explain;
 use crate::fault::{About, Fault};
-use crate::files::{open_word, read_file, setup_of, word_at};
+use crate::files::{read_file, setup_of, word_at};
 use crate::importing::serve_import;
 use crate::screen::Screen;
-use crate::source::Source;
+use crate::source::{Source, open_source};
 use crate::timing::{given_times, serve_when, version_among};
 use crate::trading::serve_trades;
 use crate::words::{Request, Sub};
@@ -17,6 +17,7 @@ use nms_fees::Setup;
 use nms_scripts::ScriptFault;
 use nms_show::Ending;
 use nms_tape::write_tape;
+use nms_times::Times;
 use nms_verdicts::{VerdictFault, check_answers, explain_why};
 use std::io::Write;
 use std::rt::Files;
@@ -81,8 +82,7 @@ fn serve_tape<T, W: Write>(
 where
     T: AllocGlobal + Clock + Eprint + Files,
 {
-    let file = open_word(rt, request, 0)?;
-    let mut source = Source::new(rt, screen, file);
+    let mut source = open_source(rt, screen, request, 0)?;
     let served = match write_tape(rt.alloc(), setup, &mut source, answers) {
         Ok(()) => Ok(Ending::Done),
         Err(fault) => Err(Fault::of(code_of_script(fault), About::Word(0))),
@@ -117,8 +117,7 @@ where
     }
     let times = given_times(rt, request)?;
     let version = version_among(rt, request, times.as_ref(), 2)?;
-    let file = open_word(rt, request, 1)?;
-    let mut source = Source::new(rt, screen, file);
+    let mut source = open_source(rt, screen, request, 1)?;
     let form = form_of(screen, request);
     let served = show_version(
         rt.alloc(),
@@ -146,8 +145,7 @@ where
     T: AllocGlobal + Clock + Eprint + Files,
 {
     let version = version_of(request)?;
-    let file = open_word(rt, request, 1)?;
-    let mut source = Source::new(rt, screen, file);
+    let mut source = open_source(rt, screen, request, 1)?;
     let served = write_opening(rt.alloc(), setup, &mut source, version, answers).map_err(|fault| {
         drawing_fault(fault, About::Word(0), About::Word(1))
     });
@@ -170,8 +168,7 @@ where
         return Err(no_sym(1));
     }
     let times = given_times(rt, request)?;
-    let file = open_word(rt, request, 0)?;
-    let mut source = Source::new(rt, screen, file);
+    let mut source = open_source(rt, screen, request, 0)?;
     let form = form_of(screen, request);
     let served = stream_changes(
         rt.alloc(),
@@ -186,6 +183,34 @@ where
     ended(&mut source, served)
 }
 
+/// Plans that are about to be judged: the text that they stand in, and the changes, opened, with their times if those were
+/// given.
+#[derive(Drop)]
+struct Plans<'a, T, R> {
+    text: Vec<u8>,
+    times: Option<Times>,
+    source: Source<'a, T, R>,
+}
+
+/// Reads the plans and the times, and opens the changes.
+fn open_plans<'a, T>(
+    rt: &'a T,
+    screen: Screen,
+    request: &Request<'_>,
+) -> Result<Plans<'a, T, T::File>, Fault>
+where
+    T: AllocGlobal + Clock + Eprint + Files,
+{
+    let text = read_file(rt, word_at(request, 1), About::Word(1))?;
+    let times = given_times(rt, request)?;
+    let source = open_source(rt, screen, request, 0)?;
+    Ok(Plans {
+        text,
+        times,
+        source,
+    })
+}
+
 /// Judges every plan of a file of answers.
 fn serve_check<T, W: Write>(
     rt: &T,
@@ -197,24 +222,19 @@ fn serve_check<T, W: Write>(
 where
     T: AllocGlobal + Clock + Eprint + Files,
 {
-    let name = word_at(request, 1);
-    let text = read_file(rt, name, About::Word(1))?;
-    let times = given_times(rt, request)?;
-    let file = open_word(rt, request, 0)?;
-    let mut source = Source::new(rt, screen, file);
-    let form = form_of(screen, request);
+    let mut plans = open_plans(rt, screen, request)?;
     let served = check_answers(
         rt.alloc(),
         setup,
-        &mut source,
-        times.as_ref(),
-        name,
-        &text,
-        form,
+        &mut plans.source,
+        plans.times.as_ref(),
+        word_at(request, 1),
+        &plans.text,
+        form_of(screen, request),
         answers,
     )
     .map_err(verdict_fault);
-    ended(&mut source, served)
+    ended(&mut plans.source, served)
 }
 
 /// Explains why a plan is as it is.
@@ -228,24 +248,19 @@ fn serve_why<T, W: Write>(
 where
     T: AllocGlobal + Clock + Eprint + Files,
 {
-    let name = word_at(request, 1);
-    let text = read_file(rt, name, About::Word(1))?;
-    let times = given_times(rt, request)?;
-    let file = open_word(rt, request, 0)?;
-    let mut source = Source::new(rt, screen, file);
-    let form = form_of(screen, request);
+    let mut plans = open_plans(rt, screen, request)?;
     let served = explain_why(
         rt.alloc(),
         setup,
-        &mut source,
-        times.as_ref(),
-        name,
-        &text,
-        form,
+        &mut plans.source,
+        plans.times.as_ref(),
+        word_at(request, 1),
+        &plans.text,
+        form_of(screen, request),
         answers,
     )
     .map_err(verdict_fault);
-    ended(&mut source, served)
+    ended(&mut plans.source, served)
 }
 
 /// A fault of a judgement: the changes are the first word, and the plans the second.

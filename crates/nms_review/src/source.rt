@@ -1,10 +1,14 @@
 //! A file being read: how far it is, and why it could not be read.
 use crate::answers::ERASE;
+use crate::fault::Fault;
+use crate::files::open_word;
 use crate::progress::Progress;
 use crate::screen::Screen;
+use crate::words::Request;
 use std::fs::OpenFile;
 use std::io;
 use std::io::Read;
+use std::rt::Files;
 use std::time::Clock;
 
 /// A file being read.
@@ -58,6 +62,19 @@ impl<T: Clock + Eprint, R> Source<'_, T, R> {
             let _ = self.rt.eprint(*progress);
             self.is_shown = true;
         }
+    }
+}
+
+/// Opens the file that a subcommand's own word names.
+pub(crate) fn open_source<'a, T: Clock + Eprint + Files>(
+    rt: &'a T,
+    screen: Screen,
+    request: &Request<'_>,
+    place: usize,
+) -> Result<Source<'a, T, T::File>, Fault> {
+    match open_word(rt, request, place) {
+        Ok(file) => Ok(Source::new(rt, screen, file)),
+        Err(fault) => Err(fault),
     }
 }
 

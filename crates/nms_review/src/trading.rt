@@ -1,10 +1,10 @@
 //! The subcommand `trades`.
 use crate::call::{ended, form_of};
 use crate::fault::{About, Fault};
-use crate::files::{open_word, read_file};
+use crate::files::read_file;
 use crate::paging::serve_page;
 use crate::screen::Screen;
-use crate::source::Source;
+use crate::source::open_source;
 use crate::timing::given_times;
 use crate::words::Request;
 use nms_fees::Setup;
@@ -36,13 +36,26 @@ where
     let symbols = given_symbols(rt, request)?;
     let symbols = symbols.as_ref().map(Vec::as_slice);
     let timing = timing_of(times.as_ref(), symbols, request.before, window);
-    if let Some(path) = request.html {
-        return serve_page(rt, screen, setup, request, timing.as_ref(), path, answers);
+    match request.html {
+        Some(path) => serve_page(rt, screen, setup, request, timing.as_ref(), path, answers),
+        None => serve_answers(rt, screen, setup, request, timing.as_ref(), answers),
     }
-    let changes = open_word(rt, request, CHANGES)?;
-    let executions = open_word(rt, request, EXECUTIONS)?;
-    let mut changes = Source::new(rt, screen, changes);
-    let mut executions = Source::new(rt, screen, executions);
+}
+
+/// Judges a file of executions whose versions are found by these times, if there are any.
+fn serve_answers<T, W: Write>(
+    rt: &T,
+    screen: Screen,
+    setup: &Setup,
+    request: &Request<'_>,
+    timing: Option<&Timing<'_>>,
+    answers: &mut W,
+) -> Result<Ending, Fault>
+where
+    T: AllocGlobal + Clock + Eprint + Files,
+{
+    let mut changes = open_source(rt, screen, request, CHANGES)?;
+    let mut executions = open_source(rt, screen, request, EXECUTIONS)?;
     let layout = if request.table {
         Layout::Table
     } else {
@@ -53,7 +66,7 @@ where
         setup,
         &mut changes,
         &mut executions,
-        timing.as_ref(),
+        timing,
         form_of(screen, request),
         layout,
         answers,

@@ -1,9 +1,8 @@
 //! A vendor's file, opened.
 use crate::fault::Fault;
-use crate::files::open_word;
 use crate::importing::fault_in;
 use crate::screen::Screen;
-use crate::source::Source;
+use crate::source::{Source, open_source};
 use crate::words::Request;
 use csv::{ByteRecord, Reader};
 use nms_import::{FileForm, next_row, open_rows};
@@ -22,8 +21,7 @@ pub(crate) fn open_vendor<'a, T>(
 where
     T: AllocGlobal + Clock + Eprint + Files,
 {
-    let file = open_word(rt, request, place)?;
-    let source = Source::new(rt, screen, file);
+    let source = open_source(rt, screen, request, place)?;
     let mut reader = open_rows(rt.alloc(), form.delimiter, form.quotes, source);
     names.clear();
     if form.header {
