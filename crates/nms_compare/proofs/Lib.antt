@@ -1,3 +1,4 @@
 mod CountFacts
 mod StandingFacts
 mod QuotedFacts
+mod TextFacts

@@ -1,6 +1,5 @@
 -- What is quoted best, read from the board of a tape.
-use Rattle.std.proofs.Common.{◌≡◌, ℕ, ap, ◌∙◌}
-use Rattle.nms_quote.specs.Roster.{Sizes}
+use Rattle.std.proofs.Common.{◌≡◌, ℕ, ap}
 use Rattle.nms_quote.specs.Tape.{Tape}
 use Rattle.nms_board.specs.Cells.{Board, StandsFor}
 use Rattle.nms_board.specs.Shown.{seen_on}

@@ -1,6 +1,6 @@
 -- The version at a key, from that of an earlier key on.
 use Rattle.std.proofs.Common.{◌≡◌, ℕ, ◌+◌, ◌≤◌, Bool, true, false, List, [], ◌∷◌}
-use Rattle.std.proofs.Common.{length, drop, suc, refl, ap, arith, Option, Some, None, cond}
+use Rattle.std.proofs.Common.{length, drop, suc, refl, ap, arith, Some, None, cond}
 use Rattle.std.specs.Prelude.{nat_lt, position}
 use Rattle.std.proofs.lemmas.Bool.Decides.{nat_tests}
 use Rattle.nms_compare.specs.Standing.{version_by}

@@ -1,11 +1,16 @@
 //! How many rows had each finding: `specs/Compared`.
-ghost use Rattle.std.specs.Prelude.{◌≡◌, ◌<◌, ◌+◌, Result};
+ghost use Rattle.std.specs.Prelude.{◌≡◌, ◌≢◌, ◌<◌, ◌≤◌, ◌+◌, ◌^◌, IfErr, IfOk, OnOk, Result, true};
+ghost use Rattle.std.specs.List.{list_all, sum_by};
+ghost use Rattle.nms_import.specs.Telling.{is_own_plain, is_plain};
+ghost use Rattle.nms_show.specs.Safe.{IsSafe};
+ghost use Rattle.nms_show.specs.Written.{Writes};
+ghost use Rattle.nms_compare.specs.Faults.{is_of_output};
 ghost use Rattle.nms_compare.specs.Compared.{count_cause, count_finding, count_row, has_doubts, no_counts, rows_in, skips};
 
 use crate::compare_fault::CompareFault;
 use crate::finding::Finding;
 use nms_import::Cause;
-use nms_show::{Form, Item, write_line};
+use nms_show::{Form, Item, ShowFault, write_line};
 use std::io::Write;
 
 /// How many rows had each finding.
@@ -113,10 +118,15 @@ fn skips(cause: Cause) -> bool
     }
 }
 
-/// Writes the counts: a line for each finding, and last the sum. The counts are of at most 1,000,000,000,000 rows.
-pub fn write_counts<W: Write>(out: &mut W, counts: &Counts) -> Result<(), CompareFault> {
-    let mut rows = 0u64;
-    for (count, what) in [
+/// Writes the counts: a line for each finding, and last the sum. `TooLong` comes if the sum is more than 2^64 - 1, after the
+/// lines of the counts before that: 1,000,000,000,000 rows have none such.
+pub fn write_counts<W: Write>(out: &mut W, counts: &Counts) -> Result<(), CompareFault>
+    ensures safe { Writes IsSafe (W.contents out.old) (W.contents out.new) result }
+    ensures whole { OnOk result (rows_in counts.now < 2 ^ 64) }
+    ensures too_long { IfErr result (λ fault. fault ≡ CompareFault.TooLong → 2 ^ 64 ≤ rows_in counts.now) }
+    ensures others { IfErr result (λ fault. fault ≢ CompareFault.TooLong → is_of_output fault ≡ true) }
+{
+    let table = [
         (counts.equal, " equal"),
         (counts.other_price, " other price"),
         (counts.other_size, " other size"),
@@ -124,14 +134,58 @@ pub fn write_counts<W: Write>(out: &mut W, counts: &Counts) -> Result<(), Compar
         (counts.no_counterpart, " no counterpart"),
         (counts.refused, " refused"),
         (counts.skipped, " skipped"),
-    ] {
-        rows = rows.checked_add(count).ok_or(CompareFault::TooLong)?;
-        line(out, &[Item::Number(count), Item::Text(what)])?;
-    }
+    ];
+    let rows = write_table(out, &table)?;
     line(out, &[Item::Number(rows), Item::Text(" rows")])
 }
 
-fn line<W: Write>(out: &mut W, items: &[Item<'_>]) -> Result<(), CompareFault> {
-    write_line(out, Form::Text { colours: false }, items)?;
-    Ok(())
+/// Writes a line for each number, and returns their sum.
+fn write_table<W: Write>(out: &mut W, table: &[(u64, &'static str)]) -> Result<u64, CompareFault>
+    requires own { list_all (λ row. is_plain row.1.now) table.now ≡ true }
+    ensures safe { Writes IsSafe (W.contents out.old) (W.contents out.new) result }
+    ensures sum { IfOk result (λ rows. rows ≡ sum_by (λ row. row.0) table.now) }
+    ensures too_long { IfErr result (λ fault. fault ≡ CompareFault.TooLong → 2 ^ 64 ≤ sum_by (λ row. row.0) table.now) }
+    ensures others { IfErr result (λ fault. fault ≢ CompareFault.TooLong → is_of_output fault ≡ true) }
+{
+    let mut rows = 0;
+    for row in table {
+        rows = write_row(out, rows, row.0, row.1)?;
+    }
+    Ok(rows)
+}
+
+/// Writes a line for a number, and returns the sum of those before it and of it.
+fn write_row<W: Write>(
+    out: &mut W,
+    before: u64,
+    count: u64,
+    what: &'static str,
+) -> Result<u64, CompareFault>
+    requires own { is_plain what.now ≡ true }
+    ensures safe { Writes IsSafe (W.contents out.old) (W.contents out.new) result }
+    ensures sum { IfOk result (λ rows. rows ≡ before + count) }
+    ensures too_long { IfErr result (λ fault. fault ≡ CompareFault.TooLong → 2 ^ 64 ≤ before + count) }
+    ensures others { IfErr result (λ fault. fault ≢ CompareFault.TooLong → is_of_output fault ≡ true) }
+{
+    let Some(rows) = before.checked_add(count) else {
+        return Err(CompareFault::TooLong);
+    };
+    match line(out, &[Item::Number(count), Item::Text(what)]) {
+        Ok(()) => Ok(rows),
+        Err(fault) => Err(fault),
+    }
+}
+
+/// Writes a line.
+#[tactic(auto, using(crate::proofs::TextFacts::all_own))]
+fn line<W: Write>(out: &mut W, items: &[Item<'_>]) -> Result<(), CompareFault>
+    requires own { list_all is_own_plain items.now ≡ true }
+    ensures safe { Writes IsSafe (W.contents out.old) (W.contents out.new) result }
+    ensures others { IfErr result (λ fault. is_of_output fault ≡ true) }
+{
+    match write_line(out, Form::Text { colours: false }, items) {
+        Ok(()) => Ok(()),
+        Err(ShowFault::WriteFault) => Err(CompareFault::WriteFault),
+        Err(ShowFault::NoMemory) => Err(CompareFault::NoMemory),
+    }
 }

@@ -4,7 +4,6 @@
 
 mod explaining;
 mod kind;
-mod locating;
 mod mending;
 mod nearest;
 mod telling;

@@ -1,10 +1,15 @@
 //! One fault of a mapping, as it is printed.
-use crate::locating::locate_key;
+ghost use Rattle.std.specs.Prelude.{◌≡◌, ◌&&◌, IfOk, true};
+ghost use Rattle.std.specs.List.{list_all};
+ghost use Rattle.nms_import.specs.Telling.{is_own_plain, is_plain};
+ghost use Rattle.nms_show.specs.Safe.{IsSafe};
+ghost use Rattle.nms_show.specs.Written.{Writes};
+
 use crate::nearest::nearest_known;
-use nms_explain_setup::{Marked, mark_at};
+use nms_explain_setup::{Marked, locate_named, mark_at};
 use nms_import::MapFault;
 use nms_show::{Ending, Form, Item, ShowFault, write_line, write_object, write_under};
-use std::alloc::Global;
+use std::alloc::{AllocError, Global};
 use std::io::Write;
 use toml::Table;
 
@@ -93,7 +98,10 @@ pub(crate) fn tell_no_toml<'a, W: Write>(
     end: usize,
     expected: &'a str,
     answers: &mut W,
-) -> Result<Ending, ShowFault> {
+) -> Result<Ending, ShowFault>
+    ensures ending { IfOk result (λ ending. ending ≡ Ending.SetupRefused) }
+    ensures safe { Writes IsSafe (W.contents answers.old) (W.contents answers.new) result }
+{
     let refusal = Refusal {
         file: told.file,
         marked: mark_at(told.text, start, end),
@@ -117,39 +125,91 @@ pub(crate) fn tell_fault<'a, W: Write>(
     fault: &'a MapFault,
     place: &Place<'a>,
     answers: &mut W,
-) -> Result<(), ShowFault> {
-    let at_key = locate_key(told.text, place.table.as_bytes(), place.key.as_bytes());
-    let at_table = marked_table(told.text, place.table);
-    let mut refusal = Refusal {
+) -> Result<(), ShowFault>
+    ensures safe { Writes IsSafe (W.contents answers.old) (W.contents answers.new) result }
+{
+    let Ok(meant) = meant_at(told.alloc, document, fault, place) else {
+        return Err(ShowFault::NoMemory);
+    };
+    let at_key = locate_named(told.text, place.table.as_bytes(), place.key.as_bytes());
+    let refusal = Refusal {
         file: told.file,
-        marked: at_table,
+        marked: part_at(fault, at_key, marked_table(told.text, place.table)),
         code: fault.code(),
-        sentence: "a key is absent",
+        sentence: sentence_of(fault),
         table: Some(place.table),
         key: Some(place.key),
-        found: Item::Absent,
+        found: found_at(fault, at_key, place.key),
         expected: place.expected,
-        meant: None,
+        meant,
     };
-    if matches!(fault, MapFault::Unknown { .. }) {
-        refusal.sentence = "a key that is not known";
-        refusal.found = Item::Bytes(place.key.as_bytes());
-        if let Some(marked) = at_key {
-            refusal.marked = marked.at_key();
-        }
-        let members = members_of(document, place.table);
-        refusal.meant = match nearest_known(told.alloc, members, place) {
-            Ok(meant) => meant,
-            Err(_) => return Err(ShowFault::NoMemory),
-        };
-    } else if matches!(fault, MapFault::BadValue { .. }) {
-        refusal.sentence = "a value that is not allowed";
-        if let Some(marked) = at_key {
-            refusal.marked = marked;
-            refusal.found = Item::Bytes(marked.value());
-        }
-    }
     tell_refusal(told.alloc, told.form, &refusal, answers)
+}
+
+/// The key that was meant by one that is not known.
+fn meant_at(
+    alloc: Global,
+    document: &Table,
+    fault: &MapFault,
+    place: &Place<'_>,
+) -> Result<Option<&'static str>, AllocError> {
+    match fault {
+        MapFault::Unknown { .. } => nearest_known(alloc, members_of(document, place.table), place),
+        MapFault::Missing { .. }
+        | MapFault::BadValue { .. }
+        | MapFault::NotToml { .. }
+        | MapFault::NoColumn { .. }
+        | MapFault::NoMemory => Ok(None),
+    }
+}
+
+/// The part of the text that is reported: the key or its value if its line was found, else its table.
+fn part_at<'a>(fault: &MapFault, at_key: Option<Marked<'a>>, at_table: Marked<'a>) -> Marked<'a> {
+    match (fault, at_key) {
+        (MapFault::Unknown { .. }, Some(marked)) => marked.at_key(),
+        (MapFault::BadValue { .. }, Some(marked)) => marked,
+        (
+            MapFault::Unknown { .. }
+            | MapFault::BadValue { .. }
+            | MapFault::Missing { .. }
+            | MapFault::NotToml { .. }
+            | MapFault::NoColumn { .. }
+            | MapFault::NoMemory,
+            _,
+        ) => at_table,
+    }
+}
+
+/// What stands at a place: the key that is not known, or the value that is not allowed, if its line was found.
+fn found_at<'a>(fault: &MapFault, at_key: Option<Marked<'a>>, key: &'a str) -> Item<'a>
+    ensures { is_own_plain result ≡ true }
+{
+    match (fault, at_key) {
+        (MapFault::Unknown { .. }, _) => Item::Bytes(key.as_bytes()),
+        (MapFault::BadValue { .. }, Some(marked)) => Item::Bytes(marked.value()),
+        (
+            MapFault::BadValue { .. }
+            | MapFault::Missing { .. }
+            | MapFault::NotToml { .. }
+            | MapFault::NoColumn { .. }
+            | MapFault::NoMemory,
+            _,
+        ) => Item::Absent,
+    }
+}
+
+/// A fault of a document, in words.
+fn sentence_of(fault: &MapFault) -> &'static str
+    ensures { is_plain result.now ≡ true }
+{
+    match fault {
+        MapFault::Unknown { .. } => "a key that is not known",
+        MapFault::BadValue { .. } => "a value that is not allowed",
+        MapFault::Missing { .. }
+        | MapFault::NotToml { .. }
+        | MapFault::NoColumn { .. }
+        | MapFault::NoMemory => "a key is absent",
+    }
 }
 
 /// The line to report for a table: its header, or the text's first.
@@ -157,7 +217,7 @@ fn marked_table<'a>(text: &'a [u8], table: &str) -> Marked<'a> {
     let header = if table.is_empty() {
         None
     } else {
-        locate_key(text, b"", table.as_bytes())
+        locate_named(text, b"", table.as_bytes())
     };
     header.unwrap_or(mark_at(text, 0, 0))
 }
@@ -168,41 +228,34 @@ fn tell_refusal<W: Write>(
     form: Form,
     refusal: &Refusal<'_>,
     answers: &mut W,
-) -> Result<(), ShowFault> {
+) -> Result<(), ShowFault>
+    requires code { is_plain refusal.now.code.now ≡ true }
+    requires sentence { is_plain refusal.now.sentence.now ≡ true }
+    requires found { is_own_plain refusal.now.found ≡ true }
+    ensures safe { Writes IsSafe (W.contents answers.old) (W.contents answers.new) result }
+{
     if form.is_json() {
         return tell_object(alloc, refusal, answers);
     }
-    tell_place(form, refusal, answers)?;
     let marked = refusal.marked;
-    let (start, end) = (marked.pair.start, marked.pair.end);
-    write_under(answers, form, marked.line, start, end)?;
+    tell_place(form, refusal, answers)?;
+    write_under(
+        answers,
+        form,
+        marked.line,
+        marked.pair.start,
+        marked.pair.end,
+    )?;
     tell_found(form, refusal, answers)?;
-    match refusal.meant {
-        Some(meant) => write_line(
-            answers,
-            form,
-            &[
-                Item::Text(INDENT),
-                Item::Text("did you mean `"),
-                Item::Text(meant),
-                Item::Text("`?"),
-            ],
-        ),
-        None => Ok(()),
-    }
+    tell_meant(form, refusal.meant, answers)
 }
 
 /// Writes the line of a fault's place.
-fn tell_place<W: Write>(
-    form: Form,
-    refusal: &Refusal<'_>,
-    answers: &mut W,
-) -> Result<(), ShowFault> {
-    let (before, table) = match refusal.table {
-        None => ("", ""),
-        Some("") => (": ", "top"),
-        Some(table) => (": ", table),
-    };
+fn tell_place<W: Write>(form: Form, refusal: &Refusal<'_>, answers: &mut W) -> Result<(), ShowFault>
+    requires code { is_plain refusal.now.code.now ≡ true }
+    requires sentence { is_plain refusal.now.sentence.now ≡ true }
+    ensures safe { Writes IsSafe (W.contents answers.old) (W.contents answers.new) result }
+{
     let items = [
         Item::Bytes(refusal.file.as_bytes()),
         Item::Text(":"),
@@ -211,43 +264,98 @@ fn tell_place<W: Write>(
         Item::Number(refusal.marked.column()),
         Item::Text(": "),
         Item::Alarm(refusal.code),
-        Item::Text(before),
-        Item::Text(table),
-        Item::Text(if refusal.key.is_some() { ", key " } else { "" }),
-        key_item(refusal.key),
+        before_some(refusal.table, ": "),
+        table_item(refusal.table),
+        before_some(refusal.key, ", key "),
+        text_item(refusal.key),
         Item::Text(": "),
         Item::Text(refusal.sentence),
     ];
-    write_line(answers, form, &items)
+    tell_line(form, &items, answers)
 }
 
-/// A key, if there is one.
-fn key_item(key: Option<&str>) -> Item<'_> {
-    match key {
-        Some(key) => Item::Bytes(key.as_bytes()),
+/// Words that stand before a text, if there is one.
+fn before_some(text: Option<&str>, words: &'static str) -> Item<'static>
+    ensures { is_plain words.now ≡ true → is_own_plain result ≡ true }
+{
+    match text {
+        Some(_) => Item::Text(words),
+        None => Item::Absent,
+    }
+}
+
+/// The name of a table, if there is one.
+fn table_item(table: Option<&'static str>) -> Item<'static>
+    ensures { is_own_plain result ≡ true }
+{
+    match table {
+        Some("") => Item::Text("top"),
+        Some(table) => Item::Bytes(table.as_bytes()),
+        None => Item::Absent,
+    }
+}
+
+/// A text, if there is one.
+fn text_item(text: Option<&str>) -> Item<'_>
+    ensures { is_own_plain result ≡ true }
+{
+    match text {
+        Some(text) => Item::Bytes(text.as_bytes()),
         None => Item::Absent,
     }
 }
 
 /// Writes what was found, and what is expected.
-fn tell_found<W: Write>(
-    form: Form,
-    refusal: &Refusal<'_>,
-    answers: &mut W,
-) -> Result<(), ShowFault> {
-    let (before, after) = match (refusal.found, refusal.table) {
-        (_, None) => ("", ""),
-        (Item::Absent, Some(_)) => ("expected ", ""),
-        (_, Some(_)) => ("found `", "`; expected "),
-    };
+fn tell_found<W: Write>(form: Form, refusal: &Refusal<'_>, answers: &mut W) -> Result<(), ShowFault>
+    requires { is_own_plain refusal.now.found ≡ true }
+    ensures safe { Writes IsSafe (W.contents answers.old) (W.contents answers.new) result }
+{
+    let (before, after) = words_round(refusal);
     let items = [
         Item::Text(INDENT),
         Item::Text(before),
         refusal.found,
         Item::Text(after),
-        Item::Text(refusal.expected),
+        Item::Bytes(refusal.expected.as_bytes()),
     ];
-    write_line(answers, form, &items)
+    tell_line(form, &items, answers)
+}
+
+/// The words before what was found, and those after it.
+fn words_round(refusal: &Refusal<'_>) -> (&'static str, &'static str)
+    ensures before { is_plain result.0.now ≡ true }
+    ensures after { is_plain result.1.now ≡ true }
+{
+    match (refusal.found, refusal.table) {
+        (_, None) => ("", ""),
+        (Item::Absent, Some(_)) => ("expected ", ""),
+        (_, Some(_)) => ("found `", "`; expected "),
+    }
+}
+
+/// Writes the key that was meant, if there is one.
+fn tell_meant<W: Write>(form: Form, meant: Option<&str>, answers: &mut W) -> Result<(), ShowFault>
+    ensures safe { Writes IsSafe (W.contents answers.old) (W.contents answers.new) result }
+{
+    let Some(meant) = meant else {
+        return Ok(());
+    };
+    let items = [
+        Item::Text(INDENT),
+        Item::Text("did you mean `"),
+        Item::Bytes(meant.as_bytes()),
+        Item::Text("`?"),
+    ];
+    tell_line(form, &items, answers)
+}
+
+/// Writes a line of items whose own texts are printable.
+#[tactic(auto, using(crate::proofs::SafeItems::all_own))]
+fn tell_line<W: Write>(form: Form, items: &[Item<'_>], answers: &mut W) -> Result<(), ShowFault>
+    requires { list_all is_own_plain items.now ≡ true }
+    ensures safe { Writes IsSafe (W.contents answers.old) (W.contents answers.new) result }
+{
+    write_line(answers, form, items)
 }
 
 /// Writes a fault as a JSON object.
@@ -255,33 +363,37 @@ fn tell_object<W: Write>(
     alloc: Global,
     refusal: &Refusal<'_>,
     answers: &mut W,
-) -> Result<(), ShowFault> {
-    let table = match refusal.table {
-        None => Item::Absent,
-        Some("") => Item::Text("top"),
-        Some(table) => Item::Text(table),
-    };
-    let meant = match refusal.meant {
-        Some(meant) => Item::Text(meant),
-        None => Item::Absent,
-    };
-    write_object(
-        alloc,
-        answers,
-        &[
-            ("what", Item::Text("refusal")),
-            ("file", Item::Bytes(refusal.file.as_bytes())),
-            ("line", Item::Number(refusal.marked.number)),
-            ("column", Item::Number(refusal.marked.column())),
-            ("code", Item::Text(refusal.code)),
-            ("table", table),
-            ("key", key_item(refusal.key)),
-            ("text", Item::Bytes(refusal.marked.line)),
-            ("found", refusal.found),
-            ("expected", Item::Bytes(refusal.expected.as_bytes())),
-            ("meant", meant),
-        ],
-    )
+) -> Result<(), ShowFault>
+    requires code { is_plain refusal.now.code.now ≡ true }
+    requires found { is_own_plain refusal.now.found ≡ true }
+    ensures safe { Writes IsSafe (W.contents answers.old) (W.contents answers.new) result }
+{
+    let members = [
+        ("what", Item::Text("refusal")),
+        ("file", Item::Bytes(refusal.file.as_bytes())),
+        ("line", Item::Number(refusal.marked.number)),
+        ("column", Item::Number(refusal.marked.column())),
+        ("code", Item::Text(refusal.code)),
+        ("table", table_item(refusal.table)),
+        ("key", text_item(refusal.key)),
+        ("text", Item::Bytes(refusal.marked.line)),
+        ("found", refusal.found),
+        ("expected", Item::Bytes(refusal.expected.as_bytes())),
+        ("meant", text_item(refusal.meant)),
+    ];
+    tell_members(alloc, &members, answers)
+}
+
+/// Writes an object whose own texts are printable.
+fn tell_members<W: Write>(
+    alloc: Global,
+    members: &[(&'static str, Item<'_>)],
+    answers: &mut W,
+) -> Result<(), ShowFault>
+    requires { list_all (λ member. is_plain member.0.now && is_own_plain member.1) members.now ≡ true }
+    ensures safe { Writes IsSafe (W.contents answers.old) (W.contents answers.new) result }
+{
+    write_object(alloc, answers, members)
 }
 
 /// Writes how many faults of a mapping were reported, and whether there are more.
@@ -290,24 +402,34 @@ pub(crate) fn tell_summary<W: Write>(
     faults: u64,
     more: bool,
     answers: &mut W,
-) -> Result<(), ShowFault> {
+) -> Result<(), ShowFault>
+    ensures safe { Writes IsSafe (W.contents answers.old) (W.contents answers.new) result }
+{
     if told.form.is_json() {
-        return write_object(
-            told.alloc,
-            answers,
-            &[
-                ("what", Item::Text("summary")),
-                ("file", Item::Bytes(told.file.as_bytes())),
-                ("faults", Item::Number(faults)),
-                ("more", Item::Flag(more)),
-            ],
-        );
+        let members = [
+            ("what", Item::Text("summary")),
+            ("file", Item::Bytes(told.file.as_bytes())),
+            ("faults", Item::Number(faults)),
+            ("more", Item::Flag(more)),
+        ];
+        return tell_members(told.alloc, &members, answers);
     }
     let items = [
         Item::Bytes(told.file.as_bytes()),
         Item::Text(": faults: "),
         Item::Number(faults),
-        Item::Text(if more { ", and there are more" } else { "" }),
+        more_item(more),
     ];
-    write_line(answers, told.form, &items)
+    tell_line(told.form, &items, answers)
+}
+
+/// Words that say that there are more faults, if there are.
+fn more_item(more: bool) -> Item<'static>
+    ensures { is_own_plain result ≡ true }
+{
+    if more {
+        Item::Text(", and there are more")
+    } else {
+        Item::Absent
+    }
 }

@@ -3,7 +3,7 @@ use Rattle.std.proofs.Common.{◌≡◌, ◌∷◌, [], refl}
 use Rattle.std.specs.Prelude.{Some, None, true, false, codes}
 use Rattle.nms_explain_setup.specs.Lines.{header_in, names_key, pair_in}
 use Rattle.nms_explain_setup.specs.Marking.{column_at, line_begin, line_from, line_number}
-use Rattle.nms_explain_setup.specs.Nesting.{behind_line, is_outer, outer_nest}
+use Rattle.nms_explain_setup.specs.Nesting.{after_line, is_outer, outer_nest}
 
 -- the text has two lines, `queue = 9` and `desks = x`; the place is that of the `x`
 second_line : line_number (codes "queue = 9\ndesks = x\n") 18 ≡ 2
@@ -47,11 +47,11 @@ pointed : names_key (codes "symbol.name") (codes "symbol") ≡ true
 pointed = refl
 
 -- a bracket that stays open goes on in the next line; one in a comment, or in a text in quotes, opens nothing
-open_bracket : is_outer (behind_line outer_nest (codes "symbol = [")) ≡ false
+open_bracket : is_outer (after_line outer_nest (codes "symbol = [")) ≡ false
 open_bracket = refl
 
-comment : is_outer (behind_line outer_nest (codes "lot = 1 # [")) ≡ true
+comment : is_outer (after_line outer_nest (codes "lot = 1 # [")) ≡ true
 comment = refl
 
-quoted_bracket : is_outer (behind_line outer_nest (codes "name = \"[\\\"[\"")) ≡ true
+quoted_bracket : is_outer (after_line outer_nest (codes "name = \"[\\\"[\"")) ≡ true
 quoted_bracket = refl

@@ -1,11 +1,11 @@
 -- A line of a setup's text: a header, or a key with its value. TOML 1.0, "Keys", "Table" and "Array of Tables", but for keys
 -- with escapes: in quotes a key ends at the next quotation mark.
-use Rattle.std.specs.Prelude.{ℕ, ◌+◌, ◌-◌, ◌^◌, ◌≤◌, ◌==◌, ◌&&◌, ◌||◌, List, [], ◌∷◌, Bool, true, false}
-use Rattle.std.specs.Prelude.{Option, Some, None, bytes_eq, codes, drop, length, min, option_map, position, take, take_while, if◌then◌else◌}
+use Rattle.std.specs.Prelude.{ℕ, ◌+◌, ◌-◌, ◌≤◌, ◌==◌, ◌&&◌, ◌||◌, List, [], ◌∷◌, Bool, true, false}
+use Rattle.std.specs.Prelude.{Option, Some, None, bytes_eq, codes, drop, length, option_map, position, take, take_while, if◌then◌else◌}
 use Rattle.std.specs.Char.{is_ascii_alphanumeric}
 use Rattle.nms_explain_setup.specs.declared.toml_line.Pair.{Pair}
 use Rattle.nms_explain_setup.specs.Blanks.{trim, trim_end, trim_start}
-use Rattle.nms_explain_setup.specs.Nesting.{begins, behind_byte, is_plain, outer_nest}
+use Rattle.nms_explain_setup.specs.Nesting.{begins, after_byte, is_plain, outer_nest}
 use Rattle.nms_explain_setup.specs.declared.nest.Nest.{Nest}
 
 -- whether a byte may stand in a key without quotes
@@ -66,15 +66,15 @@ is_free nest = (is_plain nest.within && nest.skipped == 0) && nest.depth == 0
 abbrev pub value_length : Nest → List ℕ → ℕ
 value_length nest [] = 0
 value_length nest (byte ∷ rest) =
-    if is_free nest && ends_value byte then 0 else 1 + value_length (behind_byte nest (byte ∷ rest)) rest
+    if is_free nest && ends_value byte then 0 else 1 + value_length (after_byte nest (byte ∷ rest)) rest
 
 -- the value that a text begins with
 abbrev pub value_in : List ℕ → List ℕ
 value_in text = trim_end (take (value_length outer_nest text) text)
 
 -- what stands after the `=` of a key; from the key on if a point stands there
-abbrev pub value_behind : List ℕ → List ℕ → Option (List ℕ)
-value_behind from_key rest =
+abbrev pub value_after : List ℕ → List ℕ → Option (List ℕ)
+value_after from_key rest =
     if begins (codes "=") (trim_start rest) then Some (trim_start (drop 1 (trim_start rest)))
     else if begins (codes ".") (trim_start rest) then Some from_key
     else None
@@ -92,22 +92,18 @@ placed line from_key rest from_value = record {
 abbrev pub pair_of : List ℕ → List ℕ → List ℕ → Option (List ℕ × List ℕ) → Option Pair
 pair_of line key from_key None = None
 pair_of line key from_key (Some (found, rest)) =
-    if bytes_eq found key then option_map (placed line from_key rest) (value_behind from_key rest) else None
+    if bytes_eq found key then option_map (placed line from_key rest) (value_after from_key rest) else None
 
 abbrev pub pair_in : List ℕ → List ℕ → Option Pair
 pair_in line key = pair_of line key (trim_start line) (key_at (trim_start line))
 
--- a place moved by that many bytes, as far as a number goes
-abbrev pub place_moved : ℕ → ℕ → ℕ
-place_moved place bytes = min (place + bytes) (2 ^ 64 - 1)
-
 -- the places of a key and its value, moved by that many bytes
 abbrev pub moved : Pair → ℕ → Pair
 moved pair bytes = record {
-  key = place_moved pair.key bytes;
-  key_end = place_moved pair.key_end bytes;
-  start = place_moved pair.start bytes;
-  end = place_moved pair.end bytes;
+  key = pair.key + bytes;
+  key_end = pair.key_end + bytes;
+  start = pair.start + bytes;
+  end = pair.end + bytes;
 }
 
 -- the places of a key and of a value in a line of that many bytes: each begins before it ends, and ends in the line

@@ -1,6 +1,6 @@
 -- How deep a place of a TOML text lies: in a comment, in a text in quotes, in the brackets and braces of a value. TOML 1.0,
 -- "Comment", "String", "Array" and "Inline Table".
-use Rattle.std.specs.Prelude.{ℕ, ◌+◌, ◌-◌, ◌^◌, ◌==◌, ◌&&◌, ◌||◌, List, [], ◌∷◌, Bool, true, false, codes, min, nat_eq, if◌then◌else◌}
+use Rattle.std.specs.Prelude.{ℕ, ◌+◌, ◌-◌, ◌==◌, ◌&&◌, ◌||◌, List, [], ◌∷◌, Bool, true, false, codes, nat_eq, if◌then◌else◌}
 use Rattle.std.specs.List.{starts_with}
 use Rattle.nms_explain_setup.specs.declared.nest.Nest.{Nest}
 use Rattle.nms_explain_setup.specs.declared.nest.Within.{Within}
@@ -22,44 +22,44 @@ entered within more nest = record { within = within; depth = nest.depth; skipped
 abbrev pub at_depth : ℕ → Nest → Nest
 at_depth depth nest = record { within = nest.within; depth = depth; skipped = 0 }
 
--- after a byte of TOML's own: three quotes or one begin a text, `#` a comment; a bracket or a brace opens or closes. More are
--- not counted than a number holds, and one that closes nothing leaves none open
-abbrev pub behind_plain : Nest → List ℕ → Nest
-behind_plain nest text =
+-- after a byte of TOML's own: three quotes or one begin a text, `#` a comment; a bracket or a brace opens or closes. One that
+-- closes nothing leaves none open
+abbrev pub after_plain : Nest → List ℕ → Nest
+after_plain nest text =
     if begins (34 ∷ 34 ∷ 34 ∷ []) text then entered LongBasic 2 nest
     else if begins (codes "'''") text then entered LongLiteral 2 nest
     else if begins (34 ∷ []) text then entered Basic 0 nest
     else if begins (codes "'") text then entered Literal 0 nest
     else if begins (codes "#") text then entered Comment 0 nest
-    else if begins (codes "[") text || begins (codes "{") text then at_depth (min (nest.depth + 1) (2 ^ 64 - 1)) nest
+    else if begins (codes "[") text || begins (codes "{") text then at_depth (nest.depth + 1) nest
     else if begins (codes "]") text || begins (codes "}") text then at_depth (nest.depth - 1) nest
     else nest
 
 -- after a byte of a text in quotes: the same quotes end it, and a backslash, if it escapes, takes the next byte with it
-abbrev pub behind_quoted : List ℕ → ℕ → Bool → Nest → List ℕ → Nest
-behind_quoted quotes more escapes nest text =
+abbrev pub after_quoted : List ℕ → ℕ → Bool → Nest → List ℕ → Nest
+after_quoted quotes more escapes nest text =
     if begins quotes text then entered Plain more nest
     else if escapes && begins (92 ∷ []) text then entered nest.within 1 nest
     else nest
 
 -- after a byte, by what it is read as
-abbrev pub behind_read : Within → Nest → List ℕ → Nest
-behind_read Plain nest text = behind_plain nest text
-behind_read Basic nest text = behind_quoted (34 ∷ []) 0 true nest text
-behind_read Literal nest text = behind_quoted (codes "'") 0 false nest text
-behind_read LongBasic nest text = behind_quoted (34 ∷ 34 ∷ 34 ∷ []) 2 true nest text
-behind_read LongLiteral nest text = behind_quoted (codes "'''") 2 false nest text
-behind_read Comment nest text = nest
+abbrev pub after_read : Within → Nest → List ℕ → Nest
+after_read Plain nest text = after_plain nest text
+after_read Basic nest text = after_quoted (34 ∷ []) 0 true nest text
+after_read Literal nest text = after_quoted (codes "'") 0 false nest text
+after_read LongBasic nest text = after_quoted (34 ∷ 34 ∷ 34 ∷ []) 2 true nest text
+after_read LongLiteral nest text = after_quoted (codes "'''") 2 false nest text
+after_read Comment nest text = nest
 
 -- after the first byte of a text
-abbrev pub behind_byte : Nest → List ℕ → Nest
-behind_byte nest text =
-    if nest.skipped == 0 then behind_read nest.within nest text else entered nest.within (nest.skipped - 1) nest
+abbrev pub after_byte : Nest → List ℕ → Nest
+after_byte nest text =
+    if nest.skipped == 0 then after_read nest.within nest text else entered nest.within (nest.skipped - 1) nest
 
 -- after each byte of a line
-abbrev pub behind_bytes : Nest → List ℕ → Nest
-behind_bytes nest [] = nest
-behind_bytes nest (byte ∷ rest) = behind_bytes (behind_byte nest (byte ∷ rest)) rest
+abbrev pub after_bytes : Nest → List ℕ → Nest
+after_bytes nest [] = nest
+after_bytes nest (byte ∷ rest) = after_bytes (after_byte nest (byte ∷ rest)) rest
 
 -- what the bytes of the next line are read as: only a text in three quotes goes on
 abbrev pub goes_on : Within → Within
@@ -68,12 +68,12 @@ goes_on LongLiteral = LongLiteral
 goes_on _ = Plain
 
 -- after the end of a line
-abbrev pub behind_end : Nest → Nest
-behind_end nest = entered (goes_on nest.within) 0 nest
+abbrev pub after_end : Nest → Nest
+after_end nest = entered (goes_on nest.within) 0 nest
 
 -- after a line and its end
-abbrev pub behind_line : Nest → List ℕ → Nest
-behind_line nest line = behind_end (behind_bytes nest line)
+abbrev pub after_line : Nest → List ℕ → Nest
+after_line nest line = after_end (after_bytes nest line)
 
 -- whether the bytes are TOML's own
 abbrev pub is_plain : Within → Bool

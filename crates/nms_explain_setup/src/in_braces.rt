@@ -1,6 +1,8 @@
 //! Where an element of an array in brackets stands, and a key of an element in braces.
-ghost use Rattle.std.specs.Prelude.{◌<◌, IfSome, length};
+ghost use Rattle.std.specs.Prelude.{◌<◌, ◌-◌, IfSome, length};
+ghost use Rattle.nms_explain_setup.specs.Lines.{IsIn};
 
+use crate::marked::line_from;
 use crate::nest::Nest;
 use crate::toml_line::{Pair, pair_in};
 
@@ -19,7 +21,7 @@ pub(crate) fn element_in(array: &[u8], place: usize) -> Option<usize>
                 return Some(at);
             }
         }
-        nest = nest.behind(&array[at..]);
+        nest = nest.after(&array[at..]);
         if nest.is_plain_at(0) {
             return None;
         }
@@ -34,7 +36,8 @@ fn begins_value(byte: u8) -> bool {
 
 /// Where a key stands in a table in braces: how many bytes stand before it, and the key with its value from there on.
 pub(crate) fn key_in(table: &[u8], key: &[u8]) -> Option<(usize, Pair)>
-    ensures { IfSome result (λ found. found.0 < length table.now) }
+    ensures at { IfSome result (λ found. found.0 < length table.now) }
+    ensures pair { IfSome result (λ found. IsIn (length table.now - found.0) found.1) }
 {
     let mut nest = Nest::outer();
     let mut may_begin = false;
@@ -45,8 +48,8 @@ pub(crate) fn key_in(table: &[u8], key: &[u8]) -> Option<(usize, Pair)>
                 return Some((at, pair));
             }
         }
-        may_begin = keys_begin_behind(nest, table[at], may_begin);
-        nest = nest.behind(rest);
+        may_begin = keys_begin_after(nest, table[at], may_begin);
+        nest = nest.after(rest);
         if nest.is_plain_at(0) {
             return None;
         }
@@ -55,7 +58,7 @@ pub(crate) fn key_in(table: &[u8], key: &[u8]) -> Option<(usize, Pair)>
 }
 
 /// Whether a key may begin after a byte of a table in braces, given whether one may begin at it.
-fn keys_begin_behind(nest: Nest, byte: u8, may_begin: bool) -> bool {
+fn keys_begin_after(nest: Nest, byte: u8, may_begin: bool) -> bool {
     match byte {
         b'{' => nest.is_plain_at(0),
         b',' => nest.is_plain_at(1),
@@ -65,7 +68,12 @@ fn keys_begin_behind(nest: Nest, byte: u8, may_begin: bool) -> bool {
 }
 
 /// A key with its value, if a text begins with that key.
-fn pair_from(rest: &[u8], key: &[u8]) -> Option<Pair> {
-    let line = rest.split(|byte| *byte == b'\n').next()?;
-    pair_in(line, key).filter(|pair| pair.key == 0)
+fn pair_from(rest: &[u8], key: &[u8]) -> Option<Pair>
+    ensures { IfSome result (IsIn (length rest.now)) }
+{
+    let pair = pair_in(line_from(rest, 0), key)?;
+    if pair.key > 0 {
+        return None;
+    }
+    Some(pair)
 }

@@ -8,8 +8,10 @@ mod explaining;
 mod findings;
 mod hints;
 mod in_braces;
+mod line_start;
 mod locating;
 mod marked;
+mod named;
 mod nearest;
 mod nest;
 mod sentences;
@@ -19,5 +21,5 @@ mod toml_line;
 
 pub use explaining::explain_setup;
 pub use marked::{Marked, mark_at};
-pub use nest::Nest;
-pub use toml_line::{Pair, header_in, names_key, pair_in};
+pub use named::locate_named;
+pub use toml_line::Pair;

@@ -1,12 +1,13 @@
 //! Where a table and a key stand in a setup's text. This does not find all that TOML allows: not a key with escapes, nor one
 //! below a header with points.
-ghost use Rattle.std.specs.Prelude.{◌≡◌, ◌+◌, ◌^◌, ◌<◌, ◌≤◌, IfSome, length};
+ghost use Rattle.std.specs.Prelude.{◌≡◌, ◌+◌, ◌-◌, ◌^◌, ◌<◌, ◌≤◌, IfSome, length};
+ghost use Rattle.nms_explain_setup.specs.Lines.{IsIn};
 ghost use Rattle.nms_explain_setup.specs.Marking.{IsOf};
 
 use crate::in_braces::{element_in, key_in};
+use crate::line_start::LineStart;
 use crate::marked::{Marked, line_from, mark_at};
-use crate::nest::Nest;
-use crate::toml_line::{header_in, names_key, pair_in, value_in};
+use crate::toml_line::{Pair, header_in, names_key, pair_in, value_in};
 use nms_setup_places::{SetupArray, SetupTable};
 
 /// Where a key stands in a table. For a table at a key of the top, this is its header.
@@ -19,8 +20,17 @@ pub(crate) fn locate_key<'a>(text: &'a [u8], table: SetupTable, key: &[u8]) -> O
     let (array, place) = row_of(table)?;
     let begins = locate_element(text, array, place)?;
     let (before, pair) = key_in(&text[begins..], key)?;
-    let at = mark_at(text, begins + before, text.len());
-    Some(at.with(pair.moved(at.pair.start)))
+    Some(mark_from(text, begins + before, pair))
+}
+
+/// A key with its value in the line that holds a place, by the bytes from that place on.
+fn mark_from(text: &[u8], place: usize, pair: Pair) -> Marked<'_>
+    requires within { place ≤ length text.now }
+    requires pair { IsIn (length text.now - place) pair }
+    ensures { IsOf text.now result }
+{
+    let at = mark_at(text, place, text.len());
+    at.with(pair.moved(at.pair.start))
 }
 
 /// The line of a table that has a key.
@@ -30,14 +40,14 @@ fn locate_line<'a>(text: &'a [u8], table: SetupTable, key: &[u8]) -> Option<Mark
 {
     let mut reached = Reached::top();
     'lines: loop {
-        let line = line_from(text, reached.bytes);
+        let line = line_from(text, reached.start.bytes);
         if let Some(marked) = reached.key_of(text, line, table, key) {
             return Some(marked);
         }
-        if text.len() - reached.bytes == line.len() {
+        if text.len() - reached.start.bytes == line.len() {
             return None;
         }
-        reached = reached.entering(line).behind(line);
+        reached = reached.entering(line).after(line);
     }
 }
 
@@ -61,15 +71,15 @@ fn locate_header(text: &[u8], table: SetupTable) -> Option<Marked<'_>>
 {
     let mut reached = Reached::top();
     'lines: loop {
-        let line = line_from(text, reached.bytes);
+        let line = line_from(text, reached.start.bytes);
         let entered = reached.entering(line);
         if entered.table != reached.table && entered.table == Some(table) {
-            return Some(reached.mark(text).whole());
+            return Some(reached.start.mark(text).whole());
         }
-        if text.len() - reached.bytes == line.len() {
+        if text.len() - reached.start.bytes == line.len() {
             return None;
         }
-        reached = entered.behind(line);
+        reached = entered.after(line);
     }
 }
 
@@ -92,13 +102,11 @@ pub(crate) fn row_of(table: SetupTable) -> Option<(SetupArray, usize)> {
     }
 }
 
-/// Where a line of a text begins.
+/// A line of a setup's text.
 #[derive(Clone, Copy)]
 struct Reached {
-    /// How many bytes stand before it.
-    bytes: usize,
-    /// The nesting that it lies in.
-    nest: Nest,
+    /// Where it begins.
+    start: LineStart,
     /// The table in which it is, if that is one of a setup's.
     table: Option<SetupTable>,
     /// How many headers of the two arrays stand before it.
@@ -109,26 +117,17 @@ struct Reached {
 impl Reached {
     /// Before the first line.
     fn top() -> Reached
-        ensures bytes { result.bytes ≡ 0 }
+        ensures start { result.start.bytes ≡ 0 }
+        ensures depth { result.start.nest.depth ≡ 0 }
         ensures participants { result.participants ≡ 0 }
         ensures symbols { result.symbols ≡ 0 }
     {
         Reached {
-            bytes: 0,
-            nest: Nest::outer(),
+            start: LineStart::first(),
             table: Some(SetupTable::Top),
             participants: 0,
             symbols: 0,
         }
-    }
-
-    /// The line, marked at its start.
-    fn mark(self, text: &[u8]) -> Marked<'_>
-        ensures before { result.before ≤ self.bytes }
-        ensures within { result.before + length result.line.now ≤ length text.now }
-        ensures of_text { IsOf text.now result }
-    {
-        mark_at(text, self.bytes, self.bytes)
     }
 
     /// A key of a table, if this line has it.
@@ -139,16 +138,16 @@ impl Reached {
         table: SetupTable,
         key: &[u8],
     ) -> Option<Marked<'a>>
-        requires within { self.bytes + length line.now ≤ length text.now }
+        requires within { self.start.bytes + length line.now ≤ length text.now }
         ensures within { IfSome result (λ marked. marked.before + marked.pair.start ≤ length text.now) }
         ensures of_text { IfSome result (IsOf text.now) }
     {
-        if !self.nest.is_outer() {
+        if !self.start.nest.is_outer() {
             return None;
         }
         if let Some((name, _)) = header_in(line) {
             if table == SetupTable::Top && names_key(name, key) {
-                return Some(self.mark(text).whole());
+                return Some(self.start.mark(text).whole());
             }
             return None;
         }
@@ -156,19 +155,19 @@ impl Reached {
             return None;
         }
         let pair = pair_in(line, key)?;
-        Some(self.mark(text).with(pair))
+        Some(self.start.mark(text).with(pair))
     }
 
     /// In the table of this line, if it is a header.
     fn entering(self, line: &[u8]) -> Reached
-        requires within { self.bytes + length line.now < 2 ^ 64 }
-        requires participants { self.participants ≤ self.bytes }
-        requires symbols { self.symbols ≤ self.bytes }
-        ensures bytes { result.bytes ≡ self.bytes }
-        ensures participants { result.participants ≤ self.bytes + 1 }
-        ensures symbols { result.symbols ≤ self.bytes + 1 }
+        requires within { self.start.bytes + length line.now < 2 ^ 64 }
+        requires participants { self.participants ≤ self.start.bytes }
+        requires symbols { self.symbols ≤ self.start.bytes }
+        ensures start { result.start ≡ self.start }
+        ensures participants { result.participants ≤ self.start.bytes + 1 }
+        ensures symbols { result.symbols ≤ self.start.bytes + 1 }
     {
-        if line.is_empty() || !self.nest.is_outer() {
+        if line.is_empty() || !self.start.nest.is_outer() {
             return self;
         }
         match header_in(line) {
@@ -178,15 +177,16 @@ impl Reached {
     }
 
     /// After a line and its end.
-    fn behind(self, line: &[u8]) -> Reached
-        requires within { self.bytes + length line.now + 1 < 2 ^ 64 }
-        ensures bytes { result.bytes ≡ self.bytes + length line.now + 1 }
+    fn after(self, line: &[u8]) -> Reached
+        requires within { self.start.bytes + length line.now + 1 < 2 ^ 64 }
+        requires depth { self.start.nest.depth ≤ self.start.bytes }
+        ensures start { result.start.bytes ≡ self.start.bytes + length line.now + 1 }
+        ensures depth { result.start.nest.depth ≤ result.start.bytes }
         ensures participants { result.participants ≡ self.participants }
         ensures symbols { result.symbols ≡ self.symbols }
     {
         Reached {
-            bytes: self.bytes + line.len() + 1,
-            nest: self.nest.behind_line(line),
+            start: self.start.after(line),
             table: self.table,
             participants: self.participants,
             symbols: self.symbols,
@@ -197,7 +197,7 @@ impl Reached {
     fn entered(self, name: &[u8], is_double: bool) -> Reached
         requires participants { self.participants + 1 < 2 ^ 64 }
         requires symbols { self.symbols + 1 < 2 ^ 64 }
-        ensures bytes { result.bytes ≡ self.bytes }
+        ensures start { result.start ≡ self.start }
         ensures participants { result.participants ≤ self.participants + 1 }
         ensures symbols { result.symbols ≤ self.symbols + 1 }
     {

@@ -137,7 +137,7 @@ fn line_length(rest: &[u8]) -> usize
 }
 
 /// How many bytes stand after the last line feed.
-fn bytes_behind(before: &[u8]) -> usize
+fn bytes_after(before: &[u8]) -> usize
     ensures value { result ≡ length (take_while (λ byte. not (is_feed byte)) (reverse before.now)) }
     ensures within { result ≤ length before.now }
 {
@@ -165,7 +165,7 @@ fn line_begin(text: &[u8], place: usize) -> usize
     ensures value { result ≡ line_begin text.now place }
     ensures within { result ≤ place }
 {
-    place - bytes_behind(&text[..place])
+    place - bytes_after(&text[..place])
 }
 
 /// The number of the line that holds a place.
@@ -195,7 +195,7 @@ pub fn mark_at(text: &[u8], start: usize, end: usize) -> Marked<'_>
     let place = start.min(text.len());
     let begins = line_begin(text, place);
     let marked = Marked::of_line(line_from(text, begins), begins, number);
-    let behind = end.max(place) - begins;
+    let after = end.max(place) - begins;
     let long = marked.line.len();
-    marked.at((place - begins).min(long), behind.min(long))
+    marked.at((place - begins).min(long), after.min(long))
 }

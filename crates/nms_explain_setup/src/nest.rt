@@ -1,7 +1,7 @@
 //! How deep a place of a TOML text lies: in a text in quotes, in a comment, in the brackets and braces of a value
 //! (`specs/Nesting`).
-ghost use Rattle.std.specs.Prelude.{◌≡◌, ◌==◌, ◌&&◌, ◌<◌, ◌-◌, length};
-ghost use Rattle.nms_explain_setup.specs.Nesting.{at_depth, behind_byte, behind_end, behind_line, behind_plain, behind_quoted, entered, is_outer, is_plain, outer_nest};
+ghost use Rattle.std.specs.Prelude.{◌≡◌, ◌==◌, ◌&&◌, ◌<◌, ◌≤◌, ◌+◌, ◌-◌, ◌^◌, length};
+ghost use Rattle.nms_explain_setup.specs.Nesting.{at_depth, after_byte, after_end, after_line, after_plain, after_quoted, entered, is_outer, is_plain, outer_nest};
 
 /// What a byte is read as.
 #[derive(Clone, Copy)]
@@ -19,7 +19,7 @@ enum Within {
 
 /// Where a place lies.
 #[derive(Clone, Copy)]
-pub struct Nest {
+pub(crate) struct Nest {
     within: Within,
     /// How many brackets and braces are open.
     depth: usize,
@@ -29,7 +29,7 @@ pub struct Nest {
 
 impl Nest {
     /// Before the first byte.
-    pub fn outer() -> Nest
+    pub(crate) fn outer() -> Nest
         ensures { result ≡ outer_nest }
     {
         Nest {
@@ -40,7 +40,7 @@ impl Nest {
     }
 
     /// Whether a header or a key may begin here, if a line does.
-    pub fn is_outer(self) -> bool
+    pub(crate) fn is_outer(self) -> bool
         ensures { result ≡ is_outer self }
     {
         self.is_plain() && self.depth == 0
@@ -73,28 +73,34 @@ impl Nest {
     }
 
     /// After the first byte of what follows, which may be the end of a line.
-    pub(crate) fn behind(self, rest: &[u8]) -> Nest {
+    pub(crate) fn after(self, rest: &[u8]) -> Nest
+        requires { self.depth + 1 < 2 ^ 64 }
+        ensures depth { result.depth ≤ self.depth + 1 }
+    {
         if rest.first() == Some(&b'\n') {
-            self.behind_end()
+            self.after_end()
         } else {
-            self.behind_byte(rest)
+            self.after_byte(rest)
         }
     }
 
     /// After a line and its end.
-    pub fn behind_line(self, line: &[u8]) -> Nest
-        ensures { result ≡ behind_line self line.now }
+    pub(crate) fn after_line(self, line: &[u8]) -> Nest
+        requires { self.depth + length line.now < 2 ^ 64 }
+        ensures value { result ≡ after_line self line.now }
+        ensures depth { result.depth ≤ self.depth + length line.now }
     {
         let mut nest = self;
         for place in 0..line.len() {
-            nest = nest.behind_byte(&line[place..]);
+            nest = nest.after_byte(&line[place..]);
         }
-        nest.behind_end()
+        nest.after_end()
     }
 
     /// After the end of a line: a comment ends there, and a text in single quotes.
-    fn behind_end(self) -> Nest
-        ensures { result ≡ behind_end self }
+    fn after_end(self) -> Nest
+        ensures value { result ≡ after_end self }
+        ensures depth { result.depth ≡ self.depth }
     {
         let within = match self.within {
             Within::LongBasic => Within::LongBasic,
@@ -105,25 +111,29 @@ impl Nest {
     }
 
     /// After the first byte of what follows.
-    pub(crate) fn behind_byte(self, rest: &[u8]) -> Nest
-        ensures { result ≡ behind_byte self rest.now }
+    pub(crate) fn after_byte(self, rest: &[u8]) -> Nest
+        requires { self.depth + 1 < 2 ^ 64 }
+        ensures value { result ≡ after_byte self rest.now }
+        ensures depth { result.depth ≤ self.depth + 1 }
     {
         if self.skipped > 0 {
             return self.entering(self.within, self.skipped - 1);
         }
         match self.within {
-            Within::Plain => self.behind_plain(rest),
-            Within::Basic => self.behind_quoted(rest, b"\"", 0, true),
-            Within::Literal => self.behind_quoted(rest, b"'", 0, false),
-            Within::LongBasic => self.behind_quoted(rest, b"\"\"\"", 2, true),
-            Within::LongLiteral => self.behind_quoted(rest, b"'''", 2, false),
+            Within::Plain => self.after_plain(rest),
+            Within::Basic => self.after_quoted(rest, b"\"", 0, true),
+            Within::Literal => self.after_quoted(rest, b"'", 0, false),
+            Within::LongBasic => self.after_quoted(rest, b"\"\"\"", 2, true),
+            Within::LongLiteral => self.after_quoted(rest, b"'''", 2, false),
             Within::Comment => self,
         }
     }
 
     /// After a byte of TOML's own.
-    fn behind_plain(self, rest: &[u8]) -> Nest
-        ensures { result ≡ behind_plain self rest.now }
+    fn after_plain(self, rest: &[u8]) -> Nest
+        requires { self.depth + 1 < 2 ^ 64 }
+        ensures value { result ≡ after_plain self rest.now }
+        ensures depth { result.depth ≤ self.depth + 1 }
     {
         if rest.starts_with(b"\"\"\"") {
             return self.entering(Within::LongBasic, 2);
@@ -141,19 +151,25 @@ impl Nest {
             return self.entering(Within::Comment, 0);
         }
         if rest.starts_with(b"[") || rest.starts_with(b"{") {
-            // The number of open brackets has no bound but that of a number.
-            return self.at_depth(self.depth.saturating_add(1));
+            return self.at_depth(self.depth + 1);
         }
         if rest.starts_with(b"]") || rest.starts_with(b"}") {
-            // A bracket that closes nothing leaves none open.
-            return self.at_depth(self.depth.saturating_sub(1));
+            return self.closed();
         }
         self
     }
 
+    /// After a bracket or a brace that closes. One that closes nothing leaves none open.
+    fn closed(self) -> Nest
+        ensures { result ≡ at_depth (self.depth - 1) self }
+    {
+        self.at_depth(if self.depth == 0 { 0 } else { self.depth - 1 })
+    }
+
     /// After a byte of a text in these quotes, which have that many bytes after the first. A backslash may escape a byte.
-    fn behind_quoted(self, rest: &[u8], quotes: &[u8], more: u8, escapes: bool) -> Nest
-        ensures { result ≡ behind_quoted quotes.now more escapes self rest.now }
+    fn after_quoted(self, rest: &[u8], quotes: &[u8], more: u8, escapes: bool) -> Nest
+        ensures value { result ≡ after_quoted quotes.now more escapes self rest.now }
+        ensures depth { result.depth ≡ self.depth }
     {
         if rest.starts_with(quotes) {
             return self.entering(Within::Plain, more);

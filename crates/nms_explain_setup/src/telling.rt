@@ -110,7 +110,7 @@ fn tell_found<W: Write>(
     refusal: &Refusal<'_>,
     answers: &mut W,
 ) -> Result<(), ShowFault> {
-    let (before, behind) = match (refusal.found, refusal.table) {
+    let (before, after) = match (refusal.found, refusal.table) {
         (_, None) => ("", ""),
         (Item::Absent, _) => ("expected ", ""),
         _ => ("found `", "`; expected "),
@@ -119,7 +119,7 @@ fn tell_found<W: Write>(
         Item::Text(INDENT),
         Item::Text(before),
         refusal.found,
-        Item::Text(behind),
+        Item::Text(after),
         Item::Text(refusal.expected),
     ];
     write_line(answers, form, &items)
@@ -130,7 +130,9 @@ fn tell_advice<W: Write>(form: Form, advice: &str, answers: &mut W) -> Result<()
     if advice.is_empty() {
         return Ok(());
     }
-    write_line(answers, form, &[Item::Text(INDENT), Item::Text(advice)])
+    // A hint may name a key of the file.
+    let items = [Item::Text(INDENT), Item::Bytes(advice.as_bytes())];
+    write_line(answers, form, &items)
 }
 
 /// Writes a refusal as a JSON object.

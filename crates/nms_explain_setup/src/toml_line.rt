@@ -1,13 +1,13 @@
 //! One line of a setup's text: a header, or a key with its value (`specs/Lines`).
-ghost use Rattle.std.specs.Prelude.{◌≡◌, ◌==◌, ◌&&◌, ◌+◌, ◌<◌, ◌≤◌, ◌^◌, IfSome, length, min, option_map, position, take_while};
-ghost use Rattle.nms_explain_setup.specs.Lines.{IsIn, bare_key, ends_value, header_in, is_bare, is_dotted, is_free, key_at, moved, name_in, names_key, pair_in, quoted_key, unquoted, value_behind, value_in, value_length};
+ghost use Rattle.std.specs.Prelude.{◌≡◌, ◌==◌, ◌&&◌, ◌+◌, ◌<◌, ◌≤◌, ◌^◌, IfSome, length, option_map, position, take_while};
+ghost use Rattle.nms_explain_setup.specs.Lines.{IsIn, bare_key, ends_value, header_in, is_bare, is_dotted, is_free, key_at, moved, name_in, names_key, pair_in, quoted_key, unquoted, value_after, value_in, value_length};
 ghost use Rattle.nms_explain_setup.specs.Nesting.{outer_nest};
 
 use crate::blanks::{trim, trim_end, trim_start};
 use crate::nest::Nest;
 
 /// The name in a header, and whether it has two brackets.
-pub fn header_in(line: &[u8]) -> Option<(&[u8], bool)>
+pub(crate) fn header_in(line: &[u8]) -> Option<(&[u8], bool)>
     ensures { option_map (λ found. (found.0.now, found.1)) result ≡ header_in line.now }
 {
     let line = trim(line);
@@ -51,20 +51,24 @@ pub struct Pair {
 
 impl Pair {
     /// The same, moved by that many bytes.
-    pub fn moved(self, bytes: usize) -> Pair
+    pub(crate) fn moved(self, bytes: usize) -> Pair
+        requires key { self.key + bytes < 2 ^ 64 }
+        requires key_end { self.key_end + bytes < 2 ^ 64 }
+        requires start { self.start + bytes < 2 ^ 64 }
+        requires end { self.end + bytes < 2 ^ 64 }
         ensures { result ≡ moved self bytes }
     {
         Pair {
-            key: self.key.saturating_add(bytes),
-            key_end: self.key_end.saturating_add(bytes),
-            start: self.start.saturating_add(bytes),
-            end: self.end.saturating_add(bytes),
+            key: self.key + bytes,
+            key_end: self.key_end + bytes,
+            start: self.start + bytes,
+            end: self.end + bytes,
         }
     }
 }
 
 /// Where a key with its value stands in a line that begins with it. If the key has points, it is the whole line.
-pub fn pair_in(line: &[u8], key: &[u8]) -> Option<Pair>
+pub(crate) fn pair_in(line: &[u8], key: &[u8]) -> Option<Pair>
     ensures value { result ≡ pair_in line.now key.now }
     ensures within { IfSome result (IsIn (length line.now)) }
 {
@@ -73,7 +77,7 @@ pub fn pair_in(line: &[u8], key: &[u8]) -> Option<Pair>
     if found != key {
         return None;
     }
-    let from_value = value_behind(from_key, rest)?;
+    let from_value = value_after(from_key, rest)?;
     let start = line.len() - from_value.len();
     Some(Pair {
         key: line.len() - from_key.len(),
@@ -84,23 +88,23 @@ pub fn pair_in(line: &[u8], key: &[u8]) -> Option<Pair>
 }
 
 /// What stands after the `=` of a key; from the key on if a point stands there.
-fn value_behind<'a>(from_key: &'a [u8], rest: &'a [u8]) -> Option<&'a [u8]>
+fn value_after<'a>(from_key: &'a [u8], rest: &'a [u8]) -> Option<&'a [u8]>
     requires { length rest.now ≤ length from_key.now }
-    ensures value { option_map (λ from. from.now) result ≡ value_behind from_key.now rest.now }
+    ensures value { option_map (λ from. from.now) result ≡ value_after from_key.now rest.now }
     ensures within { IfSome result (λ from. length from.now ≤ length from_key.now) }
 {
-    let behind = trim_start(rest);
-    if behind.starts_with(b"=") {
-        return Some(trim_start(&behind[1..]));
+    let after = trim_start(rest);
+    if after.starts_with(b"=") {
+        return Some(trim_start(&after[1..]));
     }
-    if behind.starts_with(b".") {
+    if after.starts_with(b".") {
         return Some(from_key);
     }
     None
 }
 
 /// Whether the name in a header is a key, or begins with it and a point.
-pub fn names_key(name: &[u8], key: &[u8]) -> bool
+pub(crate) fn names_key(name: &[u8], key: &[u8]) -> bool
     ensures { result ≡ names_key name.now key.now }
 {
     name == key || is_dotted(name, key)
@@ -190,7 +194,7 @@ fn value_length(rest: &[u8]) -> usize
         if ends_here(nest, rest[place]) {
             return place;
         }
-        nest = nest.behind_byte(&rest[place..]);
+        nest = nest.after_byte(&rest[place..]);
     }
     rest.len()
 }

@@ -1,0 +1,52 @@
+//! Where a line of a text begins, and what is open there (`specs/Nesting`).
+ghost use Rattle.std.specs.Prelude.{◌≡◌, ◌+◌, ◌<◌, ◌≤◌, ◌^◌, length};
+ghost use Rattle.nms_explain_setup.specs.Marking.{IsOf};
+ghost use Rattle.nms_explain_setup.specs.Nesting.{after_line, outer_nest};
+
+use crate::marked::{Marked, mark_at};
+use crate::nest::Nest;
+
+/// Where a line of a text begins.
+#[derive(Clone, Copy)]
+pub(crate) struct LineStart {
+    /// How many bytes stand before it.
+    pub(crate) bytes: usize,
+    /// The nesting that it lies in: no deeper than bytes stand before it.
+    pub(crate) nest: Nest,
+}
+
+impl LineStart {
+    /// Before the first line.
+    pub(crate) fn first() -> LineStart
+        ensures bytes { result.bytes ≡ 0 }
+        ensures nest { result.nest ≡ outer_nest }
+    {
+        LineStart {
+            bytes: 0,
+            nest: Nest::outer(),
+        }
+    }
+
+    /// The line, marked at its start.
+    pub(crate) fn mark(self, text: &[u8]) -> Marked<'_>
+        ensures before { result.before ≤ self.bytes }
+        ensures within { result.before + length result.line.now ≤ length text.now }
+        ensures of_text { IsOf text.now result }
+    {
+        mark_at(text, self.bytes, self.bytes)
+    }
+
+    /// After this line and its end.
+    pub(crate) fn after(self, line: &[u8]) -> LineStart
+        requires within { self.bytes + length line.now + 1 < 2 ^ 64 }
+        requires depth { self.nest.depth ≤ self.bytes }
+        ensures bytes { result.bytes ≡ self.bytes + length line.now + 1 }
+        ensures nest { result.nest ≡ after_line self.nest line.now }
+        ensures depth { result.nest.depth ≤ result.bytes }
+    {
+        LineStart {
+            bytes: self.bytes + line.len() + 1,
+            nest: self.nest.after_line(line),
+        }
+    }
+}
