@@ -1,2 +1,3 @@
 pub mod CountFacts
+pub mod PlanFacts
 pub mod ReadingFacts

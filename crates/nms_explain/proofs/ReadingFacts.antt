@@ -30,57 +30,57 @@ Agrees : {X : Type 0} → (Line → Result X LineFault) → Result Line LineFaul
 Agrees next said = is_fault (said >>= next) ≡ is_fault said
 
 module _ {X : Type 0} (next : Line → Result X LineFault) where
-  agrees_behind : {A : Type 0} (first : Result A LineFault) (rest : A → Result Line LineFault)
+  agrees_after : {A : Type 0} (first : Result A LineFault) (rest : A → Result Line LineFault)
       → ((x : A) → Agrees next (rest x)) → Agrees next (first >>= rest)
   unfolding Agrees
-  agrees_behind (Ok x) rest each = each x
-  agrees_behind (Err fault) rest each = refl
+  agrees_after (Ok x) rest each = each x
+  agrees_after (Err fault) rest each = refl
 
 quote : (roster : Listing) (fields : Record) → Agrees change_in (kind_reading roster source.Changes fields kind.Quote)
 unfolding Agrees
 quote roster fields =
-    agrees_behind change_in (part_in roster (field fields 1)) _ (λ part.
-    agrees_behind change_in (symbol_in roster (field fields 2)) _ (λ sym.
-    agrees_behind change_in (state_in (field fields 3)) _ (λ state.
-    agrees_behind change_in (sides_in fields) _ (λ sides.
-    agrees_behind change_in (refuse_if (is_foreign source.Changes (feed_at roster part)) fault.WrongFeed)
+    agrees_after change_in (part_in roster (field fields 1)) _ (λ part.
+    agrees_after change_in (symbol_in roster (field fields 2)) _ (λ sym.
+    agrees_after change_in (state_in (field fields 3)) _ (λ state.
+    agrees_after change_in (sides_in fields) _ (λ sides.
+    agrees_after change_in (refuse_if (is_foreign source.Changes (feed_at roster part)) fault.WrongFeed)
     (λ feed. Ok (line.Change (change.Quote part sym state sides.0 sides.1))) (λ feed. refl)))))
 
 state : (roster : Listing) (fields : Record) → Agrees change_in (kind_reading roster source.Changes fields kind.State)
 unfolding Agrees
 state roster fields =
-    agrees_behind change_in (part_in roster (field fields 1)) _ (λ part.
-    agrees_behind change_in (symbol_in roster (field fields 2)) _ (λ sym.
-    agrees_behind change_in (state_in (field fields 3)) _ (λ state.
-    agrees_behind change_in (refuse_if (is_foreign source.Changes (feed_at roster part)) fault.WrongFeed)
+    agrees_after change_in (part_in roster (field fields 1)) _ (λ part.
+    agrees_after change_in (symbol_in roster (field fields 2)) _ (λ sym.
+    agrees_after change_in (state_in (field fields 3)) _ (λ state.
+    agrees_after change_in (refuse_if (is_foreign source.Changes (feed_at roster part)) fault.WrongFeed)
     (λ feed. Ok (line.Change (change.State part sym state))) (λ feed. refl))))
 
 withdraw : (roster : Listing) (fields : Record) → Agrees change_in (kind_reading roster source.Changes fields kind.Withdraw)
 unfolding Agrees
 withdraw roster fields =
-    agrees_behind change_in (part_in roster (field fields 1)) _ (λ part.
-    agrees_behind change_in (refuse_if (is_foreign source.Changes (feed_at roster part)) fault.WrongFeed)
+    agrees_after change_in (part_in roster (field fields 1)) _ (λ part.
+    agrees_after change_in (refuse_if (is_foreign source.Changes (feed_at roster part)) fault.WrongFeed)
     (λ feed. Ok (line.Change (change.Withdraw part))) (λ feed. refl))
 
 lot : (roster : Listing) (fields : Record) → Agrees change_in (kind_reading roster source.Changes fields kind.Lot)
 unfolding Agrees
 lot roster fields =
-    agrees_behind change_in (symbol_in roster (field fields 1)) _ (λ sym.
-    agrees_behind change_in (average_in fields) _ (λ average.
-    agrees_behind change_in (refuse_if (is_foreign_lot source.Changes) fault.WrongFeed) _ (λ feed.
-    agrees_behind change_in (lot_in fields average) (λ lot. Ok (line.Change (change.Lot sym lot))) (λ lot. refl))))
+    agrees_after change_in (symbol_in roster (field fields 1)) _ (λ sym.
+    agrees_after change_in (average_in fields) _ (λ average.
+    agrees_after change_in (refuse_if (is_foreign_lot source.Changes) fault.WrongFeed) _ (λ feed.
+    agrees_after change_in (lot_in fields average) (λ lot. Ok (line.Change (change.Lot sym lot))) (λ lot. refl))))
 
 sweep : (settings : Settings) (fields : Record)
     → Agrees order_in (kind_reading settings.roster (source.Orders settings.desks) fields kind.Sweep)
 unfolding Agrees
 sweep settings fields =
-    agrees_behind order_in (self_help_in settings.roster fields) _ (λ self_help.
-    agrees_behind order_in (symbol_in settings.roster (field fields 3)) _ (λ sym.
-    agrees_behind order_in (side_in (field fields 2)) _ (λ side.
-    agrees_behind order_in (flag_in fields) _ (λ manual.
-    agrees_behind order_in (price_in (field fields 5)) _ (λ limit.
-    agrees_behind order_in (shares_in (field fields 4)) _ (λ shares.
-    agrees_behind order_in (desk_below settings.desks (field fields 1)) _ (λ desk. refl)))))))
+    agrees_after order_in (self_help_in settings.roster fields) _ (λ self_help.
+    agrees_after order_in (symbol_in settings.roster (field fields 3)) _ (λ sym.
+    agrees_after order_in (side_in (field fields 2)) _ (λ side.
+    agrees_after order_in (flag_in fields) _ (λ manual.
+    agrees_after order_in (price_in (field fields 5)) _ (λ limit.
+    agrees_after order_in (shares_in (field fields 4)) _ (λ shares.
+    agrees_after order_in (desk_below settings.desks (field fields 1)) _ (λ desk. refl)))))))
 
 -- a record of a kind, after its number of fields was counted
 change_of : (roster : Listing) (fields : Record) (named : Option Kind)
@@ -89,13 +89,13 @@ change_of : (roster : Listing) (fields : Record) (named : Option Kind)
 unfolding Agrees
 change_of roster fields None = refl
 change_of roster fields (Some kind.Quote) =
-    agrees_behind change_in (refuse_if (not (is_count kind.Quote (length fields))) fault.FieldCount) _ (λ count. quote roster fields)
+    agrees_after change_in (refuse_if (not (is_count kind.Quote (length fields))) fault.FieldCount) _ (λ count. quote roster fields)
 change_of roster fields (Some kind.State) =
-    agrees_behind change_in (refuse_if (not (is_count kind.State (length fields))) fault.FieldCount) _ (λ count. state roster fields)
+    agrees_after change_in (refuse_if (not (is_count kind.State (length fields))) fault.FieldCount) _ (λ count. state roster fields)
 change_of roster fields (Some kind.Withdraw) =
-    agrees_behind change_in (refuse_if (not (is_count kind.Withdraw (length fields))) fault.FieldCount) _ (λ count. withdraw roster fields)
+    agrees_after change_in (refuse_if (not (is_count kind.Withdraw (length fields))) fault.FieldCount) _ (λ count. withdraw roster fields)
 change_of roster fields (Some kind.Lot) =
-    agrees_behind change_in (refuse_if (not (is_count kind.Lot (length fields))) fault.FieldCount) _ (λ count. lot roster fields)
+    agrees_after change_in (refuse_if (not (is_count kind.Lot (length fields))) fault.FieldCount) _ (λ count. lot roster fields)
 change_of roster fields (Some kind.TakeOne) = refl
 change_of roster fields (Some kind.TakeAll) = refl
 change_of roster fields (Some kind.Publish) = refl
@@ -121,7 +121,7 @@ order_of settings fields (Some kind.Tell) = refl
 order_of settings fields (Some kind.Best) = refl
 order_of settings fields (Some kind.Through) = refl
 order_of settings fields (Some kind.Sweep) =
-    agrees_behind order_in (refuse_if (not (is_count kind.Sweep (length fields))) fault.FieldCount) _ (λ count. sweep settings fields)
+    agrees_after order_in (refuse_if (not (is_count kind.Sweep (length fields))) fault.FieldCount) _ (λ count. sweep settings fields)
 
 -- a record of a file of changes is refused as such exactly if it says no change
 pub changes_agree : (roster : Listing) (fields : Record)

@@ -1,3 +1,4 @@
 pub mod Counted
 pub mod Faults
+pub mod Planned
 pub mod Source

@@ -285,7 +285,7 @@ fn refusal_of<'a>(
         Some(at) if fault == LineFault::WrongFeed && at.name == FieldName::Participant => {
             hint_of_feed(text_at(row, at.place), asked.roster)
         }
-        _ => hint_of(fault, number, text, row),
+        Some(_) | None => hint_of(fault, number, text, row),
     };
     Refusal {
         file: asked.file,

@@ -32,7 +32,27 @@ fn expected_kind(from: Reading) -> &'static str {
 fn expected_participant(name: FieldName) -> &'static str {
     match name {
         FieldName::Names => "participants of the setup, joined by one + each",
-        _ => "a participant of the setup",
+        FieldName::Kind
+        | FieldName::Participant
+        | FieldName::Symbol
+        | FieldName::State
+        | FieldName::Bid
+        | FieldName::BidShares
+        | FieldName::Offer
+        | FieldName::OfferShares
+        | FieldName::Lot
+        | FieldName::Average
+        | FieldName::Price
+        | FieldName::Desk
+        | FieldName::Side
+        | FieldName::Shares
+        | FieldName::Limit
+        | FieldName::Flag
+        | FieldName::Version
+        | FieldName::Filled
+        | FieldName::Cost
+        | FieldName::Says
+        | FieldName::Value => "a participant of the setup",
     }
 }
 
@@ -41,7 +61,25 @@ fn expected_letter(name: FieldName) -> &'static str {
         FieldName::Side => "B or S",
         FieldName::Flag => "M, or nothing before an eighth field",
         FieldName::Average => "AVG",
-        _ => "A, M or H",
+        FieldName::Kind
+        | FieldName::Participant
+        | FieldName::Symbol
+        | FieldName::State
+        | FieldName::Bid
+        | FieldName::BidShares
+        | FieldName::Offer
+        | FieldName::OfferShares
+        | FieldName::Lot
+        | FieldName::Price
+        | FieldName::Desk
+        | FieldName::Shares
+        | FieldName::Limit
+        | FieldName::Names
+        | FieldName::Version
+        | FieldName::Filled
+        | FieldName::Cost
+        | FieldName::Says
+        | FieldName::Value => "A, M or H",
     }
 }
 
@@ -50,29 +88,117 @@ fn expected_price(name: FieldName) -> &'static str {
         FieldName::Bid | FieldName::Offer => {
             "dollars: 1 to 7 digits, at most a point and 1 to 4 digits; zero only beside shares that are 0"
         }
-        _ => "dollars above zero: 1 to 7 digits, at most a point and 1 to 4 digits",
+        FieldName::Kind
+        | FieldName::Participant
+        | FieldName::Symbol
+        | FieldName::State
+        | FieldName::BidShares
+        | FieldName::OfferShares
+        | FieldName::Lot
+        | FieldName::Average
+        | FieldName::Price
+        | FieldName::Desk
+        | FieldName::Side
+        | FieldName::Shares
+        | FieldName::Limit
+        | FieldName::Flag
+        | FieldName::Names
+        | FieldName::Version
+        | FieldName::Filled
+        | FieldName::Cost
+        | FieldName::Says
+        | FieldName::Value => {
+            "dollars above zero: 1 to 7 digits, at most a point and 1 to 4 digits"
+        }
     }
 }
 
 fn expected_shares(name: FieldName) -> &'static str {
     match name {
         FieldName::Shares => "shares: 1 to 9 digits, at least 1",
-        _ => "shares: 1 to 9 digits",
+        FieldName::Kind
+        | FieldName::Participant
+        | FieldName::Symbol
+        | FieldName::State
+        | FieldName::Bid
+        | FieldName::BidShares
+        | FieldName::Offer
+        | FieldName::OfferShares
+        | FieldName::Lot
+        | FieldName::Average
+        | FieldName::Price
+        | FieldName::Desk
+        | FieldName::Side
+        | FieldName::Limit
+        | FieldName::Flag
+        | FieldName::Names
+        | FieldName::Version
+        | FieldName::Filled
+        | FieldName::Cost
+        | FieldName::Says
+        | FieldName::Value => "shares: 1 to 9 digits",
     }
 }
 
 fn expected_half(name: FieldName) -> &'static str {
     match name {
         FieldName::Bid | FieldName::Offer => "a price beside the shares, or neither",
-        _ => "shares beside the price, or neither",
+        FieldName::Kind
+        | FieldName::Participant
+        | FieldName::Symbol
+        | FieldName::State
+        | FieldName::BidShares
+        | FieldName::OfferShares
+        | FieldName::Lot
+        | FieldName::Average
+        | FieldName::Price
+        | FieldName::Desk
+        | FieldName::Side
+        | FieldName::Shares
+        | FieldName::Limit
+        | FieldName::Flag
+        | FieldName::Names
+        | FieldName::Version
+        | FieldName::Filled
+        | FieldName::Cost
+        | FieldName::Says
+        | FieldName::Value => "shares beside the price, or neither",
     }
 }
 
 fn expected_sender(name: FieldName, from: Reading) -> &'static str {
-    match (name, from) {
-        (FieldName::Kind, _) => "no round lot: these come on feed A",
-        (_, Reading::FromFeed(feed)) => participant_of(feed),
-        _ => "a participant of this feed",
+    match name {
+        FieldName::Kind => "no round lot: these come on feed A",
+        FieldName::Participant
+        | FieldName::Symbol
+        | FieldName::State
+        | FieldName::Bid
+        | FieldName::BidShares
+        | FieldName::Offer
+        | FieldName::OfferShares
+        | FieldName::Lot
+        | FieldName::Average
+        | FieldName::Price
+        | FieldName::Desk
+        | FieldName::Side
+        | FieldName::Shares
+        | FieldName::Limit
+        | FieldName::Flag
+        | FieldName::Names
+        | FieldName::Version
+        | FieldName::Filled
+        | FieldName::Cost
+        | FieldName::Says
+        | FieldName::Value => expected_of_feed(from),
+    }
+}
+
+fn expected_of_feed(from: Reading) -> &'static str {
+    match from {
+        Reading::FromFeed(feed) => participant_of(feed),
+        Reading::Script { .. } | Reading::Changes | Reading::Orders { .. } => {
+            "a participant of this feed"
+        }
     }
 }
 

@@ -24,7 +24,15 @@ pub(crate) fn hint_of(
     match fault {
         LineFault::UnknownKind => hint_of_kind(number, text),
         LineFault::FieldCount => hint_of_count(text, row),
-        _ => "",
+        LineFault::UnknownParticipant
+        | LineFault::UnknownSymbol
+        | LineFault::BadState
+        | LineFault::BadPrice
+        | LineFault::BadShares
+        | LineFault::HalfSide
+        | LineFault::WrongFeed
+        | LineFault::BadDesk
+        | LineFault::BadLot => "",
     }
 }
 

@@ -1,5 +1,11 @@
-//! The text of a plan, explained.
-ghost use Rattle.std.specs.Prelude.{◌≡◌, ◌<◌, ◌≤◌, ◌^◌};
+//! The text of a plan, explained: `specs/Planned`.
+ghost use Rattle.std.specs.Prelude.{◌≡◌, ◌<◌, ◌≤◌, ◌+◌, ◌-◌, ◌^◌, ◌++◌, ◌∷◌, [], ℕ, List, Option, Some, IfOk, is_none};
+ghost use Rattle.csv.specs.Records.{fields_of};
+ghost use Rattle.nms_lines.specs.Layout.{Record};
+ghost use Rattle.nms_lines.specs.Records.{ReadsFrom};
+ghost use Rattle.nms_places.specs.PlanOrder.{HasPassed, is_ended};
+ghost use Rattle.nms_explain.specs.Planned.{AllHaveCome, EndsAsPlan, HaveCome, ending_if, is_done};
+ghost use Rattle.nms_explain.specs.Source.{left_of};
 
 use crate::changes::{TOO_LONG, quote_at};
 use crate::explain_fault::ExplainFault;
@@ -38,7 +44,7 @@ struct Came {
 }
 
 /// Reports each wrong record of a plan's text: the field that a plan can't have at that place, or that another record is due.
-/// If it reports nothing, the text is a plan's.
+/// If it reports nothing, the text is a plan's: `read_plan` of `nms_lines` takes it.
 ///
 /// The answers are not flushed. A fault leaves what was reported before.
 pub fn explain_plan<W: Write>(
@@ -48,7 +54,9 @@ pub fn explain_plan<W: Write>(
     text: &[u8],
     form: Form,
     answers: &mut W,
-) -> Result<Ending, ExplainFault> {
+) -> Result<Ending, ExplainFault>
+    ensures ending { IfOk result (EndsAsPlan setup.now.roster (Some text.now)) }
+{
     let asked = Asked {
         alloc,
         roster: setup.roster(),
@@ -58,9 +66,12 @@ pub fn explain_plan<W: Write>(
     let mut reader = open_source(alloc, text);
     let mut row = ByteRecord::new(alloc);
     let came = explain_records(&asked, &mut reader, &mut row, answers)?;
-    match reader.get_ref().end() {
-        Some(end) => tell_end(&came, &asked, end, answers).map_err(ExplainFault::Show),
-        None => Err(TOO_LONG),
+    let Some(end) = reader.get_ref().end() else {
+        return Err(TOO_LONG);
+    };
+    match tell_end(&came, &asked, end, answers) {
+        Ok(ending) => Ok(ending),
+        Err(fault) => Err(ExplainFault::Show(fault)),
     }
 }
 
@@ -70,7 +81,10 @@ fn explain_records<R: Read, W: Write>(
     reader: &mut Reader<RecordSource<R>>,
     row: &mut ByteRecord,
     answers: &mut W,
-) -> Result<Came, ExplainFault> {
+) -> Result<Came, ExplainFault>
+    ensures { (bytes : Option (List ℕ)) → ReadsFrom (left_of R.remaining) reader.old bytes []
+        → IfOk result (AllHaveCome asked.now.roster.now bytes) }
+{
     let mut came = Came {
         walk: PlanWalk::new(),
         records: 0,
@@ -95,13 +109,15 @@ fn explain_record<R: Read, W: Write>(
     came: &mut Came,
     answers: &mut W,
 ) -> Result<(), ExplainFault>
-    requires number { number < 2 ^ 64 }
-    requires refused { came.old.refused < number }
-    ensures records { came.new.records ≡ number }
-    ensures refused { came.new.refused ≤ number }
+    requires room { came.old.records < 2 ^ 64 - 1 }
+    requires within { came.old.refused ≤ came.old.records }
+    ensures within { came.new.refused ≤ came.new.records }
+    ensures records { came.new.records ≡ came.old.records + 1 }
+    ensures come { (seen : List Record) → HaveCome asked.now.roster.now seen came.old
+        → HaveCome asked.now.roster.now (seen ++ fields_of row.now ∷ []) came.new }
 {
     let due = came.walk.due;
-    came.records = number;
+    came.records += 1;
     match came.walk.next(row, asked.roster) {
         Some(trouble) => {
             came.refused += 1;
@@ -137,7 +153,9 @@ fn tell_end<W: Write>(
     asked: &Asked<'_>,
     end: Point,
     answers: &mut W,
-) -> Result<Ending, ShowFault> {
+) -> Result<Ending, ShowFault>
+    ensures { IfOk result (λ ended. ended ≡ ending_if (is_done came.now)) }
+{
     let Asked {
         alloc,
         file,
@@ -145,27 +163,27 @@ fn tell_end<W: Write>(
         ..
     } = *asked;
     let missing = missing_at(came.walk.due);
-    if !missing.is_empty() {
-        tell_missing(alloc, form, file, end, CODE, missing, answers)?;
+    if let Some(expected) = missing {
+        tell_missing(alloc, form, file, end, CODE, expected, answers)?;
     }
     tell_counts(alloc, file, form, came.records, came.refused, answers)?;
     if came.refused > 0 {
         tell_count(alloc, file, form, CODE, came.refused, answers)?;
     }
-    if came.refused == 0 && missing.is_empty() {
+    if came.refused == 0 && missing.is_none() {
         Ok(Ending::Done)
     } else {
         Ok(Ending::Refused)
     }
 }
 
-/// Which record is missing at the end of a plan's records.
-fn missing_at(due: PlanDue) -> &'static str {
+/// Which record is missing at the end of a plan's records, if one is.
+fn missing_at(due: PlanDue) -> Option<&'static str>
+    ensures { is_none result ≡ is_ended due }
+{
     match due {
-        PlanDue::Plan => "PLAN",
-        PlanDue::Leg => "LEG, CUT or END",
-        PlanDue::Cut => "CUT or END",
-        PlanDue::Nothing => "",
+        PlanDue::Plan | PlanDue::Leg | PlanDue::Cut => Some(expected_word(due)),
+        PlanDue::Nothing => None,
     }
 }
 
@@ -217,7 +235,7 @@ fn hint_for(due: PlanDue, number: u64, text: &[u8]) -> &'static str {
     match due {
         PlanDue::Plan if !text.starts_with(b"PLAN,") => hint_of_kind(number, text),
         PlanDue::Nothing => "a file has one plan alone, from PLAN to END",
-        _ => "",
+        PlanDue::Plan | PlanDue::Leg | PlanDue::Cut => "",
     }
 }
 
@@ -233,7 +251,7 @@ fn first_field() -> FieldPlace {
 fn layout_of(word: &[u8]) -> &'static str {
     match word {
         b"PLAN" =>
-            "9: PLAN,version,side,sym,shares,limit,flag,filled,cost, or 10: names behind them",
+            "9: PLAN,version,side,sym,shares,limit,flag,filled,cost, or 10: names after them",
         b"LEG" => "4: LEG,part,price,shares",
         b"CUT" => "4: CUT,price,kind,value",
         _ => "1: END",
@@ -256,16 +274,26 @@ fn expected_of(due: PlanDue, name: FieldName) -> &'static str {
         FieldName::Cost =>
             "money: digits, a point and nine digits, with a minus where money is received",
         FieldName::Says => "TOOMUCH, TOOLITTLE or MARGINAL",
-        FieldName::Value => "money behind MARGINAL, nothing behind TOOMUCH and TOOLITTLE",
-        _ => expected_shares(due, name),
+        FieldName::Value => "money after MARGINAL, nothing after TOOMUCH and TOOLITTLE",
+        FieldName::Shares => expected_shares(due),
+        FieldName::Filled
+        // No record of a plan has one of these.
+        | FieldName::State
+        | FieldName::Bid
+        | FieldName::BidShares
+        | FieldName::Offer
+        | FieldName::OfferShares
+        | FieldName::Lot
+        | FieldName::Average
+        | FieldName::Desk => "shares: 1 to 9 digits",
     }
 }
 
-/// What is expected of a field of shares.
-fn expected_shares(due: PlanDue, name: FieldName) -> &'static str {
-    match (due, name) {
-        (PlanDue::Plan, FieldName::Shares) => "shares: 1 to 9 digits, at least 1",
-        _ => "shares: 1 to 9 digits",
+/// What is expected of the shares of an order, or of a leg.
+fn expected_shares(due: PlanDue) -> &'static str {
+    match due {
+        PlanDue::Plan => "shares: 1 to 9 digits, at least 1",
+        PlanDue::Leg | PlanDue::Cut | PlanDue::Nothing => "shares: 1 to 9 digits",
     }
 }
 
@@ -275,6 +303,6 @@ fn expected_word(due: PlanDue) -> &'static str {
         PlanDue::Plan => "PLAN",
         PlanDue::Leg => "LEG, CUT or END",
         PlanDue::Cut => "CUT or END",
-        PlanDue::Nothing => "nothing behind END",
+        PlanDue::Nothing => "nothing after END",
     }
 }

@@ -17,11 +17,13 @@ impl Quoting {
     /// The state of the next byte after this one.
     pub(crate) fn after(self, byte: u8) -> Self {
         match (self, byte) {
-            (Quoting::Start, b'"') | (Quoting::After, b'"') => Quoting::Within,
+            (Quoting::Start | Quoting::After, b'"') => Quoting::Within,
             (Quoting::Within, b'"') => Quoting::After,
             (Quoting::Within, _) => Quoting::Within,
-            (_, b',' | b'\n' | b'\r') => Quoting::Start,
-            _ => Quoting::Plain,
+            (Quoting::Start | Quoting::Plain | Quoting::After, b',' | b'\n' | b'\r') => {
+                Quoting::Start
+            }
+            (Quoting::Start | Quoting::Plain | Quoting::After, _) => Quoting::Plain,
         }
     }
 }

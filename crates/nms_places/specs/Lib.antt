@@ -4,4 +4,6 @@ pub mod FieldNames
 pub mod FieldTable
 pub mod Looks
 pub mod Names
+pub mod PlanExamples
 pub mod PlanFields
+pub mod PlanOrder

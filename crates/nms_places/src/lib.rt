@@ -17,7 +17,10 @@ mod side_place;
 
 pub use counts::Counts;
 pub use field_name::FieldName;
-pub use laws::{a_fault_stands_at_its_fields, a_plan_record_is_read_where_no_field_is_wrong};
+pub use laws::{
+    a_fault_stands_at_its_fields, a_plan_is_read_where_no_record_is_wrong,
+    a_plan_record_is_read_where_no_field_is_wrong, the_worked_plans_hold,
+};
 pub use name_list::unknown_name;
 pub use place::{FieldPlace, Place};
 pub use placing::place_of;

@@ -25,7 +25,15 @@ pub fn place_of(row: &ByteRecord, fault: LineFault) -> Place
     match fault {
         LineFault::FieldCount => Place::Count,
         LineFault::UnknownKind => Place::Field(FieldPlace::at(0, FieldName::Kind)),
-        _ => Place::Field(place_in_kind(row, fault)),
+        LineFault::UnknownParticipant
+        | LineFault::UnknownSymbol
+        | LineFault::BadState
+        | LineFault::BadPrice
+        | LineFault::BadShares
+        | LineFault::HalfSide
+        | LineFault::WrongFeed
+        | LineFault::BadDesk
+        | LineFault::BadLot => Place::Field(place_in_kind(row, fault)),
     }
 }
 

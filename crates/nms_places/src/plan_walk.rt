@@ -1,8 +1,10 @@
 //! A walk over the records of a plan's text: which record is due, and what is wrong with the one that came
-//! (`specs/PlanFields`).
-ghost use Rattle.std.specs.Prelude.{◌≡◌, Some, None};
+//! (`specs/PlanFields`, `specs/PlanOrder`).
+ghost use Rattle.std.specs.Prelude.{◌≡◌, ◌+◌, ◌++◌, ◌∷◌, [], List, Some, None, min};
 ghost use Rattle.csv.specs.Records.{fields_of};
+ghost use Rattle.nms_lines.specs.Layout.{Record};
 ghost use Rattle.nms_places.specs.PlanFields.{due_place, later_place};
+ghost use Rattle.nms_places.specs.PlanOrder.{HasPassed, count_next, due_next, trouble_after};
 
 use crate::field_name::FieldName;
 use crate::place::{FieldPlace, Place};
@@ -48,7 +50,8 @@ pub struct PlanWalk {
 impl PlanWalk {
     /// Before the first record.
     pub fn new() -> Self
-        ensures { result.due ≡ PlanDue.Plan }
+        ensures due { result.due ≡ PlanDue.Plan }
+        ensures passed { HasPassed [] result }
     {
         PlanWalk {
             due: PlanDue::Plan,
@@ -61,9 +64,13 @@ impl PlanWalk {
         ensures wrong { (at : Place) → result ≡ Some (PlanTrouble.Wrong at)
             → due_place self.old.due roster.now (fields_of row.now) ≡ Some at }
         ensures right { result ≡ None → due_place self.old.due roster.now (fields_of row.now) ≡ None }
+        ensures trouble { (before : List Record) → HasPassed before self.old
+            → result ≡ trouble_after roster.now before (fields_of row.now) }
+        ensures passed { (before : List Record) → HasPassed before self.old
+            → HasPassed (before ++ fields_of row.now ∷ []) self.new }
     {
         let wrong = due_place(self.due, row, roster);
-        self.go_on(row);
+        *self = self.after(text_at(row, 0));
         match wrong {
             Some(place) => Some(PlanTrouble::Wrong(place)),
             None if self.count > MOST => Some(PlanTrouble::TooMany),
@@ -71,26 +78,33 @@ impl PlanWalk {
         }
     }
 
-    /// What is due after a record.
-    fn go_on(&mut self, row: &ByteRecord) {
-        let next = due_behind(self.due, text_at(row, 0));
-        if next == PlanDue::Cut && self.due != PlanDue::Cut || next == PlanDue::Nothing {
-            self.count = 0;
-        }
-        if self.due != PlanDue::Plan && next != PlanDue::Nothing && self.count <= MOST {
-            self.count += 1;
-        }
-        self.due = next;
+    /// The walk after a record that begins with a word.
+    fn after(self, word: &[u8]) -> Self
+        ensures due { result.due ≡ due_next self.due word.now }
+        ensures count { result.count ≡ min 33 (count_next self.due self.count word.now) }
+    {
+        let (due, count) = match self.due {
+            PlanDue::Plan => (PlanDue::Leg, 0),
+            PlanDue::Leg => match word {
+                b"END" => (PlanDue::Nothing, 0),
+                b"CUT" => (PlanDue::Cut, 1),
+                _ => (PlanDue::Leg, one_more(self.count)),
+            },
+            PlanDue::Cut => match word {
+                b"END" => (PlanDue::Nothing, 0),
+                _ => (PlanDue::Cut, one_more(self.count)),
+            },
+            PlanDue::Nothing => (PlanDue::Nothing, 0),
+        };
+        PlanWalk { due, count }
     }
 }
 
-/// What is due after a record that begins with a word.
-fn due_behind(due: PlanDue, word: &[u8]) -> PlanDue {
-    match (due, word) {
-        (PlanDue::Nothing, _) | (PlanDue::Leg | PlanDue::Cut, b"END") => PlanDue::Nothing,
-        (PlanDue::Cut, _) | (PlanDue::Leg, b"CUT") => PlanDue::Cut,
-        (PlanDue::Plan | PlanDue::Leg, _) => PlanDue::Leg,
-    }
+/// The next number, as far as the first that is too many.
+fn one_more(count: u8) -> u8
+    ensures { result ≡ min 33 (count + 1) }
+{
+    if count < MOST { count + 1 } else { MOST + 1 }
 }
 
 /// What is wrong with a record if that is due.

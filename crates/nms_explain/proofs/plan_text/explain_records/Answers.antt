@@ -1,0 +1,27 @@
+-- `explain_records`: one record more came; and at the end all did.
+use Rattle.std.proofs.Common.{Bool, Ok, ap, arith, refl, ◌++◌, ◌∷◌, []}
+use Rattle.csv.specs.Records.{fields_of}
+use Rattle.nms_explain.proofs.PlanFacts.{none_came}
+use Rattle.nms_explain.proofs.plan_text.explain_records.Goals as goal
+
+pub loop-turn-init : goal.loop-turn-init
+loop-turn-init g c = record {
+  turn = refl;
+  within = omega arith;
+  come = λ bytes reads. ([], reads, none_came c.args.asked.now.roster.now _ refl refl c.new.ensures.passed);
+}
+
+pub loop-turn-preserved : goal.loop-turn-preserved
+loop-turn-preserved g c = record {
+  turn = omega (arith, c.in_ok-explain_record-in-Ok-true.ensures.records, c.loop-turn.invariant.turn);
+  within = c.in_ok-explain_record-in-Ok-true.ensures.within;
+  come = λ bytes reads.
+      let had = c.loop-turn.invariant.come bytes reads in
+      let found = c.in-Ok-true.ensures.found bytes had.0 (had.1) (ap (λ (b : Bool). Ok b) c.in-Ok-true.field-0-test) in
+      (had.0 ++ fields_of c.next_record.new.row ∷ [], found, c.in_ok-explain_record-in-Ok-true.ensures.come had.0 had.2);
+}
+
+pub returns-in-Ok-false : goal.returns-in-Ok-false
+returns-in-Ok-false g c = λ bytes reads.
+    let had = c.loop-turn.invariant.come bytes reads in
+    (had.0, c.in-Ok-false.ensures.end bytes had.0 had.1 (ap (λ (b : Bool). Ok b) c.in-Ok-false.field-0-test), had.2)
