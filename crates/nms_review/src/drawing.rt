@@ -59,7 +59,16 @@ where
         return draw_frame(rt, screen, setup, request, &frame, sym, None, answers);
     };
     let plan = read_file(rt, path, About::Plan)?;
-    draw_frame(rt, screen, setup, request, &frame, sym, Some(&plan), answers)
+    draw_frame(
+        rt,
+        screen,
+        setup,
+        request,
+        &frame,
+        sym,
+        Some(&plan),
+        answers,
+    )
 }
 
 /// Draws the versions of a frame, with a plan and with executions if those were given.
@@ -83,7 +92,9 @@ where
     let symbols = symbols.as_ref().map(Vec::as_slice);
     let timing = timing_of(frame.times, symbols, false, 0);
     let timing = timing.as_ref();
-    draw_trades(rt, screen, setup, request, path, frame, sym, plan, timing, answers)
+    draw_trades(
+        rt, screen, setup, request, path, frame, sym, plan, timing, answers,
+    )
 }
 
 /// Draws a day without executions.

@@ -222,19 +222,23 @@ fn serve_check<T, W: Write>(
 where
     T: AllocGlobal + Clock + Eprint + Files,
 {
-    let mut plans = open_plans(rt, screen, request)?;
+    let Plans {
+        text,
+        times,
+        mut source,
+    } = open_plans(rt, screen, request)?;
     let served = check_answers(
         rt.alloc(),
         setup,
-        &mut plans.source,
-        plans.times.as_ref(),
+        &mut source,
+        times.as_ref(),
         word_at(request, 1),
-        &plans.text,
+        &text,
         form_of(screen, request),
         answers,
     )
     .map_err(verdict_fault);
-    ended(&mut plans.source, served)
+    ended(&mut source, served)
 }
 
 /// Explains why a plan is as it is.
@@ -248,19 +252,23 @@ fn serve_why<T, W: Write>(
 where
     T: AllocGlobal + Clock + Eprint + Files,
 {
-    let mut plans = open_plans(rt, screen, request)?;
+    let Plans {
+        text,
+        times,
+        mut source,
+    } = open_plans(rt, screen, request)?;
     let served = explain_why(
         rt.alloc(),
         setup,
-        &mut plans.source,
-        plans.times.as_ref(),
+        &mut source,
+        times.as_ref(),
         word_at(request, 1),
-        &plans.text,
+        &text,
         form_of(screen, request),
         answers,
     )
     .map_err(verdict_fault);
-    ended(&mut plans.source, served)
+    ended(&mut source, served)
 }
 
 /// A fault of a judgement: the changes are the first word, and the plans the second.
