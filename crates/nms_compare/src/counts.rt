@@ -119,7 +119,7 @@ fn skips(cause: Cause) -> bool
 }
 
 /// Writes the counts: a line for each finding, and last the sum. `TooLong` comes if the sum is more than 2^64 - 1, after the
-/// lines of the counts before that: 1,000,000,000,000 rows have none such.
+/// lines that still fit. The counts of 1,000,000,000,000 rows always fit.
 pub fn write_counts<W: Write>(out: &mut W, counts: &Counts) -> Result<(), CompareFault>
     ensures safe { Writes IsSafe (W.contents out.old) (W.contents out.new) result }
     ensures whole { OnOk result (rows_in counts.now < 2 ^ 64) }
