@@ -15,3 +15,4 @@ mod TurnFacts
 mod WholeFacts
 mod WindowFacts
 mod LineFacts
+mod ShownFacts

@@ -1,5 +1,6 @@
 -- What holds if a call succeeded.
-use Rattle.std.specs.Prelude.{Result, Ok, Err, OnOk}
+use Rattle.std.proofs.Common.{◌≡◌, subst, sym}
+use Rattle.std.specs.Prelude.{Result, Ok, Err, IfErr, IsErrAnd, OnOk}
 
 -- for each value alike
 pub all_ok : {T E I : Type 0} (r : Result T E) (P : I → Type 0) → ((i : I) → OnOk r (P i)) → OnOk r ((i : I) → P i)
@@ -14,3 +15,8 @@ map_ok (Err e) f p = tt
 pub then_ok : {T E P : Type 0} (r : Result T E) → P → OnOk r P
 then_ok (Ok t) p = p
 then_ok (Err e) p = tt
+
+-- what holds of a fault that a call passes on
+pub same_err : {T E : Type 0} (P : E → Type 0) (own : E) (r : Result T E) → IsErrAnd r (λ e. e ≡ own) → P own → IfErr r P
+same_err P own (Ok t) is p = tt
+same_err P own (Err e) is p = subst P (sym is) p

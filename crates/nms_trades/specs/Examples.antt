@@ -1,7 +1,9 @@
 -- Worked examples of what is written of executions. The right-hand sides are worked out by hand.
 use Rattle.std.specs.Prelude.{ℕ, ◌≡◌, true, false, [], ◌∷◌, codes, map, pos}
 use Rattle.nms_quote.specs.Members.{nobody}
+use Rattle.nms_show.specs.declared.ending.Ending.TheVariants as ending
 use Rattle.nms_trades.specs.Answers.{in_order, number_of}
+use Rattle.nms_trades.specs.Files.{ending_of}
 use Rattle.nms_trades.specs.Lines.{causes_text}
 use Rattle.nms_trades.specs.Sums.{Marked, sums_in}
 use Rattle.nms_trades.specs.declared.claims.Claims.{Claims}
@@ -77,3 +79,6 @@ pub record ExamplesHold : Type 0 where
   pub five_records : (execution : Execution)
       → map number_of (in_order [] 0 (numbered execution 1 ∷ numbered execution 3 ∷ []) (refused_as 2 ∷ refused_as 4 ∷ refused_as 5 ∷ []))
       ≡ 1 ∷ 2 ∷ 3 ∷ 4 ∷ 5 ∷ []
+  -- a call that refuses no record, and one that refuses two
+  pub none_refused : ending_of [] ≡ ending.Done
+  pub two_refused : ending_of (refused_as 2 ∷ refused_as 4 ∷ []) ≡ ending.Refused

@@ -9,6 +9,7 @@ pub mod Counts
 pub mod Examples
 pub mod Faults
 pub mod FileFaults
+pub mod Files
 pub mod FinePrice
 pub mod Found
 pub mod Judged

@@ -1,5 +1,6 @@
 //! When an execution took place: versions that are found by their times: `specs/When`.
-ghost use Rattle.std.specs.Prelude.{◌≡◌, ◌≢◌, ◌≤◌, ◌+◌, IfOk, IfSome, drop, length, slice_index};
+ghost use Rattle.std.specs.Prelude.{◌≡◌, ◌≢◌, ◌≤◌, ◌+◌, IfErr, IfOk, IfSome, None, Some, drop, length, option_copied, slice_index};
+ghost use Rattle.nms_trades.specs.Files.{IsClockFault, IsTimingFault};
 ghost use Rattle.nms_trades.specs.When.{AreOfChanges, IsWithin, at_time, timed, version_by, when_in};
 
 use crate::trade_fault::TradeFault;
@@ -164,6 +165,7 @@ pub(crate) fn clock_of<'a>(
 ) -> Result<Clock<'a>, TradesFault>
     ensures changes { IfOk result (λ clock. clock.changes ≡ changes) }
     ensures within { IfOk result (λ clock. AreOfChanges changes clock.rising.items) }
+    ensures refused { IfErr result (IsClockFault (option_copied timing.entry) changes) }
 {
     let Some(timing) = timing else {
         return Ok(Clock {
@@ -196,7 +198,8 @@ fn over_all<'a>(
     roster: &Roster,
     times: &'a Times,
 ) -> Result<Vec<Option<Rising<'a>>>, TradesFault>
-    ensures { IfOk result (λ all. AreOfChanges (length times.now) all.items) }
+    ensures within { IfOk result (λ all. AreOfChanges (length times.now) all.items) }
+    ensures refused { IfErr result (IsTimingFault None times.now) }
 {
     let rising = match times.rising() {
         Ok(rising) => rising,
@@ -218,7 +221,8 @@ fn by_symbol<'a>(
     times: &'a Times,
     text: &[u8],
 ) -> Result<Vec<Option<Rising<'a>>>, TradesFault>
-    ensures { IfOk result (λ all. AreOfChanges (length times.now) all.items) }
+    ensures within { IfOk result (λ all. AreOfChanges (length times.now) all.items) }
+    ensures refused { IfErr result (IsTimingFault (Some text.now) times.now) }
 {
     let mut all = Vec::new(alloc);
     for place in 0..roster.syms() as u16 {
@@ -237,7 +241,8 @@ fn of_symbol<'a>(
     text: &[u8],
     name: &[u8],
 ) -> Result<Option<Rising<'a>>, TradesFault>
-    ensures { IfOk result (λ found. IfSome found (λ rising. rising.before + length rising.times.now ≤ length times.now)) }
+    ensures within { IfOk result (λ found. IfSome found (λ rising. rising.before + length rising.times.now ≤ length times.now)) }
+    ensures refused { IfErr result (IsTimingFault (Some text.now) times.now) }
 {
     let span = match find_span(text, name, times.len()) {
         Ok(Some(span)) => span,

@@ -1,9 +1,12 @@
 //! A file of executions, read record by record: `specs/Reading`.
-ghost use Rattle.std.specs.Prelude.{ℕ, ◌≡◌, ◌+◌, All, IfOk, OnOk};
+ghost use Rattle.std.specs.Prelude.{ℕ, ◌≡◌, ◌+◌, [], All, IfErr, IfOk, List, OnOk, Option};
+ghost use Rattle.nms_lines.specs.Records.{ReadsFrom};
 ghost use Rattle.nms_trades.specs.Answers.{AreNumbered};
+ghost use Rattle.nms_trades.specs.Files.{AreRecordsOf, IsReadingFault, ending_of};
 ghost use Rattle.nms_trades.specs.Reading.{IsInWindow, IsOn};
 ghost use Rattle.nms_trades.specs.When.{AreOfChanges};
 
+use crate::MOST_EXECUTIONS;
 use crate::clock::Clock;
 use crate::execution::Execution;
 use crate::reading::read_execution;
@@ -11,11 +14,9 @@ use crate::trade_fault::TradeFault;
 use crate::trades_fault::TradesFault;
 use nms_lines::{ByteRecord, Reader, RecordFault, open_records, read_next};
 use nms_quote::Roster;
+use nms_show::Ending;
 use std::alloc::Global;
 use std::io::Read;
-
-/// The most records that a file of executions may have.
-const MOST_EXECUTIONS: u64 = 10_000_000;
 
 /// A record that is refused.
 #[derive(Clone, Copy, Debug, PartialEq, Eq)]
@@ -35,6 +36,19 @@ pub struct Records {
     pub refused: Vec<Refusal>,
 }
 
+impl Records {
+    /// How a call that answers them ends: `Refused` if one is refused, else `Done`.
+    pub fn ending(&self) -> Ending
+        ensures { result ≡ ending_of self.now.refused.items }
+    {
+        if self.refused.is_empty() {
+            Ending::Done
+        } else {
+            Ending::Refused
+        }
+    }
+}
+
 /// Reads all executions of a file, at most `MOST_EXECUTIONS`. One that is refused does not stop the others. The clock finds their versions.
 pub(crate) fn read_executions<R: Read + Drop>(
     alloc: Global,
@@ -45,7 +59,8 @@ pub(crate) fn read_executions<R: Read + Drop>(
     requires { AreOfChanges clock.now.changes clock.now.rising.items }
     ensures on { IfOk result (λ records. All (IsOn roster.now clock.now.changes) records.executions.items) }
     ensures window { IfOk result (λ records. All IsInWindow records.executions.items) }
-    ensures numbered { IfOk result (λ records. (last : ℕ) × AreNumbered last records.executions.items records.refused.items) }
+    ensures numbered { IfOk result (λ records. AreRecordsOf (R.remaining source) records.executions.items records.refused.items) }
+    ensures refused { IfErr result (IsReadingFault (R.remaining source)) }
 {
     let mut reader = open_records(alloc, source);
     let mut row = ByteRecord::new(alloc);
@@ -73,7 +88,9 @@ fn take_records<R: Read>(
     requires none { AreNumbered 0 records.old.executions.items records.old.refused.items }
     ensures on { All (IsOn roster.now clock.now.changes) records.new.executions.items }
     ensures window { All IsInWindow records.new.executions.items }
-    ensures numbered { OnOk result ((last : ℕ) × AreNumbered last records.new.executions.items records.new.refused.items) }
+    ensures numbered { (bytes : Option (List ℕ)) → ReadsFrom R.remaining reader.old bytes []
+        → OnOk result (AreRecordsOf bytes records.new.executions.items records.new.refused.items) }
+    ensures refused { (bytes : Option (List ℕ)) → ReadsFrom R.remaining reader.old bytes [] → IfErr result (IsReadingFault bytes) }
 {
     for number in 1..MOST_EXECUTIONS + 1 {
         match read_next(reader, row) {
@@ -104,6 +121,7 @@ fn take_record(
     ensures window { All IsInWindow records.new.executions.items }
     ensures numbered { (last : ℕ) → number ≡ last + 1 → AreNumbered last records.old.executions.items records.old.refused.items
         → OnOk result (AreNumbered number records.new.executions.items records.new.refused.items) }
+    ensures refused { (bytes : Option (List ℕ)) → IfErr result (IsReadingFault bytes) }
 {
     match read_execution(row, roster, clock, number) {
         Ok(execution) => match records.executions.push(execution) {

@@ -22,6 +22,7 @@ mod object;
 mod order;
 mod parts;
 mod reading;
+mod showing;
 mod standing;
 mod table;
 mod tally;
@@ -30,6 +31,9 @@ mod trade_fault;
 mod trades;
 mod trades_fault;
 mod window;
+
+/// The most records that a file of executions may have.
+pub const MOST_EXECUTIONS: u64 = 10_000_000;
 
 pub use cause::{CAUSES, Cause};
 pub use claims::Claims;
@@ -46,5 +50,5 @@ pub use reading::is_name;
 pub use standing::Standing;
 pub use table::write_table;
 pub use trade_fault::TradeFault;
-pub use trades::{Layout, judge_file, read_timed};
+pub use trades::{Layout, judge_file, read_timed, write_findings};
 pub use trades_fault::TradesFault;

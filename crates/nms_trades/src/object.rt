@@ -1,15 +1,22 @@
 //! The lines of one execution as JSON.
+ghost use Rattle.std.specs.Prelude.{◌≡◌, true};
+ghost use Rattle.std.specs.Int.{is_in_range};
+ghost use Rattle.std.specs.List.{list_all};
+ghost use Rattle.nms_show.specs.Safe.{IsSafe};
+ghost use Rattle.nms_show.specs.Written.{Writes};
+
 use crate::execution::Execution;
 use crate::execution_file::Refusal;
 use crate::finding::Finding;
 use crate::line::{append_causes, is_own};
 use crate::millionths::push_millionths;
 use crate::money_through::{Sums, difference, is_helped};
+use crate::showing::show_object;
 use crate::standing::Standing;
 use nms_board::Row;
 use nms_lines::{name_of_part, word_of_side};
 use nms_quote::{Roster, Side};
-use nms_show::{Item, ShowFault, write_object};
+use nms_show::{Item, ShowFault};
 use std::alloc::{AllocError, Global};
 use std::io::Write;
 
@@ -18,8 +25,10 @@ pub(crate) fn write_refusal<W: Write>(
     alloc: Global,
     answers: &mut W,
     refusal: &Refusal,
-) -> Result<(), ShowFault> {
-    write_object(
+) -> Result<(), ShowFault>
+    ensures { Writes IsSafe (W.contents answers.old) (W.contents answers.new) result }
+{
+    show_object(
         alloc,
         answers,
         &[
@@ -36,8 +45,10 @@ pub(crate) fn write_clean<W: Write>(
     alloc: Global,
     answers: &mut W,
     execution: &Execution,
-) -> Result<(), ShowFault> {
-    write_object(
+) -> Result<(), ShowFault>
+    ensures { Writes IsSafe (W.contents answers.old) (W.contents answers.new) result }
+{
+    show_object(
         alloc,
         answers,
         &[
@@ -57,7 +68,9 @@ pub(crate) fn write_through<W: Write>(
     execution: &Execution,
     finding: &Finding,
     sums: &Sums,
-) -> Result<(), ShowFault> {
+) -> Result<(), ShowFault>
+    ensures { Writes IsSafe (W.contents answers.old) (W.contents answers.new) result }
+{
     text.clear();
     let Ok(cut) = append_texts(text, execution, finding.crossed, sums) else {
         return Err(ShowFault::NoMemory);
@@ -73,20 +86,34 @@ pub(crate) fn write_through<W: Write>(
         behind_comma(worst),
         causes,
     )?;
+    write_rows(alloc, answers, text, roster, execution, finding)
+}
+
+/// Writes the rows that are left.
+fn write_rows<W: Write>(
+    alloc: Global,
+    answers: &mut W,
+    text: &mut Vec<u8>,
+    roster: &Roster,
+    execution: &Execution,
+    finding: &Finding,
+) -> Result<(), ShowFault>
+    ensures { Writes IsSafe (W.contents answers.old) (W.contents answers.new) result }
+{
     for place in 0..finding.passed.len() {
         let (side, row) = &finding.passed[place];
-        if !is_helped(execution, row) {
-            let flickers = finding.is_flickering(place);
-            write_passed(
-                alloc, answers, text, roster, execution, *side, row, flickers,
-            )?;
-        }
+        let flickers = finding.is_flickering(place);
+        write_passed(
+            alloc, answers, text, roster, execution, *side, row, flickers,
+        )?;
     }
     Ok(())
 }
 
 /// The name of a standing.
-fn what_of(standing: Standing) -> &'static str {
+fn what_of(standing: Standing) -> &'static str
+    ensures { list_all (is_in_range 32 126) result.now ≡ true }
+{
     match standing {
         Standing::Clean => "clean",
         Standing::Perhaps => "perhaps",
@@ -103,8 +130,10 @@ fn write_head<'a, W: Write>(
     sums: &Sums,
     worst: &'a [u8],
     causes: &'a [u8],
-) -> Result<(), ShowFault> {
-    write_object(
+) -> Result<(), ShowFault>
+    ensures { list_all (is_in_range 32 126) what.now ≡ true → Writes IsSafe (W.contents answers.old) (W.contents answers.new) result }
+{
+    show_object(
         alloc,
         answers,
         &[
@@ -132,7 +161,7 @@ fn append_texts(
     Ok(cut)
 }
 
-/// Writes a row that was traded through.
+/// Writes a row that was traded through, if self-help does not take it out.
 fn write_passed<W: Write>(
     alloc: Global,
     answers: &mut W,
@@ -142,7 +171,12 @@ fn write_passed<W: Write>(
     side: Side,
     row: &Row,
     flickers: bool,
-) -> Result<(), ShowFault> {
+) -> Result<(), ShowFault>
+    ensures { Writes IsSafe (W.contents answers.old) (W.contents answers.new) result }
+{
+    if is_helped(execution, row) {
+        return Ok(());
+    }
     text.clear();
     if push_millionths(text, difference(row, execution.millionths)).is_err() {
         return Err(ShowFault::NoMemory);
@@ -169,16 +203,18 @@ fn write_row<'a, W: Write>(
     row: &Row,
     flickers: bool,
     by: &'a [u8],
-) -> Result<(), ShowFault> {
+) -> Result<(), ShowFault>
+    ensures { Writes IsSafe (W.contents answers.old) (W.contents answers.new) result }
+{
     let own = is_own(&execution.part, row.part);
-    write_object(
+    show_object(
         alloc,
         answers,
         &[
             ("what", Item::Text("row")),
             ("id", Item::Bytes(execution.name.as_slice())),
             ("side", Item::Text(word_of_side(side))),
-            ("participant", Item::Text(name_of_part(roster, row.part))),
+            ("participant", Item::Bytes(name_of_part(roster, row.part).as_bytes())),
             ("price", Item::of_price(row.price)),
             ("shares", Item::Number(u64::from(row.size))),
             ("receipt", Item::Number(row.receipt)),

@@ -1,16 +1,23 @@
 //! The counts and sums of all executions, as tables.
-ghost use Rattle.std.specs.Prelude.{◌≡◌, IfOk, filter, length};
+ghost use Rattle.std.specs.Prelude.{◌≡◌, [], IfErr, IfOk, false, filter, length, true};
+ghost use Rattle.std.specs.Int.{is_in_range};
+ghost use Rattle.std.specs.List.{list_all};
+ghost use Rattle.nms_show.specs.Safe.{IsSafe, own_text};
+ghost use Rattle.nms_show.specs.Written.{Writes};
 ghost use Rattle.nms_trades.specs.Counts.{is_found, is_perhaps, is_through, stands};
+ghost use Rattle.nms_trades.specs.Files.{IsWritingFault, is_begun};
+ghost use Rattle.nms_trades.specs.declared.trades.Layout.TheVariants as layout;
 
 use crate::cause::{CAUSES, Cause};
 use crate::execution::Execution;
 use crate::execution_file::Records;
 use crate::finding::Finding;
+use crate::showing::{show_line, show_object, show_row};
 use crate::tally::{Count, HALF_HOURS, Tally};
 use crate::trades_fault::TradesFault;
 use nms_lines::{name_of_part, name_of_sym};
 use nms_quote::{Part, Roster, Sym};
-use nms_show::{Column, Form, Item, ShowFault, write_line, write_object, write_row};
+use nms_show::{Column, Form, Item, ShowFault};
 use nms_units::Money;
 use std::alloc::{AllocError, Global};
 use std::io::Write;
@@ -18,7 +25,9 @@ use std::io::Write;
 /// How many symbols the table has at most: those with the most shares through.
 const MOST_SYMBOLS_SHOWN: usize = 50;
 
-/// Writes the counts and sums of all executions.
+/// Writes the counts and sums of all executions. What is written is safe to show on a terminal.
+///
+/// `TooLong` comes only of sums that no number holds, and leaves nothing written.
 pub fn write_table<W: Write>(
     alloc: Global,
     roster: &Roster,
@@ -28,10 +37,19 @@ pub fn write_table<W: Write>(
     answers: &mut W,
 ) -> Result<(), TradesFault>
     requires { length findings.now ≡ length records.now.executions.items }
+    ensures safe { Writes IsSafe (W.contents answers.old) (W.contents answers.new) result }
+    ensures refused { IfErr result (IsWritingFault layout.Table) }
+    ensures unwritten { IfErr result (λ fault. is_begun fault ≡ false → W.contents answers.new ≡ W.contents answers.old) }
 {
-    let tally = tally_of(alloc, roster, &records.executions, findings)?;
+    let tally = match tally_of(alloc, roster, &records.executions, findings) {
+        Ok(tally) => tally,
+        Err(fault) => return Err(fault),
+    };
     let refused = records.refused.len() as u64;
-    Ok(write_tally(alloc, roster, &tally, refused, form, answers)?)
+    match write_tally(alloc, roster, &tally, refused, form, answers) {
+        Ok(()) => Ok(()),
+        Err(fault) => Err(TradesFault::Show(fault)),
+    }
 }
 
 /// The counts of executions, each with what is found of it. Those of all are the lengths of the lists.
@@ -45,6 +63,7 @@ fn tally_of(
     ensures executions { IfOk result (λ tally. tally.all.executions ≡ length (filter is_found findings.now)) }
     ensures perhaps { IfOk result (λ tally. tally.all.perhaps ≡ length (filter (stands is_perhaps) findings.now)) }
     ensures through { IfOk result (λ tally. tally.all.through ≡ length (filter (stands is_through) findings.now)) }
+    ensures refused { IfErr result (IsWritingFault layout.Table) }
 {
     let Ok(mut tally) = Tally::none(alloc, roster.parts() + 1, roster.syms()) else {
         return Err(TradesFault::Show(ShowFault::NoMemory));
@@ -69,20 +88,47 @@ fn write_tally<W: Write>(
     refused: u64,
     form: Form,
     answers: &mut W,
-) -> Result<(), ShowFault> {
+) -> Result<(), ShowFault>
+    ensures { Writes IsSafe (W.contents answers.old) (W.contents answers.new) result }
+{
     write_all(alloc, &tally.all, refused, form, answers)?;
+    write_causes(alloc, tally, form, answers)?;
+    write_places(alloc, roster, tally, form, answers)
+}
+
+/// Writes the counts by participant, by symbol and by half hour.
+fn write_places<W: Write>(
+    alloc: Global,
+    roster: &Roster,
+    tally: &Tally,
+    form: Form,
+    answers: &mut W,
+) -> Result<(), ShowFault>
+    ensures { Writes IsSafe (W.contents answers.old) (W.contents answers.new) result }
+{
+    write_head(form, "executed by", answers)?;
+    write_parts(alloc, roster, "executed", &tally.executed, form, answers)?;
+    write_head(form, "traded through", answers)?;
+    write_parts(alloc, roster, "passed", &tally.passed, form, answers)?;
+    write_symbols(alloc, roster, &tally.syms, form, answers)?;
+    write_half_hours(alloc, &tally.half_hours, form, answers)
+}
+
+/// Writes the counts of causes.
+fn write_causes<W: Write>(
+    alloc: Global,
+    tally: &Tally,
+    form: Form,
+    answers: &mut W,
+) -> Result<(), ShowFault>
+    ensures { Writes IsSafe (W.contents answers.old) (W.contents answers.new) result }
+{
     write_head(form, "cause", answers)?;
     for place in 0..CAUSES {
         let name = Item::Text(Cause::ALL[place].word());
         write_count(alloc, "cause", name, &tally.causes[place], form, answers)?;
     }
-    write_head(form, "executed by", answers)?;
-    write_parts(alloc, roster, "executed", &tally.executed, form, answers)?;
-    write_head(form, "traded through", answers)?;
-    write_parts(alloc, roster, "passed", &tally.passed, form, answers)?;
-    write_head(form, "symbol", answers)?;
-    write_symbols(alloc, roster, &tally.syms, form, answers)?;
-    write_half_hours(alloc, &tally.half_hours, form, answers)
+    Ok(())
 }
 
 /// Writes the counts of all.
@@ -92,29 +138,15 @@ fn write_all<W: Write>(
     refused: u64,
     form: Form,
     answers: &mut W,
-) -> Result<(), ShowFault> {
+) -> Result<(), ShowFault>
+    ensures { Writes IsSafe (W.contents answers.old) (W.contents answers.new) result }
+{
     let clean = clean_of(all);
     let rate = rate_of(all);
     if form.is_json() {
-        return write_object(
-            alloc,
-            answers,
-            &[
-                ("what", Item::Text("totals")),
-                ("executions", Item::Number(all.executions)),
-                ("refused", Item::Number(refused)),
-                ("clean", Item::Number(clean)),
-                ("perhaps", Item::Number(all.perhaps)),
-                ("through", Item::Number(all.through)),
-                ("no_cause", Item::Number(all.open)),
-                ("per_10000", rate),
-                ("rows", Item::Number(all.rows)),
-                ("shares", Item::Number(all.shares)),
-                ("dollars", money_of(all.dollars)),
-            ],
-        );
+        return write_totals(alloc, all, refused, clean, rate, answers);
     }
-    write_line(
+    show_line(
         answers,
         form,
         &[
@@ -132,7 +164,51 @@ fn write_all<W: Write>(
             Item::Text(" records refused"),
         ],
     )?;
-    write_line(
+    write_through(all, rate, form, answers)
+}
+
+/// Writes the counts of all as an object.
+fn write_totals<W: Write>(
+    alloc: Global,
+    all: &Count,
+    refused: u64,
+    clean: u64,
+    rate: Item<'_>,
+    answers: &mut W,
+) -> Result<(), ShowFault>
+    requires { own_text rate ≡ [] }
+    ensures { Writes IsSafe (W.contents answers.old) (W.contents answers.new) result }
+{
+    show_object(
+        alloc,
+        answers,
+        &[
+            ("what", Item::Text("totals")),
+            ("executions", Item::Number(all.executions)),
+            ("refused", Item::Number(refused)),
+            ("clean", Item::Number(clean)),
+            ("perhaps", Item::Number(all.perhaps)),
+            ("through", Item::Number(all.through)),
+            ("no_cause", Item::Number(all.open)),
+            ("per_10000", rate),
+            ("rows", Item::Number(all.rows)),
+            ("shares", Item::Number(all.shares)),
+            ("dollars", money_of(all.dollars)),
+        ],
+    )
+}
+
+/// Writes how many traded through and how much, in a line.
+fn write_through<W: Write>(
+    all: &Count,
+    rate: Item<'_>,
+    form: Form,
+    answers: &mut W,
+) -> Result<(), ShowFault>
+    requires { own_text rate ≡ [] }
+    ensures { Writes IsSafe (W.contents answers.old) (W.contents answers.new) result }
+{
+    show_line(
         answers,
         form,
         &[
@@ -154,7 +230,9 @@ fn clean_of(all: &Count) -> u64 {
 }
 
 /// How many of 10,000 executions traded through, rounded down.
-fn rate_of(all: &Count) -> Item<'static> {
+fn rate_of(all: &Count) -> Item<'static>
+    ensures { own_text result ≡ [] }
+{
     match all.through.checked_mul(10_000) {
         Some(many) if all.executions > 0 => Item::Number(many / all.executions),
         Some(_) | None => Item::Absent,
@@ -162,7 +240,9 @@ fn rate_of(all: &Count) -> Item<'static> {
 }
 
 /// An amount in 1/1,000,000 dollar as money.
-fn money_of<'a>(millionths: i128) -> Item<'a> {
+fn money_of<'a>(millionths: i128) -> Item<'a>
+    ensures { own_text result ≡ [] }
+{
     match millionths.checked_mul(1000) {
         Some(nanodollars) => Item::of_money(Money::new(nanodollars)),
         None => Item::Absent,
@@ -170,12 +250,14 @@ fn money_of<'a>(millionths: i128) -> Item<'a> {
 }
 
 /// Writes the head of a table; of objects there is none.
-fn write_head<W: Write>(form: Form, name: &str, answers: &mut W) -> Result<(), ShowFault> {
+fn write_head<W: Write>(form: Form, name: &str, answers: &mut W) -> Result<(), ShowFault>
+    ensures { list_all (is_in_range 32 126) name.now ≡ true → Writes IsSafe (W.contents answers.old) (W.contents answers.new) result }
+{
     if form.is_json() {
         return Ok(());
     }
-    write_line(answers, form, &[])?;
-    write_row(
+    show_line(answers, form, &[])?;
+    show_row(
         answers,
         form,
         &[
@@ -200,30 +282,58 @@ fn write_count<'a, W: Write>(
     count: &Count,
     form: Form,
     answers: &mut W,
-) -> Result<(), ShowFault> {
+) -> Result<(), ShowFault>
+    ensures { list_all (is_in_range 32 126) what.now ≡ true → list_all (is_in_range 32 126) (own_text name.entry) ≡ true
+        → Writes IsSafe (W.contents answers.old) (W.contents answers.new) result }
+{
     if count.executions == 0 && count.rows == 0 {
         return Ok(());
     }
-    let (dollars, worst) = (money_of(count.dollars), money_of(i128::from(count.worst)));
     if form.is_json() {
-        return write_object(
-            alloc,
-            answers,
-            &[
-                ("what", Item::Text(what)),
-                ("name", name),
-                ("executions", Item::Number(count.executions)),
-                ("perhaps", Item::Number(count.perhaps)),
-                ("through", Item::Number(count.through)),
-                ("no_cause", Item::Number(count.open)),
-                ("rows", Item::Number(count.rows)),
-                ("shares", Item::Number(count.shares)),
-                ("dollars", dollars),
-                ("worst", worst),
-            ],
-        );
+        return write_count_object(alloc, what, name, count, answers);
     }
-    write_row(
+    write_count_row(name, count, form, answers)
+}
+
+/// Writes a count as an object.
+fn write_count_object<'a, W: Write>(
+    alloc: Global,
+    what: &'a str,
+    name: Item<'a>,
+    count: &Count,
+    answers: &mut W,
+) -> Result<(), ShowFault>
+    ensures { list_all (is_in_range 32 126) what.now ≡ true → list_all (is_in_range 32 126) (own_text name.entry) ≡ true
+        → Writes IsSafe (W.contents answers.old) (W.contents answers.new) result }
+{
+    show_object(
+        alloc,
+        answers,
+        &[
+            ("what", Item::Text(what)),
+            ("name", name),
+            ("executions", Item::Number(count.executions)),
+            ("perhaps", Item::Number(count.perhaps)),
+            ("through", Item::Number(count.through)),
+            ("no_cause", Item::Number(count.open)),
+            ("rows", Item::Number(count.rows)),
+            ("shares", Item::Number(count.shares)),
+            ("dollars", money_of(count.dollars)),
+            ("worst", money_of(i128::from(count.worst))),
+        ],
+    )
+}
+
+/// Writes a count as a row of a table.
+fn write_count_row<W: Write>(
+    name: Item<'_>,
+    count: &Count,
+    form: Form,
+    answers: &mut W,
+) -> Result<(), ShowFault>
+    ensures { list_all (is_in_range 32 126) (own_text name.entry) ≡ true → Writes IsSafe (W.contents answers.old) (W.contents answers.new) result }
+{
+    show_row(
         answers,
         form,
         &[
@@ -234,13 +344,16 @@ fn write_count<'a, W: Write>(
             column(Item::Number(count.open), 8, true),
             column(Item::Number(count.rows), 8, true),
             column(Item::Number(count.shares), 12, true),
-            column(dollars, 20, true),
-            column(worst, 16, true),
+            column(money_of(count.dollars), 20, true),
+            column(money_of(i128::from(count.worst)), 16, true),
         ],
     )
 }
 
-fn column(item: Item<'_>, width: usize, right: bool) -> Column<'_> {
+/// A column of a row.
+fn column(item: Item<'_>, width: usize, right: bool) -> Column<'_>
+    ensures { result.item ≡ item.entry }
+{
     Column { item, width, right }
 }
 
@@ -252,19 +365,27 @@ fn write_parts<W: Write>(
     counts: &[Count],
     form: Form,
     answers: &mut W,
-) -> Result<(), ShowFault> {
-    for (place, count) in counts.iter().enumerate() {
-        let name = if place < roster.parts() {
-            match Part::new(place as u8) {
-                Some(part) => Item::Text(name_of_part(roster, part)),
-                None => Item::Absent,
-            }
-        } else {
-            Item::Text("(none)")
-        };
-        write_count(alloc, what, name, count, form, answers)?;
+) -> Result<(), ShowFault>
+    ensures { list_all (is_in_range 32 126) what.now ≡ true → Writes IsSafe (W.contents answers.old) (W.contents answers.new) result }
+{
+    for place in 0..counts.len() {
+        let name = part_item(roster, place);
+        write_count(alloc, what, name, &counts[place], form, answers)?;
     }
     Ok(())
+}
+
+/// The name of the participant at a place, which is of the setup; of the place after the last, that there is none.
+fn part_item(roster: &Roster, place: usize) -> Item<'_>
+    ensures { list_all (is_in_range 32 126) (own_text result) ≡ true }
+{
+    if place >= roster.parts() {
+        return Item::Text("(none)");
+    }
+    match Part::new(place as u8) {
+        Some(part) => Item::Bytes(name_of_part(roster, part).as_bytes()),
+        None => Item::Absent,
+    }
 }
 
 /// Writes the counts of symbols: in a table the 50 with the most shares through, as objects all.
@@ -274,7 +395,10 @@ fn write_symbols<W: Write>(
     counts: &[Count],
     form: Form,
     answers: &mut W,
-) -> Result<(), ShowFault> {
+) -> Result<(), ShowFault>
+    ensures { Writes IsSafe (W.contents answers.old) (W.contents answers.new) result }
+{
+    write_head(form, "symbol", answers)?;
     let Ok(order) = by_shares(alloc, counts) else {
         return Err(ShowFault::NoMemory);
     };
@@ -283,19 +407,43 @@ fn write_symbols<W: Write>(
     } else {
         MOST_SYMBOLS_SHOWN
     };
-    for place in order.iter().take(shown) {
-        if let Some(count) = counts.get(*place) {
-            write_count(
-                alloc,
-                "symbol",
-                sym_item(roster, *place),
-                count,
-                form,
-                answers,
-            )?;
-        }
+    write_shown(alloc, roster, counts, &order, shown, form, answers)
+}
+
+/// Writes the counts of the first symbols in an order of their places, at most that many.
+fn write_shown<W: Write>(
+    alloc: Global,
+    roster: &Roster,
+    counts: &[Count],
+    order: &[usize],
+    shown: usize,
+    form: Form,
+    answers: &mut W,
+) -> Result<(), ShowFault>
+    ensures { Writes IsSafe (W.contents answers.old) (W.contents answers.new) result }
+{
+    for at in 0..shown.min(order.len()) {
+        write_sym(alloc, roster, counts, order[at], form, answers)?;
     }
     Ok(())
+}
+
+/// Writes the counts of the symbol at a place.
+fn write_sym<W: Write>(
+    alloc: Global,
+    roster: &Roster,
+    counts: &[Count],
+    place: usize,
+    form: Form,
+    answers: &mut W,
+) -> Result<(), ShowFault>
+    ensures { Writes IsSafe (W.contents answers.old) (W.contents answers.new) result }
+{
+    if place >= counts.len() {
+        return Ok(());
+    }
+    let name = sym_item(roster, place);
+    write_count(alloc, "symbol", name, &counts[place], form, answers)
 }
 
 /// Writes the counts of half hours of the day, if any execution has a time.
@@ -304,23 +452,38 @@ fn write_half_hours<W: Write>(
     counts: &[Count; HALF_HOURS],
     form: Form,
     answers: &mut W,
-) -> Result<(), ShowFault> {
+) -> Result<(), ShowFault>
+    ensures { Writes IsSafe (W.contents answers.old) (W.contents answers.new) result }
+{
     if counts.iter().all(|count| count.executions == 0) {
         return Ok(());
     }
     write_head(form, "half hour", answers)?;
     for place in 0..HALF_HOURS {
-        let name = name_of_half_hour(place as u8);
-        write_count(
-            alloc,
-            "half_hour",
-            Item::Bytes(name.as_slice()),
-            &counts[place],
-            form,
-            answers,
-        )?;
+        write_half_hour(alloc, place as u8, &counts[place], form, answers)?;
     }
     Ok(())
+}
+
+/// Writes the counts of a half hour.
+fn write_half_hour<W: Write>(
+    alloc: Global,
+    place: u8,
+    count: &Count,
+    form: Form,
+    answers: &mut W,
+) -> Result<(), ShowFault>
+    ensures { Writes IsSafe (W.contents answers.old) (W.contents answers.new) result }
+{
+    let name = name_of_half_hour(place);
+    write_count(
+        alloc,
+        "half_hour",
+        Item::Bytes(name.as_slice()),
+        count,
+        form,
+        answers,
+    )
 }
 
 /// When a half hour begins, as `09:30`.
@@ -340,13 +503,15 @@ fn by_shares(alloc: Global, counts: &[Count]) -> Result<Vec<usize>, AllocError> 
     Ok(order)
 }
 
-/// The name of the symbol at a place.
-fn sym_item(roster: &Roster, place: usize) -> Item<'_> {
+/// The name of the symbol at a place, which is of the setup.
+fn sym_item(roster: &Roster, place: usize) -> Item<'_>
+    ensures { own_text result ≡ [] }
+{
     let Ok(place) = u16::try_from(place) else {
         return Item::Absent;
     };
     match Sym::new(place) {
-        Some(sym) => Item::Text(name_of_sym(roster, sym)),
+        Some(sym) => Item::Bytes(name_of_sym(roster, sym).as_bytes()),
         None => Item::Absent,
     }
 }

@@ -15,4 +15,6 @@ returns c = record {
   no_cause = refl;
   some_causes = refl;
   five_records = λ execution. refl;
+  none_refused = refl;
+  two_refused = refl;
 }

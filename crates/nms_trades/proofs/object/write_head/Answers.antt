@@ -1,0 +1,6 @@
+-- `write_head`: the keys and the word are printable.
+use Rattle.std.proofs.Common.{refl}
+use Rattle.nms_trades.proofs.object.write_head.Goals as goal
+
+pub returns : goal.returns
+returns g c = λ own. c.show_object.ensures (rw own refl)

@@ -1,0 +1,13 @@
+-- `write_all`: an object, or two lines.
+use Rattle.std.proofs.Common.{refl}
+use Rattle.nms_show.specs.Safe.{IsSafe}
+use Rattle.nms_show.proofs.Offered.{safe_writes, writes_err}
+use Rattle.nms_trades.proofs.table.write_all.Goals as goal
+
+pub returns-in_err-show_line : goal.returns-in_err-show_line
+returns-in_err-show_line g c =
+    writes_err IsSafe _ _ c.from_residual.result c.from_residual.ensures.0 (c.in_err-show_line.ensures refl)
+
+pub returns : goal.returns
+returns g c =
+    safe_writes c.write_through.result _ _ _ (c.in_ok-show_line.ensures refl) c.write_through.ensures

@@ -1,0 +1,7 @@
+-- `write_count_object`: the keys, the word and the name are printable.
+use Rattle.std.proofs.Common.{refl}
+use Rattle.nms_trades.proofs.table.write_count_object.Goals as goal
+
+pub returns : goal.returns
+returns g c = λ word name.
+    c.show_object.ensures (rw (word, name, c.money_of.ensures, c.money_of-2.ensures) refl)

@@ -1,0 +1,7 @@
+-- `write_totals`: the keys and the word are printable.
+use Rattle.std.proofs.Common.{refl}
+use Rattle.nms_trades.proofs.table.write_totals.Goals as goal
+
+pub returns : goal.returns
+returns g c =
+    c.show_object.ensures (rw (c.requires, c.money_of.ensures) refl)
