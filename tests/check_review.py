@@ -263,7 +263,7 @@ def name_found(program, path):
     """Looking at all symbols before each would take 5,000,000,000 looks, for which a call has not the time."""
     ran = called(program, ["explain", "setup", "given.changes"], capture_output=True, cwd=os.path.dirname(path))
     wanted = ("given.changes:5:1: C8: top, key symbol: too many tables\n    [[symbol]]\n    ^^^^^^^^^^\n"
-              "    found `100000`; expected 1 to 1000 tables, each behind a line [[symbol]]\n    split the symbols over several runs\n"
+              "    found `100000`; expected 1 to 1000 tables, each after a line [[symbol]]\n    split the symbols over several runs\n"
               "given.changes:300003:8: C4: symbol 100000, S0, key name: a name that stands twice\n    name = \"S0\"\n           ^^^^\n"
               "    found `S0`; expected a name of its own: number 1 has it too\n"
               "    1 to 4 of A to Z and 0 to 9 for a participant, 1 to 8 of these and the point for a symbol; each name once\n"

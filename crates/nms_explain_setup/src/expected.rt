@@ -24,7 +24,7 @@ pub(crate) fn expected_at(
         Form::Name(array) => String::from_str(alloc, name_expected(array)),
         Form::Rows(array) => {
             let (most, name) = (array.most(), array.key().text());
-            format!(in alloc; "1 to {most} tables, each behind a line [[{name}]]")
+            format!(in alloc; "1 to {most} tables, each after a line [[{name}]]")
         }
     }
 }

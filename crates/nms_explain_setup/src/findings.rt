@@ -244,7 +244,7 @@ fn tell_element<'a, W: Write>(
         name: None,
         key: None,
         found: Item::Bytes(marked.value()),
-        expected: "a table, as behind a line [[participant]] or [[symbol]]",
+        expected: "a table, as after a line [[participant]] or [[symbol]]",
         hint: "",
     };
     tell_refusal(told.alloc, told.form, &refusal, answers)

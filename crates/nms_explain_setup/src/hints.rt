@@ -44,7 +44,7 @@ fn line_hint(line: &[u8], place: usize) -> &'static str {
     match line.get(place).copied() {
         Some(b':') => "a key and its value are joined by =",
         Some(b',') => "a number has no separators",
-        Some(b'#') | None if before.ends_with(b"=") => "nothing stands behind the = of this key",
+        Some(b'#') | None if before.ends_with(b"=") => "nothing stands after the = of this key",
         Some(byte) if byte.is_ascii_alphabetic() && before.ends_with(b"=") => {
             "a text stands in quotes, as in name = \"N\""
         }
