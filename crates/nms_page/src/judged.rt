@@ -1,7 +1,9 @@
 //! Executions of a file, each with its finding.
-ghost use Rattle.std.specs.Prelude.{◌≡◌, ◌≤◌, All, IfOk, length, true};
+ghost use Rattle.std.specs.Prelude.{◌≡◌, ◌≤◌, All, IfErr, IfOk, length, option_copied, true};
 ghost use Rattle.nms_quote.specs.Roster.{holds, sizes_of};
 ghost use Rattle.nms_quote.specs.declared.TheConstants.{MOST_CHANGES};
+ghost use Rattle.nms_trades.specs.Files.{AreJudged};
+ghost use Rattle.nms_page.specs.Pages.{IsJudgingFault};
 
 use nms_drawing::Mark;
 use nms_fees::Setup;
@@ -30,6 +32,9 @@ pub(crate) fn judge_source<E: Read + Drop>(
     requires held { All (λ change. holds (sizes_of setup.now.roster) change ≡ true) changes.now }
     requires few { length changes.now ≤ MOST_CHANGES }
     ensures places { IfOk result (λ judged. length judged.findings.items ≡ length judged.records.executions.items) }
+    ensures judged { IfOk result (λ judged. AreJudged setup.now.roster changes.now (E.remaining source) judged.records.executions.items
+        judged.records.refused.items judged.findings.items) }
+    ensures refused { IfErr result (IsJudgingFault (option_copied timing.entry) (length changes.now) (E.remaining source)) }
 {
     let records = match read_timed(alloc, setup.roster(), timing, changes.len(), source) {
         Ok(records) => records,
@@ -37,7 +42,7 @@ pub(crate) fn judge_source<E: Read + Drop>(
     };
     match judge_all(alloc, setup.roster(), changes, &records.executions) {
         Ok(findings) => Ok(Judged { records, findings }),
-        Err(fault) => Err(TradesFault::from(fault)),
+        Err(fault) => Err(TradesFault::Board(fault)),
     }
 }
 

@@ -1,5 +1,10 @@
-//! One page for a file of executions: HTML that needs no network and no script.
-ghost use Rattle.std.specs.Prelude.{◌≡◌, length};
+//! One page for a file of executions: HTML that needs no network and no script. How the call ends: `specs/Pages`.
+ghost use Rattle.std.specs.Prelude.{◌≡◌, IfErr, IfOk, OnOk, false, length, option_copied, true};
+ghost use Rattle.std.specs.Io.KnownBytes.{Appends};
+ghost use Rattle.nms_trades.specs.Answers.{answers_text};
+ghost use Rattle.nms_trades.specs.Files.{IsJudgedFile, IsWritingFault, is_csv};
+ghost use Rattle.nms_trades.specs.declared.trades.Layout.TheVariants as wanted;
+ghost use Rattle.nms_page.specs.Pages.{IsOutputFault, IsPageFault, is_begun};
 
 use crate::escaped::Escaped;
 use crate::judged::{Judged, judge_source, mark_of};
@@ -14,7 +19,7 @@ use nms_quote::{Change, Roster, Side, Sym};
 use nms_show::{Ending, Form, Item, ShowFault};
 use nms_trades::{
     Cause, Deal, Execution, Finding, Layout, Standing, Sums, Timing, TradesFault, difference,
-    is_helped, sums_of, write_answers, write_table,
+    is_helped, sums_of, write_findings, write_table,
 };
 use std::alloc::{AllocError, Global};
 use std::io::{Read, Write};
@@ -79,23 +84,65 @@ pub fn write_page<C: Read + Drop, E: Read + Drop, W: Write, P: Write>(
     layout: Layout,
     page: &mut P,
     answers: &mut W,
-) -> Result<Ending, PageFault> {
+) -> Result<Ending, PageFault>
+    ensures judged { IfOk result (IsJudgedFile setup.now (C.remaining changes) (E.remaining executions) form layout
+        (W.contents answers.old) (W.contents answers.new)) }
+    ensures refused { IfErr result (IsPageFault setup.now (C.remaining changes) (E.remaining executions) (option_copied timing.entry)) }
+    ensures unwritten { IfErr result (λ fault. is_begun fault ≡ false
+        → (W.contents answers.new ≡ W.contents answers.old) × (P.contents page.new ≡ P.contents page.old)) }
+{
     let changes = match read_changes(alloc, setup, changes) {
         Ok(changes) => changes,
-        Err(fault) => return Err(PageFault::from(fault)),
+        Err(fault) => return Err(PageFault::Drawing(DrawingFault::Changes(fault))),
     };
-    let judged = judge_source(alloc, setup, &changes, timing, executions)?;
-    let roster = setup.roster();
-    let records = &judged.records;
-    match layout {
-        Layout::Lines => write_answers(alloc, roster, records, &judged.findings, form, answers)?,
-        Layout::Table => write_table(alloc, roster, records, &judged.findings, form, answers)?,
+    let judged = match judge_source(alloc, setup, &changes, timing, executions) {
+        Ok(judged) => judged,
+        Err(fault) => return Err(PageFault::Trades(fault)),
+    };
+    match write_both(
+        alloc,
+        setup.roster(),
+        named,
+        &changes,
+        &judged,
+        form,
+        layout,
+        page,
+        answers,
+    ) {
+        Ok(()) => Ok(judged.records.ending()),
+        Err(fault) => Err(fault),
     }
-    write_whole(alloc, roster, named, &changes, &judged, page)?;
-    if records.refused.is_empty() {
-        Ok(Ending::Done)
-    } else {
-        Ok(Ending::Refused)
+}
+
+/// Writes the answers, and then the page.
+fn write_both<W: Write, P: Write>(
+    alloc: Global,
+    roster: &Roster,
+    named: &Named<'_>,
+    changes: &[Change],
+    judged: &Judged,
+    form: Form,
+    layout: Layout,
+    page: &mut P,
+    answers: &mut W,
+) -> Result<(), PageFault>
+    requires { length judged.now.findings.items ≡ length judged.now.records.executions.items }
+    ensures written { is_csv layout form ≡ true → OnOk result (Appends (W.contents answers.old) (W.contents answers.new)
+        (answers_text roster.now judged.now.records.executions.items judged.now.records.refused.items judged.now.findings.items)) }
+    ensures refused { IfErr result IsOutputFault }
+{
+    match write_findings(
+        alloc,
+        roster,
+        &judged.records,
+        &judged.findings,
+        form,
+        layout,
+        answers,
+    ) {
+        Ok(()) => write_whole(alloc, roster, named, changes, judged, page),
+        Err(fault) => Err(PageFault::Trades(fault)),
     }
 }
 
@@ -109,27 +156,73 @@ fn write_whole<P: Write>(
     page: &mut P,
 ) -> Result<(), PageFault>
     requires { length judged.now.findings.items ≡ length judged.now.records.executions.items }
+    ensures { IfErr result IsOutputFault }
 {
+    match write_top(named, page) {
+        Ok(()) => {}
+        Err(fault) => return Err(of_show(fault)),
+    }
+    match write_counts(alloc, roster, judged, page) {
+        Ok(()) => {}
+        Err(fault) => return Err(PageFault::Trades(fault)),
+    }
+    let Ok(flagged) = flagged_of(alloc, judged) else {
+        return Err(PageFault::Drawing(DrawingFault::NoMemory));
+    };
+    match write_middle(flagged.more, page) {
+        Ok(()) => {}
+        Err(fault) => return Err(of_show(fault)),
+    }
+    let scenes = match scenes_of(alloc, roster, changes, &flagged.marks) {
+        Ok(scenes) => scenes,
+        Err(fault) => return Err(PageFault::Drawing(fault)),
+    };
+    match write_rest(roster, judged, &flagged, &scenes, page) {
+        Ok(()) => Ok(()),
+        Err(fault) => Err(of_show(fault)),
+    }
+}
+
+/// A fault of the output as that of a page.
+fn of_show(fault: ShowFault) -> PageFault
+    ensures { IsOutputFault result }
+{
+    match fault {
+        ShowFault::WriteFault => PageFault::Drawing(DrawingFault::WriteFault),
+        ShowFault::NoMemory => PageFault::Drawing(DrawingFault::NoMemory),
+    }
+}
+
+/// Writes the executions that the page shows, with their scenes, and the page's end.
+fn write_rest<P: Write>(
+    roster: &Roster,
+    judged: &Judged,
+    flagged: &Flagged,
+    scenes: &[Scene],
+    page: &mut P,
+) -> Result<(), ShowFault> {
+    for (place, scene) in flagged.places.iter().zip(scenes.iter()) {
+        write_flagged(roster, judged, *place, scene, page)?;
+    }
+    mark(page, "</body>\n</html>")
+}
+
+/// Writes the head, the names of the files and the meanings of findings.
+fn write_top<P: Write>(named: &Named<'_>, page: &mut P) -> Result<(), ShowFault> {
     mark(page, HEAD)?;
     write_files(named, page)?;
     mark(page, ABOUT)?;
-    mark(page, "<h2>Counts and sums</h2>\n<pre>")?;
-    write_counts(alloc, roster, judged, page)?;
+    mark(page, "<h2>Counts and sums</h2>\n<pre>")
+}
+
+/// Writes the heading of the executions, how many more there are than the page shows, and the meaning of the pictures.
+fn write_middle<P: Write>(more: u64, page: &mut P) -> Result<(), ShowFault> {
     mark(
         page,
         "</pre>\n<h2>Those that traded through, or perhaps did</h2>",
     )?;
-    let Ok(flagged) = flagged_of(alloc, judged) else {
-        return Err(PageFault::Drawing(DrawingFault::NoMemory));
-    };
-    write_more(flagged.more, page)?;
-    mark(page, PICTURES)?;
-    let scenes = scenes_of(alloc, roster, changes, &flagged.marks)?;
-    for (place, scene) in flagged.places.iter().zip(scenes.iter()) {
-        write_flagged(roster, judged, *place, scene, page)?;
-    }
-    mark(page, "</body>\n</html>")?;
-    Ok(())
+    write_more(more, page)?;
+    mark(page, PICTURES)
 }
 
 /// Writes the names of the files.
@@ -156,6 +249,7 @@ fn write_counts<P: Write>(
     page: &mut P,
 ) -> Result<(), TradesFault>
     requires { length judged.now.findings.items ≡ length judged.now.records.executions.items }
+    ensures { IfErr result (IsWritingFault wanted.Table) }
 {
     let mut text = Escaped::new(page);
     let form = Form::Text { colours: false };
@@ -240,7 +334,7 @@ fn write_flagged<P: Write>(
     place: usize,
     scene: &Scene,
     page: &mut P,
-) -> Result<(), PageFault> {
+) -> Result<(), ShowFault> {
     let Some(execution) = judged.records.executions.get(place) else {
         return Ok(());
     };
@@ -257,7 +351,7 @@ fn write_one<P: Write>(
     finding: &Finding,
     scene: &Scene,
     page: &mut P,
-) -> Result<(), PageFault> {
+) -> Result<(), ShowFault> {
     let sums = sums_of(execution, finding);
     mark(page, "<section>\n<h3>")?;
     say(page, &[Item::Bytes(execution.name.as_slice())])?;
@@ -288,8 +382,7 @@ fn write_one<P: Write>(
     }
     mark(page, "</tbody>\n</table>")?;
     write_scene(roster, scene, &finding.passed, page)?;
-    mark(page, "</section>")?;
-    Ok(())
+    mark(page, "</section>")
 }
 
 /// Writes an execution's symbol, price and other facts.

@@ -1,8 +1,9 @@
-//! Why executions were not drawn, or their page not written.
+//! Why executions were not drawn, or their page not written: `specs/Faults`.
+ghost use Rattle.nms_codes.specs.Codes.{IsToldAs};
+ghost use Rattle.nms_page.specs.Faults.{code_of, status_of};
+
 use nms_codes::Code;
 use nms_drawing::DrawingFault;
-use nms_files::ChangesFault;
-use nms_show::ShowFault;
 use nms_trades::TradesFault;
 use thiserror::Error;
 
@@ -18,35 +19,13 @@ pub enum PageFault {
 }
 
 impl PageFault {
-    /// The code of the fault.
-    pub fn code(self) -> Code {
+    /// The code of the fault: that of the picture, or that of judging executions.
+    pub fn code(self) -> Code
+        ensures { IsToldAs result (code_of self) (status_of self) }
+    {
         match self {
             PageFault::Drawing(fault) => fault.code(),
             PageFault::Trades(fault) => fault.code(),
         }
-    }
-}
-
-impl From<DrawingFault> for PageFault {
-    fn from(fault: DrawingFault) -> Self {
-        PageFault::Drawing(fault)
-    }
-}
-
-impl From<TradesFault> for PageFault {
-    fn from(fault: TradesFault) -> Self {
-        PageFault::Trades(fault)
-    }
-}
-
-impl From<ShowFault> for PageFault {
-    fn from(fault: ShowFault) -> Self {
-        PageFault::Drawing(DrawingFault::from(fault))
-    }
-}
-
-impl From<ChangesFault> for PageFault {
-    fn from(fault: ChangesFault) -> Self {
-        PageFault::Drawing(DrawingFault::Changes(fault))
     }
 }
