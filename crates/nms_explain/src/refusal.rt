@@ -119,12 +119,7 @@ fn words_of<'a>(field: Option<FieldPlace>) -> (&'a str, Item<'a>, &'a str, Item<
     ensures name { is_own_plain result.3 ≡ true }
 {
     match field {
-        Some(at) => (
-            ", field ",
-            number_of(at),
-            ", ",
-            name_strong(at.name),
-        ),
+        Some(at) => (", field ", number_of(at), ", ", name_strong(at.name)),
         None => (", number of fields", Item::Absent, "", Item::Absent),
     }
 }
@@ -179,11 +174,7 @@ fn words_round(refusal: &Refusal<'_>) -> (&'static str, &'static str)
 }
 
 /// Writes where a quote opens a field that goes on over a line end, if one does.
-fn tell_quote<W: Write>(
-    form: Form,
-    refusal: &Refusal<'_>,
-    answers: &mut W,
-) -> Result<(), ShowFault>
+fn tell_quote<W: Write>(form: Form, refusal: &Refusal<'_>, answers: &mut W) -> Result<(), ShowFault>
     ensures safe { Writes IsSafe (W.contents answers.old) (W.contents answers.new) result }
 {
     let Some(point) = refusal.quote else {
