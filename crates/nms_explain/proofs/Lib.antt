@@ -1,3 +1,4 @@
 pub mod CountFacts
 pub mod PlanFacts
 pub mod ReadingFacts
+pub mod SafeFacts

@@ -1,5 +1,5 @@
 //! The records of a script, of a file of changes or of orders, and of a feed, explained.
-ghost use Rattle.std.specs.Prelude.{◌≡◌, ◌<◌, ◌+◌, ◌-◌, ◌^◌, ◌++◌, ◌∷◌, IfOk, [], ℕ, List, Option};
+ghost use Rattle.std.specs.Prelude.{◌≡◌, ◌<◌, ◌+◌, ◌-◌, ◌^◌, ◌++◌, ◌∷◌, IfOk, [], true, ℕ, List, Option};
 ghost use Rattle.csv.specs.Records.{fields_of};
 ghost use Rattle.nms_lines.specs.ChangeReading.{change_reading, feed_reading};
 ghost use Rattle.nms_lines.specs.Layout.{Record};
@@ -8,7 +8,10 @@ ghost use Rattle.nms_lines.specs.Records.{ReadsFrom};
 ghost use Rattle.nms_lines.specs.declared.line.Reading.TheVariants as read_as;
 ghost use Rattle.nms_files.specs.OrderFile.{order_reading};
 ghost use Rattle.nms_explain.specs.Counted.{EndsBy, IsFileTally, IsTallyOf, IsWithin, ending_by};
+ghost use Rattle.nms_explain.specs.Plain.{is_own_plain};
 ghost use Rattle.nms_explain.specs.Source.{left_of};
+ghost use Rattle.nms_show.specs.Safe.{IsSafe};
+ghost use Rattle.nms_show.specs.Written.{Writes};
 
 use crate::expectation::{expected_field, layout_of};
 use crate::explain_fault::ExplainFault;
@@ -44,7 +47,7 @@ struct Asked<'a> {
 /// Reports each refused record of a script, and whether it publishes anything. It runs nothing of the script, so it does not
 /// report what a full queue or a full tape would refuse.
 ///
-/// The answers are not flushed. A fault leaves what was reported before.
+/// The answers are not flushed. A fault leaves what was reported before. What is written is safe to show, as of `write_line`.
 pub fn explain_script<R: Read + Drop, W: Write>(
     alloc: Global,
     setup: &Setup,
@@ -54,6 +57,7 @@ pub fn explain_script<R: Read + Drop, W: Write>(
     answers: &mut W,
 ) -> Result<Ending, ExplainFault>
     ensures ending { IfOk result (EndsBy (reading setup.now.roster (read_as.Script setup.now.desks)) (R.remaining source)) }
+    ensures safe { Writes IsSafe (W.contents answers.old) (W.contents answers.new) result }
 {
     let from = Reading::Script {
         desks: setup.desks(),
@@ -70,7 +74,9 @@ fn tell_unpublished<W: Write>(
     form: Form,
     tally: &Tally,
     answers: &mut W,
-) -> Result<(), ExplainFault> {
+) -> Result<(), ExplainFault>
+    ensures safe { Writes IsSafe (W.contents answers.old) (W.contents answers.new) result }
+{
     if tally.publishes {
         return Ok(());
     }
@@ -79,6 +85,8 @@ fn tell_unpublished<W: Write>(
 }
 
 /// Reports each refused record of a file of changes, as `explain_script` does.
+///
+/// What is written is safe to show, as of `write_line`.
 pub fn explain_changes<R: Read + Drop, W: Write>(
     alloc: Global,
     setup: &Setup,
@@ -88,6 +96,7 @@ pub fn explain_changes<R: Read + Drop, W: Write>(
     answers: &mut W,
 ) -> Result<Ending, ExplainFault>
     ensures ending { IfOk result (EndsBy (change_reading setup.now.roster) (R.remaining source)) }
+    ensures safe { Writes IsSafe (W.contents answers.old) (W.contents answers.new) result }
 {
     let from = Reading::Changes;
     let tally = explain_file(alloc, setup, file, source, from, form, answers)?;
@@ -95,6 +104,8 @@ pub fn explain_changes<R: Read + Drop, W: Write>(
 }
 
 /// Reports each refused record of a file of orders, as `explain_script` does.
+///
+/// What is written is safe to show, as of `write_line`.
 pub fn explain_orders<R: Read + Drop, W: Write>(
     alloc: Global,
     setup: &Setup,
@@ -104,6 +115,7 @@ pub fn explain_orders<R: Read + Drop, W: Write>(
     answers: &mut W,
 ) -> Result<Ending, ExplainFault>
     ensures ending { IfOk result (EndsBy (order_reading setup.now) (R.remaining source)) }
+    ensures safe { Writes IsSafe (W.contents answers.old) (W.contents answers.new) result }
 {
     let from = Reading::Orders {
         desks: setup.desks(),
@@ -113,6 +125,8 @@ pub fn explain_orders<R: Read + Drop, W: Write>(
 }
 
 /// Reports each refused record of the file of a feed, and whether all of them are of other feeds.
+///
+/// What is written is safe to show, as of `write_line`.
 pub fn explain_feed<R: Read + Drop, W: Write>(
     alloc: Global,
     setup: &Setup,
@@ -123,6 +137,7 @@ pub fn explain_feed<R: Read + Drop, W: Write>(
     answers: &mut W,
 ) -> Result<Ending, ExplainFault>
     ensures ending { IfOk result (EndsBy (feed_reading setup.now.roster feed) (R.remaining source)) }
+    ensures safe { Writes IsSafe (W.contents answers.old) (W.contents answers.new) result }
 {
     let from = Reading::FromFeed(feed);
     let tally = explain_file(alloc, setup, file, source, from, form, answers)?;
@@ -138,7 +153,9 @@ fn tell_swapped<W: Write>(
     form: Form,
     tally: &Tally,
     answers: &mut W,
-) -> Result<(), ExplainFault> {
+) -> Result<(), ExplainFault>
+    ensures safe { Writes IsSafe (W.contents answers.old) (W.contents answers.new) result }
+{
     if tally.records == 0 || tally.count(LineFault::WrongFeed) != tally.records {
         return Ok(());
     }
@@ -171,7 +188,8 @@ fn explain_file<R: Read + Drop, W: Write>(
     form: Form,
     answers: &mut W,
 ) -> Result<Tally, ExplainFault>
-    ensures { IfOk result (IsFileTally (reading setup.now.roster from) (R.remaining source)) }
+    ensures counts { IfOk result (IsFileTally (reading setup.now.roster from) (R.remaining source)) }
+    ensures safe { Writes IsSafe (W.contents answers.old) (W.contents answers.new) result }
 {
     let asked = Asked {
         alloc,
@@ -193,7 +211,8 @@ fn explain_source<R: Read + Drop, W: Write>(
     source: R,
     answers: &mut W,
 ) -> Result<Tally, ExplainFault>
-    ensures { IfOk result (IsFileTally (reading asked.now.roster.now asked.now.from) (R.remaining source)) }
+    ensures counts { IfOk result (IsFileTally (reading asked.now.roster.now asked.now.from) (R.remaining source)) }
+    ensures safe { Writes IsSafe (W.contents answers.old) (W.contents answers.new) result }
 {
     let mut reader = open_source(asked.alloc, source);
     let mut row = ByteRecord::new(asked.alloc);
@@ -207,8 +226,9 @@ fn explain_records<R: Read, W: Write>(
     row: &mut ByteRecord,
     answers: &mut W,
 ) -> Result<Tally, ExplainFault>
-    ensures { (bytes : Option (List ℕ)) → ReadsFrom (left_of R.remaining) reader.old bytes []
+    ensures counts { (bytes : Option (List ℕ)) → ReadsFrom (left_of R.remaining) reader.old bytes []
         → IfOk result (IsFileTally (reading asked.now.roster.now asked.now.from) bytes) }
+    ensures safe { Writes IsSafe (W.contents answers.old) (W.contents answers.new) result }
 {
     let mut tally = Tally::new();
     for turn in 0..u64::MAX {
@@ -236,6 +256,7 @@ fn explain_record<R: Read, W: Write>(
     ensures records { tally.new.records ≡ tally.old.records + 1 }
     ensures counts { (seen : List Record) → IsTallyOf (reading asked.now.roster.now asked.now.from) seen tally.old
         → IsTallyOf (reading asked.now.roster.now asked.now.from) (seen ++ fields_of row.now ∷ []) tally.new }
+    ensures safe { Writes IsSafe (W.contents answers.old) (W.contents answers.new) result }
 {
     match read_line(row, asked.roster, asked.from) {
         Ok(line) => {
@@ -257,7 +278,9 @@ fn tell_fault<R: Read, W: Write>(
     row: &ByteRecord,
     fault: LineFault,
     answers: &mut W,
-) -> Result<(), ExplainFault> {
+) -> Result<(), ExplainFault>
+    ensures safe { Writes IsSafe (W.contents answers.old) (W.contents answers.new) result }
+{
     let Some(record) = record_of(reader) else {
         return Err(TOO_LONG);
     };
@@ -275,12 +298,11 @@ fn refusal_of<'a>(
     number: u64,
     row: &'a ByteRecord,
     fault: LineFault,
-) -> Refusal<'a> {
+) -> Refusal<'a>
+    ensures found { is_own_plain result.found ≡ true }
+{
     let RecordText { text, line } = record;
-    let finding = match place_of(row, fault) {
-        Place::Count => count_of(row, text),
-        Place::Field(at) => field_of(asked, text, row, fault, at),
-    };
+    let finding = finding_of(asked, text, row, fault);
     let hint = match finding.field {
         Some(at) if fault == LineFault::WrongFeed && at.name == FieldName::Participant => {
             hint_of_feed(text_at(row, at.place), asked.roster)
@@ -300,6 +322,21 @@ fn refusal_of<'a>(
         hint,
         remedy: remedy_in(fault, has_sides(kind_of(row))),
         quote: quote_at(text, line),
+    }
+}
+
+/// The finding on a refused record.
+fn finding_of<'a>(
+    asked: &Asked<'a>,
+    text: &'a [u8],
+    row: &'a ByteRecord,
+    fault: LineFault,
+) -> Finding<'a>
+    ensures found { is_own_plain result.found ≡ true }
+{
+    match place_of(row, fault) {
+        Place::Count => count_of(row, text),
+        Place::Field(at) => field_of(asked, text, row, fault, at),
     }
 }
 
@@ -339,7 +376,9 @@ struct Finding<'a> {
 }
 
 /// The finding on a record with another number of fields than its kind.
-fn count_of<'a>(row: &'a ByteRecord, text: &'a [u8]) -> Finding<'a> {
+fn count_of<'a>(row: &'a ByteRecord, text: &'a [u8]) -> Finding<'a>
+    ensures found { is_own_plain result.found ≡ true }
+{
     Finding {
         field: None,
         span: surplus_span(row, text),
@@ -382,7 +421,9 @@ fn field_of<'a>(
     row: &'a ByteRecord,
     fault: LineFault,
     at: FieldPlace,
-) -> Finding<'a> {
+) -> Finding<'a>
+    ensures found { is_own_plain result.found ≡ true }
+{
     let field = span_of(text, at.place);
     let found = text_at(row, at.place);
     let span = if at.name == FieldName::Names {

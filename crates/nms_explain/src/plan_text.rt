@@ -1,11 +1,14 @@
 //! The text of a plan, explained: `specs/Planned`.
-ghost use Rattle.std.specs.Prelude.{◌≡◌, ◌<◌, ◌≤◌, ◌+◌, ◌-◌, ◌^◌, ◌++◌, ◌∷◌, [], ℕ, List, Option, Some, IfOk, is_none};
+ghost use Rattle.std.specs.Prelude.{◌≡◌, ◌<◌, ◌≤◌, ◌+◌, ◌-◌, ◌^◌, ◌++◌, ◌∷◌, [], ℕ, List, Option, Some, IfOk, is_none, true};
 ghost use Rattle.csv.specs.Records.{fields_of};
 ghost use Rattle.nms_lines.specs.Layout.{Record};
 ghost use Rattle.nms_lines.specs.Records.{ReadsFrom};
 ghost use Rattle.nms_places.specs.PlanOrder.{HasPassed, is_ended};
 ghost use Rattle.nms_explain.specs.Planned.{AllHaveCome, EndsAsPlan, HaveCome, ending_if, is_done};
+ghost use Rattle.nms_explain.specs.Plain.{is_own_plain};
 ghost use Rattle.nms_explain.specs.Source.{left_of};
+ghost use Rattle.nms_show.specs.Safe.{IsSafe};
+ghost use Rattle.nms_show.specs.Written.{Writes};
 
 use crate::changes::{TOO_LONG, quote_at};
 use crate::explain_fault::ExplainFault;
@@ -46,7 +49,7 @@ struct Came {
 /// Reports each wrong record of a plan's text: the field that a plan can't have at that place, or that another record is due.
 /// If it reports nothing, the text is a plan's: `read_plan` of `nms_lines` takes it.
 ///
-/// The answers are not flushed. A fault leaves what was reported before.
+/// The answers are not flushed. A fault leaves what was reported before. What is written is safe to show, as of `write_line`.
 pub fn explain_plan<W: Write>(
     alloc: Global,
     setup: &Setup,
@@ -56,6 +59,7 @@ pub fn explain_plan<W: Write>(
     answers: &mut W,
 ) -> Result<Ending, ExplainFault>
     ensures ending { IfOk result (EndsAsPlan setup.now.roster (Some text.now)) }
+    ensures safe { Writes IsSafe (W.contents answers.old) (W.contents answers.new) result }
 {
     let asked = Asked {
         alloc,
@@ -82,8 +86,9 @@ fn explain_records<R: Read, W: Write>(
     row: &mut ByteRecord,
     answers: &mut W,
 ) -> Result<Came, ExplainFault>
-    ensures { (bytes : Option (List ℕ)) → ReadsFrom (left_of R.remaining) reader.old bytes []
+    ensures come { (bytes : Option (List ℕ)) → ReadsFrom (left_of R.remaining) reader.old bytes []
         → IfOk result (AllHaveCome asked.now.roster.now bytes) }
+    ensures safe { Writes IsSafe (W.contents answers.old) (W.contents answers.new) result }
 {
     let mut came = Came {
         walk: PlanWalk::new(),
@@ -115,6 +120,7 @@ fn explain_record<R: Read, W: Write>(
     ensures records { came.new.records ≡ came.old.records + 1 }
     ensures come { (seen : List Record) → HaveCome asked.now.roster.now seen came.old
         → HaveCome asked.now.roster.now (seen ++ fields_of row.now ∷ []) came.new }
+    ensures safe { Writes IsSafe (W.contents answers.old) (W.contents answers.new) result }
 {
     let due = came.walk.due;
     came.records += 1;
@@ -136,7 +142,9 @@ fn tell_trouble<R: Read, W: Write>(
     due: PlanDue,
     trouble: PlanTrouble,
     answers: &mut W,
-) -> Result<(), ExplainFault> {
+) -> Result<(), ExplainFault>
+    ensures safe { Writes IsSafe (W.contents answers.old) (W.contents answers.new) result }
+{
     let Some(record) = record_of(reader) else {
         return Err(TOO_LONG);
     };
@@ -154,7 +162,45 @@ fn tell_end<W: Write>(
     end: Point,
     answers: &mut W,
 ) -> Result<Ending, ShowFault>
-    ensures { IfOk result (λ ended. ended ≡ ending_if (is_done came.now)) }
+    ensures ending { IfOk result (λ ended. ended ≡ ending_if (is_done came.now)) }
+    ensures safe { Writes IsSafe (W.contents answers.old) (W.contents answers.new) result }
+{
+    let missing = missing_at(came.walk.due);
+    tell_due(asked, missing, end, answers)?;
+    tell_sum(came, asked, answers)?;
+    if came.refused == 0 && missing.is_none() {
+        Ok(Ending::Done)
+    } else {
+        Ok(Ending::Refused)
+    }
+}
+
+/// Reports which record is missing at the end of the text, if one is.
+fn tell_due<W: Write>(
+    asked: &Asked<'_>,
+    missing: Option<&'static str>,
+    end: Point,
+    answers: &mut W,
+) -> Result<(), ShowFault>
+    ensures safe { Writes IsSafe (W.contents answers.old) (W.contents answers.new) result }
+{
+    match missing {
+        Some(expected) => tell_missing(
+            asked.alloc,
+            asked.form,
+            asked.file,
+            end,
+            CODE,
+            expected,
+            answers,
+        ),
+        None => Ok(()),
+    }
+}
+
+/// Reports how many records there were, and how many of them were wrong.
+fn tell_sum<W: Write>(came: &Came, asked: &Asked<'_>, answers: &mut W) -> Result<(), ShowFault>
+    ensures safe { Writes IsSafe (W.contents answers.old) (W.contents answers.new) result }
 {
     let Asked {
         alloc,
@@ -162,19 +208,8 @@ fn tell_end<W: Write>(
         form,
         ..
     } = *asked;
-    let missing = missing_at(came.walk.due);
-    if let Some(expected) = missing {
-        tell_missing(alloc, form, file, end, CODE, expected, answers)?;
-    }
     tell_counts(alloc, file, form, came.records, came.refused, answers)?;
-    if came.refused > 0 {
-        tell_count(alloc, file, form, CODE, came.refused, answers)?;
-    }
-    if came.refused == 0 && missing.is_none() {
-        Ok(Ending::Done)
-    } else {
-        Ok(Ending::Refused)
-    }
+    tell_count(alloc, file, form, CODE, came.refused, answers)
 }
 
 /// Which record is missing at the end of a plan's records, if one is.
@@ -195,16 +230,18 @@ fn refusal_of<'a>(
     row: &'a ByteRecord,
     due: PlanDue,
     trouble: PlanTrouble,
-) -> Refusal<'a> {
+) -> Refusal<'a>
+    ensures found { is_own_plain result.found ≡ true }
+{
     let RecordText { text, line } = record;
     let (field, expected) = match trouble {
         PlanTrouble::TooMany => (Some(first_field()), "at most 32 legs and 32 cuts"),
         PlanTrouble::Wrong(Place::Count) => (None, layout_of(text_at(row, 0))),
         PlanTrouble::Wrong(Place::Field(at)) => (Some(at), expected_of(due, at.name)),
     };
-    let (span, found) = match field {
-        Some(at) => (span_of(text, at.place), Item::Bytes(text_at(row, at.place))),
-        None => (whole(text), Item::Number(row.len() as u64)),
+    let span = match field {
+        Some(at) => span_of(text, at.place),
+        None => whole(text),
     };
     Refusal {
         file: asked.file,
@@ -214,11 +251,21 @@ fn refusal_of<'a>(
         span,
         code: CODE,
         field,
-        found,
+        found: found_at(row, field),
         expected,
         hint: hint_for(due, number, text),
         remedy: CODE.remedy(),
         quote: quote_at(text, line),
+    }
+}
+
+/// What stands at a field; the number of fields if none is wrong.
+fn found_at<'a>(row: &'a ByteRecord, field: Option<FieldPlace>) -> Item<'a>
+    ensures { is_own_plain result ≡ true }
+{
+    match field {
+        Some(at) => Item::Bytes(text_at(row, at.place)),
+        None => Item::Number(row.len() as u64),
     }
 }
 

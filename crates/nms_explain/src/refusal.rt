@@ -1,9 +1,15 @@
 //! One refusal, as it is reported.
+ghost use Rattle.std.specs.Prelude.{◌≡◌, true};
+ghost use Rattle.nms_show.specs.Safe.{IsSafe};
+ghost use Rattle.nms_show.specs.Written.{Writes};
+ghost use Rattle.nms_explain.specs.Plain.{is_own_plain, is_plain};
+
 use crate::line_count::LineCount;
 use crate::span::{Point, Span, point_at};
+use crate::telling::{code_alarm, code_item, tell_line, tell_members};
 use nms_codes::Code;
-use nms_places::FieldPlace;
-use nms_show::{Form, Item, ShowFault, write_line, write_object, write_under};
+use nms_places::{FieldName, FieldPlace};
+use nms_show::{Form, Item, ShowFault, write_under};
 use std::alloc::Global;
 use std::io::Write;
 
@@ -54,7 +60,10 @@ pub(crate) fn tell_refusal<W: Write>(
     refusal: &Refusal<'_>,
     point: Point,
     answers: &mut W,
-) -> Result<(), ShowFault> {
+) -> Result<(), ShowFault>
+    requires found { is_own_plain refusal.now.found ≡ true }
+    ensures safe { Writes IsSafe (W.contents answers.old) (W.contents answers.new) result }
+{
     if form.is_json() {
         return tell_object(alloc, refusal, point, answers);
     }
@@ -62,6 +71,13 @@ pub(crate) fn tell_refusal<W: Write>(
     let Span { start, end } = refusal.span;
     write_under(answers, form, refusal.text, start, end)?;
     tell_finding(form, refusal, answers)?;
+    tell_help(form, refusal, answers)
+}
+
+/// Writes where a quote opens that goes on, what the record looks like instead, and what to do.
+fn tell_help<W: Write>(form: Form, refusal: &Refusal<'_>, answers: &mut W) -> Result<(), ShowFault>
+    ensures safe { Writes IsSafe (W.contents answers.old) (W.contents answers.new) result }
+{
     tell_quote(form, refusal, answers)?;
     tell_advice(form, refusal.hint, answers)?;
     tell_advice(form, refusal.remedy, answers)
@@ -73,7 +89,9 @@ fn tell_place<W: Write>(
     refusal: &Refusal<'_>,
     point: Point,
     answers: &mut W,
-) -> Result<(), ShowFault> {
+) -> Result<(), ShowFault>
+    ensures safe { Writes IsSafe (W.contents answers.old) (W.contents answers.new) result }
+{
     let (field, number, comma, name) = words_of(refusal.field);
     let items = [
         Item::Bytes(refusal.file.as_bytes()),
@@ -82,7 +100,7 @@ fn tell_place<W: Write>(
         Item::Text(":"),
         Item::Number(point.column),
         Item::Text(": "),
-        Item::Alarm(refusal.code.text()),
+        code_alarm(refusal.code),
         Item::Text(": record "),
         Item::Number(refusal.number),
         Item::Text(field),
@@ -90,24 +108,33 @@ fn tell_place<W: Write>(
         Item::Text(comma),
         name,
     ];
-    write_line(answers, form, &items)
+    tell_line(form, &items, answers)
 }
 
 /// The words that name a field, with its number and its name.
-fn words_of<'a>(field: Option<FieldPlace>) -> (&'a str, Item<'a>, &'a str, Item<'a>) {
+fn words_of<'a>(field: Option<FieldPlace>) -> (&'a str, Item<'a>, &'a str, Item<'a>)
+    ensures field { is_plain result.0.now ≡ true }
+    ensures number { is_own_plain result.1 ≡ true }
+    ensures comma { is_plain result.2.now ≡ true }
+    ensures name { is_own_plain result.3 ≡ true }
+{
     match field {
-        Some(at) => (
-            ", field ",
-            number_of(at),
-            ", ",
-            Item::Strong(at.name.text()),
-        ),
+        Some(at) => (", field ", number_of(at), ", ", name_strong(at.name)),
         None => (", number of fields", Item::Absent, "", Item::Absent),
     }
 }
 
+/// The name of a field, bold if there are colours.
+fn name_strong<'a>(name: FieldName) -> Item<'a>
+    ensures { is_own_plain result ≡ true }
+{
+    Item::Strong(name.text())
+}
+
 /// The number of a field, from 1, if a number counts that far.
-fn number_of<'a>(at: FieldPlace) -> Item<'a> {
+fn number_of<'a>(at: FieldPlace) -> Item<'a>
+    ensures { is_own_plain result ≡ true }
+{
     match (at.place as u64).checked_add(1) {
         Some(number) => Item::Number(number),
         None => Item::Absent,
@@ -119,28 +146,37 @@ fn tell_finding<W: Write>(
     form: Form,
     refusal: &Refusal<'_>,
     answers: &mut W,
-) -> Result<(), ShowFault> {
-    let (before, after) = match (refusal.field, refusal.found) {
-        (None, _) => ("found ", "; expected "),
-        (Some(_), Item::Bytes(b"")) => ("found nothing", "; expected "),
-        (Some(_), _) => ("found `", "`; expected "),
-    };
+) -> Result<(), ShowFault>
+    requires found { is_own_plain refusal.now.found ≡ true }
+    ensures safe { Writes IsSafe (W.contents answers.old) (W.contents answers.new) result }
+{
+    let (before, after) = words_round(refusal);
     let items = [
         Item::Text(INDENT),
         Item::Text(before),
         refusal.found,
         Item::Text(after),
-        Item::Text(refusal.expected),
+        Item::Bytes(refusal.expected.as_bytes()),
     ];
-    write_line(answers, form, &items)
+    tell_line(form, &items, answers)
+}
+
+/// The words before what was found, and those after it.
+fn words_round(refusal: &Refusal<'_>) -> (&'static str, &'static str)
+    ensures before { is_plain result.0.now ≡ true }
+    ensures after { is_plain result.1.now ≡ true }
+{
+    match (refusal.field, refusal.found) {
+        (None, _) => ("found ", "; expected "),
+        (Some(_), Item::Bytes(b"")) => ("found nothing", "; expected "),
+        (Some(_), _) => ("found `", "`; expected "),
+    }
 }
 
 /// Writes where a quote opens a field that goes on over a line end, if one does.
-fn tell_quote<W: Write>(
-    form: Form,
-    refusal: &Refusal<'_>,
-    answers: &mut W,
-) -> Result<(), ShowFault> {
+fn tell_quote<W: Write>(form: Form, refusal: &Refusal<'_>, answers: &mut W) -> Result<(), ShowFault>
+    ensures safe { Writes IsSafe (W.contents answers.old) (W.contents answers.new) result }
+{
     let Some(point) = refusal.quote else {
         return Ok(());
     };
@@ -154,15 +190,18 @@ fn tell_quote<W: Write>(
             " opens a field that goes on over commas and line ends, to the next quote or to the end",
         ),
     ];
-    write_line(answers, form, &items)
+    tell_line(form, &items, answers)
 }
 
 /// Writes a line of advice, if there is one.
-fn tell_advice<W: Write>(form: Form, advice: &str, answers: &mut W) -> Result<(), ShowFault> {
+fn tell_advice<W: Write>(form: Form, advice: &str, answers: &mut W) -> Result<(), ShowFault>
+    ensures safe { Writes IsSafe (W.contents answers.old) (W.contents answers.new) result }
+{
     if advice.is_empty() {
         return Ok(());
     }
-    write_line(answers, form, &[Item::Text(INDENT), Item::Text(advice)])
+    let items = [Item::Text(INDENT), Item::Bytes(advice.as_bytes())];
+    tell_line(form, &items, answers)
 }
 
 /// Writes a refusal as a JSON object.
@@ -171,51 +210,52 @@ fn tell_object<W: Write>(
     refusal: &Refusal<'_>,
     point: Point,
     answers: &mut W,
-) -> Result<(), ShowFault> {
-    write_object(alloc, answers, &members_of(refusal, point))
-}
-
-/// The finding of a refusal.
-fn members_of<'a>(refusal: &Refusal<'a>, point: Point) -> [(&'static str, Item<'a>); 15] {
-    let mut members = [("", Item::Absent); 15];
-    members[..8].copy_from_slice(&place_members(refusal, point));
-    members[8..].copy_from_slice(&finding_members(refusal));
-    members
-}
-
-/// Where a refusal stands, and its code.
-fn place_members<'a>(refusal: &Refusal<'a>, point: Point) -> [(&'static str, Item<'a>); 8] {
-    let (number, name) = match refusal.field {
-        Some(at) => (number_of(at), Item::Text(at.name.text())),
-        None => (Item::Absent, Item::Absent),
-    };
-    [
+) -> Result<(), ShowFault>
+    requires found { is_own_plain refusal.now.found ≡ true }
+    ensures safe { Writes IsSafe (W.contents answers.old) (W.contents answers.new) result }
+{
+    let (number, name) = field_items(refusal.field);
+    let (line, column) = point_items(refusal.quote);
+    let members = [
         ("what", Item::Text("refusal")),
         ("file", Item::Bytes(refusal.file.as_bytes())),
         ("line", Item::Number(point.line)),
         ("column", Item::Number(point.column)),
         ("record", Item::Number(refusal.number)),
-        ("code", Item::Text(refusal.code.text())),
+        ("code", code_item(refusal.code)),
         ("field", number),
         ("field_name", name),
-    ]
-}
-
-/// What was found, with its hint and remedy.
-fn finding_members<'a>(refusal: &Refusal<'a>) -> [(&'static str, Item<'a>); 7] {
-    let (line, column) = match refusal.quote {
-        Some(quote) => (Item::Number(quote.line), Item::Number(quote.column)),
-        None => (Item::Absent, Item::Absent),
-    };
-    [
         ("text", Item::Bytes(refusal.text)),
         ("found", refusal.found),
-        ("expected", Item::Text(refusal.expected)),
-        ("remedy", Item::Text(refusal.remedy)),
+        ("expected", Item::Bytes(refusal.expected.as_bytes())),
+        ("remedy", Item::Bytes(refusal.remedy.as_bytes())),
         ("hint", text_or_absent(refusal.hint)),
         ("quote_line", line),
         ("quote_column", column),
-    ]
+    ];
+    tell_members(alloc, &members, answers)
+}
+
+/// The number of a field and its name, if there is one.
+fn field_items<'a>(field: Option<FieldPlace>) -> (Item<'a>, Item<'a>)
+    ensures number { is_own_plain result.0 ≡ true }
+    ensures name { is_own_plain result.1 ≡ true }
+{
+    match field {
+        Some(at) => (number_of(at), name_strong(at.name)),
+        None => (Item::Absent, Item::Absent),
+    }
+}
+
+/// The line and the column of a place, if there is one.
+fn point_items<'a>(point: Option<Point>) -> (Item<'a>, Item<'a>)
+    ensures line { is_own_plain result.0 ≡ true }
+    ensures column { is_own_plain result.1 ≡ true }
+{
+    match point {
+        Some(point) => (Item::Number(point.line), Item::Number(point.column)),
+        None => (Item::Absent, Item::Absent),
+    }
 }
 
 /// Writes that a text ends where a record is expected.
@@ -227,21 +267,20 @@ pub(crate) fn tell_missing<'a, W: Write>(
     code: Code,
     expected: &'a str,
     answers: &mut W,
-) -> Result<(), ShowFault> {
+) -> Result<(), ShowFault>
+    ensures safe { Writes IsSafe (W.contents answers.old) (W.contents answers.new) result }
+{
     if form.is_json() {
-        return write_object(
-            alloc,
-            answers,
-            &[
-                ("what", Item::Text("missing")),
-                ("file", Item::Bytes(file.as_bytes())),
-                ("line", Item::Number(end.line)),
-                ("column", Item::Number(end.column)),
-                ("code", Item::Text(code.text())),
-                ("expected", Item::Text(expected)),
-                ("remedy", Item::Text(code.remedy())),
-            ],
-        );
+        let members = [
+            ("what", Item::Text("missing")),
+            ("file", Item::Bytes(file.as_bytes())),
+            ("line", Item::Number(end.line)),
+            ("column", Item::Number(end.column)),
+            ("code", code_item(code)),
+            ("expected", Item::Bytes(expected.as_bytes())),
+            ("remedy", Item::Bytes(code.remedy().as_bytes())),
+        ];
+        return tell_members(alloc, &members, answers);
     }
     let items = [
         Item::Bytes(file.as_bytes()),
@@ -250,19 +289,21 @@ pub(crate) fn tell_missing<'a, W: Write>(
         Item::Text(":"),
         Item::Number(end.column),
         Item::Text(": "),
-        Item::Alarm(code.text()),
+        code_alarm(code),
         Item::Text(": the text ends; expected "),
-        Item::Text(expected),
+        Item::Bytes(expected.as_bytes()),
     ];
-    write_line(answers, form, &items)?;
+    tell_line(form, &items, answers)?;
     tell_advice(form, code.remedy(), answers)
 }
 
 /// A text, or nothing if it is empty.
-fn text_or_absent(text: &str) -> Item<'_> {
+fn text_or_absent(text: &str) -> Item<'_>
+    ensures { is_own_plain result ≡ true }
+{
     if text.is_empty() {
         Item::Absent
     } else {
-        Item::Text(text)
+        Item::Bytes(text.as_bytes())
     }
 }

@@ -1,10 +1,13 @@
 //! How many records were read, and how many were refused by each code.
 ghost use Rattle.std.specs.Prelude.{◌≡◌, ◌<◌, ◌+◌, ◌-◌, ◌^◌, ◌||◌, false};
 ghost use Rattle.nms_explain.specs.Counted.{IsWithin, publishes};
+ghost use Rattle.nms_show.specs.Safe.{IsSafe};
+ghost use Rattle.nms_show.specs.Written.{Writes};
 
+use crate::telling::{code_item, tell_line, tell_members};
 use nms_codes::Code;
 use nms_lines::{Line, LineFault};
-use nms_show::{Form, Item, ShowFault, write_line, write_object};
+use nms_show::{Form, Item, ShowFault};
 use std::alloc::Global;
 use std::io::Write;
 
@@ -94,13 +97,13 @@ impl Tally {
         file: &str,
         form: Form,
         answers: &mut W,
-    ) -> Result<(), ShowFault> {
+    ) -> Result<(), ShowFault>
+        ensures safe { Writes IsSafe (W.contents answers.old) (W.contents answers.new) result }
+    {
         tell_counts(alloc, file, form, self.records, self.refused, answers)?;
         for fault in FAULTS {
             let count = self.count(fault);
-            if count > 0 {
-                tell_count(alloc, file, form, Code::of_line(fault), count, answers)?;
-            }
+            tell_count(alloc, file, form, Code::of_line(fault), count, answers)?;
         }
         Ok(())
     }
@@ -148,18 +151,17 @@ pub(crate) fn tell_counts<W: Write>(
     records: u64,
     refused: u64,
     answers: &mut W,
-) -> Result<(), ShowFault> {
+) -> Result<(), ShowFault>
+    ensures safe { Writes IsSafe (W.contents answers.old) (W.contents answers.new) result }
+{
     if form.is_json() {
-        return write_object(
-            alloc,
-            answers,
-            &[
-                ("what", Item::Text("summary")),
-                ("file", Item::Bytes(file.as_bytes())),
-                ("records", Item::Number(records)),
-                ("refused", Item::Number(refused)),
-            ],
-        );
+        let members = [
+            ("what", Item::Text("summary")),
+            ("file", Item::Bytes(file.as_bytes())),
+            ("records", Item::Number(records)),
+            ("refused", Item::Number(refused)),
+        ];
+        return tell_members(alloc, &members, answers);
     }
     let items = [
         Item::Bytes(file.as_bytes()),
@@ -168,10 +170,10 @@ pub(crate) fn tell_counts<W: Write>(
         Item::Text("; refused: "),
         Item::Number(refused),
     ];
-    write_line(answers, form, &items)
+    tell_line(form, &items, answers)
 }
 
-/// Writes how many records were refused by a code.
+/// Writes how many records were refused by a code, if any were.
 pub(crate) fn tell_count<'a, W: Write>(
     alloc: Global,
     file: &'a str,
@@ -179,26 +181,28 @@ pub(crate) fn tell_count<'a, W: Write>(
     code: Code,
     count: u64,
     answers: &mut W,
-) -> Result<(), ShowFault> {
+) -> Result<(), ShowFault>
+    ensures safe { Writes IsSafe (W.contents answers.old) (W.contents answers.new) result }
+{
+    if count == 0 {
+        return Ok(());
+    }
     if form.is_json() {
-        return write_object(
-            alloc,
-            answers,
-            &[
-                ("what", Item::Text("count")),
-                ("file", Item::Bytes(file.as_bytes())),
-                ("code", Item::Text(code.text())),
-                ("records", Item::Number(count)),
-            ],
-        );
+        let members = [
+            ("what", Item::Text("count")),
+            ("file", Item::Bytes(file.as_bytes())),
+            ("code", code_item(code)),
+            ("records", Item::Number(count)),
+        ];
+        return tell_members(alloc, &members, answers);
     }
     let items = [
         Item::Text("    "),
-        Item::Text(code.text()),
+        code_item(code),
         Item::Text(": "),
         Item::Number(count),
     ];
-    write_line(answers, form, &items)
+    tell_line(form, &items, answers)
 }
 
 /// Writes a remark on the whole file.
@@ -208,22 +212,21 @@ pub(crate) fn tell_remark<'a, W: Write>(
     form: Form,
     remark: &'a str,
     answers: &mut W,
-) -> Result<(), ShowFault> {
+) -> Result<(), ShowFault>
+    ensures safe { Writes IsSafe (W.contents answers.old) (W.contents answers.new) result }
+{
     if form.is_json() {
-        return write_object(
-            alloc,
-            answers,
-            &[
-                ("what", Item::Text("remark")),
-                ("file", Item::Bytes(file.as_bytes())),
-                ("remark", Item::Text(remark)),
-            ],
-        );
+        let members = [
+            ("what", Item::Text("remark")),
+            ("file", Item::Bytes(file.as_bytes())),
+            ("remark", Item::Bytes(remark.as_bytes())),
+        ];
+        return tell_members(alloc, &members, answers);
     }
     let items = [
         Item::Bytes(file.as_bytes()),
         Item::Text(": "),
-        Item::Text(remark),
+        Item::Bytes(remark.as_bytes()),
     ];
-    write_line(answers, form, &items)
+    tell_line(form, &items, answers)
 }

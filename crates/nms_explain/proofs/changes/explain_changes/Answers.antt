@@ -12,5 +12,6 @@ returns g c = record {
       ends_same (reading c.args.setup.now.roster read_as.Changes) (change_reading c.args.setup.now.roster)
       (changes_agree c.args.setup.now.roster) (g.R.Read.remaining c.args.source) c.ending_of.result
       (ends_by (reading c.args.setup.now.roster read_as.Changes) (g.R.Read.remaining c.args.source) c.in_ok-tally.tally
-      c.ending_of.result c.in_ok-tally.ensures c.ending_of.ensures);
+      c.ending_of.result c.in_ok-tally.ensures.counts c.ending_of.ensures);
+  safe = c.in_ok-tally.ensures.safe;
 }

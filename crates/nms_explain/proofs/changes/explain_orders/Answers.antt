@@ -17,5 +17,6 @@ returns g c = record {
       c.ending_of.result)
       c.desks.ensures.value
       (ends_by (reading c.args.setup.now.roster (read_as.Orders c.desks.result)) (g.R.Read.remaining c.args.source) c.in_ok-tally.tally
-      c.ending_of.result c.in_ok-tally.ensures c.ending_of.ensures));
+      c.ending_of.result c.in_ok-tally.ensures.counts c.ending_of.ensures));
+  safe = c.in_ok-tally.ensures.safe;
 }

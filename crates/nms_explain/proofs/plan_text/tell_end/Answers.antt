@@ -1,0 +1,15 @@
+-- `tell_end`: what is missing, and the sum.
+use Rattle.nms_show.specs.Safe.{IsSafe}
+use Rattle.nms_show.proofs.Offered.{safe_part, safe_then, writes_err}
+use Rattle.nms_explain.proofs.plan_text.tell_end.Goals as goal
+
+pub returns-in_err-tell_sum-clause-safe : goal.returns-in_err-tell_sum-clause-safe
+returns-in_err-tell_sum-clause-safe g c =
+    writes_err IsSafe _ _ c.from_residual-in_err-tell_sum.result c.from_residual-in_err-tell_sum.ensures.0
+    (safe_part _ _ _ c.in_ok-tell_due.ensures.safe c.in_err-tell_sum.ensures.safe)
+
+pub returns-then-is_none-clause-safe : goal.returns-then-is_none-clause-safe
+returns-then-is_none-clause-safe g c = safe_then _ _ _ c.in_ok-tell_due.ensures.safe c.in_ok-tell_sum.ensures.safe
+
+pub returns-else-came-eq0-clause-safe : goal.returns-else-came-eq0-clause-safe
+returns-else-came-eq0-clause-safe g c = safe_then _ _ _ c.in_ok-tell_due.ensures.safe c.in_ok-tell_sum.ensures.safe
