@@ -214,7 +214,10 @@ fn write_row<'a, W: Write>(
             ("what", Item::Text("row")),
             ("id", Item::Bytes(execution.name.as_slice())),
             ("side", Item::Text(word_of_side(side))),
-            ("participant", Item::Bytes(name_of_part(roster, row.part).as_bytes())),
+            (
+                "participant",
+                Item::Bytes(name_of_part(roster, row.part).as_bytes()),
+            ),
             ("price", Item::of_price(row.price)),
             ("shares", Item::Number(u64::from(row.size))),
             ("receipt", Item::Number(row.receipt)),

@@ -14,5 +14,15 @@ returns-in_err-show_line g c = λ own.
 pub returns : goal.returns
 returns g c = λ own.
     safe_writes c.show_row.result _ _ _ (c.in_ok-show_line.ensures refl)
-    (c.show_row.ensures (rw (c.column.ensures, c.column-2.ensures, c.column-3.ensures, c.column-4.ensures, c.column-5.ensures,
-    c.column-6.ensures, c.column-7.ensures, c.column-8.ensures, c.column-9.ensures, own) refl))
+    (c.show_row.ensures (rw (
+      c.column.ensures,
+      c.column-2.ensures,
+      c.column-3.ensures,
+      c.column-4.ensures,
+      c.column-5.ensures,
+      c.column-6.ensures,
+      c.column-7.ensures,
+      c.column-8.ensures,
+      c.column-9.ensures,
+      own,
+    ) refl))
