@@ -1,6 +1,6 @@
 pub mod BlankFacts
 pub mod MarkFacts
 pub mod NestFacts
-pub mod SafeItems
+mod SafeItems
 pub mod ValueFacts
 mod Worked

@@ -33,7 +33,7 @@ pub(crate) fn faults_at(document: &Table, finding: &Finding) -> usize {
 }
 
 /// Reports a finding, up to that many of its faults.
-#[tactic(auto, using(crate::proofs::SafeItems::nothing_added, crate::proofs::SafeItems::no_part_added, crate::proofs::SafeItems::part_of))]
+#[tactic(auto, using(crate::proofs::SafeItems::nothing_added))]
 pub(crate) fn tell_finding<W: Write>(
     told: Told<'_>,
     choices: Choices,
@@ -56,7 +56,7 @@ pub(crate) fn tell_finding<W: Write>(
 }
 
 /// Reports the fault of a key that may stand in a table.
-#[tactic(auto, using(crate::proofs::SafeItems::nothing_added, crate::proofs::SafeItems::no_part_added, crate::proofs::SafeItems::part_of))]
+#[tactic(auto, using(crate::proofs::SafeItems::nothing_added, crate::proofs::SafeItems::no_part_added))]
 fn tell_key<W: Write>(
     told: Told<'_>,
     choices: Choices,

@@ -65,11 +65,7 @@ pub(crate) fn tell_refusal<W: Write>(
 }
 
 /// Writes the line of a refusal's place.
-fn tell_place<W: Write>(
-    form: Form,
-    refusal: &Refusal<'_>,
-    answers: &mut W,
-) -> Result<(), ShowFault>
+fn tell_place<W: Write>(form: Form, refusal: &Refusal<'_>, answers: &mut W) -> Result<(), ShowFault>
     requires sentence { is_plain refusal.now.sentence.now ≡ true }
     ensures safe { Writes IsSafe (W.contents answers.old) (W.contents answers.new) result }
 {
@@ -140,11 +136,7 @@ fn before_some(text: Option<&str>, words: &'static str) -> Item<'static>
 }
 
 /// Writes what was found, and what is expected.
-fn tell_found<W: Write>(
-    form: Form,
-    refusal: &Refusal<'_>,
-    answers: &mut W,
-) -> Result<(), ShowFault>
+fn tell_found<W: Write>(form: Form, refusal: &Refusal<'_>, answers: &mut W) -> Result<(), ShowFault>
     requires { is_plain (own_text refusal.now.found) ≡ true }
     ensures safe { Writes IsSafe (W.contents answers.old) (W.contents answers.new) result }
 {
@@ -332,11 +324,7 @@ fn tell_sum<W: Write>(
 
 /// Writes that some faults were only counted, if some were.
 #[tactic(auto, using(crate::proofs::SafeItems::nothing_added))]
-fn tell_left_out<W: Write>(
-    form: Form,
-    summary: Summary,
-    answers: &mut W,
-) -> Result<(), ShowFault>
+fn tell_left_out<W: Write>(form: Form, summary: Summary, answers: &mut W) -> Result<(), ShowFault>
     ensures safe { Writes IsSafe (W.contents answers.old) (W.contents answers.new) result }
 {
     if summary.told == summary.faults {
