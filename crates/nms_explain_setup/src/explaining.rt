@@ -1,6 +1,8 @@
 //! Why the text of a setup is refused (`specs/Ended`).
 ghost use Rattle.std.specs.Prelude.{◌≡◌, IfOk, IsUtf8, length};
 ghost use Rattle.toml.specs.Parse.{parse_document};
+ghost use Rattle.nms_show.specs.Safe.{IsSafe};
+ghost use Rattle.nms_show.specs.Written.{Writes};
 ghost use Rattle.nms_explain_setup.specs.Ended.{ending_at, ending_of};
 
 use crate::findings::{faults_at, tell_finding};
@@ -25,6 +27,8 @@ const MOST_TOLD: usize = 100;
 /// with `SetupRefused` if there is a fault.
 ///
 /// If the text is no TOML document, its one fault is C1, at the place where the parser stopped.
+///
+/// What is written is safe to show, as of `write_line`; at an error it is a first part of such a text.
 pub fn explain_setup<W: Write>(
     alloc: Global,
     file: &str,
@@ -34,6 +38,7 @@ pub fn explain_setup<W: Write>(
 ) -> Result<Ending, ShowFault>
     ensures read { IfOk result (λ ending. IsUtf8 text.now → ending ≡ ending_at (parse_document text.now)) }
     ensures no_text { IfOk result (λ ending. ¬ (IsUtf8 text.now) → ending ≡ Ending.SetupRefused) }
+    ensures safe { Writes IsSafe (W.contents answers.old) (W.contents answers.new) result }
 {
     let told = Told {
         alloc,
@@ -52,7 +57,8 @@ pub fn explain_setup<W: Write>(
 
 /// Reports it for a text that is UTF-8.
 fn explain_text<W: Write>(told: Told<'_>, text: &str, answers: &mut W) -> Result<Ending, ShowFault>
-    ensures { IfOk result (λ ending. ending ≡ ending_at (parse_document text.now)) }
+    ensures ending { IfOk result (λ ending. ending ≡ ending_at (parse_document text.now)) }
+    ensures safe { Writes IsSafe (W.contents answers.old) (W.contents answers.new) result }
 {
     match examine(told.alloc, text) {
         Ok(Examined::NoToml(NoToml { start, end, error })) => {
@@ -71,7 +77,8 @@ fn tell_no_toml<'a, W: Write>(
     expected: &'a str,
     answers: &mut W,
 ) -> Result<Ending, ShowFault>
-    ensures { IfOk result (λ ending. ending ≡ Ending.SetupRefused) }
+    ensures ending { IfOk result (λ ending. ending ≡ Ending.SetupRefused) }
+    ensures safe { Writes IsSafe (W.contents answers.old) (W.contents answers.new) result }
 {
     let marked = mark_at(told.text, start, end);
     let fault = SetupFault::NotToml;
@@ -104,7 +111,8 @@ fn tell_document<W: Write>(
     found: &[Finding],
     answers: &mut W,
 ) -> Result<Ending, ShowFault>
-    ensures { IfOk result (λ ending. ending ≡ ending_of (length found.now)) }
+    ensures ending { IfOk result (λ ending. ending ≡ ending_of (length found.now)) }
+    ensures safe { Writes IsSafe (W.contents answers.old) (W.contents answers.new) result }
 {
     let summary = tell_findings(told, document, found, answers)?;
     tell_summary(told.alloc, told.form, told.file, summary, answers)?;
@@ -121,7 +129,9 @@ fn tell_findings<W: Write>(
     document: &Table,
     found: &[Finding],
     answers: &mut W,
-) -> Result<Summary, ShowFault> {
+) -> Result<Summary, ShowFault>
+    ensures safe { Writes IsSafe (W.contents answers.old) (W.contents answers.new) result }
+{
     let choices = choices_in(document);
     let mut summary = Summary {
         faults: 0,

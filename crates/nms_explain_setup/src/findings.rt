@@ -1,4 +1,9 @@
 //! The faults of a document, in the form of a report.
+ghost use Rattle.std.specs.Prelude.{◌≡◌, true};
+ghost use Rattle.nms_codes.specs.Codes.{is_plain};
+ghost use Rattle.nms_show.specs.Safe.{IsSafe, own_text};
+ghost use Rattle.nms_show.specs.Written.{Writes};
+
 use crate::expected::{expected_at, keys_expected};
 use crate::hints::value_hint;
 use crate::locating::{locate_key, locate_table, row_of};
@@ -28,6 +33,7 @@ pub(crate) fn faults_at(document: &Table, finding: &Finding) -> usize {
 }
 
 /// Reports a finding, up to that many of its faults.
+#[tactic(auto, using(crate::proofs::SafeItems::nothing_added))]
 pub(crate) fn tell_finding<W: Write>(
     told: Told<'_>,
     choices: Choices,
@@ -35,7 +41,9 @@ pub(crate) fn tell_finding<W: Write>(
     finding: &Finding,
     room: usize,
     answers: &mut W,
-) -> Result<(), ShowFault> {
+) -> Result<(), ShowFault>
+    ensures safe { Writes IsSafe (W.contents answers.old) (W.contents answers.new) result }
+{
     if room == 0 {
         return Ok(());
     }
@@ -48,6 +56,7 @@ pub(crate) fn tell_finding<W: Write>(
 }
 
 /// Reports the fault of a key that may stand in a table.
+#[tactic(auto, using(crate::proofs::SafeItems::nothing_added, crate::proofs::SafeItems::no_part_added))]
 fn tell_key<W: Write>(
     told: Told<'_>,
     choices: Choices,
@@ -55,7 +64,9 @@ fn tell_key<W: Write>(
     finding: &Finding,
     key: KnownKey,
     answers: &mut W,
-) -> Result<(), ShowFault> {
+) -> Result<(), ShowFault>
+    ensures safe { Writes IsSafe (W.contents answers.old) (W.contents answers.new) result }
+{
     let Ok(expected) = expected_at(told.alloc, choices, finding.table, key) else {
         return Err(ShowFault::NoMemory);
     };
@@ -70,6 +81,7 @@ fn tell_key<W: Write>(
 }
 
 /// Reports that a key is absent, and which similar key the table has.
+#[tactic(auto, using(crate::proofs::SafeItems::no_part_added))]
 fn tell_absent<'a, W: Write>(
     told: Told<'a>,
     document: &'a Table,
@@ -78,7 +90,9 @@ fn tell_absent<'a, W: Write>(
     key: KnownKey,
     expected: &'a str,
     answers: &mut W,
-) -> Result<(), ShowFault> {
+) -> Result<(), ShowFault>
+    ensures safe { Writes IsSafe (W.contents answers.old) (W.contents answers.new) result }
+{
     let Ok(hint) = absent_hint(told.alloc, table, members, key) else {
         return Err(ShowFault::NoMemory);
     };
@@ -112,6 +126,7 @@ fn absent_hint(
 }
 
 /// Reports the fault of a key's value.
+#[tactic(auto, using(crate::proofs::SafeItems::nothing_added))]
 fn tell_value<'a, W: Write>(
     told: Told<'a>,
     document: &'a Table,
@@ -120,7 +135,9 @@ fn tell_value<'a, W: Write>(
     key: KnownKey,
     expected: &'a str,
     answers: &mut W,
-) -> Result<(), ShowFault> {
+) -> Result<(), ShowFault>
+    ensures safe { Writes IsSafe (W.contents answers.old) (W.contents answers.new) result }
+{
     let table = finding.table;
     let Some(value) = members.get(key.text()) else {
         return Ok(());
@@ -143,7 +160,9 @@ fn tell_value<'a, W: Write>(
 
 /// What stands at a key: how many tables, if their number is refused; else the value as it is written. If its line was not
 /// found, the kind of the value.
-fn found_at<'a>(at_key: Option<Marked<'a>>, fault: SetupFault, value: &'a Value) -> Item<'a> {
+fn found_at<'a>(at_key: Option<Marked<'a>>, fault: SetupFault, value: &'a Value) -> Item<'a>
+    ensures { is_plain (own_text result) ≡ true }
+{
     if let Some(rows) = counted_at(fault, value) {
         return Item::Number(rows as u64);
     }
@@ -163,24 +182,34 @@ fn counted_at(fault: SetupFault, value: &Value) -> Option<usize> {
 }
 
 /// Reports each key that may not stand in a table, up to that many.
+#[tactic(auto, using(crate::proofs::SafeItems::nothing_added))]
 fn tell_others<W: Write>(
     told: Told<'_>,
     document: &Table,
     table: SetupTable,
     room: usize,
     answers: &mut W,
-) -> Result<(), ShowFault> {
+) -> Result<(), ShowFault>
+    ensures safe { Writes IsSafe (W.contents answers.old) (W.contents answers.new) result }
+{
     let Some(members) = members_of(document, table) else {
         return Ok(());
     };
-    let others = members.keys().filter(|key| !table.has_key(key.as_str()));
-    for key in others.take(room) {
-        tell_other(told, document, table, members, key.as_str(), answers)?;
+    let mut left = room;
+    for key in members.keys() {
+        if left == 0 {
+            break;
+        }
+        if !table.has_key(key.as_str()) {
+            tell_other(told, document, table, members, key.as_str(), answers)?;
+            left -= 1;
+        }
     }
     Ok(())
 }
 
 /// Reports one key that may not stand in a table, with the nearest known key.
+#[tactic(auto, using(crate::proofs::SafeItems::no_part_added))]
 fn tell_other<'a, W: Write>(
     told: Told<'a>,
     document: &'a Table,
@@ -188,7 +217,9 @@ fn tell_other<'a, W: Write>(
     members: &'a Table,
     key: &'a str,
     answers: &mut W,
-) -> Result<(), ShowFault> {
+) -> Result<(), ShowFault>
+    ensures safe { Writes IsSafe (W.contents answers.old) (W.contents answers.new) result }
+{
     let Ok(hint) = other_hint(told.alloc, table, members, key) else {
         return Err(ShowFault::NoMemory);
     };
@@ -233,7 +264,9 @@ fn tell_element<'a, W: Write>(
     told: Told<'a>,
     finding: &Finding,
     answers: &mut W,
-) -> Result<(), ShowFault> {
+) -> Result<(), ShowFault>
+    ensures safe { Writes IsSafe (W.contents answers.old) (W.contents answers.new) result }
+{
     let marked = marked_table(told.text, finding.table);
     let refusal = Refusal {
         file: told.file,
@@ -251,13 +284,16 @@ fn tell_element<'a, W: Write>(
 }
 
 /// Reports a name that an earlier element of the array has.
+#[tactic(auto, using(crate::proofs::SafeItems::no_part_added))]
 fn tell_again<'a, W: Write>(
     told: Told<'a>,
     document: &'a Table,
     finding: &Finding,
     first: usize,
     answers: &mut W,
-) -> Result<(), ShowFault> {
+) -> Result<(), ShowFault>
+    ensures safe { Writes IsSafe (W.contents answers.old) (W.contents answers.new) result }
+{
     // No memory holds as many elements as a number can count.
     let Some(place) = first.checked_add(1) else {
         return Err(ShowFault::NoMemory);

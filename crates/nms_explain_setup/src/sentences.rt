@@ -1,8 +1,13 @@
 //! What each fault of a setup is, in a sentence.
+ghost use Rattle.std.specs.Prelude.{◌≡◌, true};
+ghost use Rattle.nms_codes.specs.Codes.{is_plain};
+
 use nms_fees::SetupFault;
 
 /// A fault, in words.
-pub(crate) fn sentence_of(fault: SetupFault) -> &'static str {
+pub(crate) fn sentence_of(fault: SetupFault) -> &'static str
+    ensures { is_plain result.now ≡ true }
+{
     match fault {
         SetupFault::NotToml => "the text is no TOML document",
         SetupFault::Missing => "a required key is absent",
