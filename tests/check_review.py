@@ -271,6 +271,22 @@ def name_found(program, path):
     must((ran.returncode, ran.stdout.decode(), ran.stderr) == (3, wanted, b""), f"{ran.returncode}, {ran.stdout[:1500]!r}, {ran.stderr[:500]!r}")
 
 
+def other_keys(file):
+    """A setup with 100 keys that may not stand there."""
+    file.write(b'tape_limit = 3\nqueue = 2\ndesks = 1\n' + b"".join(b"k%d = 1\n" % it for it in range(100)))
+    file.write(b'[[participant]]\nname = "N"\nfeed = "A"\nfee = 0\nrate = 0\n[[symbol]]\nname = "ABC"\nlot = 100\n')
+
+
+def most_faults(program, path):
+    """A hundred faults are reported one by one; one more is counted, and the last line says so."""
+    for count, last in (100, ""), (101, "the first 100 faults are reported, the others counted\n"):
+        ran = called(program, ["explain", "setup", "given.changes"], capture_output=True, cwd=os.path.dirname(path))
+        head, _, told = ran.stdout.decode().rpartition("given.changes: faults: ")
+        must((ran.returncode, told, head.count(": C3: ")) == (3, f"{count}, refused by C3\n{last}", 100), f"{ran.returncode}, {ran.stdout[-500:]!r}")
+        with open(path, "ab") as file:
+            file.write(b"other = 1\n")
+
+
 def long_day(path):
     """The option for a setup whose tape takes more changes than the built-in one's, in the folder of a file."""
     file = os.path.join(os.path.dirname(path), "long.toml")
@@ -413,7 +429,7 @@ def cut_often(program, path):
 TRIALS = [
     ("closed", refused), ("reader_gone", refused), ("long", long_records), ("far_name", long_names), ("far_fields", long_fields),
     ("mark", marked), ("mark_in_parts", nothing), ("harmless", each_byte), ("small_memory", large), ("no_memory", larger),
-    ("one_found", among), ("one_too_many", too_many), ("name_found", many_symbols), ("pieces", each_other), ("columns", narrow),
+    ("one_found", among), ("one_too_many", too_many), ("name_found", many_symbols), ("most_faults", other_keys), ("pieces", each_other), ("columns", narrow),
     ("flagged", no_change), ("told_apart", nothing), ("cut_often", nothing),
 ]
 

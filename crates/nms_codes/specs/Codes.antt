@@ -1,7 +1,6 @@
 -- The codes that the reviewer's program prints: their texts, what each speaks of, and the exit status of a call that one of them
 -- ends. This product's own rule.
-use Rattle.std.specs.Prelude.{ℕ, ◌≡◌, ◌&&◌, List, [], ◌∷◌, Bool, true, false, codes}
-use Rattle.std.specs.Int.{is_in_range}
+use Rattle.std.specs.Prelude.{ℕ, ◌≡◌, List, Bool, true, false, codes}
 use Rattle.nms_show.specs.declared.show_fault.ShowFault.{ShowFault}
 use Rattle.nms_show.specs.declared.show_fault.ShowFault.TheVariants as show_fault
 use Rattle.nms_times.specs.declared.times_fault.TimesFault.{TimesFault}
@@ -165,8 +164,3 @@ status_of_times (times_fault.TimesFall line) = 6
 status_of_times times_fault.OtherLength = 6
 status_of_times (times_fault.NotSymbol line) = 6
 status_of_times times_fault.NoMemory = 5
-
--- printable ASCII, from the space to the tilde
-abbrev pub is_plain : List ℕ → Bool
-is_plain [] = true
-is_plain (c ∷ rest) = is_in_range 32 126 c && is_plain rest

@@ -1,6 +1,7 @@
 //! The codes that the reviewer's program ends with, or reports of a record or a setup.
-ghost use Rattle.std.specs.Prelude.{◌≡◌};
+ghost use Rattle.std.specs.Prelude.{◌≡◌, true};
 ghost use Rattle.nms_codes.specs.Codes.{matter_of, status_of, text_of};
+ghost use Rattle.nms_show.specs.Plain.{is_plain};
 
 use crate::matter::Matter;
 
@@ -110,7 +111,8 @@ pub enum Code {
 impl Code {
     /// The code as it is printed: a letter and a number, or `usage`.
     pub fn text(self) -> &'static str
-        ensures { result.now ≡ text_of self }
+        ensures text { result.now ≡ text_of self }
+        ensures plain { is_plain result.now ≡ true }
     {
         match self {
             Code::A1 => "A1",

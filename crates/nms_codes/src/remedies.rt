@@ -1,6 +1,6 @@
 //! What to do about each code, as docs/ERRORS.md says it.
 ghost use Rattle.std.specs.Prelude.{◌≡◌, true};
-ghost use Rattle.nms_codes.specs.Codes.{is_plain};
+ghost use Rattle.nms_show.specs.Plain.{is_plain};
 
 use crate::code::Code;
 

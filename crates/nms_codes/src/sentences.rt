@@ -1,6 +1,6 @@
 //! What each code says.
 ghost use Rattle.std.specs.Prelude.{◌≡◌, true};
-ghost use Rattle.nms_codes.specs.Codes.{is_plain};
+ghost use Rattle.nms_show.specs.Plain.{is_plain};
 
 use crate::code::Code;
 

@@ -1,7 +1,7 @@
 //! How many rows had each finding: `specs/Compared`.
 ghost use Rattle.std.specs.Prelude.{◌≡◌, ◌≢◌, ◌<◌, ◌≤◌, ◌+◌, ◌^◌, IfErr, IfOk, OnOk, Result, true};
 ghost use Rattle.std.specs.List.{list_all, sum_by};
-ghost use Rattle.nms_import.specs.Telling.{is_own_plain, is_plain};
+ghost use Rattle.nms_show.specs.Plain.{is_own_plain, is_plain};
 ghost use Rattle.nms_show.specs.Safe.{IsSafe};
 ghost use Rattle.nms_show.specs.Written.{Writes};
 ghost use Rattle.nms_compare.specs.Faults.{is_of_output};
@@ -177,7 +177,7 @@ fn write_row<W: Write>(
 }
 
 /// Writes a line.
-#[tactic(auto, using(crate::proofs::TextFacts::all_own))]
+#[tactic(auto, using(nms_show::proofs::Offered::plain_items))]
 fn line<W: Write>(out: &mut W, items: &[Item<'_>]) -> Result<(), CompareFault>
     requires own { list_all is_own_plain items.now ≡ true }
     ensures safe { Writes IsSafe (W.contents out.old) (W.contents out.new) result }

@@ -1,11 +1,11 @@
 //! A moment as a small SVG: the steps of the best bid and the best offer, the execution as a cross at its price, and the
 //! protected quotations that it traded through as hollow marks (`specs/Scenes`).
 ghost use Rattle.std.specs.Prelude.{◌≡◌, ◌<◌, ◌≤◌, ◌^◌, IfErr, OnErr, OnOk, true};
-ghost use Rattle.std.specs.Int.{is_in_range};
 ghost use Rattle.std.specs.Io.KnownBytes.{Appends};
 ghost use Rattle.std.specs.List.{list_all};
 ghost use Rattle.nms_lines.specs.Written.{AppendsPart};
-ghost use Rattle.nms_show.specs.Safe.{IsSafe, own_text};
+ghost use Rattle.nms_show.specs.Plain.{is_own_plain, is_plain};
+ghost use Rattle.nms_show.specs.Safe.{IsSafe};
 ghost use Rattle.nms_show.specs.Written.{Writes};
 ghost use Rattle.nms_drawing.specs.Scenes.{IsPicture};
 
@@ -139,7 +139,7 @@ fn write_own<W: Write>(answers: &mut W, text: &[u8]) -> Result<(), ShowFault>
 /// Writes a line, of which the program's own texts are printable ASCII.
 #[tactic(auto, using(nms_show::proofs::Offered::plain_items))]
 fn line<W: Write>(answers: &mut W, items: &[Item<'_>]) -> Result<(), ShowFault>
-    ensures safe { list_all (λ item. list_all (is_in_range 32 126) (own_text item)) items.now ≡ true
+    ensures safe { list_all is_own_plain items.now ≡ true
         → Writes IsSafe (W.contents answers.old) (W.contents answers.new) result }
     ensures fault { IfErr result (λ fault. fault ≡ ShowFault.WriteFault) }
 {
@@ -178,7 +178,7 @@ fn write_ground<W: Write>(scene: &Scene, prices: &Prices, answers: &mut W) -> Re
     write_steps(scene, answers)
 }
 
-/// Writes a price at the left end, as low as given.
+/// Writes a price at the left end, at that height.
 fn write_end<W: Write>(price: u64, y: u64, answers: &mut W) -> Result<(), ShowFault>
     ensures safe { Writes IsSafe (W.contents answers.old) (W.contents answers.new) result }
     ensures fault { IfErr result (λ fault. fault ≡ ShowFault.WriteFault) }
@@ -228,7 +228,7 @@ fn write_steps<W: Write>(scene: &Scene, answers: &mut W) -> Result<(), ShowFault
     Ok(())
 }
 
-/// Writes the version of a step, where that begins.
+/// Writes the version of a step at its left end.
 fn write_step<W: Write>(x: u64, version: u64, answers: &mut W) -> Result<(), ShowFault>
     requires { x ≤ 500 }
     ensures safe { Writes IsSafe (W.contents answers.old) (W.contents answers.new) result }
@@ -268,7 +268,7 @@ fn write_side<W: Write>(
     begun: &'static str,
     answers: &mut W,
 ) -> Result<(), ShowFault>
-    ensures safe { list_all (is_in_range 32 126) begun.now ≡ true
+    ensures safe { is_plain begun.now ≡ true
         → Writes IsSafe (W.contents answers.old) (W.contents answers.new) result }
     ensures fault { IfErr result (λ fault. fault ≡ ShowFault.WriteFault) }
 {
@@ -334,7 +334,7 @@ fn write_level<W: Write>(
 
 /// How a path goes on to a step: it begins anew after a step without a price, and else draws a line.
 fn command_after(was: u64) -> &'static str
-    ensures { list_all (is_in_range 32 126) result.now ≡ true }
+    ensures { is_plain result.now ≡ true }
 {
     if was == 0 { "M" } else { "L" }
 }
@@ -459,7 +459,7 @@ fn write_row<W: Write>(
     Ok(words + APART)
 }
 
-/// Writes a quotation's mark at a place, and its words as low as given.
+/// Writes a quotation's mark at a place, and its words at that height.
 fn write_quotation<W: Write>(
     name: &str,
     row: &Row,

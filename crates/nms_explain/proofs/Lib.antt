@@ -1,4 +1,4 @@
 pub mod CountFacts
+mod NameFacts
 pub mod PlanFacts
 pub mod ReadingFacts
-pub mod SafeFacts

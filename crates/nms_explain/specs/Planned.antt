@@ -22,13 +22,13 @@ plan_ending roster records = ending_if (is_some (plan_in roster records))
 abbrev pub EndsAsPlan : Listing → Option (List ℕ) → Ending → Type 0
 EndsAsPlan roster bytes ended = (records : List Record) × AreAllRecords bytes records × (ended ≡ plan_ending roster records)
 
--- these records came: so many, and so many of them wrong
+-- the counts after these records: how many there were, how many of them were wrong, and which record is due next
 pub record HaveCome (roster : Listing) (seen : List Record) (came : Came) : Type 0 where
   pub records : came.records ≡ length seen
   pub refused : came.refused ≡ wrong_in roster seen
   pub walk : HasPassed seen came.walk
 
--- all the records of a text came
+-- the counts after all records of a text
 abbrev pub AllHaveCome : Listing → Option (List ℕ) → Came → Type 0
 AllHaveCome roster bytes came = (records : List Record) × AreAllRecords bytes records × HaveCome roster records came
 

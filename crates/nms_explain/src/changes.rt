@@ -8,8 +8,8 @@ ghost use Rattle.nms_lines.specs.Records.{ReadsFrom};
 ghost use Rattle.nms_lines.specs.declared.line.Reading.TheVariants as read_as;
 ghost use Rattle.nms_files.specs.OrderFile.{order_reading};
 ghost use Rattle.nms_explain.specs.Counted.{EndsBy, IsFileTally, IsTallyOf, IsWithin, ending_by};
-ghost use Rattle.nms_explain.specs.Plain.{is_own_plain};
 ghost use Rattle.nms_explain.specs.Source.{left_of};
+ghost use Rattle.nms_show.specs.Plain.{is_own_plain};
 ghost use Rattle.nms_show.specs.Safe.{IsSafe};
 ghost use Rattle.nms_show.specs.Written.{Writes};
 
@@ -47,7 +47,7 @@ struct Asked<'a> {
 /// Reports each refused record of a script, and whether it publishes anything. It runs nothing of the script, so it does not
 /// report what a full queue or a full tape would refuse.
 ///
-/// The answers are not flushed. A fault leaves what was reported before. What is written is safe to show, as of `write_line`.
+/// The answers are not flushed. A fault leaves what was reported before. What is written is safe to show on a terminal.
 pub fn explain_script<R: Read + Drop, W: Write>(
     alloc: Global,
     setup: &Setup,
@@ -86,7 +86,7 @@ fn tell_unpublished<W: Write>(
 
 /// Reports each refused record of a file of changes, as `explain_script` does.
 ///
-/// What is written is safe to show, as of `write_line`.
+/// What is written is safe to show on a terminal.
 pub fn explain_changes<R: Read + Drop, W: Write>(
     alloc: Global,
     setup: &Setup,
@@ -105,7 +105,7 @@ pub fn explain_changes<R: Read + Drop, W: Write>(
 
 /// Reports each refused record of a file of orders, as `explain_script` does.
 ///
-/// What is written is safe to show, as of `write_line`.
+/// What is written is safe to show on a terminal.
 pub fn explain_orders<R: Read + Drop, W: Write>(
     alloc: Global,
     setup: &Setup,
@@ -126,7 +126,7 @@ pub fn explain_orders<R: Read + Drop, W: Write>(
 
 /// Reports each refused record of the file of a feed, and whether all of them are of other feeds.
 ///
-/// What is written is safe to show, as of `write_line`.
+/// What is written is safe to show on a terminal.
 pub fn explain_feed<R: Read + Drop, W: Write>(
     alloc: Global,
     setup: &Setup,

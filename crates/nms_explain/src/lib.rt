@@ -14,7 +14,6 @@ mod refusal;
 mod remedies;
 mod span;
 mod tally;
-mod telling;
 
 pub use changes::{explain_changes, explain_feed, explain_orders, explain_script};
 pub use explain_fault::ExplainFault;

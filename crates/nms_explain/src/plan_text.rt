@@ -5,8 +5,8 @@ ghost use Rattle.nms_lines.specs.Layout.{Record};
 ghost use Rattle.nms_lines.specs.Records.{ReadsFrom};
 ghost use Rattle.nms_places.specs.PlanOrder.{HasPassed, is_ended};
 ghost use Rattle.nms_explain.specs.Planned.{AllHaveCome, EndsAsPlan, HaveCome, ending_if, is_done};
-ghost use Rattle.nms_explain.specs.Plain.{is_own_plain};
 ghost use Rattle.nms_explain.specs.Source.{left_of};
+ghost use Rattle.nms_show.specs.Plain.{is_own_plain};
 ghost use Rattle.nms_show.specs.Safe.{IsSafe};
 ghost use Rattle.nms_show.specs.Written.{Writes};
 
@@ -49,7 +49,7 @@ struct Came {
 /// Reports each wrong record of a plan's text: the field that a plan can't have at that place, or that another record is due.
 /// If it reports nothing, the text is a plan's: `read_plan` of `nms_lines` takes it.
 ///
-/// The answers are not flushed. A fault leaves what was reported before. What is written is safe to show, as of `write_line`.
+/// The answers are not flushed. A fault leaves what was reported before. What is written is safe to show on a terminal.
 pub fn explain_plan<W: Write>(
     alloc: Global,
     setup: &Setup,

@@ -1,20 +1,19 @@
 //! One refusal, as it is reported.
 ghost use Rattle.std.specs.Prelude.{◌≡◌, true};
+ghost use Rattle.nms_show.specs.Plain.{is_own_plain, is_plain};
 ghost use Rattle.nms_show.specs.Safe.{IsSafe};
 ghost use Rattle.nms_show.specs.Written.{Writes};
-ghost use Rattle.nms_explain.specs.Plain.{is_own_plain, is_plain};
 
 use crate::line_count::LineCount;
 use crate::span::{Point, Span, point_at};
-use crate::telling::{code_alarm, code_item, tell_line, tell_members};
 use nms_codes::Code;
 use nms_places::{FieldName, FieldPlace};
-use nms_show::{Form, Item, ShowFault, write_under};
+use nms_show::{
+    Form, Item, Location, ShowFault, WrongPart, item_if_any, write_advice, write_found,
+    write_place, write_plain_line, write_plain_object, write_refused,
+};
 use std::alloc::Global;
 use std::io::Write;
-
-/// What stands before each line about a refusal.
-const INDENT: &str = "    ";
 
 /// A refused record, with the report about it.
 #[derive(Clone, Copy)]
@@ -68,8 +67,6 @@ pub(crate) fn tell_refusal<W: Write>(
         return tell_object(alloc, refusal, point, answers);
     }
     tell_place(form, refusal, point, answers)?;
-    let Span { start, end } = refusal.span;
-    write_under(answers, form, refusal.text, start, end)?;
     tell_finding(form, refusal, answers)?;
     tell_help(form, refusal, answers)
 }
@@ -79,11 +76,11 @@ fn tell_help<W: Write>(form: Form, refusal: &Refusal<'_>, answers: &mut W) -> Re
     ensures safe { Writes IsSafe (W.contents answers.old) (W.contents answers.new) result }
 {
     tell_quote(form, refusal, answers)?;
-    tell_advice(form, refusal.hint, answers)?;
-    tell_advice(form, refusal.remedy, answers)
+    write_advice(answers, form, refusal.hint)?;
+    write_advice(answers, form, refusal.remedy)
 }
 
-/// Writes the line of a refusal's place.
+/// Writes the line of a refusal's place, and the record with carets under what is wrong.
 fn tell_place<W: Write>(
     form: Form,
     refusal: &Refusal<'_>,
@@ -94,13 +91,6 @@ fn tell_place<W: Write>(
 {
     let (field, number, comma, name) = words_of(refusal.field);
     let items = [
-        Item::Bytes(refusal.file.as_bytes()),
-        Item::Text(":"),
-        Item::Number(point.line),
-        Item::Text(":"),
-        Item::Number(point.column),
-        Item::Text(": "),
-        code_alarm(refusal.code),
         Item::Text(": record "),
         Item::Number(refusal.number),
         Item::Text(field),
@@ -108,7 +98,13 @@ fn tell_place<W: Write>(
         Item::Text(comma),
         name,
     ];
-    tell_line(form, &items, answers)
+    let wrong = WrongPart {
+        text: refusal.text,
+        start: refusal.span.start,
+        end: refusal.span.end,
+    };
+    let at = point.of_file(refusal.file);
+    write_refused(answers, form, at, refusal.code.text(), &items, wrong)
 }
 
 /// The words that name a field, with its number and its name.
@@ -150,15 +146,13 @@ fn tell_finding<W: Write>(
     requires found { is_own_plain refusal.now.found ≡ true }
     ensures safe { Writes IsSafe (W.contents answers.old) (W.contents answers.new) result }
 {
-    let (before, after) = words_round(refusal);
-    let items = [
-        Item::Text(INDENT),
-        Item::Text(before),
+    write_found(
+        answers,
+        form,
+        words_round(refusal),
         refusal.found,
-        Item::Text(after),
-        Item::Bytes(refusal.expected.as_bytes()),
-    ];
-    tell_line(form, &items, answers)
+        refusal.expected,
+    )
 }
 
 /// The words before what was found, and those after it.
@@ -181,8 +175,7 @@ fn tell_quote<W: Write>(form: Form, refusal: &Refusal<'_>, answers: &mut W) -> R
         return Ok(());
     };
     let items = [
-        Item::Text(INDENT),
-        Item::Text("the quote at line "),
+        Item::Text("    the quote at line "),
         Item::Number(point.line),
         Item::Text(", column "),
         Item::Number(point.column),
@@ -190,18 +183,7 @@ fn tell_quote<W: Write>(form: Form, refusal: &Refusal<'_>, answers: &mut W) -> R
             " opens a field that goes on over commas and line ends, to the next quote or to the end",
         ),
     ];
-    tell_line(form, &items, answers)
-}
-
-/// Writes a line of advice, if there is one.
-fn tell_advice<W: Write>(form: Form, advice: &str, answers: &mut W) -> Result<(), ShowFault>
-    ensures safe { Writes IsSafe (W.contents answers.old) (W.contents answers.new) result }
-{
-    if advice.is_empty() {
-        return Ok(());
-    }
-    let items = [Item::Text(INDENT), Item::Bytes(advice.as_bytes())];
-    tell_line(form, &items, answers)
+    write_plain_line(answers, form, &items)
 }
 
 /// Writes a refusal as a JSON object.
@@ -222,18 +204,18 @@ fn tell_object<W: Write>(
         ("line", Item::Number(point.line)),
         ("column", Item::Number(point.column)),
         ("record", Item::Number(refusal.number)),
-        ("code", code_item(refusal.code)),
+        ("code", Item::Text(refusal.code.text())),
         ("field", number),
         ("field_name", name),
         ("text", Item::Bytes(refusal.text)),
         ("found", refusal.found),
         ("expected", Item::Bytes(refusal.expected.as_bytes())),
         ("remedy", Item::Bytes(refusal.remedy.as_bytes())),
-        ("hint", text_or_absent(refusal.hint)),
+        ("hint", item_if_any(refusal.hint)),
         ("quote_line", line),
         ("quote_column", column),
     ];
-    tell_members(alloc, &members, answers)
+    write_plain_object(alloc, answers, &members)
 }
 
 /// The number of a field and its name, if there is one.
@@ -276,34 +258,16 @@ pub(crate) fn tell_missing<'a, W: Write>(
             ("file", Item::Bytes(file.as_bytes())),
             ("line", Item::Number(end.line)),
             ("column", Item::Number(end.column)),
-            ("code", code_item(code)),
+            ("code", Item::Text(code.text())),
             ("expected", Item::Bytes(expected.as_bytes())),
             ("remedy", Item::Bytes(code.remedy().as_bytes())),
         ];
-        return tell_members(alloc, &members, answers);
+        return write_plain_object(alloc, answers, &members);
     }
     let items = [
-        Item::Bytes(file.as_bytes()),
-        Item::Text(":"),
-        Item::Number(end.line),
-        Item::Text(":"),
-        Item::Number(end.column),
-        Item::Text(": "),
-        code_alarm(code),
         Item::Text(": the text ends; expected "),
         Item::Bytes(expected.as_bytes()),
     ];
-    tell_line(form, &items, answers)?;
-    tell_advice(form, code.remedy(), answers)
-}
-
-/// A text, or nothing if it is empty.
-fn text_or_absent(text: &str) -> Item<'_>
-    ensures { is_own_plain result ≡ true }
-{
-    if text.is_empty() {
-        Item::Absent
-    } else {
-        Item::Bytes(text.as_bytes())
-    }
+    write_place(answers, form, end.of_file(file), code.text(), &items)?;
+    write_advice(answers, form, code.remedy())
 }

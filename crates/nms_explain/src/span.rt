@@ -4,6 +4,7 @@ ghost use Rattle.std.specs.Prelude.{◌≤◌, IfSome, length};
 use crate::line_count::LineCount;
 use crate::quoting::Quoting;
 use memchr::memrchr2;
+use nms_show::Location;
 
 /// Where something stands in the text of a record: its first byte, and the one after its last.
 #[derive(Clone, Copy)]
@@ -19,6 +20,17 @@ pub(crate) struct Point {
     pub(crate) line: u64,
     /// The column, a byte of the line, from 1.
     pub(crate) column: u64,
+}
+
+impl Point {
+    /// The place in a file of that name.
+    pub(crate) fn of_file<'a>(self, file: &'a str) -> Location<'a> {
+        Location {
+            file,
+            line: self.line,
+            column: self.column,
+        }
+    }
 }
 
 /// Where the field after that many others stands, with its quotes; the end of the text if it has fewer.

@@ -4,10 +4,9 @@ ghost use Rattle.nms_explain.specs.Counted.{IsWithin, publishes};
 ghost use Rattle.nms_show.specs.Safe.{IsSafe};
 ghost use Rattle.nms_show.specs.Written.{Writes};
 
-use crate::telling::{code_item, tell_line, tell_members};
 use nms_codes::Code;
 use nms_lines::{Line, LineFault};
-use nms_show::{Form, Item, ShowFault};
+use nms_show::{Form, Item, ShowFault, write_plain_line, write_plain_object};
 use std::alloc::Global;
 use std::io::Write;
 
@@ -161,7 +160,7 @@ pub(crate) fn tell_counts<W: Write>(
             ("records", Item::Number(records)),
             ("refused", Item::Number(refused)),
         ];
-        return tell_members(alloc, &members, answers);
+        return write_plain_object(alloc, answers, &members);
     }
     let items = [
         Item::Bytes(file.as_bytes()),
@@ -170,7 +169,7 @@ pub(crate) fn tell_counts<W: Write>(
         Item::Text("; refused: "),
         Item::Number(refused),
     ];
-    tell_line(form, &items, answers)
+    write_plain_line(answers, form, &items)
 }
 
 /// Writes how many records were refused by a code, if any were.
@@ -191,18 +190,18 @@ pub(crate) fn tell_count<'a, W: Write>(
         let members = [
             ("what", Item::Text("count")),
             ("file", Item::Bytes(file.as_bytes())),
-            ("code", code_item(code)),
+            ("code", Item::Text(code.text())),
             ("records", Item::Number(count)),
         ];
-        return tell_members(alloc, &members, answers);
+        return write_plain_object(alloc, answers, &members);
     }
     let items = [
         Item::Text("    "),
-        code_item(code),
+        Item::Text(code.text()),
         Item::Text(": "),
         Item::Number(count),
     ];
-    tell_line(form, &items, answers)
+    write_plain_line(answers, form, &items)
 }
 
 /// Writes a remark on the whole file.
@@ -221,12 +220,12 @@ pub(crate) fn tell_remark<'a, W: Write>(
             ("file", Item::Bytes(file.as_bytes())),
             ("remark", Item::Bytes(remark.as_bytes())),
         ];
-        return tell_members(alloc, &members, answers);
+        return write_plain_object(alloc, answers, &members);
     }
     let items = [
         Item::Bytes(file.as_bytes()),
         Item::Text(": "),
         Item::Bytes(remark.as_bytes()),
     ];
-    tell_line(form, &items, answers)
+    write_plain_line(answers, form, &items)
 }

@@ -25,7 +25,7 @@ const MOST_TOLD: u64 = 100;
 /// no TOML document has one fault, M1, at the place where the parser stopped.
 ///
 /// Errors: `WriteFault` if `answers` refuses, `NoMemory` if out of memory. A first part of the text may have been written. What is
-/// written is safe to show, as of `write_line`.
+/// written is safe to show on a terminal.
 pub fn explain_map<W: Write>(
     alloc: Global,
     file: &str,
@@ -102,7 +102,7 @@ enum Next {
 }
 
 /// Prints the next fault of a document, and mends it.
-#[tactic(auto, using(crate::proofs::SafeItems::nothing_added, crate::proofs::SafeItems::no_part_added, crate::proofs::SafeItems::part_of))]
+#[tactic(auto, using(nms_show::proofs::Offered::nothing_added, nms_show::proofs::Offered::no_part_added, nms_show::proofs::Offered::whole_part))]
 fn tell_next<W: Write>(
     told: Told<'_>,
     kind: Kind,

@@ -1,20 +1,20 @@
 //! One fault of a mapping, as it is printed.
 ghost use Rattle.std.specs.Prelude.{◌≡◌, ◌&&◌, IfOk, true};
 ghost use Rattle.std.specs.List.{list_all};
-ghost use Rattle.nms_import.specs.Telling.{is_own_plain, is_plain};
+ghost use Rattle.nms_show.specs.Plain.{is_own_plain, is_plain};
 ghost use Rattle.nms_show.specs.Safe.{IsSafe};
 ghost use Rattle.nms_show.specs.Written.{Writes};
 
 use crate::nearest::nearest_known;
 use nms_explain_setup::{Marked, locate_named, mark_at};
 use nms_import::MapFault;
-use nms_show::{Ending, Form, Item, ShowFault, write_line, write_object, write_under};
+use nms_show::{
+    Ending, Form, Item, Location, ShowFault, WrongPart, item_of, words_before, words_round,
+    write_advice, write_found, write_plain_line, write_plain_object, write_refused,
+};
 use std::alloc::{AllocError, Global};
 use std::io::Write;
 use toml::Table;
-
-/// What stands before each line about a fault.
-const INDENT: &str = "    ";
 
 /// The mapping, and how its faults are printed.
 #[derive(Clone, Copy)]
@@ -237,51 +237,37 @@ fn tell_refusal<W: Write>(
     if form.is_json() {
         return tell_object(alloc, refusal, answers);
     }
-    let marked = refusal.marked;
     tell_place(form, refusal, answers)?;
-    write_under(
-        answers,
-        form,
-        marked.line,
-        marked.pair.start,
-        marked.pair.end,
-    )?;
     tell_found(form, refusal, answers)?;
     tell_meant(form, refusal.meant, answers)
 }
 
-/// Writes the line of a fault's place.
+/// Writes the line of a fault's place, and the mapping's line with carets under what is wrong.
 fn tell_place<W: Write>(form: Form, refusal: &Refusal<'_>, answers: &mut W) -> Result<(), ShowFault>
     requires code { is_plain refusal.now.code.now ≡ true }
     requires sentence { is_plain refusal.now.sentence.now ≡ true }
     ensures safe { Writes IsSafe (W.contents answers.old) (W.contents answers.new) result }
 {
     let items = [
-        Item::Bytes(refusal.file.as_bytes()),
-        Item::Text(":"),
-        Item::Number(refusal.marked.number),
-        Item::Text(":"),
-        Item::Number(refusal.marked.column()),
-        Item::Text(": "),
-        Item::Alarm(refusal.code),
-        before_some(refusal.table, ": "),
+        words_before(refusal.table, ": "),
         table_item(refusal.table),
-        before_some(refusal.key, ", key "),
-        text_item(refusal.key),
+        words_before(refusal.key, ", key "),
+        item_of(refusal.key),
         Item::Text(": "),
         Item::Text(refusal.sentence),
     ];
-    tell_line(form, &items, answers)
-}
-
-/// Words that stand before a text, if there is one.
-fn before_some(text: Option<&str>, words: &'static str) -> Item<'static>
-    ensures { is_plain words.now ≡ true → is_own_plain result ≡ true }
-{
-    match text {
-        Some(_) => Item::Text(words),
-        None => Item::Absent,
-    }
+    let marked = refusal.marked;
+    let at = Location {
+        file: refusal.file,
+        line: marked.number,
+        column: marked.column(),
+    };
+    let wrong = WrongPart {
+        text: marked.line,
+        start: marked.pair.start,
+        end: marked.pair.end,
+    };
+    write_refused(answers, form, at, refusal.code, &items, wrong)
 }
 
 /// The name of a table, if there is one.
@@ -295,42 +281,16 @@ fn table_item(table: Option<&'static str>) -> Item<'static>
     }
 }
 
-/// A text, if there is one.
-fn text_item(text: Option<&str>) -> Item<'_>
-    ensures { is_own_plain result ≡ true }
-{
-    match text {
-        Some(text) => Item::Bytes(text.as_bytes()),
-        None => Item::Absent,
-    }
-}
-
-/// Writes what was found, and what is expected.
+/// Writes what was found, and what is expected; the parser's message if the text is no document.
 fn tell_found<W: Write>(form: Form, refusal: &Refusal<'_>, answers: &mut W) -> Result<(), ShowFault>
     requires { is_own_plain refusal.now.found ≡ true }
     ensures safe { Writes IsSafe (W.contents answers.old) (W.contents answers.new) result }
 {
-    let (before, after) = words_round(refusal);
-    let items = [
-        Item::Text(INDENT),
-        Item::Text(before),
-        refusal.found,
-        Item::Text(after),
-        Item::Bytes(refusal.expected.as_bytes()),
-    ];
-    tell_line(form, &items, answers)
-}
-
-/// The words before what was found, and those after it.
-fn words_round(refusal: &Refusal<'_>) -> (&'static str, &'static str)
-    ensures before { is_plain result.0.now ≡ true }
-    ensures after { is_plain result.1.now ≡ true }
-{
-    match (refusal.found, refusal.table) {
-        (_, None) => ("", ""),
-        (Item::Absent, Some(_)) => ("expected ", ""),
-        (_, Some(_)) => ("found `", "`; expected "),
+    if refusal.table.is_none() {
+        return write_advice(answers, form, refusal.expected);
     }
+    let words = words_round(refusal.found);
+    write_found(answers, form, words, refusal.found, refusal.expected)
 }
 
 /// Writes the key that was meant, if there is one.
@@ -341,21 +301,11 @@ fn tell_meant<W: Write>(form: Form, meant: Option<&str>, answers: &mut W) -> Res
         return Ok(());
     };
     let items = [
-        Item::Text(INDENT),
-        Item::Text("did you mean `"),
+        Item::Text("    did you mean `"),
         Item::Bytes(meant.as_bytes()),
         Item::Text("`?"),
     ];
-    tell_line(form, &items, answers)
-}
-
-/// Writes a line of items whose own texts are printable.
-#[tactic(auto, using(crate::proofs::SafeItems::all_own))]
-fn tell_line<W: Write>(form: Form, items: &[Item<'_>], answers: &mut W) -> Result<(), ShowFault>
-    requires { list_all is_own_plain items.now ≡ true }
-    ensures safe { Writes IsSafe (W.contents answers.old) (W.contents answers.new) result }
-{
-    write_line(answers, form, items)
+    write_plain_line(answers, form, &items)
 }
 
 /// Writes a fault as a JSON object.
@@ -375,25 +325,13 @@ fn tell_object<W: Write>(
         ("column", Item::Number(refusal.marked.column())),
         ("code", Item::Text(refusal.code)),
         ("table", table_item(refusal.table)),
-        ("key", text_item(refusal.key)),
+        ("key", item_of(refusal.key)),
         ("text", Item::Bytes(refusal.marked.line)),
         ("found", refusal.found),
         ("expected", Item::Bytes(refusal.expected.as_bytes())),
-        ("meant", text_item(refusal.meant)),
+        ("meant", item_of(refusal.meant)),
     ];
-    tell_members(alloc, &members, answers)
-}
-
-/// Writes an object whose own texts are printable.
-fn tell_members<W: Write>(
-    alloc: Global,
-    members: &[(&'static str, Item<'_>)],
-    answers: &mut W,
-) -> Result<(), ShowFault>
-    requires { list_all (λ member. is_plain member.0.now && is_own_plain member.1) members.now ≡ true }
-    ensures safe { Writes IsSafe (W.contents answers.old) (W.contents answers.new) result }
-{
-    write_object(alloc, answers, members)
+    write_plain_object(alloc, answers, &members)
 }
 
 /// Writes how many faults of a mapping were reported, and whether there are more.
@@ -412,7 +350,7 @@ pub(crate) fn tell_summary<W: Write>(
             ("faults", Item::Number(faults)),
             ("more", Item::Flag(more)),
         ];
-        return tell_members(told.alloc, &members, answers);
+        return write_plain_object(told.alloc, answers, &members);
     }
     let items = [
         Item::Bytes(told.file.as_bytes()),
@@ -420,7 +358,7 @@ pub(crate) fn tell_summary<W: Write>(
         Item::Number(faults),
         more_item(more),
     ];
-    tell_line(told.form, &items, answers)
+    write_plain_line(answers, told.form, &items)
 }
 
 /// Words that say that there are more faults, if there are.

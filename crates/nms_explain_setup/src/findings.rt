@@ -1,7 +1,7 @@
 //! The faults of a document, in the form of a report.
 ghost use Rattle.std.specs.Prelude.{◌≡◌, true};
-ghost use Rattle.nms_codes.specs.Codes.{is_plain};
-ghost use Rattle.nms_show.specs.Safe.{IsSafe, own_text};
+ghost use Rattle.nms_show.specs.Plain.{is_own_plain};
+ghost use Rattle.nms_show.specs.Safe.{IsSafe};
 ghost use Rattle.nms_show.specs.Written.{Writes};
 
 use crate::expected::{expected_at, keys_expected};
@@ -33,7 +33,7 @@ pub(crate) fn faults_at(document: &Table, finding: &Finding) -> usize {
 }
 
 /// Reports a finding, up to that many of its faults.
-#[tactic(auto, using(crate::proofs::SafeItems::nothing_added))]
+#[tactic(auto, using(nms_show::proofs::Offered::nothing_added))]
 pub(crate) fn tell_finding<W: Write>(
     told: Told<'_>,
     choices: Choices,
@@ -56,7 +56,7 @@ pub(crate) fn tell_finding<W: Write>(
 }
 
 /// Reports the fault of a key that may stand in a table.
-#[tactic(auto, using(crate::proofs::SafeItems::nothing_added, crate::proofs::SafeItems::no_part_added))]
+#[tactic(auto, using(nms_show::proofs::Offered::nothing_added, nms_show::proofs::Offered::no_part_added))]
 fn tell_key<W: Write>(
     told: Told<'_>,
     choices: Choices,
@@ -81,7 +81,7 @@ fn tell_key<W: Write>(
 }
 
 /// Reports that a key is absent, and which similar key the table has.
-#[tactic(auto, using(crate::proofs::SafeItems::no_part_added))]
+#[tactic(auto, using(nms_show::proofs::Offered::no_part_added))]
 fn tell_absent<'a, W: Write>(
     told: Told<'a>,
     document: &'a Table,
@@ -126,7 +126,7 @@ fn absent_hint(
 }
 
 /// Reports the fault of a key's value.
-#[tactic(auto, using(crate::proofs::SafeItems::nothing_added))]
+#[tactic(auto, using(nms_show::proofs::Offered::nothing_added))]
 fn tell_value<'a, W: Write>(
     told: Told<'a>,
     document: &'a Table,
@@ -161,7 +161,7 @@ fn tell_value<'a, W: Write>(
 /// What stands at a key: how many tables, if their number is refused; else the value as it is written. If its line was not
 /// found, the kind of the value.
 fn found_at<'a>(at_key: Option<Marked<'a>>, fault: SetupFault, value: &'a Value) -> Item<'a>
-    ensures { is_plain (own_text result) ≡ true }
+    ensures { is_own_plain result ≡ true }
 {
     if let Some(rows) = counted_at(fault, value) {
         return Item::Number(rows as u64);
@@ -182,7 +182,7 @@ fn counted_at(fault: SetupFault, value: &Value) -> Option<usize> {
 }
 
 /// Reports each key that may not stand in a table, up to that many.
-#[tactic(auto, using(crate::proofs::SafeItems::nothing_added))]
+#[tactic(auto, using(nms_show::proofs::Offered::nothing_added))]
 fn tell_others<W: Write>(
     told: Told<'_>,
     document: &Table,
@@ -209,7 +209,7 @@ fn tell_others<W: Write>(
 }
 
 /// Reports one key that may not stand in a table, with the nearest known key.
-#[tactic(auto, using(crate::proofs::SafeItems::no_part_added))]
+#[tactic(auto, using(nms_show::proofs::Offered::no_part_added))]
 fn tell_other<'a, W: Write>(
     told: Told<'a>,
     document: &'a Table,
@@ -284,7 +284,7 @@ fn tell_element<'a, W: Write>(
 }
 
 /// Reports a name that an earlier element of the array has.
-#[tactic(auto, using(crate::proofs::SafeItems::no_part_added))]
+#[tactic(auto, using(nms_show::proofs::Offered::no_part_added))]
 fn tell_again<'a, W: Write>(
     told: Told<'a>,
     document: &'a Table,

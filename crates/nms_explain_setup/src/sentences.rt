@@ -1,6 +1,6 @@
 //! What each fault of a setup is, in a sentence.
 ghost use Rattle.std.specs.Prelude.{◌≡◌, true};
-ghost use Rattle.nms_codes.specs.Codes.{is_plain};
+ghost use Rattle.nms_show.specs.Plain.{is_plain};
 
 use nms_fees::SetupFault;
 

@@ -1,20 +1,20 @@
 //! One refusal of a setup, as it is reported.
 ghost use Rattle.std.specs.Prelude.{◌≡◌, ◌&&◌, true};
 ghost use Rattle.std.specs.List.{list_all};
-ghost use Rattle.nms_codes.specs.Codes.{is_plain};
-ghost use Rattle.nms_show.specs.Safe.{IsSafe, own_text};
+ghost use Rattle.nms_show.specs.Plain.{is_own_plain, is_plain};
+ghost use Rattle.nms_show.specs.Safe.{IsSafe};
 ghost use Rattle.nms_show.specs.Written.{Writes};
 
 use crate::marked::Marked;
 use nms_codes::Code;
 use nms_fees::SetupFault;
 use nms_setup_places::SetupTable;
-use nms_show::{Form, Item, ShowFault, write_line, write_object, write_under};
+use nms_show::{
+    Form, Item, Location, ShowFault, WrongPart, item_if_any, item_of, words_before, words_round,
+    write_advice, write_found, write_plain_line, write_plain_object, write_refused,
+};
 use std::alloc::Global;
 use std::io::Write;
-
-/// What stands before each line about a refusal.
-const INDENT: &str = "    ";
 
 /// A refusal of a setup, with the report about it.
 #[derive(Clone, Copy)]
@@ -49,52 +49,51 @@ pub(crate) fn tell_refusal<W: Write>(
     answers: &mut W,
 ) -> Result<(), ShowFault>
     requires sentence { is_plain refusal.now.sentence.now ≡ true }
-    requires found { is_plain (own_text refusal.now.found) ≡ true }
+    requires found { is_own_plain refusal.now.found ≡ true }
     ensures safe { Writes IsSafe (W.contents answers.old) (W.contents answers.new) result }
 {
     if form.is_json() {
         return tell_object(alloc, refusal, answers);
     }
     tell_place(form, refusal, answers)?;
-    let marked = refusal.marked;
-    let (start, end) = (marked.pair.start, marked.pair.end);
-    write_under(answers, form, marked.line, start, end)?;
     tell_found(form, refusal, answers)?;
-    tell_advice(form, Code::of_setup(refusal.fault).remedy(), answers)?;
-    tell_advice(form, refusal.hint, answers)
+    tell_help(form, refusal, answers)
 }
 
-/// Writes the line of a refusal's place.
+/// Writes the line of a refusal's place, and the setup's line with carets under what is wrong.
 fn tell_place<W: Write>(form: Form, refusal: &Refusal<'_>, answers: &mut W) -> Result<(), ShowFault>
     requires sentence { is_plain refusal.now.sentence.now ≡ true }
     ensures safe { Writes IsSafe (W.contents answers.old) (W.contents answers.new) result }
 {
     let items = [
-        Item::Bytes(refusal.file.as_bytes()),
-        Item::Text(":"),
-        Item::Number(refusal.marked.number),
-        Item::Text(":"),
-        Item::Number(refusal.marked.column()),
-        Item::Text(": "),
-        Item::Alarm(code_text(refusal.fault)),
         Item::Text(table_words(refusal.table)),
         place_item(refusal.table),
-        before_some(refusal.name, ", "),
-        text_item(refusal.name),
-        before_some(refusal.key, ", key "),
-        text_item(refusal.key),
+        words_before(refusal.name, ", "),
+        item_of(refusal.name),
+        words_before(refusal.key, ", key "),
+        item_of(refusal.key),
         Item::Text(": "),
         Item::Text(refusal.sentence),
     ];
-    tell_line(form, &items, answers)
-}
-
-/// The code of a fault.
-#[tactic(auto, using(crate::proofs::SafeItems::code_plain))]
-fn code_text(fault: SetupFault) -> &'static str
-    ensures { is_plain result.now ≡ true }
-{
-    fault.code()
+    let marked = refusal.marked;
+    let at = Location {
+        file: refusal.file,
+        line: marked.number,
+        column: marked.column(),
+    };
+    let wrong = WrongPart {
+        text: marked.line,
+        start: marked.pair.start,
+        end: marked.pair.end,
+    };
+    write_refused(
+        answers,
+        form,
+        at,
+        Code::of_setup(refusal.fault).text(),
+        &items,
+        wrong,
+    )
 }
 
 /// The words for a table, before its place.
@@ -111,7 +110,7 @@ fn table_words(table: Option<SetupTable>) -> &'static str
 
 /// A table's place in its array, from 1.
 fn place_item<'a>(table: Option<SetupTable>) -> Item<'a>
-    ensures { is_plain (own_text result) ≡ true }
+    ensures { is_own_plain result ≡ true }
 {
     match table {
         Some(SetupTable::Participant(before) | SetupTable::Symbol(before)) => {
@@ -125,64 +124,24 @@ fn place_item<'a>(table: Option<SetupTable>) -> Item<'a>
     }
 }
 
-/// Words that stand before a text, if there is one.
-fn before_some(text: Option<&str>, words: &'static str) -> Item<'static>
-    ensures { is_plain words.now ≡ true → is_plain (own_text result) ≡ true }
-{
-    match text {
-        Some(_) => Item::Text(words),
-        None => Item::Absent,
-    }
-}
-
-/// Writes what was found, and what is expected.
+/// Writes what was found, and what is expected; the parser's message if the text is no document.
 fn tell_found<W: Write>(form: Form, refusal: &Refusal<'_>, answers: &mut W) -> Result<(), ShowFault>
-    requires { is_plain (own_text refusal.now.found) ≡ true }
+    requires { is_own_plain refusal.now.found ≡ true }
     ensures safe { Writes IsSafe (W.contents answers.old) (W.contents answers.new) result }
 {
-    let (before, after) = words_round(refusal);
-    let items = [
-        Item::Text(INDENT),
-        Item::Text(before),
-        refusal.found,
-        Item::Text(after),
-        Item::Bytes(refusal.expected.as_bytes()),
-    ];
-    tell_line(form, &items, answers)
-}
-
-/// The words before what was found, and those after it.
-fn words_round(refusal: &Refusal<'_>) -> (&'static str, &'static str)
-    ensures before { is_plain result.0.now ≡ true }
-    ensures after { is_plain result.1.now ≡ true }
-{
-    match (refusal.found, refusal.table) {
-        (_, None) => ("", ""),
-        (Item::Absent, Some(_)) => ("expected ", ""),
-        (_, Some(_)) => ("found `", "`; expected "),
+    if refusal.table.is_none() {
+        return write_advice(answers, form, refusal.expected);
     }
+    let words = words_round(refusal.found);
+    write_found(answers, form, words, refusal.found, refusal.expected)
 }
 
-/// Writes a line of advice, if there is one.
-#[tactic(auto, using(crate::proofs::SafeItems::nothing_added))]
-fn tell_advice<W: Write>(form: Form, advice: &str, answers: &mut W) -> Result<(), ShowFault>
+/// Writes what to do, and what the text probably means.
+fn tell_help<W: Write>(form: Form, refusal: &Refusal<'_>, answers: &mut W) -> Result<(), ShowFault>
     ensures safe { Writes IsSafe (W.contents answers.old) (W.contents answers.new) result }
 {
-    if advice.is_empty() {
-        return Ok(());
-    }
-    // A hint may name a key of the file.
-    let items = [Item::Text(INDENT), Item::Bytes(advice.as_bytes())];
-    tell_line(form, &items, answers)
-}
-
-/// Writes a line of items whose own texts are printable.
-#[tactic(auto, using(crate::proofs::SafeItems::all_own))]
-fn tell_line<W: Write>(form: Form, items: &[Item<'_>], answers: &mut W) -> Result<(), ShowFault>
-    requires { list_all (λ item. is_plain (own_text item)) items.now ≡ true }
-    ensures safe { Writes IsSafe (W.contents answers.old) (W.contents answers.new) result }
-{
-    write_line(answers, form, items)
+    write_advice(answers, form, Code::of_setup(refusal.fault).remedy())?;
+    write_advice(answers, form, refusal.hint)
 }
 
 /// Writes a refusal as a JSON object.
@@ -191,7 +150,7 @@ fn tell_object<W: Write>(
     refusal: &Refusal<'_>,
     answers: &mut W,
 ) -> Result<(), ShowFault>
-    requires found { is_plain (own_text refusal.now.found) ≡ true }
+    requires found { is_own_plain refusal.now.found ≡ true }
     ensures safe { Writes IsSafe (W.contents answers.old) (W.contents answers.new) result }
 {
     let members = [
@@ -199,61 +158,29 @@ fn tell_object<W: Write>(
         ("file", Item::Bytes(refusal.file.as_bytes())),
         ("line", Item::Number(refusal.marked.number)),
         ("column", Item::Number(refusal.marked.column())),
-        ("code", Item::Text(code_text(refusal.fault))),
+        ("code", Item::Text(Code::of_setup(refusal.fault).text())),
         ("table", table_item(refusal.table)),
         ("place", place_item(refusal.table)),
-        ("name", text_item(refusal.name)),
-        ("key", text_item(refusal.key)),
+        ("name", item_of(refusal.name)),
+        ("key", item_of(refusal.key)),
         ("text", Item::Bytes(refusal.marked.line)),
         ("found", refusal.found),
         ("expected", Item::Bytes(refusal.expected.as_bytes())),
         ("remedy", Item::Text(Code::of_setup(refusal.fault).remedy())),
-        ("hint", hint_item(refusal.hint)),
+        ("hint", item_if_any(refusal.hint)),
     ];
-    tell_members(alloc, &members, answers)
-}
-
-/// Writes an object whose own texts are printable.
-fn tell_members<W: Write>(
-    alloc: Global,
-    members: &[(&'static str, Item<'_>)],
-    answers: &mut W,
-) -> Result<(), ShowFault>
-    requires { list_all (λ member. is_plain member.0.now && is_plain (own_text member.1)) members.now ≡ true }
-    ensures safe { Writes IsSafe (W.contents answers.old) (W.contents answers.new) result }
-{
-    write_object(alloc, answers, members)
+    write_plain_object(alloc, answers, &members)
 }
 
 /// The kind of a table, if there is one.
 fn table_item(table: Option<SetupTable>) -> Item<'static>
-    ensures { is_plain (own_text result) ≡ true }
+    ensures { is_own_plain result ≡ true }
 {
     match table {
         None => Item::Absent,
         Some(SetupTable::Top) => Item::Text("top"),
         Some(SetupTable::Participant(_)) => Item::Text("participant"),
         Some(SetupTable::Symbol(_)) => Item::Text("symbol"),
-    }
-}
-
-/// A hint, if there is one.
-fn hint_item(hint: &str) -> Item<'_>
-    ensures { is_plain (own_text result) ≡ true }
-{
-    match hint {
-        "" => Item::Absent,
-        hint => Item::Bytes(hint.as_bytes()),
-    }
-}
-
-/// A text of the file, if there is one.
-fn text_item(text: Option<&str>) -> Item<'_>
-    ensures { is_plain (own_text result) ≡ true }
-{
-    match text {
-        Some(text) => Item::Bytes(text.as_bytes()),
-        None => Item::Absent,
     }
 }
 
@@ -300,7 +227,7 @@ fn tell_sum_object<W: Write>(
         ("told", Item::Number(summary.told as u64)),
         ("code", code_item(summary.least)),
     ];
-    tell_members(alloc, &members, answers)
+    write_plain_object(alloc, answers, &members)
 }
 
 /// Writes the line of the sum.
@@ -319,11 +246,11 @@ fn tell_sum<W: Write>(
         refused_by(summary.least),
         code_item(summary.least),
     ];
-    tell_line(form, &items, answers)
+    write_plain_line(answers, form, &items)
 }
 
 /// Writes that some faults were only counted, if some were.
-#[tactic(auto, using(crate::proofs::SafeItems::nothing_added))]
+#[tactic(auto, using(nms_show::proofs::Offered::nothing_added))]
 fn tell_left_out<W: Write>(form: Form, summary: Summary, answers: &mut W) -> Result<(), ShowFault>
     ensures safe { Writes IsSafe (W.contents answers.old) (W.contents answers.new) result }
 {
@@ -333,14 +260,14 @@ fn tell_left_out<W: Write>(form: Form, summary: Summary, answers: &mut W) -> Res
     let items = [
         Item::Text("the first "),
         Item::Number(summary.told as u64),
-        Item::Text(" faults are told, the others counted"),
+        Item::Text(" faults are reported, the others counted"),
     ];
-    tell_line(form, &items, answers)
+    write_plain_line(answers, form, &items)
 }
 
 /// The words before the code of a sum, if there is one.
 fn refused_by(least: Option<SetupFault>) -> Item<'static>
-    ensures { is_plain (own_text result) ≡ true }
+    ensures { is_own_plain result ≡ true }
 {
     match least {
         Some(_) => Item::Text(", refused by "),
@@ -350,10 +277,10 @@ fn refused_by(least: Option<SetupFault>) -> Item<'static>
 
 /// The code of a sum, if there is one.
 fn code_item(least: Option<SetupFault>) -> Item<'static>
-    ensures { is_plain (own_text result) ≡ true }
+    ensures { is_own_plain result ≡ true }
 {
     match least {
-        Some(fault) => Item::Text(code_text(fault)),
+        Some(fault) => Item::Text(Code::of_setup(fault).text()),
         None => Item::Absent,
     }
 }

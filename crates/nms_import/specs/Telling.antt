@@ -1,9 +1,5 @@
 -- What is shown of the rows that make no change. This product's own rule.
-use Rattle.std.specs.Prelude.{ℕ, ◌-◌, Bool, List}
-use Rattle.std.specs.Int.{is_in_range}
-use Rattle.std.specs.List.{list_all}
-use Rattle.nms_show.specs.Safe.{own_text}
-use Rattle.nms_show.specs.declared.item.Item.{Item}
+use Rattle.std.specs.Prelude.{ℕ, ◌-◌, List}
 use Rattle.nms_import.specs.declared.cause.Cause.{Cause}
 use Rattle.nms_import.specs.declared.cause.Cause.TheVariants as cause
 use Rattle.nms_import.specs.declared.telling.Told.{Told}
@@ -30,11 +26,3 @@ left_after (cause.HalfSide side) left = left - 1
 left_after cause.Trailer left = left
 left_after cause.Listed left = left - 1
 left_after cause.OtherSymbol left = left - 1
-
--- printable ASCII and nothing else
-abbrev pub is_plain : List ℕ → Bool
-is_plain text = list_all (is_in_range 32 126) text
-
--- the item's own text is printable ASCII
-abbrev pub is_own_plain : Item → Bool
-is_own_plain shown = is_plain (own_text shown)

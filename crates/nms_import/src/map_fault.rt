@@ -1,5 +1,6 @@
 //! Why a mapping is refused: `specs/Refusals`.
 ghost use Rattle.std.specs.Prelude.{◌≡◌, ◌≢◌, true};
+ghost use Rattle.nms_show.specs.Plain.{is_plain};
 ghost use Rattle.nms_import.specs.Refusals as refusal;
 ghost use Rattle.nms_import.specs.Refusals.{code_of, is_of_document, refusal_of};
 
@@ -54,7 +55,8 @@ pub enum MapFault {
 impl MapFault {
     /// Its code, `M1` to `M6`.
     pub fn code(&self) -> &'static str
-        ensures { result.now ≡ code_of self.now }
+        ensures code { result.now ≡ code_of self.now }
+        ensures plain { is_plain result.now ≡ true }
     {
         match self {
             MapFault::NotToml { .. } => "M1",

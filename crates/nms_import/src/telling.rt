@@ -1,9 +1,9 @@
 //! What is printed of an import: the rows that make no change, the counts, and the symbols (`specs/Telling`).
 ghost use Rattle.std.specs.Prelude.{◌≡◌, true};
 ghost use Rattle.std.specs.List.{list_all};
+ghost use Rattle.nms_show.specs.Plain.{is_own_plain, is_plain};
 ghost use Rattle.nms_show.specs.Safe.{IsSafe};
 ghost use Rattle.nms_show.specs.Written.{AddsPart, Writes};
-ghost use Rattle.nms_import.specs.Telling.{is_plain, is_own_plain};
 
 use crate::MOST_TOLD;
 use crate::cause::Cause;
@@ -341,7 +341,7 @@ fn shown_name(roster: &Roster, sym: Sym) -> &str
 }
 
 /// Writes a line.
-#[tactic(auto, using(crate::proofs::ShowFacts::all_own))]
+#[tactic(auto, using(nms_show::proofs::Offered::plain_items))]
 fn line<W: Write>(out: &mut W, items: &[Item<'_>]) -> Result<(), ImportFault>
     ensures { list_all is_own_plain items.now ≡ true → Writes IsSafe (W.contents out.old) (W.contents out.new) result }
 {

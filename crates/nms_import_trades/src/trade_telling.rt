@@ -1,9 +1,9 @@
 //! What is printed of an import of trades: the rows that make no execution, and the counts (`specs/TradeTelling`).
 ghost use Rattle.std.specs.Prelude.{◌≡◌, true};
 ghost use Rattle.std.specs.List.{list_all};
+ghost use Rattle.nms_show.specs.Plain.{is_own_plain, is_plain};
 ghost use Rattle.nms_show.specs.Safe.{IsSafe};
 ghost use Rattle.nms_show.specs.Written.{Writes};
-ghost use Rattle.nms_import.specs.Telling.{is_own_plain, is_plain};
 
 use crate::trade_cause::TradeCause;
 use crate::trade_columns::TradeColumns;

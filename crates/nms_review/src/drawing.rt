@@ -41,7 +41,7 @@ where
     draw_timed(rt, screen, setup, request, sym, times.as_ref(), answers)
 }
 
-/// Draws a symbol's day, on whose versions these times are, if there are any.
+/// Draws a symbol's day, with the times of its versions if there are any.
 fn draw_timed<T, W: Write>(
     rt: &T,
     screen: Screen,

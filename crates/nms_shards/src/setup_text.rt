@@ -1,9 +1,9 @@
 //! The two small texts beside a shard: its symbols, and its setup.
 ghost use Rattle.std.specs.Prelude.{◌<◌, ◌≡◌, ◌≤◌, ◌≤ℤ◌, length, negsuc, pos, true};
 ghost use Rattle.std.specs.List.{list_all};
+ghost use Rattle.nms_show.specs.Plain.{is_own_plain, is_plain};
 ghost use Rattle.nms_show.specs.Safe.{IsSafe};
 ghost use Rattle.nms_show.specs.Written.{Writes};
-ghost use Rattle.nms_import.specs.Telling.{is_own_plain, is_plain};
 
 use crate::cutting::{Cutting, Listed};
 use nms_fee_book::Caps;
@@ -201,7 +201,7 @@ fn amount_line<W: Write>(out: &mut W, key: &str, amount: i128) -> Result<(), Imp
 }
 
 /// Writes a line.
-#[tactic(auto, using(crate::proofs::ShowFacts::all_own))]
+#[tactic(auto, using(nms_show::proofs::Offered::plain_items))]
 fn line<W: Write>(out: &mut W, items: &[Item<'_>]) -> Result<(), ImportFault>
     ensures { list_all is_own_plain items.now ≡ true → Writes IsSafe (W.contents out.old) (W.contents out.new) result }
 {

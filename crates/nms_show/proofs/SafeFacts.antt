@@ -69,10 +69,10 @@ digit_in d small = in_range (48 + d) (omega arith) (omega arith)
 glyph_in : (n : ℕ) → is_in_range 32 126 (digit_glyph false (n % 10)) ≡ true
 glyph_in n = let small : n % 10 < 10 = omega arith in rw (lt-ltb (n % 10) 10 small) (digit_in (n % 10) small)
 
-printable_onto : (k n : ℕ) (behind : List ℕ) → IsPrintable behind → IsPrintable (digits_onto k 10 false n behind)
-printable_onto zero n behind given = given
-printable_onto (suc k) n behind given =
-    let more : IsPrintable (digit_glyph false (n % 10) ∷ behind) = printable_cons (digit_glyph false (n % 10)) behind (glyph_in n) given in
+printable_onto : (k n : ℕ) (after : List ℕ) → IsPrintable after → IsPrintable (digits_onto k 10 false n after)
+printable_onto zero n after given = given
+printable_onto (suc k) n after given =
+    let more : IsPrintable (digit_glyph false (n % 10) ∷ after) = printable_cons (digit_glyph false (n % 10)) after (glyph_in n) given in
     either (n / 10 == 0) _ _ more (printable_onto k (n / 10) _ more)
   where
     either : (b : Bool) (xs ys : List ℕ) → IsPrintable xs → IsPrintable ys → IsPrintable (cond b xs ys)

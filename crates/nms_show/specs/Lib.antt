@@ -1,4 +1,5 @@
 pub mod Endings
 pub mod Json
+pub mod Plain
 pub mod Safe
 pub mod Written

@@ -8,6 +8,7 @@ mod form;
 mod item;
 mod lines;
 mod object;
+mod report;
 mod show_fault;
 mod shown;
 mod under;
@@ -18,5 +19,9 @@ pub use form::Form;
 pub use item::{Column, Item};
 pub use lines::{write_line, write_row};
 pub use object::write_object;
+pub use report::{
+    Location, WrongPart, item_if_any, item_of, words_before, words_round, write_advice,
+    write_found, write_place, write_plain_line, write_plain_object, write_refused,
+};
 pub use show_fault::ShowFault;
 pub use under::write_under;

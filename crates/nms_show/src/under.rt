@@ -40,12 +40,12 @@ pub fn write_under<W: Write>(
     } else {
         ""
     };
-    let behind = if shown.len() < from.len() {
+    let after = if shown.len() < from.len() {
         LEFT_OUT
     } else {
         ""
     };
-    write_record(answers, ahead, near, shown, behind)?;
+    write_record(answers, ahead, near, shown, after)?;
     write_carets(answers, form, ahead, near, field)
 }
 
@@ -71,13 +71,13 @@ fn write_record<W: Write>(
     ahead: &str,
     near: &[u8],
     shown: &[u8],
-    behind: &str,
+    after: &str,
 ) -> Result<(), ShowFault>
     requires ahead { IsPrintable ahead.now }
-    requires behind { IsPrintable behind.now }
+    requires after { IsPrintable after.now }
     ensures { Writes IsSafe (W.contents answers.old) (W.contents answers.new) result }
 {
-    write_body(answers, ahead, near, shown, behind)?;
+    write_body(answers, ahead, near, shown, after)?;
     end_line(answers)
 }
 
@@ -87,13 +87,13 @@ fn write_body<W: Write>(
     ahead: &str,
     near: &[u8],
     shown: &[u8],
-    behind: &str,
+    after: &str,
 ) -> Result<(), ShowFault>
     requires ahead { IsPrintable ahead.now }
-    requires behind { IsPrintable behind.now }
+    requires after { IsPrintable after.now }
     ensures { Writes IsSafe (W.contents answers.old) (W.contents answers.new) result }
 {
-    write_parts(answers, ahead, near, shown, behind)
+    write_parts(answers, ahead, near, shown, after)
 }
 
 /// Writes the part before the field, and the part from it on.
@@ -102,14 +102,14 @@ fn write_parts<W: Write>(
     ahead: &str,
     near: &[u8],
     shown: &[u8],
-    behind: &str,
+    after: &str,
 ) -> Result<(), ShowFault>
     requires ahead { IsPrintable ahead.now }
-    requires behind { IsPrintable behind.now }
+    requires after { IsPrintable after.now }
     ensures { Writes IsPrintable (W.contents answers.old) (W.contents answers.new) result }
 {
     write_lead(answers, ahead, near)?;
-    write_rest(answers, shown, behind)
+    write_rest(answers, shown, after)
 }
 
 /// Writes the part before the field.
@@ -123,12 +123,12 @@ fn write_lead<W: Write>(answers: &mut W, ahead: &str, near: &[u8]) -> Result<(),
 }
 
 /// Writes the field and the part after it.
-fn write_rest<W: Write>(answers: &mut W, shown: &[u8], behind: &str) -> Result<(), ShowFault>
-    requires behind { IsPrintable behind.now }
+fn write_rest<W: Write>(answers: &mut W, shown: &[u8], after: &str) -> Result<(), ShowFault>
+    requires after { IsPrintable after.now }
     ensures { Writes IsPrintable (W.contents answers.old) (W.contents answers.new) result }
 {
     write_shown(answers, shown)?;
-    write_own(answers, behind)
+    write_own(answers, after)
 }
 
 /// Writes the line of carets.

@@ -1,8 +1,8 @@
 -- Texts of the program's own are printable: those of columns, and of the keys and values of an object.
 use Rattle.std.proofs.Common.{◌≡◌, ◌&&◌, Bool, true, List, [], ◌∷◌, All, refl}
-use Rattle.std.specs.Int.{is_in_range}
 use Rattle.std.specs.List.{list_all}
 use Rattle.std.proofs.lemmas.List.Elements.{All-cons, All-head, All-nil}
+use Rattle.nms_show.specs.Plain.{is_own_plain, is_plain}
 use Rattle.nms_show.specs.Safe.{IsPrintable, own_text}
 use Rattle.nms_show.specs.declared.item.Item.{Item}
 use Rattle.nms_show.proofs.Offered.{both_true, plain_items}
@@ -16,33 +16,19 @@ use Rattle.nms_trades.specs.declared.cause.Cause.TheVariants as cause
 use Rattle.nms_trades.specs.declared.trade_fault.TradeFault.{TradeFault}
 use Rattle.nms_trades.specs.declared.trade_fault.TradeFault.TheVariants as fault
 
--- from the space to the tilde
-abbrev is_own : Item → Bool
-is_own item = list_all (is_in_range 32 126) (own_text item)
-
-pub plain_item : (item : Item) → is_own item ≡ true → IsPrintable (own_text item)
+pub plain_item : (item : Item) → is_own_plain item ≡ true → IsPrintable (own_text item)
 plain_item item is = All-head (λ one. IsPrintable (own_text one)) item [] (plain_items (item ∷ []) (rw is refl))
 
 -- each of things that are shown so
-pub all_plain : {A : Type 0} (shown : A → Item) (xs : List A) → list_all (λ x. is_own (shown x)) xs ≡ true
+pub all_plain : {A : Type 0} (shown : A → Item) (xs : List A) → list_all (λ x. is_own_plain (shown x)) xs ≡ true
     → All (λ x. IsPrintable (own_text (shown x))) xs
 all_plain shown [] is = All-nil (λ x. IsPrintable (own_text (shown x)))
 all_plain shown (x ∷ xs) is =
-    let parts = both_true (is_own (shown x)) (list_all (λ one. is_own (shown one)) xs) is in
+    let parts = both_true (is_own_plain (shown x)) (list_all (λ one. is_own_plain (shown one)) xs) is in
     All-cons (λ one. IsPrintable (own_text (shown one))) x xs (plain_item (shown x) parts.0) (all_plain shown xs parts.1)
 
--- each of things that have a key
-pub both_plain : {A : Type 0} (key shown : A → Item) (xs : List A) → list_all (λ x. is_own (key x) && is_own (shown x)) xs ≡ true
-    → All (λ x. IsPrintable (own_text (key x)) × IsPrintable (own_text (shown x))) xs
-both_plain key shown [] is = All-nil (λ x. IsPrintable (own_text (key x)) × IsPrintable (own_text (shown x)))
-both_plain key shown (x ∷ xs) is =
-    let parts = both_true (is_own (key x) && is_own (shown x)) (list_all (λ one. is_own (key one) && is_own (shown one)) xs) is in
-    let own = both_true (is_own (key x)) (is_own (shown x)) parts.0 in
-    All-cons (λ one. IsPrintable (own_text (key one)) × IsPrintable (own_text (shown one))) x xs
-    (plain_item (key x) own.0, plain_item (shown x) own.1) (both_plain key shown xs parts.1)
-
 -- the word of a cause
-pub plain_word : (cause : Cause) → list_all (is_in_range 32 126) (word_of cause) ≡ true
+pub plain_word : (cause : Cause) → is_plain (word_of cause) ≡ true
 plain_word cause.SelfHelp = refl
 plain_word cause.NotRegular = refl
 plain_word cause.SinglePriced = refl
@@ -58,7 +44,7 @@ plain_word cause.OutsideHours = refl
 plain_word cause.OutOfSequence = refl
 
 -- the code of a fault
-pub plain_code : (fault : TradeFault) → list_all (is_in_range 32 126) (code_of fault) ≡ true
+pub plain_code : (fault : TradeFault) → is_plain (code_of fault) ≡ true
 plain_code fault.UnknownKind = refl
 plain_code fault.FieldCount = refl
 plain_code fault.BadName = refl
@@ -74,6 +60,6 @@ plain_code fault.NoTimes = refl
 plain_code fault.NoChanges = refl
 
 -- the word of a side
-pub plain_side : (side : Side) → list_all (is_in_range 32 126) (side_word side) ≡ true
+pub plain_side : (side : Side) → is_plain (side_word side) ≡ true
 plain_side Bid = refl
 plain_side Offer = refl

@@ -1,7 +1,6 @@
 //! The lines of one execution as JSON.
 ghost use Rattle.std.specs.Prelude.{◌≡◌, true};
-ghost use Rattle.std.specs.Int.{is_in_range};
-ghost use Rattle.std.specs.List.{list_all};
+ghost use Rattle.nms_show.specs.Plain.{is_plain};
 ghost use Rattle.nms_show.specs.Safe.{IsSafe};
 ghost use Rattle.nms_show.specs.Written.{Writes};
 
@@ -112,7 +111,7 @@ fn write_rows<W: Write>(
 
 /// The name of a standing.
 fn what_of(standing: Standing) -> &'static str
-    ensures { list_all (is_in_range 32 126) result.now ≡ true }
+    ensures { is_plain result.now ≡ true }
 {
     match standing {
         Standing::Clean => "clean",
@@ -131,7 +130,7 @@ fn write_head<'a, W: Write>(
     worst: &'a [u8],
     causes: &'a [u8],
 ) -> Result<(), ShowFault>
-    ensures { list_all (is_in_range 32 126) what.now ≡ true → Writes IsSafe (W.contents answers.old) (W.contents answers.new) result }
+    ensures { is_plain what.now ≡ true → Writes IsSafe (W.contents answers.old) (W.contents answers.new) result }
 {
     show_object(
         alloc,

@@ -1,8 +1,8 @@
 //! Lines, rows and objects that are safe to show if the program's own texts in them pass a test: they are printable ASCII.
-ghost use Rattle.std.specs.Prelude.{◌≡◌, ◌&&◌, true};
-ghost use Rattle.std.specs.Int.{is_in_range};
+ghost use Rattle.std.specs.Prelude.{◌≡◌, true};
 ghost use Rattle.std.specs.List.{list_all};
-ghost use Rattle.nms_show.specs.Safe.{IsSafe, own_text};
+ghost use Rattle.nms_show.specs.Plain.{is_own_plain, is_plain_member};
+ghost use Rattle.nms_show.specs.Safe.{IsSafe};
 ghost use Rattle.nms_show.specs.Written.{Writes};
 
 use nms_show::{Column, Form, Item, ShowFault, write_line, write_object, write_row};
@@ -15,7 +15,7 @@ pub(crate) fn show_line<W: Write>(
     form: Form,
     items: &[Item<'_>],
 ) -> Result<(), ShowFault>
-    ensures { list_all (λ item. list_all (is_in_range 32 126) (own_text item)) items.now ≡ true
+    ensures { list_all is_own_plain items.now ≡ true
         → Writes IsSafe (W.contents answers.old) (W.contents answers.new) result }
 {
     write_line(answers, form, items)
@@ -27,7 +27,7 @@ pub(crate) fn show_row<W: Write>(
     form: Form,
     columns: &[Column<'_>],
 ) -> Result<(), ShowFault>
-    ensures { list_all (λ column. list_all (is_in_range 32 126) (own_text column.item)) columns.now ≡ true
+    ensures { list_all (λ column. is_own_plain column.item) columns.now ≡ true
         → Writes IsSafe (W.contents answers.old) (W.contents answers.new) result }
 {
     write_row(answers, form, columns)
@@ -39,7 +39,7 @@ pub(crate) fn show_object<W: Write>(
     answers: &mut W,
     members: &[(&str, Item<'_>)],
 ) -> Result<(), ShowFault>
-    ensures { list_all (λ member. list_all (is_in_range 32 126) member.0.now && list_all (is_in_range 32 126) (own_text member.1)) members.now
+    ensures { list_all is_plain_member members.now
         ≡ true → Writes IsSafe (W.contents answers.old) (W.contents answers.new) result }
 {
     write_object(alloc, answers, members)

@@ -1,7 +1,6 @@
 //! The counts and sums of all executions, as tables.
 ghost use Rattle.std.specs.Prelude.{◌≡◌, [], IfErr, IfOk, false, filter, length, true};
-ghost use Rattle.std.specs.Int.{is_in_range};
-ghost use Rattle.std.specs.List.{list_all};
+ghost use Rattle.nms_show.specs.Plain.{is_own_plain, is_plain};
 ghost use Rattle.nms_show.specs.Safe.{IsSafe, own_text};
 ghost use Rattle.nms_show.specs.Written.{Writes};
 ghost use Rattle.nms_trades.specs.Counts.{is_found, is_perhaps, is_through, stands};
@@ -251,7 +250,7 @@ fn money_of<'a>(millionths: i128) -> Item<'a>
 
 /// Writes the head of a table; of objects there is none.
 fn write_head<W: Write>(form: Form, name: &str, answers: &mut W) -> Result<(), ShowFault>
-    ensures { list_all (is_in_range 32 126) name.now ≡ true → Writes IsSafe (W.contents answers.old) (W.contents answers.new) result }
+    ensures { is_plain name.now ≡ true → Writes IsSafe (W.contents answers.old) (W.contents answers.new) result }
 {
     if form.is_json() {
         return Ok(());
@@ -283,7 +282,7 @@ fn write_count<'a, W: Write>(
     form: Form,
     answers: &mut W,
 ) -> Result<(), ShowFault>
-    ensures { list_all (is_in_range 32 126) what.now ≡ true → list_all (is_in_range 32 126) (own_text name.entry) ≡ true
+    ensures { is_plain what.now ≡ true → is_own_plain name.entry ≡ true
         → Writes IsSafe (W.contents answers.old) (W.contents answers.new) result }
 {
     if count.executions == 0 && count.rows == 0 {
@@ -303,7 +302,7 @@ fn write_count_object<'a, W: Write>(
     count: &Count,
     answers: &mut W,
 ) -> Result<(), ShowFault>
-    ensures { list_all (is_in_range 32 126) what.now ≡ true → list_all (is_in_range 32 126) (own_text name.entry) ≡ true
+    ensures { is_plain what.now ≡ true → is_own_plain name.entry ≡ true
         → Writes IsSafe (W.contents answers.old) (W.contents answers.new) result }
 {
     show_object(
@@ -331,7 +330,7 @@ fn write_count_row<W: Write>(
     form: Form,
     answers: &mut W,
 ) -> Result<(), ShowFault>
-    ensures { list_all (is_in_range 32 126) (own_text name.entry) ≡ true → Writes IsSafe (W.contents answers.old) (W.contents answers.new) result }
+    ensures { is_own_plain name.entry ≡ true → Writes IsSafe (W.contents answers.old) (W.contents answers.new) result }
 {
     show_row(
         answers,
@@ -366,7 +365,7 @@ fn write_parts<W: Write>(
     form: Form,
     answers: &mut W,
 ) -> Result<(), ShowFault>
-    ensures { list_all (is_in_range 32 126) what.now ≡ true → Writes IsSafe (W.contents answers.old) (W.contents answers.new) result }
+    ensures { is_plain what.now ≡ true → Writes IsSafe (W.contents answers.old) (W.contents answers.new) result }
 {
     for place in 0..counts.len() {
         let name = part_item(roster, place);
@@ -377,7 +376,7 @@ fn write_parts<W: Write>(
 
 /// The name of the participant at a place, which is of the setup; of the place after the last, that there is none.
 fn part_item(roster: &Roster, place: usize) -> Item<'_>
-    ensures { list_all (is_in_range 32 126) (own_text result) ≡ true }
+    ensures { is_own_plain result ≡ true }
 {
     if place >= roster.parts() {
         return Item::Text("(none)");

@@ -1,9 +1,10 @@
 -- `write_table`: one line more.
 use Rattle.std.proofs.Common.{refl}
-use Rattle.nms_import.specs.Telling.{is_plain}
+use Rattle.std.proofs.lemmas.List.Sums.{AllPass-from_list_all}
+use Rattle.nms_show.specs.Plain.{is_plain}
 use Rattle.nms_show.specs.Safe.{IsSafe, nothing}
 use Rattle.nms_show.proofs.Offered.{adds_none, safe_part, safe_then, writes_err}
-use Rattle.nms_compare.proofs.TextFacts.{all_true, sum_more}
+use Rattle.nms_compare.proofs.TextFacts.{sum_more}
 use Rattle.nms_compare.proofs.counts.write_table.Goals as goal
 
 pub loop-row-init : goal.loop-row-init
@@ -11,7 +12,7 @@ loop-row-init g c = record { safe = adds_none IsSafe (g.W.Write.contents c.args.
 
 pub write_row-requires : goal.write_row-requires
 write_row-requires g c = record {
-  own = all_true (λ row. is_plain row.1.now) c.args.table.now c.requires.own c.loop-row.row-index _ c.loop-row-test.true;
+  own = AllPass-from_list_all (λ row. is_plain row.1.now) c.args.table.now c.requires.own c.loop-row.row-index _ c.loop-row-test.true;
 }
 
 pub returns-in_err-rows-clause-safe : goal.returns-in_err-rows-clause-safe

@@ -2,8 +2,8 @@
 use Rattle.std.proofs.Common.{sym}
 use Rattle.nms_lines.specs.Lines.{reading}
 use Rattle.csv.specs.Records.{fields_of}
+use Rattle.nms_show.proofs.Offered.{nothing_added}
 use Rattle.nms_explain.proofs.CountFacts.{tally_refused, tally_taken}
-use Rattle.nms_explain.proofs.SafeFacts.{nothing_added}
 use Rattle.nms_explain.proofs.changes.explain_record.Goals as goal
 
 pub returns-in-Ok-clause-counts : goal.returns-in-Ok-clause-counts

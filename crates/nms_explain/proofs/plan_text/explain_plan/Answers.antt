@@ -2,9 +2,8 @@
 use Rattle.std.proofs.Common.{Some, subst}
 use Rattle.nms_quote.specs.Roster.{Listing}
 use Rattle.nms_explain.specs.Planned.{EndsAsPlan}
-use Rattle.nms_show.proofs.Offered.{safe_part, safe_then}
+use Rattle.nms_show.proofs.Offered.{safe_part, safe_then, whole_part}
 use Rattle.nms_explain.proofs.PlanFacts.{ends_as_plan}
-use Rattle.nms_explain.proofs.SafeFacts.{part_of}
 use Rattle.nms_explain.proofs.plan_text.explain_plan.Goals as goal
 
 pub returns-in-Ok : goal.returns-in-Ok
@@ -17,7 +16,7 @@ returns-in-Ok g c = record {
 }
 
 pub returns-in_default-clause-safe : goal.returns-in_default-clause-safe
-returns-in_default-clause-safe g c = part_of _ _ c.in_ok-came.ensures.safe
+returns-in_default-clause-safe g c = whole_part _ _ c.in_ok-came.ensures.safe
 
 pub returns-clause-safe : goal.returns-clause-safe
 returns-clause-safe g c = safe_part _ _ _ c.in_ok-came.ensures.safe c.in-Err.ensures.safe

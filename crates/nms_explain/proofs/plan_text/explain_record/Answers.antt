@@ -1,8 +1,8 @@
 -- `explain_record`: one record more came, right or wrong.
 use Rattle.std.proofs.Common.{refl}
 use Rattle.csv.specs.Records.{fields_of}
+use Rattle.nms_show.proofs.Offered.{nothing_added}
 use Rattle.nms_explain.proofs.PlanFacts.{one_right, one_wrong}
-use Rattle.nms_explain.proofs.SafeFacts.{nothing_added}
 use Rattle.nms_explain.proofs.plan_text.explain_record.Goals as goal
 
 pub returns-in-Some-clause-come : goal.returns-in-Some-clause-come

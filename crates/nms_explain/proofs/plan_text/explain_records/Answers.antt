@@ -3,8 +3,7 @@ use Rattle.std.proofs.Common.{Bool, Ok, ap, arith, refl, ◌++◌, ◌∷◌, []
 use Rattle.csv.specs.Records.{fields_of}
 use Rattle.nms_explain.proofs.PlanFacts.{none_came}
 use Rattle.nms_show.specs.Safe.{IsSafe}
-use Rattle.nms_show.proofs.Offered.{safe_part, safe_then, writes_err}
-use Rattle.nms_explain.proofs.SafeFacts.{nothing_added}
+use Rattle.nms_show.proofs.Offered.{nothing_added, safe_part, safe_then, writes_err}
 use Rattle.nms_explain.proofs.plan_text.explain_records.Goals as goal
 
 pub loop-turn-init : goal.loop-turn-init

@@ -1,5 +1,5 @@
 -- `tell_trouble`: without a place in the file nothing is written.
-use Rattle.nms_explain.proofs.SafeFacts.{no_part_added}
+use Rattle.nms_show.proofs.Offered.{no_part_added}
 use Rattle.nms_explain.proofs.plan_text.tell_trouble.Goals as goal
 
 pub returns-in_default : goal.returns-in_default

@@ -1,6 +1,9 @@
--- `tell_finding`: each text of the line is printable.
-use Rattle.std.proofs.Common.{refl}
+-- `tell_finding`: the words round what was found are printable.
 use Rattle.nms_explain.proofs.refusal.tell_finding.Goals as goal
 
-pub tell_line-requires : goal.tell_line-requires
-tell_line-requires g c = rw (c.words_round.ensures.before, c.words_round.ensures.after, c.requires.found) refl
+pub write_found-requires : goal.write_found-requires
+write_found-requires g c = record {
+  before = c.words_round.ensures.before;
+  after = c.words_round.ensures.after;
+  found = c.requires.found;
+}

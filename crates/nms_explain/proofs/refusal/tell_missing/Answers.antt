@@ -3,11 +3,11 @@ use Rattle.std.proofs.Common.{refl}
 use Rattle.nms_show.proofs.Offered.{safe_writes}
 use Rattle.nms_explain.proofs.refusal.tell_missing.Goals as goal
 
-pub tell_members-requires : goal.tell_members-requires
-tell_members-requires g c = rw c.code_item.ensures refl
+pub write_plain_object-requires : goal.write_plain_object-requires
+write_plain_object-requires g c = record { plain = rw c.text.ensures.plain refl }
 
-pub tell_line-requires : goal.tell_line-requires
-tell_line-requires g c = rw c.code_alarm.ensures refl
+pub write_place-requires : goal.write_place-requires
+write_place-requires g c = record { code = c.text-2.ensures.plain; items = refl }
 
 pub returns : goal.returns
-returns g c = record { safe = safe_writes c.tell_advice.result _ _ _ c.in_ok-tell_line.ensures.safe c.tell_advice.ensures.safe }
+returns g c = record { safe = safe_writes c.write_advice.result _ _ _ c.in_ok-write_place.ensures.safe c.write_advice.ensures.safe }

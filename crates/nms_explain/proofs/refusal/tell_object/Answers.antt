@@ -2,14 +2,16 @@
 use Rattle.std.proofs.Common.{refl}
 use Rattle.nms_explain.proofs.refusal.tell_object.Goals as goal
 
-pub tell_members-requires : goal.tell_members-requires
-tell_members-requires g c =
-    rw (
-      c.code_item.ensures,
-      c.field_items.ensures.number,
-      c.field_items.ensures.name,
-      c.requires.found,
-      c.text_or_absent.ensures,
-      c.point_items.ensures.line,
-      c.point_items.ensures.column,
-    ) refl
+pub write_plain_object-requires : goal.write_plain_object-requires
+write_plain_object-requires g c = record {
+  plain =
+      rw (
+        c.text.ensures.plain,
+        c.field_items.ensures.number,
+        c.field_items.ensures.name,
+        c.requires.found,
+        c.item_if_any.ensures.plain,
+        c.point_items.ensures.line,
+        c.point_items.ensures.column,
+      ) refl;
+}

@@ -1,5 +1,5 @@
 -- `tell_quote`: nothing, or a line whose texts are printable.
-use Rattle.nms_explain.proofs.SafeFacts.{nothing_added}
+use Rattle.nms_show.proofs.Offered.{nothing_added}
 use Rattle.nms_explain.proofs.refusal.tell_quote.Goals as goal
 
 pub returns-in_default : goal.returns-in_default

@@ -1,7 +1,6 @@
 -- `tell_document`: one fault more, and the end.
 use Rattle.nms_show.specs.Safe.{IsSafe}
-use Rattle.nms_show.proofs.Offered.{safe_part, safe_then, safe_writes, writes_err}
-use Rattle.nms_explain_map.proofs.SafeItems.{nothing_added}
+use Rattle.nms_show.proofs.Offered.{nothing_added, safe_part, safe_then, safe_writes, writes_err}
 use Rattle.nms_explain_map.proofs.explaining.tell_document.Goals as goal
 
 pub loop-faults-init : goal.loop-faults-init

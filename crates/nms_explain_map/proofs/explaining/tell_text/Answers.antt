@@ -1,5 +1,5 @@
 -- `tell_text`: without memory for the document nothing is written.
-use Rattle.nms_explain_map.proofs.SafeItems.{no_part_added}
+use Rattle.nms_show.proofs.Offered.{no_part_added}
 use Rattle.nms_explain_map.proofs.explaining.tell_text.Goals as goal
 
 pub returns-in-None-clause-safe : goal.returns-in-None-clause-safe

@@ -2,6 +2,8 @@
 use Rattle.std.proofs.Common.{refl}
 use Rattle.nms_explain_map.proofs.telling.tell_object.Goals as goal
 
-pub tell_members-requires : goal.tell_members-requires
-tell_members-requires g c =
-    rw (c.requires.code, c.requires.found, c.table_item.ensures, c.text_item.ensures, c.text_item-2.ensures) refl
+pub write_plain_object-requires : goal.write_plain_object-requires
+write_plain_object-requires g c = record {
+  plain =
+      rw (c.requires.code, c.requires.found, c.table_item.ensures, c.item_of.ensures.plain, c.item_of-2.ensures.plain) refl;
+}

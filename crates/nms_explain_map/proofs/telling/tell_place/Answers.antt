@@ -2,13 +2,15 @@
 use Rattle.std.proofs.Common.{refl}
 use Rattle.nms_explain_map.proofs.telling.tell_place.Goals as goal
 
-pub tell_line-requires : goal.tell_line-requires
-tell_line-requires g c =
-    rw (
-      c.requires.code,
-      c.requires.sentence,
-      c.before_some.ensures refl,
-      c.table_item.ensures,
-      c.before_some-2.ensures refl,
-      c.text_item.ensures,
-    ) refl
+pub write_refused-requires : goal.write_refused-requires
+write_refused-requires g c = record {
+  code = c.requires.code;
+  items =
+      rw (
+        c.requires.sentence,
+        c.words_before.ensures.plain refl,
+        c.table_item.ensures,
+        c.words_before-2.ensures.plain refl,
+        c.item_of.ensures.plain,
+      ) refl;
+}

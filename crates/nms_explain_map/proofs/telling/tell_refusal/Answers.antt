@@ -1,24 +1,16 @@
--- `tell_refusal`: the place, the line with carets, what was found, and what was meant, in turn.
+-- `tell_refusal`: the place with the line, what was found, and what was meant, in turn.
 use Rattle.nms_show.specs.Safe.{IsSafe}
 use Rattle.nms_show.proofs.Offered.{safe_part, safe_then, safe_writes, writes_err}
 use Rattle.nms_explain_map.proofs.telling.tell_refusal.Goals as goal
 
-pub returns-in_err-write_under : goal.returns-in_err-write_under
-returns-in_err-write_under g c = record {
-  safe = writes_err IsSafe _ _ c.from_residual-in_err-write_under.result c.from_residual-in_err-write_under.ensures.0
-      (safe_part _ _ _ c.in_ok-tell_place.ensures.safe c.in_err-write_under.ensures.safe);
-}
-
 pub returns-in_err-tell_found : goal.returns-in_err-tell_found
 returns-in_err-tell_found g c = record {
   safe = writes_err IsSafe _ _ c.from_residual-in_err-tell_found.result c.from_residual-in_err-tell_found.ensures.0
-      (safe_part _ _ _ (safe_then _ _ _ c.in_ok-tell_place.ensures.safe c.in_ok-write_under.ensures.safe)
-      c.in_err-tell_found.ensures.safe);
+      (safe_part _ _ _ c.in_ok-tell_place.ensures.safe c.in_err-tell_found.ensures.safe);
 }
 
 pub returns : goal.returns
 returns g c = record {
   safe = safe_writes c.tell_meant.result _ _ _
-      (safe_then _ _ _ (safe_then _ _ _ c.in_ok-tell_place.ensures.safe c.in_ok-write_under.ensures.safe)
-      c.in_ok-tell_found.ensures.safe) c.tell_meant.ensures.safe;
+      (safe_then _ _ _ c.in_ok-tell_place.ensures.safe c.in_ok-tell_found.ensures.safe) c.tell_meant.ensures.safe;
 }

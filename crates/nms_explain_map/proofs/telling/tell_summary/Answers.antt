@@ -2,8 +2,8 @@
 use Rattle.std.proofs.Common.{refl}
 use Rattle.nms_explain_map.proofs.telling.tell_summary.Goals as goal
 
-pub tell_members-requires : goal.tell_members-requires
-tell_members-requires g c = refl
+pub write_plain_object-requires : goal.write_plain_object-requires
+write_plain_object-requires g c = record { plain = refl }
 
-pub tell_line-requires : goal.tell_line-requires
-tell_line-requires g c = rw c.more_item.ensures refl
+pub write_plain_line-requires : goal.write_plain_line-requires
+write_plain_line-requires g c = record { plain = rw c.more_item.ensures refl }

@@ -1,5 +1,5 @@
 -- `explain_text`: without memory for the document nothing is written.
-use Rattle.nms_explain_setup.proofs.SafeItems.{no_part_added}
+use Rattle.nms_show.proofs.Offered.{no_part_added}
 use Rattle.nms_explain_setup.proofs.explaining.explain_text.Goals as goal
 
 pub returns-in-Err-clause-safe : goal.returns-in-Err-clause-safe

@@ -1,8 +1,7 @@
 -- `tell_findings`: one fault more.
 use Rattle.std.proofs.Common.{rules, arith}
 use Rattle.nms_show.specs.Safe.{IsSafe}
-use Rattle.nms_show.proofs.Offered.{safe_part, safe_then, writes_err}
-use Rattle.nms_explain_setup.proofs.SafeItems.{nothing_added, part_of}
+use Rattle.nms_show.proofs.Offered.{nothing_added, safe_part, safe_then, whole_part, writes_err}
 use Rattle.nms_explain_setup.proofs.explaining.tell_findings.Goals as goal
 
 pub loop-finding-init : goal.loop-finding-init
@@ -16,7 +15,7 @@ returns-in_err-tell_finding g c = record {
 
 pub returns-in_default : goal.returns-in_default
 returns-in_default g c = record {
-  safe = part_of _ _ (safe_then _ _ _ c.loop-finding.invariant.1 c.in_ok-tell_finding.ensures.safe);
+  safe = whole_part _ _ (safe_then _ _ _ c.loop-finding.invariant.1 c.in_ok-tell_finding.ensures.safe);
 }
 
 pub loop-finding-preserved : goal.loop-finding-preserved

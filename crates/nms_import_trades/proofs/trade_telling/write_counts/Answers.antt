@@ -1,8 +1,8 @@
 -- `write_counts`: one line more.
 use Rattle.std.proofs.lemmas.List.Sums.{AllPass-from_list_all}
+use Rattle.nms_show.specs.Plain.{is_plain}
 use Rattle.nms_show.specs.Safe.{IsSafe, nothing}
 use Rattle.nms_show.proofs.Offered.{adds_none, safe_part, safe_then, writes_err}
-use Rattle.nms_import.specs.Telling.{is_plain}
 use Rattle.nms_import_trades.proofs.trade_telling.write_counts.Goals as goal
 
 pub loop-count-init : goal.loop-count-init

@@ -1,9 +1,9 @@
 -- `write_counts`: if the texts are printable, what was written so far is safe.
 use Rattle.std.proofs.Common.{◌≡◌, true}
 use Rattle.std.specs.List.{list_all}
+use Rattle.nms_show.specs.Plain.{is_plain}
 use Rattle.nms_show.specs.Safe.{IsSafe}
 use Rattle.nms_show.specs.Written.{Adds}
-use Rattle.nms_import.specs.Telling.{is_plain}
 use Rattle.nms_import_trades.proofs.trade_telling.write_counts.Given as goal
 
 abbrev pub invariant-loop-count : goal.invariant-loop-count

@@ -12,10 +12,10 @@ write_record-requires-clause-ahead g c = elim c.if-near-before.branch [
   | else-near-before w ↦ subst (λ text. IsPrintable text.now) (sym w.ahead-is) no_text
 ]
 
-pub write_record-requires-clause-behind : goal.write_record-requires-clause-behind
-write_record-requires-clause-behind g c = elim c.if-shown-from.branch [
-  | then-shown-from w ↦ subst (λ text. IsPrintable text.now) (sym w.behind-is) (printable_ascii _ refl)
-  | else-shown-from w ↦ subst (λ text. IsPrintable text.now) (sym w.behind-is) no_text
+pub write_record-requires-clause-after : goal.write_record-requires-clause-after
+write_record-requires-clause-after g c = elim c.if-shown-from.branch [
+  | then-shown-from w ↦ subst (λ text. IsPrintable text.now) (sym w.after-is) (printable_ascii _ refl)
+  | else-shown-from w ↦ subst (λ text. IsPrintable text.now) (sym w.after-is) no_text
 ]
 
 pub returns : goal.returns

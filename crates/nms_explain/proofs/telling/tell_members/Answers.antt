@@ -1,6 +1,0 @@
--- `tell_members`: keys and texts that are plain are printable.
-use Rattle.nms_explain.proofs.SafeFacts.{all_members}
-use Rattle.nms_explain.proofs.telling.tell_members.Goals as goal
-
-pub returns : goal.returns
-returns g c = record { safe = c.write_object.ensures.safe (all_members c.args.members.now c.requires) }
