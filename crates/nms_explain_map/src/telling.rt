@@ -6,11 +6,10 @@ ghost use Rattle.nms_show.specs.Safe.{IsSafe};
 ghost use Rattle.nms_show.specs.Written.{Writes};
 
 use crate::nearest::nearest_known;
-use nms_explain_setup::{Marked, locate_named, mark_at};
+use nms_explain_setup::{Marked, locate_named, mark_at, write_finding, write_marked};
 use nms_import::MapFault;
 use nms_show::{
-    Ending, Form, Item, Location, ShowFault, WrongPart, item_of, words_before, words_round,
-    write_advice, write_found, write_plain_line, write_plain_object, write_refused,
+    Ending, Form, Item, ShowFault, item_of, words_before, write_plain_line, write_plain_object,
 };
 use std::alloc::{AllocError, Global};
 use std::io::Write;
@@ -238,7 +237,8 @@ fn tell_refusal<W: Write>(
         return tell_object(alloc, refusal, answers);
     }
     tell_place(form, refusal, answers)?;
-    tell_found(form, refusal, answers)?;
+    let (found, expected) = (refusal.found, refusal.expected);
+    write_finding(answers, form, refusal.table.is_some(), found, expected)?;
     tell_meant(form, refusal.meant, answers)
 }
 
@@ -256,18 +256,8 @@ fn tell_place<W: Write>(form: Form, refusal: &Refusal<'_>, answers: &mut W) -> R
         Item::Text(": "),
         Item::Text(refusal.sentence),
     ];
-    let marked = refusal.marked;
-    let at = Location {
-        file: refusal.file,
-        line: marked.number,
-        column: marked.column(),
-    };
-    let wrong = WrongPart {
-        text: marked.line,
-        start: marked.pair.start,
-        end: marked.pair.end,
-    };
-    write_refused(answers, form, at, refusal.code, &items, wrong)
+    let (file, marked) = (refusal.file, refusal.marked);
+    write_marked(answers, form, file, marked, refusal.code, &items)
 }
 
 /// The name of a table, if there is one.
@@ -279,18 +269,6 @@ fn table_item(table: Option<&'static str>) -> Item<'static>
         Some(table) => Item::Bytes(table.as_bytes()),
         None => Item::Absent,
     }
-}
-
-/// Writes what was found, and what is expected; the parser's message if the text is no document.
-fn tell_found<W: Write>(form: Form, refusal: &Refusal<'_>, answers: &mut W) -> Result<(), ShowFault>
-    requires { is_own_plain refusal.now.found ≡ true }
-    ensures safe { Writes IsSafe (W.contents answers.old) (W.contents answers.new) result }
-{
-    if refusal.table.is_none() {
-        return write_advice(answers, form, refusal.expected);
-    }
-    let words = words_round(refusal.found);
-    write_found(answers, form, words, refusal.found, refusal.expected)
 }
 
 /// Writes the key that was meant, if there is one.

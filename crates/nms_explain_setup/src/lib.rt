@@ -11,6 +11,7 @@ mod in_braces;
 mod line_start;
 mod locating;
 mod marked;
+mod marking;
 mod named;
 mod nearest;
 mod nest;
@@ -21,5 +22,6 @@ mod toml_line;
 
 pub use explaining::explain_setup;
 pub use marked::{Marked, mark_at};
+pub use marking::{write_finding, write_marked};
 pub use named::locate_named;
 pub use toml_line::Pair;

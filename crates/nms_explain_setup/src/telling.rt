@@ -6,12 +6,13 @@ ghost use Rattle.nms_show.specs.Safe.{IsSafe};
 ghost use Rattle.nms_show.specs.Written.{Writes};
 
 use crate::marked::Marked;
+use crate::marking::{write_finding, write_marked};
 use nms_codes::Code;
 use nms_fees::SetupFault;
 use nms_setup_places::SetupTable;
 use nms_show::{
-    Form, Item, Location, ShowFault, WrongPart, item_if_any, item_of, words_before, words_round,
-    write_advice, write_found, write_plain_line, write_plain_object, write_refused,
+    Form, Item, ShowFault, item_if_any, item_of, words_before, write_advice, write_plain_line,
+    write_plain_object,
 };
 use std::alloc::Global;
 use std::io::Write;
@@ -56,7 +57,8 @@ pub(crate) fn tell_refusal<W: Write>(
         return tell_object(alloc, refusal, answers);
     }
     tell_place(form, refusal, answers)?;
-    tell_found(form, refusal, answers)?;
+    let (found, expected) = (refusal.found, refusal.expected);
+    write_finding(answers, form, refusal.table.is_some(), found, expected)?;
     tell_help(form, refusal, answers)
 }
 
@@ -75,25 +77,8 @@ fn tell_place<W: Write>(form: Form, refusal: &Refusal<'_>, answers: &mut W) -> R
         Item::Text(": "),
         Item::Text(refusal.sentence),
     ];
-    let marked = refusal.marked;
-    let at = Location {
-        file: refusal.file,
-        line: marked.number,
-        column: marked.column(),
-    };
-    let wrong = WrongPart {
-        text: marked.line,
-        start: marked.pair.start,
-        end: marked.pair.end,
-    };
-    write_refused(
-        answers,
-        form,
-        at,
-        Code::of_setup(refusal.fault).text(),
-        &items,
-        wrong,
-    )
+    let code = Code::of_setup(refusal.fault).text();
+    write_marked(answers, form, refusal.file, refusal.marked, code, &items)
 }
 
 /// The words for a table, before its place.
@@ -122,18 +107,6 @@ fn place_item<'a>(table: Option<SetupTable>) -> Item<'a>
         }
         Some(SetupTable::Top) | None => Item::Absent,
     }
-}
-
-/// Writes what was found, and what is expected; the parser's message if the text is no document.
-fn tell_found<W: Write>(form: Form, refusal: &Refusal<'_>, answers: &mut W) -> Result<(), ShowFault>
-    requires { is_own_plain refusal.now.found ≡ true }
-    ensures safe { Writes IsSafe (W.contents answers.old) (W.contents answers.new) result }
-{
-    if refusal.table.is_none() {
-        return write_advice(answers, form, refusal.expected);
-    }
-    let words = words_round(refusal.found);
-    write_found(answers, form, words, refusal.found, refusal.expected)
 }
 
 /// Writes what to do, and what the text probably means.

@@ -2,8 +2,8 @@
 use Rattle.std.proofs.Common.{refl}
 use Rattle.nms_explain_map.proofs.telling.tell_place.Goals as goal
 
-pub write_refused-requires : goal.write_refused-requires
-write_refused-requires g c = record {
+pub write_marked-requires : goal.write_marked-requires
+write_marked-requires g c = record {
   code = c.requires.code;
   items =
       rw (
