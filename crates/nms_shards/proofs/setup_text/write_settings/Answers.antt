@@ -12,11 +12,11 @@ pub returns-in_err-number_line : goal.returns-in_err-number_line
 returns-in_err-number_line g c = λ own.
     writes_err IsSafe _ _ c.from_residual.result c.from_residual.ensures.0
     (safe_part _ _ _ (c.loop-setting.invariant own)
-    (c.in_err-number_line.ensures (AllPass-from_list_all (λ setting. is_plain setting.0.now) c.args.settings.now own c.loop-setting.setting-index _
-    c.loop-setting-test.true)))
+    (c.in_err-number_line.ensures (AllPass-from_list_all (λ setting. is_plain setting.0.now) c.args.settings.now own
+    c.loop-setting.setting-index _ c.loop-setting-test.true)))
 
 pub loop-setting-preserved : goal.loop-setting-preserved
 loop-setting-preserved g c = λ own.
     safe_then _ _ _ (c.loop-setting.invariant own)
-    (c.in_ok-number_line.ensures (AllPass-from_list_all (λ setting. is_plain setting.0.now) c.args.settings.now own c.loop-setting.setting-index _
-    c.loop-setting-test.true))
+    (c.in_ok-number_line.ensures (AllPass-from_list_all (λ setting. is_plain setting.0.now) c.args.settings.now own
+    c.loop-setting.setting-index _ c.loop-setting-test.true))
