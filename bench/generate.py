@@ -11,11 +11,11 @@ LOAD is one of
     looks       as quotes, but 15 of 16 records look
     withdraws   as wide, but every other record withdraws a participant from every symbol
     sweeps      quotations of 16 participants in 50 symbols, an order every 8 records, a publishing every 32
-    live        for live runs: so many quotations of 16 participants in 200 symbols, in 1, 2, 4 and 8 feeds, and 1,000
+    live        for live runs: quotations of 16 participants in 200 symbols, in 1, 2, 4 and 8 feeds, and 1,000
                 orders for each of 1, 4 and 16 desks
 
-Writes FOLDER/load.csv and FOLDER/setup.toml; of live runs FOLDER/FEEDS/feed_a.csv and so on with the same quotations
-in so many feeds, FOLDER/FEEDS/setup-DESKS.toml for so many desks, and FOLDER/orders-DESKS.csv. The same load, number
+Writes FOLDER/load.csv and FOLDER/setup.toml; for live runs FOLDER/FEEDS/feed_a.csv and so on, the same quotations in
+FEEDS feeds, FOLDER/FEEDS/setup-DESKS.toml for DESKS desks, and FOLDER/orders-DESKS.csv. The same load, number
 and seed give the same bytes. Prices drift by a cent, so that sides repeat, improve, lock and cross as in a market.
 """
 
