@@ -30,166 +30,59 @@ fn expected_kind(from: Reading) -> &'static str {
 }
 
 fn expected_participant(name: FieldName) -> &'static str {
-    match name {
-        FieldName::Names => "participants of the setup, joined by one + each",
-        FieldName::Kind
-        | FieldName::Participant
-        | FieldName::Symbol
-        | FieldName::State
-        | FieldName::Bid
-        | FieldName::BidShares
-        | FieldName::Offer
-        | FieldName::OfferShares
-        | FieldName::Lot
-        | FieldName::Average
-        | FieldName::Price
-        | FieldName::Desk
-        | FieldName::Side
-        | FieldName::Shares
-        | FieldName::Limit
-        | FieldName::Flag
-        | FieldName::Version
-        | FieldName::Filled
-        | FieldName::Cost
-        | FieldName::Says
-        | FieldName::Value => "a participant of the setup",
+    if name == FieldName::Names {
+        "participants of the setup, joined by one + each"
+    } else {
+        "a participant of the setup"
     }
 }
 
 fn expected_letter(name: FieldName) -> &'static str {
-    match name {
-        FieldName::Side => "B or S",
-        FieldName::Flag => "M, or nothing before an eighth field",
-        FieldName::Average => "AVG",
-        FieldName::Kind
-        | FieldName::Participant
-        | FieldName::Symbol
-        | FieldName::State
-        | FieldName::Bid
-        | FieldName::BidShares
-        | FieldName::Offer
-        | FieldName::OfferShares
-        | FieldName::Lot
-        | FieldName::Price
-        | FieldName::Desk
-        | FieldName::Shares
-        | FieldName::Limit
-        | FieldName::Names
-        | FieldName::Version
-        | FieldName::Filled
-        | FieldName::Cost
-        | FieldName::Says
-        | FieldName::Value => "A, M or H",
+    if name == FieldName::Side {
+        "B or S"
+    } else if name == FieldName::Flag {
+        "M, or nothing before an eighth field"
+    } else if name == FieldName::Average {
+        "AVG"
+    } else {
+        "A, M or H"
     }
 }
 
 fn expected_price(name: FieldName) -> &'static str {
-    match name {
-        FieldName::Bid | FieldName::Offer => {
-            "dollars: 1 to 7 digits, at most a point and 1 to 4 digits; zero only beside shares that are 0"
-        }
-        FieldName::Kind
-        | FieldName::Participant
-        | FieldName::Symbol
-        | FieldName::State
-        | FieldName::BidShares
-        | FieldName::OfferShares
-        | FieldName::Lot
-        | FieldName::Average
-        | FieldName::Price
-        | FieldName::Desk
-        | FieldName::Side
-        | FieldName::Shares
-        | FieldName::Limit
-        | FieldName::Flag
-        | FieldName::Names
-        | FieldName::Version
-        | FieldName::Filled
-        | FieldName::Cost
-        | FieldName::Says
-        | FieldName::Value => {
-            "dollars above zero: 1 to 7 digits, at most a point and 1 to 4 digits"
-        }
+    if is_side_price(name) {
+        "dollars: 1 to 7 digits, at most a point and 1 to 4 digits; zero only beside shares that are 0"
+    } else {
+        "dollars above zero: 1 to 7 digits, at most a point and 1 to 4 digits"
     }
 }
 
 fn expected_shares(name: FieldName) -> &'static str {
-    match name {
-        FieldName::Shares => "shares: 1 to 9 digits, at least 1",
-        FieldName::Kind
-        | FieldName::Participant
-        | FieldName::Symbol
-        | FieldName::State
-        | FieldName::Bid
-        | FieldName::BidShares
-        | FieldName::Offer
-        | FieldName::OfferShares
-        | FieldName::Lot
-        | FieldName::Average
-        | FieldName::Price
-        | FieldName::Desk
-        | FieldName::Side
-        | FieldName::Limit
-        | FieldName::Flag
-        | FieldName::Names
-        | FieldName::Version
-        | FieldName::Filled
-        | FieldName::Cost
-        | FieldName::Says
-        | FieldName::Value => "shares: 1 to 9 digits",
+    if name == FieldName::Shares {
+        "shares: 1 to 9 digits, at least 1"
+    } else {
+        "shares: 1 to 9 digits"
     }
 }
 
 fn expected_half(name: FieldName) -> &'static str {
-    match name {
-        FieldName::Bid | FieldName::Offer => "a price beside the shares, or neither",
-        FieldName::Kind
-        | FieldName::Participant
-        | FieldName::Symbol
-        | FieldName::State
-        | FieldName::BidShares
-        | FieldName::OfferShares
-        | FieldName::Lot
-        | FieldName::Average
-        | FieldName::Price
-        | FieldName::Desk
-        | FieldName::Side
-        | FieldName::Shares
-        | FieldName::Limit
-        | FieldName::Flag
-        | FieldName::Names
-        | FieldName::Version
-        | FieldName::Filled
-        | FieldName::Cost
-        | FieldName::Says
-        | FieldName::Value => "shares beside the price, or neither",
+    if is_side_price(name) {
+        "a price beside the shares, or neither"
+    } else {
+        "shares beside the price, or neither"
     }
 }
 
+/// Whether a field is the price of a quotation's side.
+fn is_side_price(name: FieldName) -> bool {
+    name == FieldName::Bid || name == FieldName::Offer
+}
+
 fn expected_sender(name: FieldName, from: Reading) -> &'static str {
-    match name {
-        FieldName::Kind => "no round lot: these come on feed A",
-        FieldName::Participant
-        | FieldName::Symbol
-        | FieldName::State
-        | FieldName::Bid
-        | FieldName::BidShares
-        | FieldName::Offer
-        | FieldName::OfferShares
-        | FieldName::Lot
-        | FieldName::Average
-        | FieldName::Price
-        | FieldName::Desk
-        | FieldName::Side
-        | FieldName::Shares
-        | FieldName::Limit
-        | FieldName::Flag
-        | FieldName::Names
-        | FieldName::Version
-        | FieldName::Filled
-        | FieldName::Cost
-        | FieldName::Says
-        | FieldName::Value => expected_of_feed(from),
+    if name == FieldName::Kind {
+        "no round lot: these come on feed A"
+    } else {
+        expected_of_feed(from)
     }
 }
 
