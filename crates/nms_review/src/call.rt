@@ -84,11 +84,16 @@ pub(crate) fn ended<T: Clock + Eprint, R>(
     served: Result<Ending, Fault>,
 ) -> Result<Ending, Fault> {
     source.clear();
-    match (served, source.failed()) {
-        (Err(fault), Some(error)) if fault.code == Code::E1 => Err(Fault::unread(
-            error,
-            fault.about,
-        )),
-        (served, _) => served,
+    match served {
+        Ok(ending) => Ok(ending),
+        Err(fault) => Err(reason_of(source, fault)),
+    }
+}
+
+/// A fault of a request that has read a file: if the reading failed, the system's reason is reported.
+pub(crate) fn reason_of<T: Clock + Eprint, R>(source: &Source<'_, T, R>, fault: Fault) -> Fault {
+    match source.failed() {
+        Some(error) if fault.code == Code::E1 => Fault::unread(error, fault.about),
+        _ => fault,
     }
 }

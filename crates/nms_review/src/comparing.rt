@@ -1,24 +1,25 @@
 //! The subcommand `compare`: compares a vendor's own national bests with those of a file of changes.
-ghost use Rattle.std.specs.Prelude.{◌≡◌, ◌≤◌, All, length, true};
+ghost use Rattle.std.specs.Prelude.{◌≡◌, ◌≤◌, All, IfOk, length, true};
 ghost use Rattle.nms_quote.specs.Roster.{holds, sizes_of};
 ghost use Rattle.nms_quote.specs.declared.TheConstants.{MOST_CHANGES};
 
-use crate::call::ended;
+use crate::call::{ended, reason_of};
 use crate::fault::{About, Fault};
 use crate::files::{read_file, word_at};
 use crate::importing::tell_map_fault;
 use crate::screen::Screen;
-use crate::source::open_source;
+use crate::source::{Source, open_source};
 use crate::vendor::open_vendor;
 use crate::words::Request;
+use csv::{ByteRecord, Reader};
 use nms_codes::Code;
 use nms_compare::{
-    CompareFault, NationalMapping, Shown, compare_rows, keys_of, read_national_mapping,
-    write_counts,
+    CompareFault, Counts, NationalMapping, Shown, Vendor, compare_rows, keys_of,
+    read_national_mapping, write_counts,
 };
 use nms_fees::Setup;
 use nms_files::read_changes;
-use nms_import::{MapFault, Work};
+use nms_import::MapFault;
 use nms_quote::Change;
 use nms_show::Ending;
 use std::alloc::Global;
@@ -45,22 +46,54 @@ where
 {
     let name = text_of(request.map);
     let text = read_file(rt, name, About::Map)?;
-    let mapping = match mapping_of(rt.alloc(), &text) {
-        Ok(mapping) => mapping,
-        Err(fault) => return tell_map_fault(rt, name, &fault),
-    };
+    match mapping_of(rt.alloc(), &text) {
+        Ok(mapping) => compare_by(rt, screen, setup, request, mapping, answers),
+        Err(fault) => tell_map_fault(rt, name, &fault),
+    }
+}
+
+/// Compares by a mapping: reads the changes and their times first.
+fn compare_by<T, W: Write>(
+    rt: &T,
+    screen: Screen,
+    setup: &Setup,
+    request: &Request<'_>,
+    mapping: NationalMapping,
+    answers: &mut W,
+) -> Result<Ending, Fault>
+where
+    T: AllocGlobal + Clock + Eprint + Files,
+{
     let times = read_file(rt, text_of(request.times), About::Times)?;
+    match changes_of(rt, screen, setup, request) {
+        Ok(changes) => compare_changes(
+            rt, screen, setup, request, mapping, &changes, &times, answers,
+        ),
+        Err(fault) => Err(fault),
+    }
+}
+
+/// The changes of the file of changes.
+fn changes_of<T>(
+    rt: &T,
+    screen: Screen,
+    setup: &Setup,
+    request: &Request<'_>,
+) -> Result<Vec<Change>, Fault>
+where
+    T: AllocGlobal + Clock + Eprint + Files,
+    ensures held { IfOk result (λ changes. All (λ change. holds (sizes_of setup.now.roster) change ≡ true) changes.items) }
+    ensures few { IfOk result (λ changes. length changes.items ≤ MOST_CHANGES) }
+{
     let mut source = open_source(rt, screen, request, CHANGES)?;
     let read = read_changes(rt.alloc(), setup, &mut source);
     source.clear();
     match read {
-        Ok(changes) => compare_changes(
-            rt, screen, setup, request, mapping, &changes, &times, answers,
-        ),
-        Err(fault) => ended(
-            &mut source,
-            Err(Fault::of(Code::of_changes(fault), About::Word(CHANGES))),
-        ),
+        Ok(changes) => Ok(changes),
+        Err(fault) => Err(reason_of(
+            &source,
+            Fault::of(Code::of_changes(fault), About::Word(CHANGES)),
+        )),
     }
 }
 
@@ -103,37 +136,64 @@ where
     requires few { length changes.now ≤ MOST_CHANGES }
     requires each { length keys.now ≡ length changes.now }
 {
-    let alloc = rt.alloc();
-    let form = mapping.file();
-    let mut work = Work::new(alloc);
-    let mut reader = open_vendor(rt, screen, request, NATIONAL, form, &mut work.row)?;
-    let vendor = match mapping.vendor(alloc, &work.row) {
-        Ok(vendor) => vendor,
-        Err(fault) => return tell_map_fault(rt, word_at(request, NATIONAL), &fault),
+    let mut names = ByteRecord::new(rt.alloc());
+    let mut reader = open_vendor(rt, screen, request, NATIONAL, mapping.file(), &mut names)?;
+    let compared = match mapping.vendor(rt.alloc(), &names) {
+        Ok(vendor) => compare_vendor(
+            rt,
+            setup,
+            request,
+            &vendor,
+            changes,
+            keys,
+            &mut reader,
+            answers,
+        ),
+        Err(fault) => tell_map_fault(rt, word_at(request, NATIONAL), &fault),
     };
+    ended(&mut reader.into_inner(), compared)
+}
+
+/// Compares the rows of a vendor's file whose names of columns were read.
+fn compare_vendor<T, W: Write>(
+    rt: &T,
+    setup: &Setup,
+    request: &Request<'_>,
+    vendor: &Vendor,
+    changes: &[Change],
+    keys: &[u64],
+    reader: &mut Reader<Source<'_, T, T::File>>,
+    answers: &mut W,
+) -> Result<Ending, Fault>
+where
+    T: AllocGlobal + Clock + Eprint + Files,
+    requires held { All (λ change. holds (sizes_of setup.now.roster) change ≡ true) changes.now }
+    requires few { length changes.now ≤ MOST_CHANGES }
+    requires each { length keys.now ≡ length changes.now }
+{
     let mut shown = Shown::new(answers, word_at(request, NATIONAL));
     let compared = compare_rows(
-        alloc,
-        &vendor,
+        rt.alloc(),
+        vendor,
         setup.roster(),
         changes,
         keys,
-        &mut reader,
+        reader,
         &mut shown,
     );
-    let mut source = reader.into_inner();
-    let ending = match compared {
-        Ok(counts) => {
-            write_counts(answers, &counts).map_err(fault_in)?;
-            if counts.has_doubts() {
-                Ok(Ending::Doubted)
-            } else {
-                Ok(Ending::Done)
-            }
-        }
+    match compared {
+        Ok(counts) => tell_counts(&counts, answers),
         Err(fault) => Err(fault_in(fault)),
-    };
-    ended(&mut source, ending)
+    }
+}
+
+/// Writes the counts. A comparison is doubted if a row differs or is malformed.
+fn tell_counts<W: Write>(counts: &Counts, answers: &mut W) -> Result<Ending, Fault> {
+    match write_counts(answers, counts) {
+        Ok(()) if counts.has_doubts() => Ok(Ending::Doubted),
+        Ok(()) => Ok(Ending::Done),
+        Err(fault) => Err(fault_in(fault)),
+    }
 }
 
 /// The mapping given by a text.

@@ -6,7 +6,7 @@ use crate::answers::Answers;
 use crate::fault::{About, Fault};
 use crate::files::word_at;
 use crate::importing::{
-    create, fault_in, flush, no_memory, show_told, tell_counts, tell_map_fault,
+    create, fault_in, flush, lacks_columns, no_memory, show_told, tell_counts, tell_map_fault,
 };
 use crate::screen::Screen;
 use crate::source::Source;
@@ -19,6 +19,7 @@ use nms_shards::{
     Cutting, LEAST_LIMIT, Shard, begin_shard, import_shard, write_listed, write_setup,
 };
 use nms_show::{Ending, Form, Item, write_line};
+use std::alloc::Global;
 use std::io::Write;
 use std::rt::Files;
 use std::time::Clock;
@@ -26,15 +27,27 @@ use std::time::Clock;
 /// The place of the first file's word: the mapping stands before it.
 const FILES: usize = 1;
 
+/// The files of the shard being written.
+#[derive(Drop)]
+struct ShardFiles<F> {
+    changes: Answers<F>,
+    times: Answers<F>,
+}
+
+/// What is known of the rows that were read: those of the shard being written, and of all.
+#[derive(Drop)]
+struct Rows {
+    cutting: Cutting,
+    notes: Notes,
+}
+
 /// The files of the shard being written, and the state kept from one of the vendor's files to the next.
 #[derive(Drop)]
 struct CutJob<'a, F> {
-    changes: Answers<F>,
-    times: Answers<F>,
-    cutting: Cutting,
+    files: ShardFiles<F>,
+    rows: Rows,
     row: ByteRecord,
     text: Vec<u8>,
-    notes: Notes,
     told: Told<'a, Vec<u8>>,
     tally: Tally,
     shards: u64,
@@ -86,22 +99,44 @@ fn begin_job<'a, T: AllocGlobal + Files>(
     requires room { LEAST_LIMIT ≤ setup.now.tape_limit }
 {
     let alloc = rt.alloc();
-    let changes = create_in(rt, request, 1, ".changes")?;
-    let times = create_in(rt, request, 1, ".times")?;
+    let files = create_files(rt, request, 1)?;
+    match begin_rows(alloc, setup, mapping.order) {
+        Ok(rows) => Ok(CutJob {
+            files,
+            rows,
+            row: ByteRecord::new(alloc),
+            text: Vec::new(alloc),
+            told: Told::new(Vec::new(alloc)),
+            tally: Tally::none(),
+            shards: 1,
+            openings: 0,
+        }),
+        Err(fault) => Err(fault),
+    }
+}
+
+/// Makes the files of a shard.
+fn create_files<T: AllocGlobal + Files>(
+    rt: &T,
+    request: &Request<'_>,
+    shard: u64,
+) -> Result<ShardFiles<T::File>, Fault> {
+    let changes = create_in(rt, request, shard, ".changes")?;
+    match create_in(rt, request, shard, ".times") {
+        Ok(times) => Ok(ShardFiles { changes, times }),
+        Err(fault) => Err(fault),
+    }
+}
+
+/// Begins the first shard, before any row.
+fn begin_rows(alloc: Global, setup: &Setup, order: Order) -> Result<Rows, Fault>
+    requires room { LEAST_LIMIT ≤ setup.now.tape_limit }
+{
     let cutting = Cutting::new(alloc, setup).map_err(|fault| fault_in(fault, 0))?;
-    let notes = Notes::of_symbols(alloc, 1, mapping.order).map_err(|_| no_memory())?;
-    Ok(CutJob {
-        changes,
-        times,
-        cutting,
-        row: ByteRecord::new(alloc),
-        text: Vec::new(alloc),
-        notes,
-        told: Told::new(Vec::new(alloc)),
-        tally: Tally::none(),
-        shards: 1,
-        openings: 0,
-    })
+    match Notes::of_symbols(alloc, 1, order) {
+        Ok(notes) => Ok(Rows { cutting, notes }),
+        Err(_) => Err(no_memory()),
+    }
 }
 
 /// Cuts the rows of all files, and reports the counts.
@@ -124,7 +159,7 @@ where
     }
     finish_shard(rt, setup, request, job)?;
     tell_shards(job.shards, job.openings, answers)?;
-    tell_counts(mapping.meanings.half, &job.tally, &job.notes, answers)
+    tell_counts(mapping.meanings.half, &job.tally, &job.rows.notes, answers)
 }
 
 /// Cuts the rows of one file. Returns whether it has the columns that the mapping names; if not, that is reported.
@@ -140,34 +175,37 @@ fn cut_file<'a, T>(
 where
     T: AllocGlobal + Clock + Eprint + Files,
 {
-    let form = mapping.file;
-    let mut reader = open_vendor(rt, screen, request, place, form, &mut job.row)?;
-    let columns = match mapping.columns(rt.alloc(), &job.row) {
-        Ok(columns) => columns,
-        Err(fault) => {
-            tell_map_fault(rt, word_at(request, place), &fault)?;
-            return Ok(false);
-        }
-    };
-    job.told.enter(word_at(request, place));
-    let cut = cut_rows(
-        rt,
-        setup,
-        request,
-        mapping,
-        &columns,
-        place,
-        &mut reader,
-        job,
-    );
+    let mut reader = open_vendor(rt, screen, request, place, mapping.file, &mut job.row)?;
+    let cut = cut_columns(rt, setup, request, mapping, place, &mut reader, job);
     let mut source = reader.into_inner();
     source.clear();
     show_told(rt, &mut job.told);
-    cut?;
-    Ok(true)
+    cut
 }
 
-/// Cuts the rows that a reader still has.
+/// Cuts the rows of a file whose names of columns were read. Returns as `cut_file` does.
+fn cut_columns<'a, T>(
+    rt: &T,
+    setup: &Setup,
+    request: &Request<'a>,
+    mapping: &Mapping,
+    place: usize,
+    reader: &mut Reader<Source<'_, T, T::File>>,
+    job: &mut CutJob<'a, T::File>,
+) -> Result<bool, Fault>
+where
+    T: AllocGlobal + Clock + Eprint + Files,
+{
+    match mapping.columns(rt.alloc(), &job.row) {
+        Ok(columns) => {
+            job.told.enter(word_at(request, place));
+            cut_rows(rt, setup, request, mapping, &columns, place, reader, job)
+        }
+        Err(fault) => lacks_columns(rt, word_at(request, place), &fault),
+    }
+}
+
+/// Cuts the rows that a reader still has, and returns true.
 fn cut_rows<'a, T>(
     rt: &T,
     setup: &Setup,
@@ -177,7 +215,7 @@ fn cut_rows<'a, T>(
     place: usize,
     reader: &mut Reader<Source<'_, T, T::File>>,
     job: &mut CutJob<'a, T::File>,
-) -> Result<(), Fault>
+) -> Result<bool, Fault>
 where
     T: AllocGlobal + Clock + Eprint + Files,
 {
@@ -188,20 +226,20 @@ where
             setup.roster(),
             request.rows,
             part > 0,
-            &mut job.cutting,
+            &mut job.rows.cutting,
             &mut job.row,
             &mut job.text,
             reader,
-            &mut job.changes,
-            &mut job.times,
-            &mut job.notes,
+            &mut job.files.changes,
+            &mut job.files.times,
+            &mut job.rows.notes,
             &mut job.told,
             &mut job.tally,
-        )
-        .map_err(|fault| fault_in(fault, place))?;
+        );
         match stopped {
-            Shard::GoesOn => return Ok(()),
-            Shard::Full => next_shard(rt, setup, request, job)?,
+            Ok(Shard::GoesOn) => return Ok(true),
+            Ok(Shard::Full) => next_shard(rt, setup, request, job)?,
+            Err(fault) => return Err(fault_in(fault, place)),
         }
     }
     Err(fault_in(ImportFault::TooLong, place))
@@ -219,19 +257,31 @@ where
 {
     finish_shard(rt, setup, request, job)?;
     job.shards = sum_of(job.shards, 1)?;
-    job.changes = create_in(rt, request, job.shards, ".changes")?;
-    job.times = create_in(rt, request, job.shards, ".times")?;
+    job.files = create_files(rt, request, job.shards)?;
+    open_shard(setup, request, job)
+}
+
+/// Writes the opening changes of the shard that was begun.
+fn open_shard<F: Write>(
+    setup: &Setup,
+    request: &Request<'_>,
+    job: &mut CutJob<'_, F>,
+) -> Result<(), Fault> {
     let opened = begin_shard(
         setup.roster(),
         request.rows,
-        &mut job.cutting,
+        &mut job.rows.cutting,
         &mut job.text,
-        &mut job.changes,
-        &mut job.times,
-    )
-    .map_err(|fault| fault_in(fault, 0))?;
-    job.openings = sum_of(job.openings, opened)?;
-    Ok(())
+        &mut job.files.changes,
+        &mut job.files.times,
+    );
+    match opened {
+        Ok(opened) => {
+            job.openings = sum_of(job.openings, opened)?;
+            Ok(())
+        }
+        Err(fault) => Err(fault_in(fault, 0)),
+    }
 }
 
 /// The sum of two counts.
@@ -252,14 +302,32 @@ fn finish_shard<T>(
 where
     T: AllocGlobal + Files,
 {
-    flush(&mut job.changes)?;
-    flush(&mut job.times)?;
-    let mut symbols = create_in(rt, request, job.shards, ".symbols")?;
-    write_listed(&mut symbols, &job.cutting).map_err(|fault| fault_in(fault, 0))?;
-    flush(&mut symbols)?;
-    let mut text = create_in(rt, request, job.shards, ".toml")?;
-    write_setup(&mut text, setup, &job.cutting).map_err(|fault| fault_in(fault, 0))?;
-    flush(&mut text)
+    flush(&mut job.files.changes)?;
+    flush(&mut job.files.times)?;
+    let symbols = create_in(rt, request, job.shards, ".symbols")?;
+    finish_symbols(symbols, &job.rows.cutting)?;
+    let text = create_in(rt, request, job.shards, ".toml")?;
+    finish_setup(text, setup, &job.rows.cutting)
+}
+
+/// Writes the symbols of a shard to its file.
+fn finish_symbols<F: Write + Drop>(mut file: Answers<F>, cutting: &Cutting) -> Result<(), Fault> {
+    match write_listed(&mut file, cutting) {
+        Ok(()) => flush(&mut file),
+        Err(fault) => Err(fault_in(fault, 0)),
+    }
+}
+
+/// Writes the setup of a shard to its file.
+fn finish_setup<F: Write + Drop>(
+    mut file: Answers<F>,
+    setup: &Setup,
+    cutting: &Cutting,
+) -> Result<(), Fault> {
+    match write_setup(&mut file, setup, cutting) {
+        Ok(()) => flush(&mut file),
+        Err(fault) => Err(fault_in(fault, 0)),
+    }
 }
 
 /// Reports how many shards there are, and how many opening changes they have in addition to those of the rows.

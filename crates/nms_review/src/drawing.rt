@@ -184,29 +184,40 @@ fn frame_of<'a, T: AllocGlobal + Files>(
     times: Option<&'a Times>,
 ) -> Result<Frame<'a>, Fault> {
     let (first, last) = span_of(rt, request, times)?;
-    let from = match request.from {
-        Some(word) => version_given(rt, request, times, word, About::From)?,
-        None => 0,
-    };
-    let to = match request.to {
-        Some(word) => Some(version_given(rt, request, times, word, About::To)?),
-        None => None,
-    };
-    if let Some(to) = to {
-        if from > to {
-            return Err(Fault::usage(About::Nothing, "--from is a version after that of --to"));
-        }
+    let from = end_of(rt, request, times, request.from, About::From)?.unwrap_or(0);
+    let to = end_of(rt, request, times, request.to, About::To)?;
+    if to.is_some_and(|to| from > to) {
+        return Err(Fault::usage(About::Nothing, "--from is a version after that of --to"));
     }
     Ok(Frame {
         from: from.max(first).min(last.unwrap_or(u64::MAX)),
-        to: match (to, last) {
-            (Some(to), Some(last)) => Some(to.min(last)),
-            (Some(to), None) => Some(to),
-            (None, last) => last,
-        },
+        to: sooner(to, last),
         own: request.own,
         times,
     })
+}
+
+/// The version at which an option begins or ends what is drawn, if it was given.
+fn end_of<T: AllocGlobal + Files>(
+    rt: &T,
+    request: &Request<'_>,
+    times: Option<&Times>,
+    word: Option<&str>,
+    about: About,
+) -> Result<Option<u64>, Fault> {
+    match word {
+        Some(word) => Ok(Some(version_given(rt, request, times, word, about)?)),
+        None => Ok(None),
+    }
+}
+
+/// The sooner of two versions, or the one that there is.
+fn sooner(one: Option<u64>, other: Option<u64>) -> Option<u64> {
+    match (one, other) {
+        (Some(one), Some(other)) => Some(one.min(other)),
+        (Some(version), None) | (None, Some(version)) => Some(version),
+        (None, None) => None,
+    }
 }
 
 /// The first and the last version of the symbol, by the file of symbols; without one, those of the changes.

@@ -5,8 +5,10 @@ use crate::fault::{About, Fault};
 use crate::files::{create_file, read_file, word_at};
 use crate::importing_trades::{is_trade_map, serve_import_trades};
 use crate::screen::Screen;
+use crate::source::Source;
 use crate::vendor::open_vendor;
 use crate::words::Request;
+use csv::Reader;
 use nms_codes::Code;
 use nms_fees::Setup;
 use nms_import::{
@@ -56,12 +58,18 @@ fn mapping_of(alloc: Global, text: &[u8]) -> Result<Mapping, MapFault> {
     }
 }
 
-/// The files being written, and the state kept from one of the vendor's files to the next.
+/// The files being written.
 #[derive(Drop)]
-struct Job<'a, F> {
+struct Written<F> {
     changes: Answers<F>,
     times: Answers<F>,
     symbols: Answers<F>,
+}
+
+/// The files being written, and the state kept from one of the vendor's files to the next.
+#[derive(Drop)]
+struct Job<'a, F> {
+    files: Written<F>,
     work: Work,
     notes: Notes,
     told: Told<'a, Vec<u8>>,
@@ -94,19 +102,34 @@ fn begin_job<'a, T: AllocGlobal + Files>(
     mapping: &Mapping,
 ) -> Result<Job<'a, T::File>, Fault> {
     let alloc = rt.alloc();
+    let files = create_files(rt, request)?;
+    match Notes::new(alloc, setup.roster(), mapping.order) {
+        Ok(notes) => Ok(Job {
+            files,
+            work: Work::new(alloc),
+            notes,
+            told: Told::new(Vec::new(alloc)),
+            tally: Tally::none(),
+        }),
+        Err(_) => Err(no_memory()),
+    }
+}
+
+/// Makes the three files.
+fn create_files<T: AllocGlobal + Files>(
+    rt: &T,
+    request: &Request<'_>,
+) -> Result<Written<T::File>, Fault> {
     let changes = create(rt, request, ".changes")?;
     let times = create(rt, request, ".times")?;
-    let symbols = create(rt, request, ".symbols")?;
-    let notes = Notes::new(alloc, setup.roster(), mapping.order).map_err(|_| no_memory())?;
-    Ok(Job {
-        changes,
-        times,
-        symbols,
-        work: Work::new(alloc),
-        notes,
-        told: Told::new(Vec::new(alloc)),
-        tally: Tally::none(),
-    })
+    match create(rt, request, ".symbols") {
+        Ok(symbols) => Ok(Written {
+            changes,
+            times,
+            symbols,
+        }),
+        Err(fault) => Err(fault),
+    }
 }
 
 /// Makes changes of all files, and reports the counts.
@@ -143,14 +166,30 @@ fn import_file<'a, T>(
 where
     T: AllocGlobal + Clock + Eprint + Files,
 {
-    let form = mapping.file;
-    let mut reader = open_vendor(rt, screen, request, place, form, &mut job.work.row)?;
+    let mut reader = open_vendor(rt, screen, request, place, mapping.file, &mut job.work.row)?;
+    let imported = import_columns(rt, setup, request, mapping, place, &mut reader, job);
+    let mut source = reader.into_inner();
+    source.clear();
+    show_told(rt, &mut job.told);
+    imported
+}
+
+/// Makes changes of a file whose names of columns were read. Returns as `import_file` does.
+fn import_columns<'a, T>(
+    rt: &T,
+    setup: &Setup,
+    request: &Request<'a>,
+    mapping: &Mapping,
+    place: usize,
+    reader: &mut Reader<Source<'_, T, T::File>>,
+    job: &mut Job<'a, T::File>,
+) -> Result<bool, Fault>
+where
+    T: AllocGlobal + Clock + Eprint + Files,
+{
     let columns = match mapping.columns(rt.alloc(), &job.work.row) {
         Ok(columns) => columns,
-        Err(fault) => {
-            tell_map_fault(rt, word_at(request, place), &fault)?;
-            return Ok(false);
-        }
+        Err(fault) => return lacks_columns(rt, word_at(request, place), &fault),
     };
     job.told.enter(word_at(request, place));
     let imported = import_rows(
@@ -159,18 +198,28 @@ where
         setup.roster(),
         request.rows,
         &mut job.work,
-        &mut reader,
-        &mut job.changes,
-        &mut job.times,
+        reader,
+        &mut job.files.changes,
+        &mut job.files.times,
         &mut job.notes,
         &mut job.told,
         &mut job.tally,
     );
-    let mut source = reader.into_inner();
-    source.clear();
-    show_told(rt, &mut job.told);
-    imported.map_err(|fault| fault_in(fault, place))?;
-    Ok(true)
+    match imported {
+        Ok(()) => Ok(true),
+        Err(fault) => Err(fault_in(fault, place)),
+    }
+}
+
+/// Reports a file without the columns that its mapping names, and returns false.
+pub(crate) fn lacks_columns<T>(rt: &T, file: &str, fault: &MapFault) -> Result<bool, Fault>
+where
+    T: AllocGlobal + Eprint,
+{
+    match tell_map_fault(rt, file, fault) {
+        Ok(_) => Ok(false),
+        Err(fault) => Err(fault),
+    }
 }
 
 /// Writes the rest, the symbols and the counts, and reports the doubts about the import.
@@ -180,12 +229,12 @@ fn finish<F: Write, W: Write>(
     job: &mut Job<'_, F>,
     answers: &mut W,
 ) -> Result<Ending, Fault> {
-    write_symbols(&mut job.symbols, setup.roster(), &job.notes).map_err(|fault| fault_in(
-        fault, 0,
-    ))?;
-    flush(&mut job.changes)?;
-    flush(&mut job.times)?;
-    flush(&mut job.symbols)?;
+    if let Err(fault) = write_symbols(&mut job.files.symbols, setup.roster(), &job.notes) {
+        return Err(fault_in(fault, 0));
+    }
+    flush(&mut job.files.changes)?;
+    flush(&mut job.files.times)?;
+    flush(&mut job.files.symbols)?;
     tell_counts(half, &job.tally, &job.notes, answers)
 }
 

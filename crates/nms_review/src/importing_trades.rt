@@ -3,10 +3,12 @@
 use crate::answers::Answers;
 use crate::fault::{About, Fault};
 use crate::files::word_at;
-use crate::importing::{create, fault_in, flush, tell_map_fault};
+use crate::importing::{create, fault_in, flush, lacks_columns, tell_map_fault};
 use crate::screen::Screen;
+use crate::source::Source;
 use crate::vendor::open_vendor;
 use crate::words::Request;
+use csv::Reader;
 use nms_codes::Code;
 use nms_fees::Setup;
 use nms_import::{ImportFault, MapFault, document_of};
@@ -132,14 +134,30 @@ fn import_trade_file<'a, T>(
 where
     T: AllocGlobal + Clock + Eprint + Files,
 {
-    let form = mapping.file;
-    let mut reader = open_vendor(rt, screen, request, place, form, &mut job.work.row)?;
+    let mut reader = open_vendor(rt, screen, request, place, mapping.file, &mut job.work.row)?;
+    let imported = import_columns(rt, setup, request, mapping, place, &mut reader, job);
+    let mut source = reader.into_inner();
+    source.clear();
+    show_told(rt, &mut job.told);
+    imported
+}
+
+/// Makes executions of a file whose names of columns were read. Returns as `import_trade_file` does.
+fn import_columns<'a, T>(
+    rt: &T,
+    setup: &Setup,
+    request: &Request<'a>,
+    mapping: &TradeMapping,
+    place: usize,
+    reader: &mut Reader<Source<'_, T, T::File>>,
+    job: &mut TradeJob<'a, T::File>,
+) -> Result<bool, Fault>
+where
+    T: AllocGlobal + Clock + Eprint + Files,
+{
     let columns = match mapping.columns(rt.alloc(), &job.work.row) {
         Ok(columns) => columns,
-        Err(fault) => {
-            tell_map_fault(rt, word_at(request, place), &fault)?;
-            return Ok(false);
-        }
+        Err(fault) => return lacks_columns(rt, word_at(request, place), &fault),
     };
     job.told.enter(word_at(request, place));
     let imported = import_trades(
@@ -147,16 +165,15 @@ where
         &mapping.meanings,
         setup.roster(),
         &mut job.work,
-        &mut reader,
+        reader,
         &mut job.executions,
         &mut job.told,
         &mut job.tally,
     );
-    let mut source = reader.into_inner();
-    source.clear();
-    show_told(rt, &mut job.told);
-    imported.map_err(|fault| fault_in(fault, place))?;
-    Ok(true)
+    match imported {
+        Ok(()) => Ok(true),
+        Err(fault) => Err(fault_in(fault, place)),
+    }
 }
 
 /// Writes the rest and the counts, and returns whether most rows were refused.

@@ -1,18 +1,20 @@
 //! The symbols that have begun, in any shard.
-use indexmap::IndexMap;
 use std::alloc::Global;
+use std::collections::HashSet;
 
-/// The symbols that have begun, in order. Nothing else grows with a market.
+/// The symbols that have begun. Nothing else grows with a market.
 #[derive(Drop)]
 pub(crate) struct Begun {
-    names: IndexMap<String, u64>,
+    alloc: Global,
+    names: HashSet<String>,
 }
 
 impl Begun {
     /// None.
     pub(crate) fn new(alloc: Global) -> Begun {
         Begun {
-            names: IndexMap::new(alloc),
+            alloc,
+            names: HashSet::new(alloc),
         }
     }
 
@@ -23,15 +25,14 @@ impl Begun {
 
     /// Whether a symbol is one of them.
     pub(crate) fn contains(&self, name: &str) -> bool {
-        self.names.get_index_of(name).is_some()
+        self.names.contains(name)
     }
 
     /// Adds one. Returns whether there was memory for it.
     pub(crate) fn add(&mut self, name: &str) -> bool {
-        let Ok(owned) = String::from_str(*self.names.allocator(), name) else {
-            return false;
-        };
-        let place = self.names.len() as u64;
-        self.names.insert(owned, place).is_ok()
+        match String::from_str(self.alloc, name) {
+            Ok(owned) => self.names.insert(owned).is_ok(),
+            Err(_) => false,
+        }
     }
 }

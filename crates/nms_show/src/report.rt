@@ -38,7 +38,8 @@ pub struct WrongPart<'a> {
     pub end: usize,
 }
 
-/// Writes a line, as `write_line` does, of items whose own texts are printable ASCII. What is added is safe to show.
+/// Writes a line, as `write_line` does, of items whose own texts are printable ASCII. What is added is safe to show. A fault is
+/// one of `write_line`.
 #[tactic(auto, using(crate::proofs::PlainFacts::plain_items))]
 pub fn write_plain_line<W: Write>(
     answers: &mut W,
@@ -51,7 +52,8 @@ pub fn write_plain_line<W: Write>(
     write_line(answers, form, items)
 }
 
-/// Writes a JSON object, as `write_object` does, whose keys and own texts are printable ASCII. What is added is safe to show.
+/// Writes a JSON object, as `write_object` does, whose keys and own texts are printable ASCII. What is added is safe to show. A
+/// fault is one of `write_object`.
 pub fn write_plain_object<W: Write>(
     alloc: Global,
     answers: &mut W,
@@ -65,7 +67,7 @@ pub fn write_plain_object<W: Write>(
 
 /// Writes the line of a refusal's place: file, line, column and code, and then the items. It is not flushed.
 ///
-/// What is added is safe to show.
+/// What is added is safe to show. `WriteFault` leaves a first part of the line.
 pub fn write_place<W: Write>(
     answers: &mut W,
     form: Form,
@@ -84,7 +86,7 @@ pub fn write_place<W: Write>(
 /// Writes the line of a refusal's place, as `write_place` does, and its text with carets under the part that is wrong. It is not
 /// flushed.
 ///
-/// What is added is safe to show.
+/// What is added is safe to show. `WriteFault` leaves a first part of the lines.
 pub fn write_refused<W: Write>(
     answers: &mut W,
     form: Form,
@@ -138,7 +140,7 @@ fn write_plain_items<W: Write>(
 
 /// Writes what was found, between the two words that belong to it, and then what is expected. It is not flushed.
 ///
-/// What is added is safe to show.
+/// What is added is safe to show. `WriteFault` leaves a first part of the line.
 pub fn write_found<'x, W: Write>(
     answers: &mut W,
     form: Form,
@@ -175,7 +177,7 @@ pub fn words_round(found: Item<'_>) -> (&'static str, &'static str)
 
 /// Writes a line of advice; nothing if there is none. It is not flushed.
 ///
-/// What is added is safe to show, whatever the advice quotes of a file.
+/// What is added is safe to show, whatever the advice quotes of a file. `WriteFault` leaves a first part of the line.
 #[tactic(auto, using(crate::proofs::PlainFacts::nothing_added))]
 pub fn write_advice<W: Write>(answers: &mut W, form: Form, advice: &str) -> Result<(), ShowFault>
     ensures safe { Writes IsSafe (W.contents answers.old) (W.contents answers.new) result }
