@@ -14,7 +14,7 @@ use nms_show::{Form, Item, ShowFault, write_line};
 use std::io::Write;
 
 /// How many rows had each finding.
-#[derive(Clone, Copy, Debug, PartialEq, Eq)]
+#[derive(Clone, Copy, PartialEq, Eq)]
 pub struct Counts {
     /// Nothing differs.
     pub equal: u64,

@@ -7,7 +7,7 @@ use nms_board::Row;
 use nms_stream::Quoted;
 
 /// The finding on a row, on the version at its time.
-#[derive(Clone, Copy, Debug, PartialEq, Eq)]
+#[derive(Clone, Copy, PartialEq, Eq)]
 pub enum Finding {
     /// Prices, displayed sizes and venues are the same on both sides.
     Equal,

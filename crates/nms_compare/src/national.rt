@@ -11,7 +11,7 @@ use nms_units::{Price, Shares};
 use std::alloc::AllocError;
 
 /// A side of a vendor's national best.
-#[derive(Clone, Copy, Debug, PartialEq, Eq)]
+#[derive(Clone, Copy, PartialEq, Eq)]
 pub struct Best {
     /// Who quotes it.
     pub part: Part,
@@ -22,7 +22,7 @@ pub struct Best {
 }
 
 /// A vendor's national best of a symbol.
-#[derive(Clone, Copy, Debug, PartialEq, Eq)]
+#[derive(Clone, Copy, PartialEq, Eq)]
 pub struct National {
     /// The time of day as digits, `HHMMSSnnnnnnnnn`.
     pub time: u64,

@@ -5,7 +5,7 @@ ghost use Rattle.nms_import.specs.Causes.{is_skipped};
 use nms_quote::Side;
 
 /// Why a row makes no change: the first that holds, in this order. The first nine refuse the row, the others skip it.
-#[derive(Clone, Copy, Debug, PartialEq, Eq)]
+#[derive(Clone, Copy, PartialEq, Eq)]
 pub enum Cause {
     /// Fewer columns than the mapping names.
     TooFewColumns,

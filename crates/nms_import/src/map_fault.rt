@@ -7,7 +7,7 @@ ghost use Rattle.nms_import.specs.Refusals.{code_of, is_of_document, refusal_of}
 use std::alloc::{AllocError, Global};
 
 /// Why a mapping is refused: the first fault that is found, table by table.
-#[derive(Debug, Drop)]
+#[derive(Drop)]
 pub enum MapFault {
     /// M1: the text is no TOML document, from this line on.
     NotToml {

@@ -12,7 +12,7 @@ use csv::ByteRecord;
 use std::alloc::Global;
 
 /// How a file is laid out.
-#[derive(Clone, Copy, Debug, PartialEq, Eq)]
+#[derive(Clone, Copy, PartialEq, Eq)]
 pub struct FileForm {
     /// The byte between fields.
     pub delimiter: u8,
@@ -23,7 +23,7 @@ pub struct FileForm {
 }
 
 /// What a mapping says of the order of a file's rows.
-#[derive(Clone, Copy, Debug, PartialEq, Eq)]
+#[derive(Clone, Copy, PartialEq, Eq)]
 pub enum Order {
     /// No time is before that of an earlier row.
     Given,

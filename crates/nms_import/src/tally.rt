@@ -8,7 +8,7 @@ use crate::cause::Cause;
 pub const MOST_ROWS: u64 = 1_000_000_000_000;
 
 /// How many rows had each outcome.
-#[derive(Clone, Copy, Debug, PartialEq, Eq)]
+#[derive(Clone, Copy, PartialEq, Eq)]
 pub struct Tally {
     /// Rows that made a change, but for the next ones.
     pub wholes: u64,
@@ -43,7 +43,7 @@ pub struct Tally {
 }
 
 /// The sums of the outcomes.
-#[derive(Clone, Copy, Debug, PartialEq, Eq)]
+#[derive(Clone, Copy, PartialEq, Eq)]
 pub struct Sums {
     /// All rows.
     pub rows: u64,

@@ -5,7 +5,7 @@ ghost use Rattle.nms_import_trades.specs.Executions.{refused_in, rows_in, skippe
 use crate::trade_cause::TradeCause;
 
 /// How many rows had each outcome.
-#[derive(Clone, Copy, Debug, PartialEq, Eq)]
+#[derive(Clone, Copy, PartialEq, Eq)]
 pub struct TradeTally {
     /// Rows that made an execution.
     pub executions: u64,
@@ -38,7 +38,7 @@ pub struct TradeTally {
 }
 
 /// The sums of the outcomes.
-#[derive(Clone, Copy, Debug, PartialEq, Eq)]
+#[derive(Clone, Copy, PartialEq, Eq)]
 pub struct TradeSums {
     /// All rows.
     pub rows: u64,

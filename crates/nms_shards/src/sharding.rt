@@ -19,7 +19,7 @@ use std::alloc::AllocError;
 use std::io::{Read, Write};
 
 /// Why an import of a market's rows stops.
-#[derive(Clone, Copy, Debug, PartialEq, Eq)]
+#[derive(Clone, Copy, PartialEq, Eq)]
 pub enum Shard {
     /// The file has no more rows. The shard goes on with the next file.
     GoesOn,
