@@ -32,7 +32,7 @@ pub use importing::{Work, give, import_rows, write_entry};
 pub use laws::worked_examples;
 pub use map_fault::MapFault;
 pub use map_table::{MapTable, keep};
-pub use mapping::{FileForm, Mapping, Order, Source, place_of};
+pub use mapping::{FileForm, Mapping, Order, Source, place_of, places_of};
 pub use mapping_reading::{
     document_of, file_of, form_of, mapping_of, names_of, no_others, read_mapping, symbols_of,
     unit_of,

@@ -192,15 +192,44 @@ impl<'a> MapTable<'a> {
             return Ok((self.nothing(), self.nothing()));
         };
         let Some(values) = value.as_array() else {
-            return Ok((self.nothing(), self.source(key, value, header)?));
+            return self.after_nothing(key, value, header);
         };
         match values.as_slice() {
-            [only] => Ok((self.nothing(), self.source(key, only, header)?)),
-            [first, second] => {
-                let first = self.source(key, first, header)?;
-                Ok((first, self.source(key, second, header)?))
-            }
+            [only] => self.after_nothing(key, only, header),
+            [first, second] => self.both(key, first, second, header),
             _ => Err(self.bad(key, "a column, or an array of two")),
+        }
+    }
+
+    /// The empty text, and what a value says of a column.
+    fn after_nothing(
+        self,
+        key: &str,
+        value: &Value,
+        header: bool,
+    ) -> Result<(Source, Source), MapFault>
+        ensures kind { IfErr result (λ fault. is_of_document fault ≡ true) }
+    {
+        match self.source(key, value, header) {
+            Ok(source) => Ok((self.nothing(), source)),
+            Err(fault) => Err(fault),
+        }
+    }
+
+    /// What two values say of two columns.
+    fn both(
+        self,
+        key: &str,
+        first: &Value,
+        second: &Value,
+        header: bool,
+    ) -> Result<(Source, Source), MapFault>
+        ensures kind { IfErr result (λ fault. is_of_document fault ≡ true) }
+    {
+        let first = self.source(key, first, header)?;
+        match self.source(key, second, header) {
+            Ok(second) => Ok((first, second)),
+            Err(fault) => Err(fault),
         }
     }
 

@@ -89,16 +89,51 @@ impl Mapping {
     {
         let all = &self.sources;
         let mut width = 0;
-        let time = place_of(alloc, &all.time, "time", names, &mut width)?;
-        let participant = place_of(alloc, &all.participant, "participant", names, &mut width)?;
-        let symbol = place_of(alloc, &all.symbol, "symbol", names, &mut width)?;
-        let bid = place_of(alloc, &all.bid, "bid", names, &mut width)?;
-        let bid_size = place_of(alloc, &all.bid_size, "bid_size", names, &mut width)?;
-        let offer = place_of(alloc, &all.offer, "offer", names, &mut width)?;
-        let offer_size = place_of(alloc, &all.offer_size, "offer_size", names, &mut width)?;
-        let source = place_of(alloc, &all.source, "condition", names, &mut width)?;
-        let condition = place_of(alloc, &all.condition, "condition", names, &mut width)?;
-        let skip = place_of(alloc, &all.skip, "skip", names, &mut width)?;
+        let (time, participant) = places_of(
+            alloc,
+            &all.time,
+            "time",
+            &all.participant,
+            "participant",
+            names,
+            &mut width,
+        )?;
+        let (symbol, bid) = places_of(
+            alloc,
+            &all.symbol,
+            "symbol",
+            &all.bid,
+            "bid",
+            names,
+            &mut width,
+        )?;
+        let (bid_size, offer) = places_of(
+            alloc,
+            &all.bid_size,
+            "bid_size",
+            &all.offer,
+            "offer",
+            names,
+            &mut width,
+        )?;
+        let (offer_size, source) = places_of(
+            alloc,
+            &all.offer_size,
+            "offer_size",
+            &all.source,
+            "condition",
+            names,
+            &mut width,
+        )?;
+        let (condition, skip) = places_of(
+            alloc,
+            &all.condition,
+            "condition",
+            &all.skip,
+            "skip",
+            names,
+            &mut width,
+        )?;
         Ok(Columns {
             width,
             time,
@@ -112,6 +147,28 @@ impl Mapping {
             condition,
             skip,
         })
+    }
+}
+
+/// Where the columns of two keys stand, the first one first, as `place_of` finds them.
+pub fn places_of(
+    alloc: Global,
+    one: &Source,
+    one_key: &'static str,
+    other: &Source,
+    other_key: &'static str,
+    names: &ByteRecord,
+    width: &mut usize,
+) -> Result<(Column, Column), MapFault>
+    ensures one { IfOk result (λ found. IsPlaced one.now (fields_of names.now) found.0) }
+    ensures other { IfOk result (λ found. IsPlaced other.now (fields_of names.now) found.1) }
+    ensures width { IfOk result (λ found. width.new ≡ max (max width.old (columns_needed found.0)) (columns_needed found.1)) }
+    ensures fault { IfErr result (λ fault. is_of_first_row fault ≡ true) }
+{
+    let first = place_of(alloc, one, one_key, names, width)?;
+    match place_of(alloc, other, other_key, names, width) {
+        Ok(second) => Ok((first, second)),
+        Err(fault) => Err(fault),
     }
 }
 

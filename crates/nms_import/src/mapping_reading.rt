@@ -8,7 +8,7 @@ ghost use Rattle.nms_import.specs.Tables.{form_at, form_named, is_delimiter, uni
 
 use crate::map_fault::MapFault;
 use crate::map_table::{MapTable, copied, keep};
-use crate::mapping::{FileForm, Mapping, Order, Sources};
+use crate::mapping::{FileForm, Mapping, Order, Source, Sources};
 use crate::meanings::{
     Half, Meaning, Meanings, PriceUnit, Renamed, Replaced, Said, TimeForm, Word,
 };
@@ -84,14 +84,28 @@ pub fn mapping_of(alloc: Global, document: &Table) -> Result<Mapping, MapFault>
     no_others(alloc, document, &TABLES, A_TABLE)?;
     let (file, ends) = file_of(alloc, document, "quotes")?;
     let sources = sources_of(alloc, document, file.header)?;
+    match texts_of(alloc, document, ends) {
+        Ok((order, meanings)) => Ok(Mapping {
+            file,
+            order,
+            meanings,
+            sources,
+        }),
+        Err(fault) => Err(fault),
+    }
+}
+
+/// The order of the rows, and what the texts of a file mean.
+fn texts_of(alloc: Global, document: &Table, ends: Vec<Word>) -> Result<(Order, Meanings), MapFault>
+    ensures day { IfOk result (λ found. found.1.zone < 86400) }
+    ensures unit { IfOk result (λ found. (0 < found.1.size_unit) × (found.1.size_unit ≤ MOST_LOT)) }
+    ensures kind { IfErr result (λ fault. is_of_document fault ≡ true) }
+{
     let (time_form, zone, order) = times_of(alloc, document)?;
-    let meanings = meanings_of(alloc, document, ends, time_form, zone)?;
-    Ok(Mapping {
-        file,
-        order,
-        meanings,
-        sources,
-    })
+    match meanings_of(alloc, document, ends, time_form, zone) {
+        Ok(meanings) => Ok((order, meanings)),
+        Err(fault) => Err(fault),
+    }
 }
 
 /// Refuses a table that is none of these.
@@ -127,30 +141,75 @@ pub fn file_of(
         &["kind", "delimiter", "header", "end", "quotes"],
         "one of kind, delimiter, header, end, quotes",
     )?;
+    check_kind(table, kind)?;
+    let delimiter = delimiter_of(table)?;
+    let ends = ends_of(alloc, table)?;
+    match flags_of(table) {
+        Ok((header, quotes)) => Ok((
+            FileForm {
+                delimiter,
+                header,
+                quotes,
+            },
+            ends,
+        )),
+        Err(fault) => Err(fault),
+    }
+}
+
+/// Refuses a mapping of another kind.
+fn check_kind(table: MapTable<'_>, kind: &str) -> Result<(), MapFault>
+    ensures kind { IfErr result (λ fault. is_of_document fault ≡ true) }
+{
     let expected = "\"quotes\", or for import \"trades\"";
     match table.text("kind", expected)? {
-        Some(said) if said != kind => return Err(table.bad("kind", expected)),
-        Some(_) | None => {}
+        Some(said) if said != kind => Err(table.bad("kind", expected)),
+        Some(_) | None => Ok(()),
     }
+}
+
+/// The byte between fields.
+fn delimiter_of(table: MapTable<'_>) -> Result<u8, MapFault>
+    ensures delimiter { IfOk result (λ byte. is_delimiter byte ≡ true) }
+    ensures kind { IfErr result (λ fault. is_of_document fault ≡ true) }
+{
     let expected = "a text of one byte other than a quote and the end of a line, as \"|\"";
-    let delimiter = match table.text("delimiter", expected)? {
-        None => b',',
+    match table.text("delimiter", expected)? {
+        None => Ok(b','),
         Some(text) => match text.as_bytes() {
-            [byte] if is_delimiter(*byte) => *byte,
-            _ => return Err(table.bad("delimiter", expected)),
+            [byte] if is_delimiter(*byte) => Ok(*byte),
+            _ => Err(table.bad("delimiter", expected)),
         },
-    };
-    let mut ends = Vec::new(alloc);
-    if let Some(text) = table.text("end", "a text, as \"END\"")? {
-        let text = copied(alloc, text.as_bytes())?;
-        keep(&mut ends, Word { text })?;
     }
-    let file = FileForm {
-        delimiter,
-        header: table.flag("header")?,
-        quotes: table.flag("quotes")?,
-    };
-    Ok((file, ends))
+}
+
+/// The words that a last line begins with.
+fn ends_of(alloc: Global, table: MapTable<'_>) -> Result<Vec<Word>, MapFault>
+    ensures kind { IfErr result (λ fault. is_of_document fault ≡ true) }
+{
+    match table.text("end", "a text, as \"END\"")? {
+        Some(text) => one_word(alloc, text),
+        None => Ok(Vec::new(alloc)),
+    }
+}
+
+/// A list of one word.
+fn one_word(alloc: Global, text: &str) -> Result<Vec<Word>, MapFault>
+    ensures memory { IfErr result (λ fault. fault ≡ MapFault.NoMemory) }
+{
+    let text = copied(alloc, text.as_bytes())?;
+    let mut words = Vec::new(alloc);
+    match keep(&mut words, Word { text }) {
+        Ok(()) => Ok(words),
+        Err(fault) => Err(fault),
+    }
+}
+
+/// Whether there is a header, and whether fields may be quoted.
+fn flags_of(table: MapTable<'_>) -> Result<(bool, bool), MapFault>
+    ensures kind { IfErr result (λ fault. is_of_document fault ≡ true) }
+{
+    Ok((table.flag("header")?, table.flag("quotes")?))
 }
 
 /// Whether a byte can be between fields: not a quote, and not the end of a line.
@@ -181,22 +240,107 @@ fn sources_of(alloc: Global, document: &Table, header: bool) -> Result<Sources, 
         ],
         "one of time, participant, symbol, bid, bid_size, offer, offer_size, condition, skip",
     )?;
-    let (source, condition) = table.pair("condition", header)?;
-    Ok(Sources {
-        time: table.needed("time", header)?,
-        participant: table.needed("participant", header)?,
-        symbol: table.needed("symbol", header)?,
-        bid: table.needed("bid", header)?,
-        bid_size: table.needed("bid_size", header)?,
-        offer: table.needed("offer", header)?,
-        offer_size: table.needed("offer_size", header)?,
+    let conditions = table.pair("condition", header)?;
+    let quoted = quoted_of(table, header)?;
+    let sides = sides_of(table, header)?;
+    match skip_of(table, header) {
+        Ok(skip) => Ok(joined(conditions, quoted, sides, skip)),
+        Err(fault) => Err(fault),
+    }
+}
+
+/// The columns of who quotes what, and when.
+#[derive(Drop)]
+struct Quoted {
+    time: Source,
+    participant: Source,
+    symbol: Source,
+}
+
+/// The columns of both sides.
+#[derive(Drop)]
+struct Sides {
+    bid: (Source, Source),
+    offer: (Source, Source),
+}
+
+/// All columns.
+fn joined(conditions: (Source, Source), quoted: Quoted, sides: Sides, skip: Source) -> Sources {
+    let (source, condition) = conditions;
+    let Quoted {
+        time,
+        participant,
+        symbol,
+    } = quoted;
+    let Sides {
+        bid: (bid, bid_size),
+        offer: (offer, offer_size),
+    } = sides;
+    Sources {
+        time,
+        participant,
+        symbol,
+        bid,
+        bid_size,
+        offer,
+        offer_size,
         source,
         condition,
-        skip: match table.column("skip", header)? {
-            Some(source) => source,
-            None => table.nothing(),
-        },
-    })
+        skip,
+    }
+}
+
+/// The columns of who quotes what, and when.
+fn quoted_of(table: MapTable<'_>, header: bool) -> Result<Quoted, MapFault>
+    ensures kind { IfErr result (λ fault. is_of_document fault ≡ true) }
+{
+    let time = table.needed("time", header)?;
+    let participant = table.needed("participant", header)?;
+    match table.needed("symbol", header) {
+        Ok(symbol) => Ok(Quoted {
+            time,
+            participant,
+            symbol,
+        }),
+        Err(fault) => Err(fault),
+    }
+}
+
+/// The columns of both sides.
+fn sides_of(table: MapTable<'_>, header: bool) -> Result<Sides, MapFault>
+    ensures kind { IfErr result (λ fault. is_of_document fault ≡ true) }
+{
+    let bid = side_of(table, "bid", "bid_size", header)?;
+    match side_of(table, "offer", "offer_size", header) {
+        Ok(offer) => Ok(Sides { bid, offer }),
+        Err(fault) => Err(fault),
+    }
+}
+
+/// The columns of a side: its price and its size.
+fn side_of(
+    table: MapTable<'_>,
+    price: &str,
+    size: &str,
+    header: bool,
+) -> Result<(Source, Source), MapFault>
+    ensures kind { IfErr result (λ fault. is_of_document fault ≡ true) }
+{
+    let price = table.needed(price, header)?;
+    match table.needed(size, header) {
+        Ok(size) => Ok((price, size)),
+        Err(fault) => Err(fault),
+    }
+}
+
+/// The column of the words that skip a row; an absent one is the empty text.
+fn skip_of(table: MapTable<'_>, header: bool) -> Result<Source, MapFault>
+    ensures kind { IfErr result (λ fault. is_of_document fault ≡ true) }
+{
+    match table.column("skip", header)? {
+        Some(source) => Ok(source),
+        None => Ok(table.nothing()),
+    }
 }
 
 /// The table `time`: the form, the zone in seconds, and the order of the rows.
@@ -316,25 +460,62 @@ fn meanings_of(
 {
     let (price_unit, no_price) = prices_of(alloc, document)?;
     let size_unit = size_of(alloc, document)?;
-    let (names, same) = names_of(alloc, document)?;
-    let (replaced, skips_symbols) = symbols_of(alloc, document)?;
-    let (said, half) = states_of(alloc, document)?;
-    let skip = MapTable::of(alloc, document, "skip", &["words"], "words")?;
-    Ok(Meanings {
-        time_form,
-        zone,
-        price_unit,
-        no_price,
-        size_unit,
-        names,
-        same,
-        replaced,
-        skips_symbols,
-        said,
-        half,
-        ends,
-        skips: skip.words("words")?,
-    })
+    let ((names, same), (replaced, skips_symbols)) = named_of(alloc, document)?;
+    match said_of(alloc, document) {
+        Ok(found) => {
+            let (states, skips) = found;
+            let (said, half) = states;
+            Ok(Meanings {
+                time_form,
+                zone,
+                price_unit,
+                no_price,
+                size_unit,
+                names,
+                same,
+                replaced,
+                skips_symbols,
+                said,
+                half,
+                ends,
+                skips,
+            })
+        }
+        Err(fault) => Err(fault),
+    }
+}
+
+/// The tables `participant` and `symbol`.
+fn named_of(
+    alloc: Global,
+    document: &Table,
+) -> Result<((Vec<Renamed>, bool), (Vec<Replaced>, bool)), MapFault>
+    ensures kind { IfErr result (λ fault. is_of_document fault ≡ true) }
+{
+    let names = names_of(alloc, document)?;
+    match symbols_of(alloc, document) {
+        Ok(symbols) => Ok((names, symbols)),
+        Err(fault) => Err(fault),
+    }
+}
+
+/// The tables `state` and `skip`.
+fn said_of(alloc: Global, document: &Table) -> Result<((Vec<Said>, Half), Vec<Word>), MapFault>
+    ensures kind { IfErr result (λ fault. is_of_document fault ≡ true) }
+{
+    let states = states_of(alloc, document)?;
+    match skips_of(alloc, document) {
+        Ok(skips) => Ok((states, skips)),
+        Err(fault) => Err(fault),
+    }
+}
+
+/// The table `skip`: the words that skip a row.
+fn skips_of(alloc: Global, document: &Table) -> Result<Vec<Word>, MapFault>
+    ensures kind { IfErr result (λ fault. is_of_document fault ≡ true) }
+{
+    let table = MapTable::of(alloc, document, "skip", &["words"], "words")?;
+    table.words("words")
 }
 
 /// The table `price`.
@@ -407,29 +588,50 @@ pub fn names_of(alloc: Global, document: &Table) -> Result<(Vec<Renamed>, bool),
     ensures kind { IfErr result (λ fault. is_of_document fault ≡ true) }
 {
     let table = MapTable::of(alloc, document, "participant", &[], "")?;
-    let expected = "the participant's name on the roster, as a text";
     let mut names = Vec::new(alloc);
     let Some(members) = table.members() else {
         return Ok((names, true));
     };
+    match add_names(alloc, table, members, &mut names) {
+        Ok(same) => Ok((names, same)),
+        Err(fault) => Err(fault),
+    }
+}
+
+/// Adds the names that are listed. Returns whether any other word is its own name.
+fn add_names(
+    alloc: Global,
+    table: MapTable<'_>,
+    members: &Table,
+    names: &mut Vec<Renamed>,
+) -> Result<bool, MapFault>
+    ensures kind { IfErr result (λ fault. is_of_document fault ≡ true) }
+{
+    let expected = "the participant's name on the roster, as a text";
     let mut same = false;
     for key in members.keys() {
         let word = key.as_str();
-        let Some(name) = table.text(word, expected)? else {
-            continue;
-        };
-        if word == "*" {
-            if name != "same" {
+        match table.text(word, expected)? {
+            Some("same") if word == "*" => same = true,
+            Some(_) if word == "*" => {
                 return Err(table.bad(word, "\"same\": any other word is its own name"));
             }
-            same = true;
-            continue;
+            Some(name) => add_name(alloc, names, word, name)?,
+            None => {}
         }
-        let word = copied(alloc, word.as_bytes())?;
-        let name = copied(alloc, name.as_bytes())?;
-        keep(&mut names, Renamed { word, name })?;
     }
-    Ok((names, same))
+    Ok(same)
+}
+
+/// Adds a name.
+fn add_name(alloc: Global, names: &mut Vec<Renamed>, word: &str, name: &str) -> Result<(), MapFault>
+    ensures memory { IfErr result (λ fault. fault ≡ MapFault.NoMemory) }
+{
+    let word = copied(alloc, word.as_bytes())?;
+    match copied(alloc, name.as_bytes()) {
+        Ok(name) => keep(names, Renamed { word, name }),
+        Err(fault) => Err(fault),
+    }
 }
 
 /// The table `symbol`: what is replaced, and whether unknown symbols are skipped.
@@ -444,24 +646,58 @@ pub fn symbols_of(alloc: Global, document: &Table) -> Result<(Vec<Replaced>, boo
         "one of replace, unknown",
     )?;
     let words = table.words("replace")?;
-    let pairs = "an array of pairs of texts of one byte, as [\" \", \".\"]";
+    let replaced = replaced_of(alloc, table, &words)?;
+    match skips_unknown(table) {
+        Ok(skips) => Ok((replaced, skips)),
+        Err(fault) => Err(fault),
+    }
+}
+
+/// What is replaced, by pairs of words.
+fn replaced_of(
+    alloc: Global,
+    table: MapTable<'_>,
+    words: &[Word],
+) -> Result<Vec<Replaced>, MapFault>
+    ensures kind { IfErr result (λ fault. is_of_document fault ≡ true) }
+{
     let mut replaced = Vec::new(alloc);
     for pair in words.chunks(2) {
-        match pair {
-            [from, to] => match (from.text.as_slice(), to.text.as_slice()) {
-                ([from], [to]) => {
-                    let (from, to) = (*from, *to);
-                    keep(&mut replaced, Replaced { from, to })?;
-                }
-                _ => return Err(table.bad("replace", pairs)),
-            },
-            _ => return Err(table.bad("replace", pairs)),
+        match replaced_by(pair) {
+            Some(one) => keep(&mut replaced, one)?,
+            None => {
+                return Err(table.bad(
+                    "replace",
+                    "an array of pairs of texts of one byte, as [\" \", \".\"]",
+                ));
+            }
         }
     }
+    Ok(replaced)
+}
+
+/// What a pair of words replaces, if it is two texts of one byte.
+fn replaced_by(pair: &[Word]) -> Option<Replaced> {
+    match pair {
+        [from, to] => match (from.text.as_slice(), to.text.as_slice()) {
+            ([from], [to]) => Some(Replaced {
+                from: *from,
+                to: *to,
+            }),
+            _ => None,
+        },
+        _ => None,
+    }
+}
+
+/// Whether unknown symbols are skipped.
+fn skips_unknown(table: MapTable<'_>) -> Result<bool, MapFault>
+    ensures kind { IfErr result (λ fault. is_of_document fault ≡ true) }
+{
     let expected = "\"skip\" or \"refuse\"";
     match table.text("unknown", expected)? {
-        None | Some("refuse") => Ok((replaced, false)),
-        Some("skip") => Ok((replaced, true)),
+        None | Some("refuse") => Ok(false),
+        Some("skip") => Ok(true),
         Some(_) => Err(table.bad("unknown", expected)),
     }
 }
@@ -487,11 +723,21 @@ fn states_of(alloc: Global, document: &Table) -> Result<(Vec<Said>, Half), MapFa
         "one of automated, manual, manual_bid, manual_offer, halted, none, half",
     )?;
     let mut said = Vec::new(alloc);
+    add_states(alloc, table, &mut said)?;
+    match half_of(table) {
+        Ok(half) => Ok((said, half)),
+        Err(fault) => Err(fault),
+    }
+}
+
+/// Adds the conditions.
+fn add_states(alloc: Global, table: MapTable<'_>, said: &mut Vec<Said>) -> Result<(), MapFault>
+    ensures kind { IfErr result (λ fault. is_of_document fault ≡ true) }
+{
     if table.members().is_none() {
         let word = Vec::new(alloc);
         let meaning = Meaning::Quoted(QState::Automated);
-        keep(&mut said, Said { word, meaning })?;
-        return Ok((said, Half::Refuse));
+        return keep(said, Said { word, meaning });
     }
     for (key, meaning) in [
         ("automated", Meaning::Quoted(QState::Automated)),
@@ -501,19 +747,39 @@ fn states_of(alloc: Global, document: &Table) -> Result<(Vec<Said>, Half), MapFa
         ("halted", Meaning::Quoted(QState::Halted)),
         ("none", Meaning::Nothing),
     ] {
-        for word in table.words(key)? {
-            let word = word.text;
-            if said.iter().any(|it| it.word == word) {
-                return Err(table.bad(key, "conditions that stand in no other list, and once"));
-            }
-            keep(&mut said, Said { word, meaning })?;
-        }
+        add_conditions(table, key, meaning, said)?;
     }
+    Ok(())
+}
+
+/// Adds the conditions of a key.
+fn add_conditions(
+    table: MapTable<'_>,
+    key: &str,
+    meaning: Meaning,
+    said: &mut Vec<Said>,
+) -> Result<(), MapFault>
+    ensures kind { IfErr result (λ fault. is_of_document fault ≡ true) }
+{
+    for word in table.words(key)? {
+        let word = word.text;
+        if said.iter().any(|it| it.word == word) {
+            return Err(table.bad(key, "conditions that stand in no other list, and once"));
+        }
+        keep(said, Said { word, meaning })?;
+    }
+    Ok(())
+}
+
+/// What becomes of a row of which one side alone is manual.
+fn half_of(table: MapTable<'_>) -> Result<Half, MapFault>
+    ensures kind { IfErr result (λ fault. is_of_document fault ≡ true) }
+{
     let expected = "\"refuse\", \"manual\" or \"automated\"";
     match table.text("half", expected)? {
-        None | Some("refuse") => Ok((said, Half::Refuse)),
-        Some("manual") => Ok((said, Half::Manual)),
-        Some("automated") => Ok((said, Half::Automated)),
+        None | Some("refuse") => Ok(Half::Refuse),
+        Some("manual") => Ok(Half::Manual),
+        Some("automated") => Ok(Half::Automated),
         Some(_) => Err(table.bad("half", expected)),
     }
 }

@@ -16,7 +16,7 @@ use crate::trade_meanings::TradeMeanings;
 use csv::ByteRecord;
 use nms_import::{
     Column, FileForm, Half, MapFault, MapTable, Meanings, Source, Word, document_of, file_of,
-    form_of, keep, names_of, no_others, place_of, symbols_of, unit_of,
+    form_of, keep, names_of, no_others, place_of, places_of, symbols_of, unit_of,
 };
 use std::alloc::Global;
 use toml::{Table, Value};
@@ -80,14 +80,42 @@ impl TradeMapping {
         let all = &self.sources;
         let mut width = 0;
         let id = place_of_id(alloc, &all.id, names, &mut width)?;
-        let time = place_of(alloc, &all.time, "time", names, &mut width)?;
-        let participant = place_of(alloc, &all.participant, "participant", names, &mut width)?;
-        let symbol = place_of(alloc, &all.symbol, "symbol", names, &mut width)?;
-        let price = place_of(alloc, &all.price, "price", names, &mut width)?;
-        let shares = place_of(alloc, &all.shares, "shares", names, &mut width)?;
-        let side = place_of(alloc, &all.side, "side", names, &mut width)?;
-        let condition = place_of(alloc, &all.condition, "condition", names, &mut width)?;
-        let exempt = place_of(alloc, &all.exempt, "exempt", names, &mut width)?;
+        let (time, participant) = places_of(
+            alloc,
+            &all.time,
+            "time",
+            &all.participant,
+            "participant",
+            names,
+            &mut width,
+        )?;
+        let (symbol, price) = places_of(
+            alloc,
+            &all.symbol,
+            "symbol",
+            &all.price,
+            "price",
+            names,
+            &mut width,
+        )?;
+        let (shares, side) = places_of(
+            alloc,
+            &all.shares,
+            "shares",
+            &all.side,
+            "side",
+            names,
+            &mut width,
+        )?;
+        let (condition, exempt) = places_of(
+            alloc,
+            &all.condition,
+            "condition",
+            &all.exempt,
+            "exempt",
+            names,
+            &mut width,
+        )?;
         let skip = place_of(alloc, &all.skip, "skip", names, &mut width)?;
         Ok(TradeColumns {
             width,
@@ -213,18 +241,70 @@ fn sources_of(alloc: Global, document: &Table, header: bool) -> Result<TradeSour
         ],
         "one of id, time, participant, symbol, price, shares, side, condition, exempt, skip",
     )?;
+    let id = table.column("id", header)?;
+    let (time, participant) = needed_pair(table, "time", "participant", header)?;
+    let (symbol, price) = needed_pair(table, "symbol", "price", header)?;
+    let (shares, side) = shares_and_side(table, header)?;
+    let (condition, exempt) = pair_or_nothing(table, "condition", "exempt", header)?;
+    let skip = or_nothing(table, "skip", header)?;
     Ok(TradeSources {
-        id: table.column("id", header)?,
-        time: table.needed("time", header)?,
-        participant: table.needed("participant", header)?,
-        symbol: table.needed("symbol", header)?,
-        price: table.needed("price", header)?,
-        shares: table.needed("shares", header)?,
-        side: or_nothing(table, "side", header)?,
-        condition: or_nothing(table, "condition", header)?,
-        exempt: or_nothing(table, "exempt", header)?,
-        skip: or_nothing(table, "skip", header)?,
+        id,
+        time,
+        participant,
+        symbol,
+        price,
+        shares,
+        side,
+        condition,
+        exempt,
+        skip,
     })
+}
+
+/// The columns at two keys that need one.
+fn needed_pair(
+    table: MapTable<'_>,
+    one: &str,
+    other: &str,
+    header: bool,
+) -> Result<(Source, Source), MapFault>
+    ensures within { IfOk result (λ found. (is_within found.0 ≡ true) × (is_within found.1 ≡ true)) }
+    ensures kind { IfErr result (λ fault. is_of_document fault ≡ true) }
+{
+    let first = table.needed(one, header)?;
+    match table.needed(other, header) {
+        Ok(second) => Ok((first, second)),
+        Err(fault) => Err(fault),
+    }
+}
+
+/// The columns of the shares and of the side, which may be absent.
+fn shares_and_side(table: MapTable<'_>, header: bool) -> Result<(Source, Source), MapFault>
+    ensures within { IfOk result (λ found. (is_within found.0 ≡ true) × (is_within found.1 ≡ true)) }
+    ensures kind { IfErr result (λ fault. is_of_document fault ≡ true) }
+{
+    let shares = table.needed("shares", header)?;
+    match or_nothing(table, "side", header) {
+        Ok(side) => Ok((shares, side)),
+        Err(fault) => Err(fault),
+    }
+}
+
+/// The columns at two keys; an absent one is the empty text.
+fn pair_or_nothing(
+    table: MapTable<'_>,
+    one: &str,
+    other: &str,
+    header: bool,
+) -> Result<(Source, Source), MapFault>
+    ensures within { IfOk result (λ found. (is_within found.0 ≡ true) × (is_within found.1 ≡ true)) }
+    ensures kind { IfErr result (λ fault. is_of_document fault ≡ true) }
+{
+    let first = or_nothing(table, one, header)?;
+    match or_nothing(table, other, header) {
+        Ok(second) => Ok((first, second)),
+        Err(fault) => Err(fault),
+    }
 }
 
 /// The column at a key; an absent one is the empty text.

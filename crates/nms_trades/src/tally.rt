@@ -17,7 +17,7 @@ pub(crate) const HALF_HOURS: usize = 48;
 const HALF_HOUR: u64 = 1_800_000_000_000;
 
 /// How many executions there were, and how much they traded through.
-#[derive(Clone, Copy, PartialEq, Eq)]
+#[derive(Clone, Copy, Debug, PartialEq, Eq)]
 pub(crate) struct Count {
     /// Executions.
     pub(crate) executions: u64,
