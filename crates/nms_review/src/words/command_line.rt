@@ -8,9 +8,17 @@ use std::alloc::{AllocError, Global};
 pub(crate) fn review_command<'a>(alloc: Global) -> Result<Command<'a>, AllocError> {
     let mut command = top_command(alloc)?;
     for sub in Sub::ALL {
-        command = command.subcommand(sub_command(alloc, sub)?)?;
+        command = with_sub(alloc, command, sub)?;
     }
     Ok(command)
+}
+
+/// The command line with one more subcommand.
+fn with_sub<'a>(alloc: Global, command: Command<'a>, sub: Sub) -> Result<Command<'a>, AllocError> {
+    match sub_command(alloc, sub) {
+        Ok(inner) => command.subcommand(inner),
+        Err(fault) => Err(fault),
+    }
 }
 
 /// The command line without its subcommands.
