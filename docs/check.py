@@ -22,7 +22,7 @@ TOP = os.path.dirname(os.path.dirname(os.path.realpath(__file__)))
 # Lines and words of the front page, and words of a sentence there.
 MOST_LINES, MOST_FRONT, MOST_WORDS = 130, 1600, 25
 # Columns of a definition or a proof.
-MOST_COLUMNS = 140
+MOST_COLUMNS = 148
 # The limits in README.md: the constant of the sources, and what it counts.
 LIMITS = (("MOST_RECORDS", "records of a script"), ("MOST_CHANGES", "changes of a tape"), ("MOST_SYMBOLS", "symbols"),
           ("MOST_PARTICIPANTS", "participants"), ("MOST_FEEDS", "feeds"), ("MOST_DESKS", "desks"), ("MOST_QUEUE", "changes in the queue"))
