@@ -11,7 +11,7 @@ use std::thread::Parker;
 use std::time::Duration;
 
 /// How a run goes on.
-#[derive(Clone, Copy, PartialEq, Eq)]
+#[derive(Clone, Copy, Debug, PartialEq, Eq)]
 pub struct Ways {
     /// A refused record of a feed ends the run.
     pub strict: bool,

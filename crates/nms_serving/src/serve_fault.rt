@@ -11,7 +11,7 @@ use std::fmt;
 
 /// Why a run ended early. All its threads have ended. The tape's file has whole batches, in order; only the last write to a
 /// stream that fails may have left a first part.
-#[derive(Clone, Copy, PartialEq, Eq)]
+#[derive(Clone, Copy, Debug, PartialEq, Eq)]
 pub enum ServeFault {
     /// E1: a stream could not be opened.
     NotOpened(Stream),

@@ -3,7 +3,7 @@ ghost use Rattle.std.specs.Prelude.{◌≡◌, ◌+◌, false, nat_le};
 ghost use Rattle.nms_serving.specs.Silences.{after_look, notice_of};
 
 /// What is reported of a feed.
-#[derive(Clone, Copy, PartialEq, Eq)]
+#[derive(Clone, Copy, Debug, PartialEq, Eq)]
 pub enum Notice {
     /// No record came for as long as the limit.
     Silent,

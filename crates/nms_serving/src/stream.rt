@@ -6,7 +6,7 @@ use nms_quote::Feed;
 use std::fmt;
 
 /// A stream of a run.
-#[derive(Clone, Copy, PartialEq, Eq)]
+#[derive(Clone, Copy, Debug, PartialEq, Eq)]
 pub enum Stream {
     /// The stream of a feed.
     Feed(Feed),
