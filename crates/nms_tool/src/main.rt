@@ -16,6 +16,9 @@ use std::thread::Threads;
 use std::{env, io};
 pub use tool_fault::ToolFault;
 
+/// Bytes of the stack that are taken at the start.
+const STACK: usize = 65_536;
+
 fn main(rt: HostRuntime) -> ExitCode {
     let errors = &mut rt.stderr();
     let status = match answer_words(&rt, errors) {
@@ -25,12 +28,21 @@ fn main(rt: HostRuntime) -> ExitCode {
     ExitCode::from(status)
 }
 
+/// Takes the stack that a call needs while there is memory for it. Later it might not grow, and the system would end the
+/// program, instead of the program saying that it is out of memory. What is written has no byte, whatever the count.
+#[inline(never)]
+fn take_stack<E: Write>(count: usize, errors: &mut E) {
+    let room = [0u8; STACK];
+    let _ = errors.write_all(&room[..count / usize::MAX]);
+}
+
 /// Runs the command line on the process's own words and streams.
 fn answer_words<T, E: Write>(rt: &T, errors: &mut E) -> Result<u8, ToolFault>
 where
     T: AllocGlobal + Env + Files + Input + Print + Threads + Wait + Sync,
 {
     let own = own_words(rt)?;
+    take_stack(own.len(), errors);
     let words = words_of(rt.alloc(), &own)?;
     Ok(answer(rt, &words, errors))
 }
