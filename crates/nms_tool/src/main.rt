@@ -17,7 +17,7 @@ use std::{env, io};
 pub use tool_fault::ToolFault;
 
 /// Bytes of the stack that are taken at the start.
-const STACK: usize = 65_536;
+const STACK: usize = 114_688;
 
 fn main(rt: HostRuntime) -> ExitCode {
     let errors = &mut rt.stderr();
@@ -29,11 +29,13 @@ fn main(rt: HostRuntime) -> ExitCode {
 }
 
 /// Takes the stack that a call needs while there is memory for it. Later it might not grow, and the system would end the
-/// program, instead of the program saying that it is out of memory. What is written has no byte, whatever the count.
+/// program, instead of the program saying that it is out of memory. The byte is 0 or 1: it is read so that the compiler keeps
+/// the array.
 #[inline(never)]
-fn take_stack<E: Write>(count: usize, errors: &mut E) {
-    let room = [0u8; STACK];
-    let _ = errors.write_all(&room[..count / usize::MAX]);
+fn take_stack(count: usize) -> u8 {
+    let mut room = [0u8; STACK];
+    room[count % STACK] = 1;
+    room[count / 2 % STACK]
 }
 
 /// Runs the command line on the process's own words and streams.
@@ -42,7 +44,9 @@ where
     T: AllocGlobal + Env + Files + Input + Print + Threads + Wait + Sync,
 {
     let own = own_words(rt)?;
-    take_stack(own.len(), errors);
+    if take_stack(own.len()) > 1 {
+        return Err(no_memory());
+    }
     let words = words_of(rt.alloc(), &own)?;
     Ok(answer(rt, &words, errors))
 }
