@@ -20,7 +20,7 @@ from trials import Trial, Wrong, jobs, run
 PAGE = 4096
 STACK = 256 * 1024
 # Limits tried of each call.
-STEPS = 160
+STEPS = 320
 # The C library asks the system for each piece of memory by itself; or only for pieces that are not small.
 EACH = "glibc.malloc.mmap_threshold=1:glibc.malloc.mmap_max=1000000000:glibc.malloc.tcache_count=0"
 LARGE = "glibc.malloc.mmap_threshold=65536:glibc.malloc.top_pad=0:glibc.malloc.trim_threshold=4096"
