@@ -35,7 +35,7 @@ text = without(text, "// ---- every small board", "// ---- boards drawn at rando
 text = text[: text.index("#[test]")]
 for old, new in (
     ("use crate::same::same;\n", ""),
-    ("use std::alloc::Global;\n", "use crate::Failed;\n"),
+    ("use std::alloc::Global;\nuse std::process::Abort;\n", "use crate::Failed;\n"),
     ("SETUP_K, Setup, read_setup", "read_setup"),
     (" CutKind,", ""),
     ("fees: &FeeBook, number: u32) ->", "fees: &FeeBook, number: u32, seed: u64) ->"),

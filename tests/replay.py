@@ -483,6 +483,13 @@ class Failing:
         check(f"{self.what}: the tape", text == wanted, text[-300:])
 
 
+def shown_help(program, _tool):
+    """The help, which no clause speaks of, byte for byte."""
+    ran = subprocess.run([program, "--help"], stdout=subprocess.PIPE, stderr=subprocess.PIPE, timeout=MOST, check=False)
+    with open(os.path.join(os.path.dirname(os.path.abspath(__file__)), "serve_help.txt"), "rb") as file:
+        check("the help", (ran.returncode, ran.stdout, ran.stderr) == (0, file.read(), b""), (ran.returncode, ran.stdout, ran.stderr))
+
+
 def refused_words(program, tool):
     """Words that are refused."""
     usages = (
@@ -1056,7 +1063,7 @@ def main():
         runs, seed = int((sys.argv[3:] or [20])[0]), int((sys.argv[4:] or [611])[0])
         waiting = threading.Thread(target=silent_feeds, args=(program, tool))
         waiting.start()
-        for part in (refused_words, failing_paths, full_tape, epoch_borders, refused_records, fixed_requests, torn_feeds, held_requests, kept_feeds, written_first, signals, little_memory):
+        for part in (shown_help, refused_words, failing_paths, full_tape, epoch_borders, refused_records, fixed_requests, torn_feeds, held_requests, kept_feeds, written_first, signals, little_memory):
             part(program, tool)
         for number in range(runs):
             run_at_random(seed + number, program, tool)

@@ -4,3 +4,10 @@ mod KnownFacts
 mod ProgressFacts
 mod RequestFacts
 mod ScriptLemmas
+mod BlockFacts
+mod ClientFacts
+mod LineFacts
+mod MergeFacts
+mod RunFacts
+mod StretchFacts
+mod WholeFacts

@@ -8,3 +8,9 @@ pub mod Progress
 pub mod Requests
 pub mod Streams
 pub mod Told
+pub mod ServedEpoch
+pub mod Merged
+pub mod OneScript
+pub mod Stretches
+pub mod ServedRun
+pub mod ServedExamples

@@ -9,6 +9,7 @@ mod laws;
 mod request;
 mod request_counts;
 mod request_stream;
+mod served_laws;
 
 /// The most requests of a client's stream: 2^40. This product's own rule.
 pub const MOST_REQUESTS: u64 = 1 << 40;
@@ -21,3 +22,7 @@ pub use laws::{a_client_goes_from_epoch_to_epoch, a_client_is_answered_as_a_scri
 pub use request::answer_request;
 pub use request_counts::RequestCounts;
 pub use request_stream::answer_stream;
+pub use served_laws::{
+    a_served_epoch_is_a_script, a_served_run_is_its_scripts, a_stream_is_cut_by_epochs,
+    worked_examples,
+};

@@ -5,10 +5,10 @@ mod machine;
 mod sweeping;
 mod threads;
 
-use crate::Failed;
 use crate::looks::{quotation, setup_text};
+use crate::{Failed, or_failed};
 use nms_board::Boards;
-use nms_fees::{Setup, read_setup};
+use nms_fees::{FeeBook, Setup, read_setup};
 use nms_quote::{Change, Feed, Order, OrderSide, PartSet, SideQuote, Sym};
 use nms_units::{Price, Shares};
 use std::alloc::Global;
@@ -23,12 +23,16 @@ pub(crate) fn make<R: AllocGlobal + Threads + Wait + Sync>(
     sym: u16,
     changes: u32,
 ) -> Result<String, Failed> {
-    let sym = Sym::new(sym).ok_or(Failed)?;
+    let Some(sym) = Sym::new(sym) else {
+        return Err(Failed);
+    };
     if kind == "again" {
         return make_over(rt, again::SMALL, kind, sym, changes);
     }
-    let text = setup_text(rt.alloc(), 1).map_err(|_| Failed)?;
-    make_over(rt, text.as_str(), kind, sym, changes)
+    match setup_text(rt.alloc(), 1) {
+        Ok(text) => make_over(rt, text.as_str(), kind, sym, changes),
+        Err(_) => Err(Failed),
+    }
 }
 
 /// As above, over a setup's text.
@@ -66,15 +70,13 @@ fn make_under<R: AllocGlobal + Threads + Wait + Sync>(
 /// The published version, and the participant of the best bid.
 fn tell_machine(alloc: Global, setup: &Setup, sym: Sym, changes: u32) -> Result<String, Failed> {
     let changes = changes_of(alloc, changes)?;
-    let (version, best) = machine::consolidate(
-        alloc,
-        setup,
-        Feed::A,
-        changes.as_slice(),
-        sym,
-    ).map_err(|_| Failed)?;
-    let place = best.bid.map(|row| row.part.get());
-    format!(in alloc; "{version} {place:?}").map_err(|_| Failed)
+    match machine::consolidate(alloc, setup, Feed::A, changes.as_slice(), sym) {
+        Ok((version, best)) => {
+            let place = best.bid.map(|row| row.part.get());
+            or_failed(format!(in alloc; "{version} {place:?}"))
+        }
+        Err(_) => Err(Failed),
+    }
 }
 
 /// That many changes.
@@ -101,18 +103,41 @@ fn push_change(changes: &mut Vec<Change>, number: u32) -> Result<(), Failed> {
 
 /// The shares that an order for 950 fills and its cost after that many changes, and whether it was confirmed.
 fn tell_sweep(alloc: Global, setup: &Setup, sym: Sym, changes: u32) -> Result<String, Failed> {
-    let mut board = Boards::new(alloc, setup.roster()).map_err(|_| Failed)?;
+    match Boards::new(alloc, setup.roster()) {
+        Ok(mut board) => tell_sweep_on(alloc, &mut board, setup.fees(), sym, changes),
+        Err(_) => Err(Failed),
+    }
+}
+
+/// As above, on an empty board.
+fn tell_sweep_on(
+    alloc: Global,
+    board: &mut Boards,
+    fees: &FeeBook,
+    sym: Sym,
+    changes: u32,
+) -> Result<String, Failed> {
+    apply_all(board, changes)?;
+    let Some(order) = order_of(sym) else {
+        return Err(Failed);
+    };
+    let (plan, finding) = sweeping::plan_and_confirm(board, &order, fees);
+    or_failed(format!(in alloc; "{} {} {}", plan.filled, plan.cost, finding.is_ok()))
+}
+
+/// Applies that many changes, those that the board takes.
+fn apply_all(board: &mut Boards, changes: u32) -> Result<(), Failed> {
     // The prover has to see this type before a change is applied.
     let _met: Option<SideQuote> = None;
     for number in 0..changes {
-        let change = quotation(u64::from(number)).ok_or(Failed)?;
+        let Some(change) = quotation(u64::from(number)) else {
+            return Err(Failed);
+        };
         if board.takes(&change) {
             board.apply(change);
         }
     }
-    let order = order_of(sym).ok_or(Failed)?;
-    let (plan, finding) = sweeping::plan_and_confirm(&board, &order, setup.fees());
-    format!(in alloc; "{} {} {}", plan.filled, plan.cost, finding.is_ok()).map_err(|_| Failed)
+    Ok(())
 }
 
 /// An order to buy 950 shares of a symbol at 10.00 or better.
@@ -129,10 +154,12 @@ fn tell_threads<R: Threads + Wait + Sync>(
     sym: Sym,
     changes: u32,
 ) -> Result<String, Failed> {
-    let change = quotation(0).ok_or(Failed)?;
+    let Some(change) = quotation(0) else {
+        return Err(Failed);
+    };
     let came = threads::run(rt, alloc, setup, &change, changes, sym)?;
     let (delivered, settled) = (&came.delivered, came.settled);
-    format!(in alloc; "{:?} {} {settled}", delivered.sent, delivered.taken).map_err(|_| Failed)
+    or_failed(format!(in alloc; "{:?} {} {settled}", delivered.sent, delivered.taken))
 }
 
 /// How many changes were appended at their places, how many the tape has, the version and the shares that a desk saw, and
@@ -146,9 +173,8 @@ fn tell_again<R: Wait>(
 ) -> Result<String, Failed> {
     let came = again::append_all(rt, alloc, setup, sym, changes)?;
     let (version, shares) = came.shown;
-    format!(in alloc;
+    or_failed(format!(in alloc;
         "{} {} {version} {shares} {}",
         came.in_place, came.tape, came.is_whole
-    )
-    .map_err(|_| Failed)
+    ))
 }

@@ -27,7 +27,9 @@ pub(crate) fn measure<R: AllocGlobal + Threads + Wait + Sync>(
     if senders < 1 || MOST_FEEDS < senders {
         return Err(Failed);
     }
-    let change = quotation(0).ok_or(Failed)?;
+    let Some(change) = quotation(0) else {
+        return Err(Failed);
+    };
     match open_lane(rt.alloc(), capacity, senders) {
         Ok((ends, taker)) => run(rt, ends, taker, &change, changes),
         Err(_) => Err(Failed),

@@ -1,5 +1,5 @@
 //! Looks: desks look while a publisher publishes every 64 changes.
-use crate::Failed;
+use crate::{Failed, or_failed};
 use nms_board::View;
 use nms_fees::{Setup, read_setup};
 use nms_quote::{Change, Part, QState, Side, SideQuote, Sym};
@@ -39,25 +39,39 @@ pub(crate) fn measure<R: AllocGlobal + Threads + Wait + Clock + Sync>(
     looks: u32,
 ) -> Result<u64, Failed> {
     let alloc = rt.alloc();
-    let text = setup_text(alloc, desks).map_err(|_| Failed)?;
-    let setup = read_setup(alloc, text.as_str()).map_err(|_| Failed)?;
-    run(rt, alloc, &setup, looks)
+    let text = or_failed(setup_text(alloc, desks))?;
+    match read_setup(alloc, text.as_str()) {
+        Ok(setup) => run(rt, alloc, &setup, looks),
+        Err(_) => Err(Failed),
+    }
 }
 
 /// A setup of that board and that many desks.
 pub(crate) fn setup_text(alloc: Global, desks: u8) -> Result<String, AllocError> {
     let mut text = format!(in alloc; "tape_limit = 10000000\nqueue = 2\ndesks = {desks}\n")?;
+    add_participants(alloc, &mut text)?;
+    add_symbols(alloc, &mut text)?;
+    Ok(text)
+}
+
+/// Adds the participants of that board to a setup.
+fn add_participants(alloc: Global, text: &mut String) -> Result<(), AllocError> {
     for place in 0..PARTICIPANTS {
         let entry = format!(in alloc;
             "[[participant]]\nname = \"P{place}\"\nfeed = \"A\"\nfee = 0\nrate = 0\n"
         )?;
         text.push_str(entry.as_str())?;
     }
+    Ok(())
+}
+
+/// Adds its symbols.
+fn add_symbols(alloc: Global, text: &mut String) -> Result<(), AllocError> {
     for place in 0..SYMBOLS {
         let entry = format!(in alloc; "[[symbol]]\nname = \"S{place}\"\nlot = 100\n")?;
         text.push_str(entry.as_str())?;
     }
-    Ok(text)
+    Ok(())
 }
 
 /// Opens, fills the board, and looks beside the publisher.
@@ -67,28 +81,54 @@ fn run<R: Threads + Wait + Clock + Sync>(
     setup: &Setup,
     looks: u32,
 ) -> Result<u64, Failed> {
-    let (mut publisher, desks) = open_tape(alloc, rt, setup).map_err(|_| Failed)?;
-    let mut seats = match seats_of(alloc, desks) {
-        Ok(seats) => seats,
-        Err(_) => {
-            publisher.close(rt);
-            return Err(Failed);
-        }
-    };
-    let mut number = 0;
-    let mut is_going = true;
-    for _ in 0..BATCHES_TO_FILL {
-        is_going = is_going && publish_batch(rt, &mut publisher, &mut number);
+    match open_tape(alloc, rt, setup) {
+        Ok((publisher, desks)) => run_open(rt, alloc, publisher, desks, looks),
+        Err(_) => Err(Failed),
     }
-    if is_going {
-        look_beside(rt, &mut publisher, number, &mut seats, looks);
+}
+
+/// As above, if all is open. The publisher is closed at the end.
+fn run_open<R: Threads + Wait + Clock + Sync>(
+    rt: &R,
+    alloc: Global,
+    mut publisher: Publisher,
+    desks: Vec<Desk>,
+    looks: u32,
+) -> Result<u64, Failed> {
+    let mut seats = seats_of(alloc, desks);
+    if let Ok(seats) = &mut seats {
+        look_from_each(rt, &mut publisher, seats, looks);
     }
     publisher.close(rt);
+    match seats {
+        Ok(seats) => Ok(rows_of(&seats)),
+        Err(_) => Err(Failed),
+    }
+}
+
+/// Fills the board, and then looks from each seat.
+fn look_from_each<R: Threads + Wait + Clock + Sync>(
+    rt: &R,
+    publisher: &mut Publisher,
+    seats: &mut [Seat],
+    looks: u32,
+) {
+    let mut number = 0;
+    for _ in 0..BATCHES_TO_FILL {
+        if !publish_batch(rt, publisher, &mut number) {
+            return;
+        }
+    }
+    look_beside(rt, publisher, number, seats, looks);
+}
+
+/// How many rows were right, of all seats.
+fn rows_of(seats: &[Seat]) -> u64 {
     let mut rows = 0u64;
-    for seat in &seats {
+    for seat in seats {
         rows = rows.wrapping_add(seat.rows);
     }
-    Ok(rows)
+    rows
 }
 
 /// The desks at their seats.

@@ -17,8 +17,24 @@ use std::thread::Threads;
 use std::{io, str};
 
 /// The input is no list of runs, a stream failed, or memory ran out.
-#[derive(Debug, Drop)]
+#[derive(Drop)]
 pub(crate) struct Failed;
+
+/// What a call gave, whatever the fault is if it failed.
+pub(crate) fn or_failed<V, E: Drop>(came_to: Result<V, E>) -> Result<V, Failed> {
+    match came_to {
+        Ok(value) => Ok(value),
+        Err(_) => Err(Failed),
+    }
+}
+
+/// What stands before the first space of a line, and what stands after it.
+fn parted(line: &str) -> Result<(&str, &str), Failed> {
+    match line.split_once(' ') {
+        Some(parts) => Ok(parts),
+        None => Err(Failed),
+    }
+}
 
 fn main(rt: HostRuntime) -> ExitCode {
     let mut input = Vec::new(rt.alloc());
@@ -37,14 +53,23 @@ fn run_all<R: AllocGlobal + Threads + Wait + Clock + Sync, W: Write>(
     input: &[u8],
     answers: &mut W,
 ) -> Result<(), Failed> {
-    let text = str::from_utf8(input).map_err(|_| Failed)?;
+    let text = or_failed(str::from_utf8(input))?;
     for line in text.lines() {
-        match told_of(rt, line) {
-            Ok(told) => writeln!(answers, "{line} {told}").map_err(|_| Failed)?,
-            Err(fault) => return Err(fault),
-        }
+        run_line(rt, line, answers)?;
     }
     Ok(())
+}
+
+/// Makes the run of a line and writes the line with the result.
+fn run_line<R: AllocGlobal + Threads + Wait + Clock + Sync, W: Write>(
+    rt: &R,
+    line: &str,
+    answers: &mut W,
+) -> Result<(), Failed> {
+    match told_of(rt, line) {
+        Ok(told) => or_failed(writeln!(answers, "{line} {told}")),
+        Err(fault) => Err(fault),
+    }
 }
 
 /// Makes the run of a line, and reports the result: how many changes each thread sent and how many were taken, how many rows of
@@ -53,13 +78,13 @@ fn told_of<R: AllocGlobal + Threads + Wait + Clock + Sync>(
     rt: &R,
     line: &str,
 ) -> Result<String, Failed> {
-    let (kind, sizes) = line.split_once(' ').ok_or(Failed)?;
-    let (first, rest) = sizes.split_once(' ').ok_or(Failed)?;
+    let (kind, sizes) = parted(line)?;
+    let (first, rest) = parted(sizes)?;
     if kind == "lane" {
         return run_lane(rt, first, rest);
     }
-    let first = first.parse::<u16>().map_err(|_| Failed)?;
-    let second = rest.parse::<u32>().map_err(|_| Failed)?;
+    let first = or_failed(first.parse::<u16>())?;
+    let second = or_failed(rest.parse::<u32>())?;
     match kind {
         "looks" => run_looks(rt, first, second),
         _ => callers::make(rt, kind, first, second),
@@ -72,9 +97,9 @@ fn run_looks<R: AllocGlobal + Threads + Wait + Clock + Sync>(
     desks: u16,
     looks: u32,
 ) -> Result<String, Failed> {
-    let desks = u8::try_from(desks).map_err(|_| Failed)?;
+    let desks = or_failed(u8::try_from(desks))?;
     let rows = looks::measure(rt, desks, looks)?;
-    format!(in rt.alloc(); "{rows}").map_err(|_| Failed)
+    or_failed(format!(in rt.alloc(); "{rows}"))
 }
 
 /// Runs a lane of a capacity, with senders and changes as the rest of a line says, and reports the counts.
@@ -83,10 +108,10 @@ fn run_lane<R: AllocGlobal + Threads + Wait + Sync>(
     capacity: &str,
     rest: &str,
 ) -> Result<String, Failed> {
-    let capacity = capacity.parse::<usize>().map_err(|_| Failed)?;
-    let (senders, changes) = rest.split_once(' ').ok_or(Failed)?;
-    let senders = senders.parse::<u8>().map_err(|_| Failed)?;
-    let changes = changes.parse::<u32>().map_err(|_| Failed)?;
+    let capacity = or_failed(capacity.parse::<usize>())?;
+    let (senders, changes) = parted(rest)?;
+    let senders = or_failed(senders.parse::<u8>())?;
+    let changes = or_failed(changes.parse::<u32>())?;
     match lane::measure(rt, capacity, senders, changes) {
         Ok(came) => told_of_lane(rt, &came),
         Err(fault) => Err(fault),
@@ -95,5 +120,5 @@ fn run_lane<R: AllocGlobal + Threads + Wait + Sync>(
 
 /// How many changes each thread sent, and how many were taken.
 fn told_of_lane<R: AllocGlobal>(rt: &R, came: &Delivered) -> Result<String, Failed> {
-    format!(in rt.alloc(); "{:?} {}", came.sent, came.taken).map_err(|_| Failed)
+    or_failed(format!(in rt.alloc(); "{:?} {}", came.sent, came.taken))
 }

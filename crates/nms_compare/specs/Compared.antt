@@ -24,7 +24,7 @@ version_at order keys theirs = version_by keys (key_in order theirs.sym theirs.t
 -- a row: the finding on the version at its time, or why it has no national best
 abbrev pub found_of : Vendor → Listing → Tape → List ℕ → Record → Result Finding Cause
 found_of vendor roster tape keys row = do
-  theirs ← national_of vendor.bids vendor.offers vendor.meanings roster row
+  theirs ← national_of vendor.bids vendor.offers vendor.meanings.now roster row
   Ok (finding_of (quoted_at (sizes_of roster) (version (version_at vendor.order keys theirs) tape) theirs.sym) theirs)
 
 -- the causes that skip a row; the others refuse it

@@ -25,15 +25,15 @@ use std::io::{Read, Write};
 /// The most rows of a comparison.
 const MOST_ROWS: u64 = 1_000_000_000_000;
 
-/// How a vendor's rows are read.
+/// How a vendor's rows are read. The meanings are lent by the mapping.
 #[derive(Drop)]
-pub struct Vendor {
+pub struct Vendor<'a> {
     /// The columns, with the venue of the best bid as the participant.
     pub bids: Columns,
     /// The columns, with the venue of the best offer as the participant.
     pub offers: Columns,
     /// The meanings of texts.
-    pub meanings: Meanings,
+    pub meanings: &'a Meanings,
     /// The order of the rows, and of the changes.
     pub order: Order,
 }
@@ -45,7 +45,7 @@ pub struct Vendor {
 /// The writer is not flushed.
 pub fn compare_rows<R: Read, W: Write>(
     alloc: Global,
-    vendor: &Vendor,
+    vendor: &Vendor<'_>,
     roster: &Roster,
     changes: &[Change],
     keys: &[u64],
@@ -84,7 +84,7 @@ pub fn compare_rows<R: Read, W: Write>(
 
 /// The finding on a row, on the version at its time.
 fn find_row<W: Write>(
-    vendor: &Vendor,
+    vendor: &Vendor<'_>,
     roster: &Roster,
     changes: &[Change],
     keys: &[u64],
@@ -105,7 +105,7 @@ fn find_row<W: Write>(
     let theirs = match read_national(
         &vendor.bids,
         &vendor.offers,
-        &vendor.meanings,
+        vendor.meanings,
         roster,
         row,
         scratch,

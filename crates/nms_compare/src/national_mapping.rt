@@ -39,15 +39,33 @@ pub fn read_national_mapping(alloc: Global, text: &str) -> Result<NationalMappin
     ensures timed { IfOk result (λ mapping. mapping.bids.order ≢ Order.Free) }
 {
     let bids = side_mapping(alloc, text, BID, OFFER)?;
-    let offers = side_mapping(alloc, text, OFFER, BID)?;
-    if bids.order == Order::Free {
-        return Err(MapFault::BadValue {
-            table: "time",
-            key: String::from_str(alloc, "order")?,
-            expected: "\"given\" or \"symbol\": rows are found by their times",
-        });
+    match side_mapping(alloc, text, OFFER, BID) {
+        Ok(offers) => timed(alloc, NationalMapping { bids, offers }),
+        Err(fault) => Err(fault),
     }
-    Ok(NationalMapping { bids, offers })
+}
+
+/// A mapping, unless its order is `free`: rows are found by their times.
+fn timed(alloc: Global, mapping: NationalMapping) -> Result<NationalMapping, MapFault>
+    ensures timed { IfOk result (λ mapping. mapping.bids.order ≢ Order.Free) }
+{
+    if mapping.bids.order == Order::Free {
+        Err(free_order(alloc))
+    } else {
+        Ok(mapping)
+    }
+}
+
+/// The fault of the order `free`.
+fn free_order(alloc: Global) -> MapFault {
+    match String::from_str(alloc, "order") {
+        Ok(key) => MapFault::BadValue {
+            table: "time",
+            key,
+            expected: "\"given\" or \"symbol\": rows are found by their times",
+        },
+        Err(_) => MapFault::NoMemory,
+    }
 }
 
 /// The mapping of one side: its participant is that of the column `own`, and the column `other` is ignored.
@@ -57,16 +75,26 @@ fn side_mapping(
     own: &'static str,
     other: &'static str,
 ) -> Result<Mapping, MapFault> {
-    let Ok(mut document) = toml::table_from_str(alloc, text) else {
+    match toml::table_from_str(alloc, text) {
+        Ok(mut document) => side_of(alloc, &mut document, own, other),
         // `import` reports what is wrong with the text.
-        return read_mapping(alloc, text);
-    };
+        Err(_) => read_mapping(alloc, text),
+    }
+}
+
+/// The mapping of one side, of a document that has both.
+fn side_of(
+    alloc: Global,
+    document: &mut Table,
+    own: &'static str,
+    other: &'static str,
+) -> Result<Mapping, MapFault> {
     if let Some(column) = document.get_mut("column") {
         if let Some(members) = column.as_table_mut() {
             rename(alloc, members, own, other)?;
         }
     }
-    match toml::table_to_string(alloc, &document) {
+    match toml::table_to_string(alloc, document) {
         Ok(text) => read_mapping(alloc, text.as_str()),
         Err(_) => Err(MapFault::NoMemory),
     }
@@ -80,29 +108,53 @@ fn rename(
     other: &'static str,
 ) -> Result<(), MapFault> {
     if members.contains_key("participant") {
-        return Err(MapFault::Unknown {
-            table: "column",
-            key: String::from_str(alloc, "participant")?,
-            expected: "bid_participant and offer_participant in its place",
-        });
+        return Err(own_participant(alloc));
     }
     for key in [BID, OFFER] {
         if !members.contains_key(key) {
-            return Err(MapFault::Missing {
-                table: "column",
-                key: String::from_str(alloc, key)?,
-                expected: A_COLUMN,
-            });
+            return Err(no_venue(alloc, key));
         }
     }
     let _ = members.remove(other);
-    if let Some(value) = members.remove(own) {
-        let key = String::from_str(alloc, "participant")?;
-        if members.insert(key, value).is_err() {
-            return Err(MapFault::NoMemory);
-        }
+    match members.remove(own) {
+        Some(value) => put_participant(alloc, members, value),
+        None => Ok(()),
     }
-    Ok(())
+}
+
+/// The fault of a mapping that has the participant's own column.
+fn own_participant(alloc: Global) -> MapFault {
+    match String::from_str(alloc, "participant") {
+        Ok(key) => MapFault::Unknown {
+            table: "column",
+            key,
+            expected: "bid_participant and offer_participant in its place",
+        },
+        Err(_) => MapFault::NoMemory,
+    }
+}
+
+/// The fault of a mapping that lacks one of the two columns.
+fn no_venue(alloc: Global, key: &str) -> MapFault {
+    match String::from_str(alloc, key) {
+        Ok(key) => MapFault::Missing {
+            table: "column",
+            key,
+            expected: A_COLUMN,
+        },
+        Err(_) => MapFault::NoMemory,
+    }
+}
+
+/// Puts a column in the place of the participant.
+fn put_participant(alloc: Global, members: &mut Table, value: Value) -> Result<(), MapFault> {
+    let Ok(key) = String::from_str(alloc, "participant") else {
+        return Err(MapFault::NoMemory);
+    };
+    match members.insert(key, value) {
+        Ok(_) => Ok(()),
+        Err(_) => Err(MapFault::NoMemory),
+    }
 }
 
 impl NationalMapping {
@@ -122,20 +174,21 @@ impl NationalMapping {
 
     /// How the rows of a file are read whose first row is `names`, empty if it has no header. `NoColumn` is the first key of
     /// the table `column` whose name is not in that row.
-    pub fn vendor(self, alloc: Global, names: &ByteRecord) -> Result<Vendor, MapFault>
-        ensures bids { IfOk result (λ vendor. ArePlaced self.bids (fields_of names.now) vendor.bids) }
-        ensures offers { IfOk result (λ vendor. ArePlaced self.offers (fields_of names.now) vendor.offers) }
-        ensures order { IfOk result (λ vendor. vendor.order ≡ self.bids.order) }
-        ensures meanings { IfOk result (λ vendor. vendor.meanings ≡ self.bids.meanings) }
+    pub fn vendor(&self, alloc: Global, names: &ByteRecord) -> Result<Vendor<'_>, MapFault>
+        ensures bids { IfOk result (λ vendor. ArePlaced self.now.bids (fields_of names.now) vendor.bids) }
+        ensures offers { IfOk result (λ vendor. ArePlaced self.now.offers (fields_of names.now) vendor.offers) }
+        ensures order { IfOk result (λ vendor. vendor.order ≡ self.now.bids.order) }
+        ensures meanings { IfOk result (λ vendor. vendor.meanings.now ≡ self.now.bids.meanings) }
     {
         let bids = self.bids.columns(alloc, names)?;
-        let offers = self.offers.columns(alloc, names)?;
-        let order = self.bids.order;
-        Ok(Vendor {
-            bids,
-            offers,
-            meanings: self.bids.meanings,
-            order,
-        })
+        match self.offers.columns(alloc, names) {
+            Ok(offers) => Ok(Vendor {
+                bids,
+                offers,
+                meanings: &self.bids.meanings,
+                order: self.bids.order,
+            }),
+            Err(fault) => Err(fault),
+        }
     }
 }

@@ -1,2 +1,4 @@
+pub mod DayFacts
+pub mod Offered
 mod SceneFacts
 mod VersionFacts

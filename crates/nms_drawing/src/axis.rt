@@ -111,10 +111,11 @@ impl Axis<'_> {
         match &self.kind {
             Kind::Versions => Some(Label::Version(counted)),
             Kind::Own(versions) => {
-                let last = versions
-                    .get(..place as usize)
-                    .and_then(|before| before.last());
-                Some(Label::Own(place, last.copied().unwrap_or(self.from)))
+                let last = match place.checked_sub(1) {
+                    Some(before) => versions.get(before as usize).copied(),
+                    None => None,
+                };
+                Some(Label::Own(place, last.unwrap_or(self.from)))
             }
             Kind::Clock(rising) if rising.times.is_empty() => None,
             Kind::Clock(rising) => {

@@ -31,21 +31,29 @@ pub(crate) fn write_curves<W: Write>(
         Shown::Price => (OFFER, HOLLOW),
         Shown::Size => (OFFER_SIZE, HOLLOW_SIZE),
     };
-    put(answers, &[Item::Text(begun)])?;
-    write_curve(day, scale, Side::Offer, shown, answers)?;
-    put(answers, &[Item::Text(ended), Item::Text(BID)])?;
-    write_curve(day, scale, Side::Bid, shown, answers)?;
+    let next = [Item::Text(ended), Item::Text(BID)];
+    write_curve(
+        day,
+        scale,
+        Side::Offer,
+        shown,
+        &[Item::Text(begun)],
+        answers,
+    )?;
+    write_curve(day, scale, Side::Bid, shown, &next, answers)?;
     put(answers, &[Item::Text("\"/>")])
 }
 
-/// Writes the steps of a side.
+/// Writes the steps of a side, after what begins them.
 fn write_curve<W: Write>(
     day: &Day,
     scale: &Scale,
     side: Side,
     shown: Shown,
+    begun: &[Item<'_>],
     answers: &mut W,
 ) -> Result<(), ShowFault> {
+    put(answers, begun)?;
     let mut was = 0;
     for place in 0..day.columns.len() {
         let span = day.columns[place].span(side, shown);

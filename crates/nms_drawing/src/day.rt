@@ -65,6 +65,16 @@ impl Column {
         }
     }
 
+    /// Adds what a version shows.
+    fn show(&mut self, moment: &Moment) {
+        widen(&mut self.bid, moment.bid);
+        widen(&mut self.offer, moment.offer);
+        widen(&mut self.bid_size, moment.bid_size);
+        widen(&mut self.offer_size, moment.offer_size);
+        self.locked = self.locked || moment.locked;
+        self.crossed = self.crossed || moment.crossed;
+    }
+
     /// What a side shows.
     pub(crate) fn span(&self, side: Side, shown: Shown) -> Span {
         match (side, shown) {
@@ -152,9 +162,7 @@ fn add_all(
         let Some(change) = changes.get(before as usize) else {
             break;
         };
-        if board.takes(change) {
-            board.apply(*change);
-        }
+        follow(board, change);
         if !concerns(change, sym) {
             continue;
         }
@@ -165,6 +173,13 @@ fn add_all(
         moment = moment_of(board, sym);
     }
     add(day, axis, since, axis.to, &moment)
+}
+
+/// Applies a change, if the board takes it.
+pub(crate) fn follow(board: &mut Boards, change: &Change) {
+    if board.takes(change) {
+        board.apply(*change);
+    }
 }
 
 /// Whether a change may move a symbol's quotations.
@@ -252,12 +267,7 @@ fn add_columns(day: &mut Day, start: u64, end: u64, moment: &Moment) -> Result<(
             day.columns.push(Column::empty())?;
         }
         if let Some(column) = day.columns.get_mut(place as usize) {
-            widen(&mut column.bid, moment.bid);
-            widen(&mut column.offer, moment.offer);
-            widen(&mut column.bid_size, moment.bid_size);
-            widen(&mut column.offer_size, moment.offer_size);
-            column.locked = column.locked || moment.locked;
-            column.crossed = column.crossed || moment.crossed;
+            column.show(moment);
         }
     }
     Ok(())

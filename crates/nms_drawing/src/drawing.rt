@@ -6,7 +6,7 @@ ghost use Rattle.nms_drawing.specs.Days.{Fits, FitsFile, IsDayFault, IsFileDayFa
 ghost use Rattle.nms_drawing.specs.Faults.{is_begun, is_of_input};
 
 use crate::axis::{Axis, Kind};
-use crate::day::{concerns, day_of};
+use crate::day::{Day, concerns, day_of};
 use crate::drawing_fault::DrawingFault;
 use crate::judged::{Judged, judge_plan};
 use crate::marks::{Mark, Marked, marked_in};
@@ -223,15 +223,44 @@ fn draw_on<W: Write>(
     ensures own { IfErr result (λ fault. is_of_input fault ≡ false) }
     ensures unwritten { IfErr result (λ fault. is_begun fault ≡ false → W.contents answers.new ≡ W.contents answers.old) }
 {
+    let day = day_along(alloc, roster, changes, sym, axis)?;
+    let subject = subject_of(roster, axis, sym, plan, marks);
+    match write_picture(alloc, &subject, &day, answers) {
+        Ok(()) => Ok(Ending::Done),
+        Err(fault) => Err(DrawingFault::from(fault)),
+    }
+}
+
+/// The day of a symbol along these changes, on a new board.
+fn day_along(
+    alloc: Global,
+    roster: &Roster,
+    changes: &[Change],
+    sym: Sym,
+    axis: &Axis<'_>,
+) -> Result<Day, DrawingFault>
+    ensures { IfErr result (λ fault. is_of_input fault ≡ false) }
+{
     let mut board = match Boards::new(alloc, roster) {
         Ok(board) => board,
         Err(fault) => return Err(DrawingFault::Board(fault)),
     };
-    let Ok(day) = day_of(alloc, &mut board, changes, sym, axis) else {
-        return Err(DrawingFault::NoMemory);
-    };
+    match day_of(alloc, &mut board, changes, sym, axis) {
+        Ok(day) => Ok(day),
+        Err(_) => Err(DrawingFault::NoMemory),
+    }
+}
+
+/// What is drawn, with a plan that was judged.
+fn subject_of<'a>(
+    roster: &'a Roster,
+    axis: &'a Axis<'a>,
+    sym: Sym,
+    plan: Option<(&'a Plan, Option<&'a Judged>)>,
+    marks: Option<&'a [Mark]>,
+) -> Subject<'a> {
     let none: &[Mark] = &[];
-    let subject = Subject {
+    Subject {
         roster,
         sym,
         axis,
@@ -245,9 +274,7 @@ fn draw_on<W: Write>(
             Some(marks) => marked_in(marks, axis),
             None => None,
         },
-    };
-    write_picture(alloc, &subject, &day, answers)?;
-    Ok(Ending::Done)
+    }
 }
 
 /// The state of a plan.

@@ -108,9 +108,10 @@ fn leg_of(view: &View, plan: &Plan, doubt: &Doubt) -> Option<(u64, Leg)> {
     let Doubt::Breach(breach) = doubt else {
         return None;
     };
-    for (leg, number) in plan.legs.as_slice().iter().zip(1..33) {
-        if is_of_leg(view, plan, leg, breach) {
-            return Some((number, *leg));
+    let legs = plan.legs.as_slice();
+    for place in 0..legs.len() {
+        if is_of_leg(view, plan, &legs[place], breach) {
+            return Some((place as u64 + 1, legs[place]));
         }
     }
     None
@@ -137,11 +138,12 @@ fn is_of_leg(view: &View, plan: &Plan, leg: &Leg, breach: &Breach) -> bool {
 
 /// Whether no leg of a plan has a worse price.
 fn is_worst(plan: &Plan, leg: &Leg) -> bool {
-    !plan
-        .legs
-        .as_slice()
-        .iter()
-        .any(|other| is_better(plan.order.side, leg.price, other.price))
+    for other in plan.legs.as_slice() {
+        if is_better(plan.order.side, leg.price, other.price) {
+            return false;
+        }
+    }
+    true
 }
 
 /// What is doubtful, in words.

@@ -110,27 +110,46 @@ fn labels_of(
     scale: &Scale,
 ) -> Result<Vec<Label>, AllocError> {
     let mut labels = Vec::new(alloc);
-    for (leg, number) in plan.legs.as_slice().iter().zip(1..33) {
+    push_labels(&mut labels, plan, judged, scale)?;
+    arrange(&mut labels)?;
+    Ok(labels)
+}
+
+/// Adds the marks of a plan: its legs, and the quotations that it passed over.
+fn push_labels(
+    labels: &mut Vec<Label>,
+    plan: &Plan,
+    judged: &Judged,
+    scale: &Scale,
+) -> Result<(), AllocError> {
+    let legs = plan.legs.as_slice();
+    for place in 0..legs.len() {
+        let leg = &legs[place];
         push_label(
-            &mut labels,
-            Marked::Leg(number, *leg),
+            labels,
+            Marked::Leg(place as u64 + 1, *leg),
             scale.price(leg.price.get()),
         )?;
     }
     for passed in &judged.passed {
         push_label(
-            &mut labels,
+            labels,
             Marked::Passed(*passed),
             scale.price(passed.row.price.get()),
         )?;
     }
+    Ok(())
+}
+
+/// Sorts marks from the highest price to the lowest, and makes room between their words.
+fn arrange(labels: &mut Vec<Label>) -> Result<(), AllocError> {
     labels.sort_by_key(|label| label.down)?;
     let apart = HIGH
         .checked_div(labels.len() as u64)
         .unwrap_or(APART)
         .min(APART);
-    spread(&mut labels, apart);
-    Ok(labels)
+    spread(labels, apart);
+    Ok(())
 }
 
 /// Adds a mark.
@@ -151,15 +170,16 @@ fn spread(labels: &mut [Label], apart: u64)
 {
     let end = TOP + HIGH;
     let mut least = TOP + 14;
-    for label in labels.iter_mut() {
-        let words = label.words.max(least).min(end);
-        label.words = words;
+    for place in 0..labels.len() {
+        let words = labels[place].words.max(least).min(end);
+        labels[place].words = words;
         least = words + apart;
     }
     let mut most = end;
-    for label in labels.iter_mut().rev() {
-        let words = label.words.min(most);
-        label.words = words;
+    for done in 0..labels.len() {
+        let place = labels.len() - 1 - done;
+        let words = labels[place].words.min(most);
+        labels[place].words = words;
         most = words - words.min(apart);
     }
 }

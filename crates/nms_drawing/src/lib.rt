@@ -13,11 +13,11 @@ mod legs;
 mod marks;
 mod moments;
 mod opened;
+mod passed_lines;
 mod picture;
 mod scale;
 mod scene;
 mod streamed;
-mod timed_lines;
 mod version;
 mod words;
 

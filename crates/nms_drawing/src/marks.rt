@@ -153,6 +153,17 @@ fn groups_of(
     for _ in 0..GROUPS {
         groups.push(EMPTY)?;
     }
+    group_all(&mut groups, marks, axis, scale)?;
+    Ok(groups)
+}
+
+/// Adds the executions that stand in a picture to their groups.
+fn group_all(
+    groups: &mut [Group],
+    marks: &[Mark],
+    axis: &Axis<'_>,
+    scale: &Scale,
+) -> Result<(), AllocError> {
     for mark in marks {
         if is_drawn(mark, axis) {
             let place = place_of(scale.version(axis, mark.version));
@@ -161,7 +172,7 @@ fn groups_of(
             }
         }
     }
-    Ok(groups)
+    Ok(())
 }
 
 /// The group in which a mark stands.

@@ -2,7 +2,7 @@
 ghost use Rattle.std.specs.Prelude.{◌≡◌, IfErr, true};
 ghost use Rattle.nms_drawing.specs.Faults.{is_of_memory};
 
-use crate::day::{Moment, moment_of};
+use crate::day::{Moment, follow, moment_of};
 use crate::drawing_fault::DrawingFault;
 use crate::marks::Mark;
 use nms_board::Boards;
@@ -91,10 +91,10 @@ fn fill_scenes(
 ) -> Result<(), AllocError> {
     look_at_all(kept, scenes, board, 0)?;
     let mut next = begin_scenes(kept, scenes, order, 0, 0)?;
-    for (change, version) in changes.iter().zip(1..u64::MAX) {
-        if board.takes(change) {
-            board.apply(*change);
-        }
+    for place in 0..changes.len() {
+        let change = &changes[place];
+        let version = place as u64 + 1;
+        follow(board, change);
         look_after(kept, scenes, board, change, version)?;
         next = begin_scenes(kept, scenes, order, next, version)?;
     }
@@ -131,8 +131,8 @@ fn empty_scenes(alloc: Global, executions: &[(Sym, Mark)]) -> Result<Vec<Scene>,
 /// The places of executions, by version.
 fn by_version(alloc: Global, executions: &[(Sym, Mark)]) -> Result<Vec<(u64, usize)>, AllocError> {
     let mut order = Vec::new(alloc);
-    for (place, (_, mark)) in executions.iter().enumerate() {
-        order.push((mark.version, place))?;
+    for place in 0..executions.len() {
+        order.push((executions[place].1.version, place))?;
     }
     order.sort_by_key(|pair| pair.0)?;
     Ok(order)
@@ -184,10 +184,13 @@ fn look(
     place: usize,
     version: u64,
 ) -> Result<(), AllocError> {
-    let (Some(own), Ok(number)) = (kept.get_mut(place), u16::try_from(place)) else {
+    let Ok(number) = u16::try_from(place) else {
         return Ok(());
     };
     let Some(sym) = Sym::new(number) else {
+        return Ok(());
+    };
+    let Some(own) = kept.get_mut(place) else {
         return Ok(());
     };
     if !own.is_wanted {

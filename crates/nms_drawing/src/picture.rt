@@ -4,7 +4,7 @@ ghost use Rattle.std.specs.Prelude.{◌≤◌};
 
 use crate::axis::{Axis, Kind, Label};
 use crate::curve::write_curves;
-use crate::day::{Day, Shown};
+use crate::day::{Column, Day, Shown};
 use crate::drawing::Subject;
 use crate::legs::write_plan_marks;
 use crate::marks::write_marks;
@@ -71,22 +71,54 @@ pub(crate) fn write_picture<W: Write>(
     day: &Day,
     answers: &mut W,
 ) -> Result<(), ShowFault> {
-    let scale = scale_of(subject, day);
+    write_head(subject, day, answers)?;
+    write_plot(alloc, subject, day, answers)?;
+    write_notes(subject, day, answers)?;
+    put(answers, &[Item::Text("</svg>")])
+}
+
+/// Writes what stands before the plot: the title, the words, the ground with its legend.
+fn write_head<W: Write>(
+    subject: &Subject<'_>,
+    day: &Day,
+    answers: &mut W,
+) -> Result<(), ShowFault> {
     put(answers, &[Item::Text(HEAD)])?;
     write_title(subject, answers)?;
     write_words(subject, day, answers)?;
-    write_ground(subject, answers)?;
-    write_strips(day, &scale, answers)?;
-    write_axes(subject.axis, &scale, answers)?;
-    write_curves(day, &scale, Shown::Price, answers)?;
-    write_curves(day, &scale, Shown::Size, answers)?;
+    write_ground(subject, answers)
+}
+
+/// Writes the plot: the day, the executions and the plan.
+fn write_plot<W: Write>(
+    alloc: Global,
+    subject: &Subject<'_>,
+    day: &Day,
+    answers: &mut W,
+) -> Result<(), ShowFault> {
+    let scale = scale_of(subject, day);
+    write_day(subject.axis, day, &scale, answers)?;
     write_marks(alloc, subject.marks, subject.axis, &scale, answers)?;
-    if let Some((plan, judged)) = subject.whole_plan() {
-        let x = scale.version(subject.axis, plan.version);
-        write_plan_marks(alloc, subject.roster, plan, judged, x, &scale, answers)?;
+    match subject.whole_plan() {
+        Some((plan, judged)) => {
+            let x = scale.version(subject.axis, plan.version);
+            write_plan_marks(alloc, subject.roster, plan, judged, x, &scale, answers)
+        }
+        None => Ok(()),
     }
-    write_notes(subject, day, answers)?;
-    put(answers, &[Item::Text("</svg>")])
+}
+
+/// Writes the day: the strips of its markets, the axes, the curves of prices and of sizes.
+fn write_day<W: Write>(
+    axis: &Axis<'_>,
+    day: &Day,
+    scale: &Scale,
+    answers: &mut W,
+) -> Result<(), ShowFault> {
+    write_strips(day, scale, answers)?;
+    write_axes(axis, scale, answers)?;
+    write_curves(day, scale, Shown::Price, answers)?;
+    write_curves(day, scale, Shown::Size, answers)
 }
 
 /// The scale of all that is drawn.
@@ -132,16 +164,11 @@ fn write_strip<W: Write>(
     answers: &mut W,
 ) -> Result<(), ShowFault> {
     let mut begun = None;
-    for (column, place) in day.columns.iter().zip(0..u64::MAX) {
-        let is_marked = if crossed {
-            column.crossed
-        } else {
-            column.locked
-        };
-        match (begun, is_marked) {
-            (None, true) => begun = Some(place),
+    for place in 0..day.columns.len() {
+        match (begun, is_marked(&day.columns[place], crossed)) {
+            (None, true) => begun = Some(place as u64),
             (Some(from), false) => {
-                write_hatching(look, scale, from, place, answers)?;
+                write_hatching(look, scale, from, place as u64, answers)?;
                 begun = None;
             }
             (None, false) | (Some(_), true) => {}
@@ -151,6 +178,15 @@ fn write_strip<W: Write>(
     match begun {
         Some(from) => write_hatching(look, scale, from, end, answers),
         None => Ok(()),
+    }
+}
+
+/// Whether a column has crossed versions, or locked ones.
+fn is_marked(column: &Column, crossed: bool) -> bool {
+    if crossed {
+        column.crossed
+    } else {
+        column.locked
     }
 }
 

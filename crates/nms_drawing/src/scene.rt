@@ -222,8 +222,8 @@ fn write_steps<W: Write>(scene: &Scene, answers: &mut W) -> Result<(), ShowFault
     ensures safe { Writes IsSafe (W.contents answers.old) (W.contents answers.new) result }
     ensures fault { IfErr result (λ fault. fault ≡ ShowFault.WriteFault) }
 {
-    for (place, step) in scene.steps.iter().enumerate() {
-        write_step(across(scene, place), step.version, answers)?;
+    for place in 0..scene.steps.len() {
+        write_step(across(scene, place), scene.steps[place].version, answers)?;
     }
     Ok(())
 }
@@ -406,7 +406,8 @@ fn write_bids<W: Write>(
     ensures fault { IfErr result (λ fault. fault ≡ ShowFault.WriteFault) }
 {
     let mut words = TOP;
-    for (side, row) in passed.iter().take(MOST_ROWS) {
+    for place in 0..passed.len().min(MOST_ROWS) {
+        let (side, row) = &passed[place];
         let is_bid = *side == Side::Bid;
         words = write_row(roster, x, prices, row, is_bid, words, answers)?;
     }
@@ -427,7 +428,9 @@ fn write_offers<W: Write>(
     ensures fault { IfErr result (λ fault. fault ≡ ShowFault.WriteFault) }
 {
     let mut words = least;
-    for (side, row) in passed.iter().take(MOST_ROWS).rev() {
+    let shown = passed.len().min(MOST_ROWS);
+    for done in 0..shown {
+        let (side, row) = &passed[shown - 1 - done];
         let is_offer = *side == Side::Offer;
         words = write_row(roster, x, prices, row, is_offer, words, answers)?;
     }

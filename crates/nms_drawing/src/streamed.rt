@@ -1,13 +1,12 @@
 //! The stream of a file in the requested form: `specs/Streamed`.
-ghost use Rattle.std.specs.Prelude.{◌≡◌, ◌<◌, IfErr, IfSome, None, OnOk, Some, false, length, option_copied, true};
+ghost use Rattle.std.specs.Prelude.{◌≡◌, ◌<◌, IfErr, IfSome, None, OnOk, false, length, option_copied, true};
 ghost use Rattle.nms_lines.specs.Written.{WritesPart};
 ghost use Rattle.nms_stream.specs.StreamFile.{StreamsFile, is_of_file};
 ghost use Rattle.nms_drawing.specs.Faults.{is_begun, is_of_input};
 ghost use Rattle.nms_drawing.specs.Streamed.{IsStreamedFault, is_plain};
 
 use crate::drawing_fault::DrawingFault;
-use crate::json_lines::JsonLines;
-use crate::timed_lines::TimedLines;
+use crate::passed_lines::PassedLines;
 use nms_fees::Setup;
 use nms_files::read_changes;
 use nms_quote::Sym;
@@ -42,9 +41,9 @@ pub fn stream_changes<R: Read + Drop, W: Write>(
     ensures unwritten { IfErr result (λ fault. is_of_input fault ≡ true → W.contents answers.new ≡ W.contents answers.old) }
 {
     match times {
-        Some(times) => stream_timed(alloc, setup, source, times, sym, form, answers),
+        Some(times) => stream_lines(alloc, setup, source, Some(times), sym, form, answers),
         None => match form {
-            Form::Json => stream_json(alloc, setup, source, sym, answers),
+            Form::Json => stream_lines(alloc, setup, source, None, sym, form, answers),
             Form::Text { .. } => stream_plain(alloc, setup, source, sym, answers),
         },
     }
@@ -71,49 +70,28 @@ fn stream_plain<R: Read + Drop, W: Write>(
     }
 }
 
-/// Streams the changes of a file as objects.
-fn stream_json<R: Read + Drop, W: Write>(
+/// Streams the changes of a file line by line: as objects, or with the time of each line's version.
+fn stream_lines<R: Read + Drop, W: Write>(
     alloc: Global,
     setup: &Setup,
     source: R,
-    sym: Option<Sym>,
-    answers: &mut W,
-) -> Result<Ending, DrawingFault>
-    requires { IfSome sym (λ sym. sym < length setup.now.roster.syms) }
-    ensures refused { IfErr result (IsStreamedFault setup.now (R.remaining source) None) }
-    ensures unwritten { IfErr result (λ fault. is_of_input fault ≡ true → W.contents answers.new ≡ W.contents answers.old) }
-{
-    let changes = match read_changes(alloc, setup, source) {
-        Ok(changes) => changes,
-        Err(fault) => return Err(DrawingFault::Changes(fault)),
-    };
-    let mut lines = JsonLines::new(alloc, answers);
-    match stream(alloc, setup.roster(), &changes, sym, &mut lines) {
-        Ok(()) => Ok(Ending::Done),
-        Err(fault) => Err(passed_on(fault, lines.wants_memory())),
-    }
-}
-
-/// Streams the changes of a file with the time of each line's version.
-fn stream_timed<R: Read + Drop, W: Write>(
-    alloc: Global,
-    setup: &Setup,
-    source: R,
-    times: &Times,
+    times: Option<&Times>,
     sym: Option<Sym>,
     form: Form,
     answers: &mut W,
 ) -> Result<Ending, DrawingFault>
     requires { IfSome sym (λ sym. sym < length setup.now.roster.syms) }
-    ensures refused { IfErr result (IsStreamedFault setup.now (R.remaining source) (Some times.now)) }
+    ensures refused { IfErr result (IsStreamedFault setup.now (R.remaining source) (option_copied times.entry)) }
     ensures unwritten { IfErr result (λ fault. is_of_input fault ≡ true → W.contents answers.new ≡ W.contents answers.old) }
 {
     let changes = match read_changes(alloc, setup, source) {
         Ok(changes) => changes,
         Err(fault) => return Err(DrawingFault::Changes(fault)),
     };
-    times.check_len(changes.len())?;
-    let mut lines = TimedLines::new(alloc, times, form, answers);
+    if let Some(times) = times {
+        times.check_len(changes.len())?;
+    }
+    let mut lines = PassedLines::new(alloc, times, form, answers);
     match stream(alloc, setup.roster(), &changes, sym, &mut lines) {
         Ok(()) => Ok(Ending::Done),
         Err(fault) => Err(passed_on(fault, lines.wants_memory())),

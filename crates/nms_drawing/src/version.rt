@@ -185,13 +185,24 @@ fn show_view<W: Write>(
             ("market", Item::Text(word_of_market(market(view)))),
         ],
     )?;
-    for side in [Side::Bid, Side::Offer] {
-        let first = best(view, side);
-        for row in view.rows(side) {
-            show_one(alloc, roster, side, row, first == Some(*row), answers)?;
-        }
-    }
+    show_side(alloc, roster, view, Side::Bid, answers)?;
+    show_side(alloc, roster, view, Side::Offer, answers)?;
     show_pairs(alloc, roster, view, answers)
+}
+
+/// Writes the rows of a side as objects.
+fn show_side<W: Write>(
+    alloc: Global,
+    roster: &Roster,
+    view: &View,
+    side: Side,
+    answers: &mut W,
+) -> Result<(), ShowFault> {
+    let first = best(view, side);
+    for row in view.rows(side) {
+        show_one(alloc, roster, side, row, first == Some(*row), answers)?;
+    }
+    Ok(())
 }
 
 /// Writes a row as an object.

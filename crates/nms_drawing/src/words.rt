@@ -118,13 +118,23 @@ pub(crate) fn write_words<W: Write>(
 
 /// Writes the state of the plan; if it is drawn, its legs, its verdict, and what it passed over.
 fn write_drawn<W: Write>(subject: &Subject<'_>, answers: &mut W) -> Result<(), ShowFault> {
-    let Some((plan, judged)) = subject.whole_plan() else {
-        return put(answers, &[Item::Text(subject.drawn.sentence())]);
-    };
-    write_plan(subject.roster, plan, answers)?;
-    write_verdict(subject.roster, plan, judged, answers)?;
-    for passed in judged.passed.iter().skip(1) {
-        write_passed(subject.roster, passed, answers)?;
+    match subject.whole_plan() {
+        Some((plan, judged)) => write_whole_plan(subject.roster, plan, judged, answers),
+        None => put(answers, &[Item::Text(subject.drawn.sentence())]),
+    }
+}
+
+/// Writes the legs of a plan that is drawn, its verdict, and what it passed over beyond the first.
+fn write_whole_plan<W: Write>(
+    roster: &Roster,
+    plan: &Plan,
+    judged: &Judged,
+    answers: &mut W,
+) -> Result<(), ShowFault> {
+    write_plan(roster, plan, answers)?;
+    write_verdict(roster, plan, judged, answers)?;
+    for place in 1..judged.passed.len() {
+        write_passed(roster, &judged.passed[place], answers)?;
     }
     Ok(())
 }
@@ -344,8 +354,13 @@ fn write_left_out<W: Write>(axis: &Axis<'_>, day: &Day, answers: &mut W) -> Resu
 /// Writes a plan's order and its legs.
 fn write_plan<W: Write>(roster: &Roster, plan: &Plan, answers: &mut W) -> Result<(), ShowFault> {
     write_order(plan, answers)?;
-    for (leg, number) in plan.legs.as_slice().iter().zip(1..33) {
-        put(answers, &items_of_leg(roster, "Leg ", number, leg, "."))?;
+    let legs = plan.legs.as_slice();
+    for place in 0..legs.len() {
+        let number = place as u64 + 1;
+        put(
+            answers,
+            &items_of_leg(roster, "Leg ", number, &legs[place], "."),
+        )?;
     }
     Ok(())
 }

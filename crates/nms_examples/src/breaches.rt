@@ -1,6 +1,7 @@
 //! What breaks a plan for an order.
 
 use crate::Failed;
+use crate::lines::{around, tell, text_of};
 use nms_board::{Boards, View};
 use nms_engine::read_changes;
 use nms_fees::Setup;
@@ -8,8 +9,6 @@ use nms_lines::read_plan;
 use nms_quote::{Change, Order};
 use nms_rules::breach;
 use std::alloc::Global;
-use std::io::Write;
-use std::str;
 
 /// The line between a file of changes and a plan of the order.
 const ORDER: &str = "-- order\n";
@@ -24,13 +23,27 @@ pub(crate) fn give_breach(
     input: &[u8],
     given: &mut Vec<u8>,
 ) -> Result<(), Failed> {
-    let text = str::from_utf8(input).map_err(|_| Failed)?;
-    let (changes, rest) = text.split_once(ORDER).ok_or(Failed)?;
-    let (order, plan) = rest.split_once(PLAN).ok_or(Failed)?;
+    let text = text_of(input)?;
+    let (changes, rest) = around(text, ORDER)?;
+    let (order, plan) = around(rest, PLAN)?;
     let order = order_in(alloc, setup, order)?;
-    let changes = read_changes(alloc, setup, changes.as_bytes()).map_err(|_| Failed)?;
-    let view = view_after(alloc, setup, &changes, &order)?;
-    tell_breach(alloc, setup, &view, &order, plan, given)
+    match read_changes(alloc, setup, changes.as_bytes()) {
+        Ok(changes) => tell_breach_after(alloc, setup, &changes, &order, plan, given),
+        Err(_) => Err(Failed),
+    }
+}
+
+/// Adds the code of the breach of a text's plan after all the changes, or that it has none.
+fn tell_breach_after(
+    alloc: Global,
+    setup: &Setup,
+    changes: &[Change],
+    order: &Order,
+    plan: &str,
+    given: &mut Vec<u8>,
+) -> Result<(), Failed> {
+    let view = view_after(alloc, setup, changes, order)?;
+    tell_breach(alloc, setup, &view, order, plan, given)
 }
 
 /// The order of a plan's text.
@@ -48,7 +61,14 @@ fn view_after(
     changes: &[Change],
     order: &Order,
 ) -> Result<View, Failed> {
-    let mut board = Boards::new(alloc, setup.roster()).map_err(|_| Failed)?;
+    match Boards::new(alloc, setup.roster()) {
+        Ok(mut board) => view_on(&mut board, changes, order),
+        Err(_) => Err(Failed),
+    }
+}
+
+/// As above, on an empty board.
+fn view_on(board: &mut Boards, changes: &[Change], order: &Order) -> Result<View, Failed> {
     for change in changes {
         if !board.takes(change) {
             return Err(Failed);
@@ -74,5 +94,5 @@ fn tell_breach(
         Some(breach) => breach.code(),
         None => "none",
     };
-    writeln!(given, "{code}").map_err(|_| Failed)
+    tell(given, code)
 }

@@ -5,6 +5,7 @@ use crate::breaches::give_breach;
 use crate::escapes::bytes_of;
 use crate::exits::tell_exits;
 use crate::faults::tell_faults;
+use crate::lines::{around, or_failed, tell_two};
 use crate::numbers::give_numbers;
 use crate::plans::{give_audit, give_plan, rewrite_plan};
 use crate::records::give_lines;
@@ -24,7 +25,7 @@ pub(crate) fn give<T: AllocGlobal + Eprint>(
     body: &str,
     given: &mut Vec<u8>,
 ) -> Result<(), Failed> {
-    let (kind, rest) = title.split_once(' ').ok_or(Failed)?;
+    let (kind, rest) = around(title, " ")?;
     match kind {
         "trials" => give_trials(rt, setup, rest, given),
         "text" => give_text(rest, given),
@@ -72,9 +73,7 @@ fn give_bytes(
 /// Adds one of the program's own texts.
 fn give_text(title: &str, given: &mut Vec<u8>) -> Result<(), Failed> {
     match title {
-        "built-in setup" => given
-            .extend_from_slice(SETUP_K.as_bytes())
-            .map_err(|_| Failed),
+        "built-in setup" => or_failed(given.extend_from_slice(SETUP_K.as_bytes())),
         "exits" => tell_exits(given),
         "faults" => tell_faults(given),
         _ => Err(Failed),
@@ -90,7 +89,7 @@ fn give_script(
 ) -> Result<(), Failed> {
     match run_script(alloc, setup, input, given) {
         Ok(counts) => tell_counts(given, counts),
-        Err(fault) => writeln!(given, "nms_tool: {}", fault.code()).map_err(|_| Failed),
+        Err(fault) => tell_two(given, "nms_tool:", fault.code()),
     }
 }
 
@@ -102,7 +101,7 @@ fn tell_counts(given: &mut Vec<u8>, counts: Counts) -> Result<(), Failed> {
         (counts.tape, " taken, "),
         (counts.published, " published\n"),
     ] {
-        write!(given, "{count}{word}").map_err(|_| Failed)?;
+        or_failed(write!(given, "{count}{word}"))?;
     }
     Ok(())
 }

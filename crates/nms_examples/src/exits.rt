@@ -1,6 +1,7 @@
 //! The code of each fault that ends the program, and the exit status that it ends with.
 
 use crate::Failed;
+use crate::lines::tell_two;
 use nms_board::BoardFault;
 use nms_engine::{
     ChangesFault, FeedFault, LiveFault, OrdersFault, PlanFault, ReportFault, ScriptFault, TextFault,
@@ -8,7 +9,6 @@ use nms_engine::{
 use nms_fees::SetupFault;
 use nms_lines::{LineFault, PlanTextFault, RecordFault};
 use nms_quote::Feed;
-use std::io::Write;
 
 /// Adds each fault's code and its exit status, a line each.
 pub(crate) fn tell_exits(given: &mut Vec<u8>) -> Result<(), Failed> {
@@ -17,11 +17,6 @@ pub(crate) fn tell_exits(given: &mut Vec<u8>) -> Result<(), Failed> {
     tell_file_exits(given)?;
     tell_plan_exits(given)?;
     tell_live_exits(given)
-}
-
-/// Adds a fault's code and its exit status.
-fn tell(given: &mut Vec<u8>, code: &str, status: u8) -> Result<(), Failed> {
-    writeln!(given, "{code} {status}").map_err(|_| Failed)
 }
 
 /// Adds those of a setup.
@@ -37,7 +32,7 @@ fn tell_setup_exits(given: &mut Vec<u8>) -> Result<(), Failed> {
         SetupFault::TooMany,
         SetupFault::NoMemory,
     ] {
-        tell(given, fault.code(), fault.status())?;
+        tell_two(given, fault.code(), fault.status())?;
     }
     Ok(())
 }
@@ -58,7 +53,7 @@ fn tell_change_exits(given: &mut Vec<u8>) -> Result<(), Failed> {
         LineFault::BadLot,
     ] {
         let fault = ChangesFault::Line(fault);
-        tell(given, fault.code(), fault.status())?;
+        tell_two(given, fault.code(), fault.status())?;
     }
     for fault in [
         ChangesFault::Record(RecordFault::Failed),
@@ -66,9 +61,9 @@ fn tell_change_exits(given: &mut Vec<u8>) -> Result<(), Failed> {
         ChangesFault::Record(RecordFault::NoMemory),
     ] {
         let (report, plan) = (ReportFault::Changes(fault), PlanFault::Changes(fault));
-        tell(given, fault.code(), fault.status())?;
-        tell(given, report.code(), report.status())?;
-        tell(given, plan.code(), plan.status())?;
+        tell_two(given, fault.code(), fault.status())?;
+        tell_two(given, report.code(), report.status())?;
+        tell_two(given, plan.code(), plan.status())?;
     }
     Ok(())
 }
@@ -81,28 +76,28 @@ fn tell_file_exits(given: &mut Vec<u8>) -> Result<(), Failed> {
         ScriptFault::TooLong,
         ScriptFault::NoMemory,
     ] {
-        tell(given, fault.code(), fault.status())?;
+        tell_two(given, fault.code(), fault.status())?;
     }
     for fault in [
         ReportFault::Board(BoardFault::NoMemory),
         ReportFault::WriteFault,
         ReportFault::NoMemory,
     ] {
-        tell(given, fault.code(), fault.status())?;
+        tell_two(given, fault.code(), fault.status())?;
     }
     for fault in [
         FeedFault::Record(RecordFault::Failed),
         FeedFault::TooLong,
         FeedFault::Record(RecordFault::NoMemory),
     ] {
-        tell(given, fault.code(), fault.status())?;
+        tell_two(given, fault.code(), fault.status())?;
     }
     for fault in [
         OrdersFault::Record(RecordFault::Failed),
         OrdersFault::Line(LineFault::BadDesk),
         OrdersFault::Record(RecordFault::NoMemory),
     ] {
-        tell(given, fault.code(), fault.status())?;
+        tell_two(given, fault.code(), fault.status())?;
     }
     Ok(())
 }
@@ -114,14 +109,14 @@ fn tell_plan_exits(given: &mut Vec<u8>) -> Result<(), Failed> {
         PlanFault::Text(TextFault::NoMemory),
         PlanFault::Text(TextFault::WriteFault),
     ] {
-        tell(given, fault.code(), fault.status())?;
+        tell_two(given, fault.code(), fault.status())?;
     }
     for fault in [
         PlanTextFault::BadPlanText,
         PlanTextFault::NoMemory,
         PlanTextFault::WriteFault,
     ] {
-        tell(given, fault.code(), fault.status())?;
+        tell_two(given, fault.code(), fault.status())?;
     }
     Ok(())
 }
@@ -141,10 +136,10 @@ fn tell_live_exits(given: &mut Vec<u8>) -> Result<(), Failed> {
         LiveFault::GateLimit,
         LiveFault::NoMemory,
     ] {
-        tell(given, fault.code(), fault.status())?;
+        tell_two(given, fault.code(), fault.status())?;
     }
     for fault in [TextFault::NoMemory, TextFault::WriteFault] {
-        tell(given, fault.code(), fault.status())?;
+        tell_two(given, fault.code(), fault.status())?;
     }
     Ok(())
 }

@@ -1,6 +1,7 @@
 //! The texts of the faults.
 
 use crate::Failed;
+use crate::lines::tell;
 use nms_board::BoardFault;
 use nms_engine::{
     AuditFault, ChangesFault, FeedFault, LiveFault, OrdersFault, ReportFault, ScriptFault,
@@ -13,7 +14,6 @@ use nms_quote::{Feed, RosterFault};
 use nms_units::UnitFault;
 use nms_words::WordsFault;
 use std::fmt::Display;
-use std::io::Write;
 
 /// Adds the text of each fault, a line each.
 pub(crate) fn tell_faults(given: &mut Vec<u8>) -> Result<(), Failed> {
@@ -26,152 +26,164 @@ pub(crate) fn tell_faults(given: &mut Vec<u8>) -> Result<(), Failed> {
     tell(given, WordsFault::NoMemory)
 }
 
-/// Adds a fault's text.
-fn tell(given: &mut Vec<u8>, fault: impl Display + Drop) -> Result<(), Failed> {
-    writeln!(given, "{fault}").map_err(|_| Failed)
+/// Adds the texts of faults, a line each.
+fn tell_each<V: Display>(given: &mut Vec<u8>, faults: &[V]) -> Result<(), Failed> {
+    for fault in faults {
+        tell(given, fault)?;
+    }
+    Ok(())
 }
 
+/// Adds those of numbers and of rosters.
 fn tell_number_faults(given: &mut Vec<u8>) -> Result<(), Failed> {
-    for fault in [
-        UnitFault::BadPrice,
-        UnitFault::ZeroPrice,
-        UnitFault::BadShares,
-        UnitFault::BadMoney,
-    ] {
-        tell(given, fault)?;
-    }
-    for fault in [
-        RosterFault::BadName,
-        RosterFault::Duplicate,
-        RosterFault::TooMany,
-        RosterFault::NoMemory,
-    ] {
-        tell(given, fault)?;
-    }
-    Ok(())
+    tell_each(
+        given,
+        &[
+            UnitFault::BadPrice,
+            UnitFault::ZeroPrice,
+            UnitFault::BadShares,
+            UnitFault::BadMoney,
+        ],
+    )?;
+    tell_each(
+        given,
+        &[
+            RosterFault::BadName,
+            RosterFault::Duplicate,
+            RosterFault::TooMany,
+            RosterFault::NoMemory,
+        ],
+    )
 }
 
+/// Adds those of records, their lines and the texts of plans.
 fn tell_record_faults(given: &mut Vec<u8>) -> Result<(), Failed> {
-    for fault in [RecordFault::Failed, RecordFault::NoMemory] {
-        tell(given, fault)?;
-    }
-    for fault in [
-        LineFault::UnknownKind,
-        LineFault::FieldCount,
-        LineFault::UnknownParticipant,
-        LineFault::UnknownSymbol,
-        LineFault::BadState,
-        LineFault::BadPrice,
-        LineFault::BadShares,
-        LineFault::HalfSide,
-        LineFault::WrongFeed,
-        LineFault::BadDesk,
-        LineFault::BadLot,
-    ] {
-        tell(given, fault)?;
-    }
-    for fault in [
-        PlanTextFault::BadPlanText,
-        PlanTextFault::NoMemory,
-        PlanTextFault::WriteFault,
-    ] {
-        tell(given, fault)?;
-    }
-    Ok(())
+    tell_each(given, &[RecordFault::Failed, RecordFault::NoMemory])?;
+    tell_each(
+        given,
+        &[
+            LineFault::UnknownKind,
+            LineFault::FieldCount,
+            LineFault::UnknownParticipant,
+            LineFault::UnknownSymbol,
+            LineFault::BadState,
+            LineFault::BadPrice,
+            LineFault::BadShares,
+            LineFault::HalfSide,
+            LineFault::WrongFeed,
+            LineFault::BadDesk,
+            LineFault::BadLot,
+        ],
+    )?;
+    tell_each(
+        given,
+        &[
+            PlanTextFault::BadPlanText,
+            PlanTextFault::NoMemory,
+            PlanTextFault::WriteFault,
+        ],
+    )
 }
 
+/// Adds those of setups.
 fn tell_setup_faults(given: &mut Vec<u8>) -> Result<(), Failed> {
-    for fault in [
-        SetupFault::NotToml,
-        SetupFault::Missing,
-        SetupFault::UnknownKey,
-        SetupFault::BadName,
-        SetupFault::WrongType,
-        SetupFault::OutOfRange,
-        SetupFault::OverCap,
-        SetupFault::TooMany,
-        SetupFault::NoMemory,
-    ] {
-        tell(given, fault)?;
-    }
-    Ok(())
+    tell_each(
+        given,
+        &[
+            SetupFault::NotToml,
+            SetupFault::Missing,
+            SetupFault::UnknownKey,
+            SetupFault::BadName,
+            SetupFault::WrongType,
+            SetupFault::OutOfRange,
+            SetupFault::OverCap,
+            SetupFault::TooMany,
+            SetupFault::NoMemory,
+        ],
+    )
 }
 
+/// Adds those of the machine.
 fn tell_machine_faults(given: &mut Vec<u8>) -> Result<(), Failed> {
     tell(given, FlowFault::NoMemory)?;
-    for fault in [
-        StepFault::QueueFull,
-        StepFault::QueueEmpty,
-        StepFault::TapeFull,
-        StepFault::NoMemory,
-    ] {
-        tell(given, fault)?;
-    }
-    Ok(())
+    tell_each(
+        given,
+        &[
+            StepFault::QueueFull,
+            StepFault::QueueEmpty,
+            StepFault::TapeFull,
+            StepFault::NoMemory,
+        ],
+    )
 }
 
+/// Adds those of scripts, audits and reports.
 fn tell_engine_faults(given: &mut Vec<u8>) -> Result<(), Failed> {
-    for fault in [
-        ScriptFault::ReadFault,
-        ScriptFault::WriteFault,
-        ScriptFault::TooLong,
-        ScriptFault::NoMemory,
-    ] {
-        tell(given, fault)?;
-    }
-    for fault in [
-        ChangesFault::Record(RecordFault::Failed),
-        ChangesFault::Line(LineFault::UnknownKind),
-        ChangesFault::TapeFull,
-        ChangesFault::Record(RecordFault::NoMemory),
-    ] {
-        tell(given, ReportFault::Changes(fault))?;
-    }
-    for fault in [AuditFault::VersionBeyondTape, AuditFault::NoMemory] {
-        tell(given, fault)?;
-    }
-    for fault in [
-        ReportFault::Board(BoardFault::NoMemory),
-        ReportFault::WriteFault,
-        ReportFault::NoMemory,
-    ] {
-        tell(given, fault)?;
-    }
-    Ok(())
+    tell_each(
+        given,
+        &[
+            ScriptFault::ReadFault,
+            ScriptFault::WriteFault,
+            ScriptFault::TooLong,
+            ScriptFault::NoMemory,
+        ],
+    )?;
+    tell_each(
+        given,
+        &[
+            ReportFault::Changes(ChangesFault::Record(RecordFault::Failed)),
+            ReportFault::Changes(ChangesFault::Line(LineFault::UnknownKind)),
+            ReportFault::Changes(ChangesFault::TapeFull),
+            ReportFault::Changes(ChangesFault::Record(RecordFault::NoMemory)),
+        ],
+    )?;
+    tell_each(
+        given,
+        &[AuditFault::VersionBeyondTape, AuditFault::NoMemory],
+    )?;
+    tell_each(
+        given,
+        &[
+            ReportFault::Board(BoardFault::NoMemory),
+            ReportFault::WriteFault,
+            ReportFault::NoMemory,
+        ],
+    )
 }
 
+/// Adds those of live runs.
 fn tell_live_faults(given: &mut Vec<u8>) -> Result<(), Failed> {
-    for fault in [
-        OrdersFault::Record(RecordFault::Failed),
-        OrdersFault::Line(LineFault::BadDesk),
-        OrdersFault::Record(RecordFault::NoMemory),
-    ] {
-        tell(given, fault)?;
-    }
+    tell_each(
+        given,
+        &[
+            OrdersFault::Record(RecordFault::Failed),
+            OrdersFault::Line(LineFault::BadDesk),
+            OrdersFault::Record(RecordFault::NoMemory),
+        ],
+    )?;
     let refused = LiveFault::Line {
         feed: Feed::B,
         number: 7,
         fault: LineFault::WrongFeed,
     };
-    for fault in [
-        refused,
-        LiveFault::Open,
-        LiveFault::Append,
-        LiveFault::Desk,
-        LiveFault::GateLimit,
-        LiveFault::NoMemory,
-    ] {
-        tell(given, fault)?;
-    }
-    for fault in [
-        FeedFault::Record(RecordFault::Failed),
-        FeedFault::TooLong,
-        FeedFault::Record(RecordFault::NoMemory),
-    ] {
-        tell(given, fault)?;
-    }
-    for fault in [TextFault::NoMemory, TextFault::WriteFault] {
-        tell(given, fault)?;
-    }
-    Ok(())
+    tell_each(
+        given,
+        &[
+            refused,
+            LiveFault::Open,
+            LiveFault::Append,
+            LiveFault::Desk,
+            LiveFault::GateLimit,
+            LiveFault::NoMemory,
+        ],
+    )?;
+    tell_each(
+        given,
+        &[
+            FeedFault::Record(RecordFault::Failed),
+            FeedFault::TooLong,
+            FeedFault::Record(RecordFault::NoMemory),
+        ],
+    )?;
+    tell_each(given, &[TextFault::NoMemory, TextFault::WriteFault])
 }

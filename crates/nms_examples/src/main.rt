@@ -8,6 +8,7 @@ mod escapes;
 mod example;
 mod exits;
 mod faults;
+mod lines;
 mod numbers;
 mod plans;
 mod records;
@@ -16,17 +17,18 @@ mod steps;
 mod trials;
 
 use example::give;
+use lines::{around, or_failed, text_of};
 use nms_engine::SETUP_K;
 use nms_fees::{Setup, read_setup};
+use std::io;
 use std::io::{Read, Write};
 use std::process::ExitCode;
-use std::{io, str};
 
 /// The line after which an example says what it must give.
 const GIVES: &str = "-- gives\n";
 
 /// The input is no list of examples, or a stream failed.
-#[derive(Debug, Drop)]
+#[derive(Drop)]
 struct Failed;
 
 fn main(rt: HostRuntime) -> ExitCode {
@@ -39,8 +41,8 @@ fn main(rt: HostRuntime) -> ExitCode {
 /// Shows the examples of the input, and gives whether each was as it must be.
 fn show_all<T: AllocGlobal + Input + Print + Eprint>(rt: &T) -> Result<bool, Failed> {
     let mut input = Vec::new(rt.alloc());
-    rt.reader().read_to_end(&mut input).map_err(|_| Failed)?;
-    let text = str::from_utf8(&input).map_err(|_| Failed)?;
+    or_failed(rt.reader().read_to_end(&mut input))?;
+    let text = text_of(&input)?;
     show_parts(rt, text, &mut io::writer(rt))
 }
 
@@ -63,8 +65,8 @@ where
     T: AllocGlobal + Eprint,
     W: Write,
 {
-    let (head, examples) = part.split_once("== ").ok_or(Failed)?;
-    match head.split_once('\n').ok_or(Failed)? {
+    let (head, examples) = around(part, "== ")?;
+    match around(head, "\n")? {
         (_, "") => show_under(rt, SETUP_K, examples, answers),
         (_, document) => show_under(rt, document, examples, answers),
     }
@@ -90,7 +92,7 @@ where
 {
     let mut all = true;
     for example in examples.split("== ") {
-        let (title, body) = example.split_once('\n').ok_or(Failed)?;
+        let (title, body) = around(example, "\n")?;
         all &= show(rt, setup, title, body, answers)?;
     }
     Ok(all)
@@ -137,7 +139,7 @@ where
 
 /// Writes what was given, or whether it is the expected text.
 fn tell<W: Write>(given: &[u8], wanted: Option<&str>, answers: &mut W) -> Result<bool, Failed> {
-    let given = str::from_utf8(given).map_err(|_| Failed)?;
+    let given = text_of(given)?;
     match wanted {
         None => write(answers, &[given])?,
         Some(wanted) if given == wanted => write(answers, &["as it must\n"])?,
@@ -152,7 +154,7 @@ fn tell<W: Write>(given: &[u8], wanted: Option<&str>, answers: &mut W) -> Result
 /// Writes each piece.
 fn write<W: Write>(answers: &mut W, pieces: &[&str]) -> Result<(), Failed> {
     for piece in pieces {
-        answers.write_all(piece.as_bytes()).map_err(|_| Failed)?;
+        or_failed(answers.write_all(piece.as_bytes()))?;
     }
     Ok(())
 }

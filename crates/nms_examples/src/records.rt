@@ -1,6 +1,7 @@
 //! What records say, for each reader of records.
 
 use crate::Failed;
+use crate::lines::{around, or_failed, some_or_failed, tell};
 use nms_fees::Setup;
 use nms_lines::{ByteRecord, Reader, Reading, open_records, read_line, read_next};
 use nms_quote::{Feed, Roster};
@@ -18,8 +19,8 @@ pub(crate) fn give_lines(
     title: &str,
     given: &mut Vec<u8>,
 ) -> Result<(), Failed> {
-    let (place, _) = title.split_once(' ').ok_or(Failed)?;
-    let from = reading_named(place).ok_or(Failed)?;
+    let (place, _) = around(title, " ")?;
+    let from = some_or_failed(reading_named(place))?;
     let (mut reader, mut row) = (open_records(alloc, input), ByteRecord::new(alloc));
     tell_lines(&mut reader, &mut row, setup.roster(), from, given)
 }
@@ -62,7 +63,7 @@ fn tell_line(
     given: &mut Vec<u8>,
 ) -> Result<(), Failed> {
     match read_line(row, roster, from) {
-        Ok(line) => writeln!(given, "{line:?}").map_err(|_| Failed),
-        Err(fault) => writeln!(given, "{fault}").map_err(|_| Failed),
+        Ok(line) => or_failed(writeln!(given, "{line:?}")),
+        Err(fault) => tell(given, fault),
     }
 }

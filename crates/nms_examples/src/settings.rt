@@ -1,12 +1,12 @@
 //! Setup files with faults, and the fees of those without.
 
 use crate::Failed;
+use crate::lines::{around, or_failed, some_or_failed, tell, text_of};
 use nms_fees::{Setup, read_setup};
 use nms_quote::{OrderSide, Part};
 use nms_units::Price;
 use std::alloc::Global;
 use std::io::Write;
-use std::str;
 
 /// The line before the changes to a document, a line each: a piece of it, an arrow, and the text that replaces the first such
 /// piece.
@@ -21,7 +21,7 @@ pub(crate) fn give_settings(
     input: &[u8],
     given: &mut Vec<u8>,
 ) -> Result<(), Failed> {
-    let text = str::from_utf8(input).map_err(|_| Failed)?;
+    let text = text_of(input)?;
     if let Some((document, changes)) = text.split_once(CHANGES) {
         return give_changes(alloc, document, changes, given);
     }
@@ -51,17 +51,19 @@ fn give_changed(
     change: &str,
     given: &mut Vec<u8>,
 ) -> Result<(), Failed> {
-    let (piece, other) = change.split_once(" => ").ok_or(Failed)?;
-    let (front, back) = document.split_once(piece).ok_or(Failed)?;
-    let text = format!(in alloc; "{front}{other}{back}").map_err(|_| Failed)?;
-    give_setup(alloc, text.as_str(), given)
+    let (piece, other) = around(change, " => ")?;
+    let (front, back) = around(document, piece)?;
+    match format!(in alloc; "{front}{other}{back}") {
+        Ok(text) => give_setup(alloc, text.as_str(), given),
+        Err(_) => Err(Failed),
+    }
 }
 
 /// Adds the numbers of a setup, or its fault.
 fn give_setup(alloc: Global, document: &str, given: &mut Vec<u8>) -> Result<(), Failed> {
     match read_setup(alloc, document) {
         Ok(setup) => tell_setup(&setup, given),
-        Err(fault) => writeln!(given, "{fault}").map_err(|_| Failed),
+        Err(fault) => tell(given, fault),
     }
 }
 
@@ -69,7 +71,7 @@ fn give_setup(alloc: Global, document: &str, given: &mut Vec<u8>) -> Result<(), 
 fn tell_setup(setup: &Setup, given: &mut Vec<u8>) -> Result<(), Failed> {
     let (tape, queue, desks) = (setup.tape_limit(), setup.queue(), setup.desks());
     let (parts, syms) = (setup.roster().parts(), setup.roster().syms());
-    writeln!(given, "{tape} {queue} {desks} {parts} {syms}").map_err(|_| Failed)
+    or_failed(writeln!(given, "{tape} {queue} {desks} {parts} {syms}"))
 }
 
 /// Adds what a share costs for each question, under the setup of a document.
@@ -95,9 +97,8 @@ fn tell_costs(setup: &Setup, costs: &str, given: &mut Vec<u8>) -> Result<(), Fai
 
 /// Adds what a share costs.
 fn tell_cost(setup: &Setup, question: &str, given: &mut Vec<u8>) -> Result<(), Failed> {
-    let (part, side, price) = question_in(question).ok_or(Failed)?;
-    let cost = setup.fees().unit_cost(part, side, price);
-    writeln!(given, "{cost}").map_err(|_| Failed)
+    let (part, side, price) = some_or_failed(question_in(question))?;
+    tell(given, setup.fees().unit_cost(part, side, price))
 }
 
 /// The participant, the side and the price of a question.

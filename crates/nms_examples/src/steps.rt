@@ -1,13 +1,14 @@
 //! The machine over steps without text.
 
 use crate::Failed;
+use crate::lines::{or_failed, tell, tell_two, text_of};
+use nms_board::View;
 use nms_fees::Setup;
 use nms_flow::{Flow, Reply, Step, StepFault};
 use nms_quote::{Change, Feed, Part, QState, Side, SideQuote, Sym};
 use nms_units::{Price, Shares};
 use std::alloc::Global;
 use std::io::Write;
-use std::str;
 
 /// Adds the answer to each step, one a line, of a machine that starts empty.
 pub(crate) fn give_steps(
@@ -16,10 +17,17 @@ pub(crate) fn give_steps(
     input: &[u8],
     given: &mut Vec<u8>,
 ) -> Result<(), Failed> {
-    let text = str::from_utf8(input).map_err(|_| Failed)?;
-    let mut flow = Flow::new(alloc, setup).map_err(|_| Failed)?;
+    let text = text_of(input)?;
+    match Flow::new(alloc, setup) {
+        Ok(mut flow) => give_each(&mut flow, text, given),
+        Err(_) => Err(Failed),
+    }
+}
+
+/// Adds the answer to each step.
+fn give_each(flow: &mut Flow, text: &str, given: &mut Vec<u8>) -> Result<(), Failed> {
     for word in text.lines() {
-        give_step(&mut flow, word, given)?;
+        give_step(flow, word, given)?;
     }
     Ok(())
 }
@@ -56,11 +64,13 @@ fn offer_of(place: u8) -> Option<Change> {
 /// fails.
 fn give_step(flow: &mut Flow, word: &str, given: &mut Vec<u8>) -> Result<(), Failed> {
     if word == "all" {
-        return writeln!(given, "{}", flow.take_all().code()).map_err(|_| Failed);
+        return tell(given, flow.take_all().code());
     }
     // The prover has to see the types of a step before the step moves, so the code mentions them.
     let _seen: Option<SideQuote> = None;
-    let step = step_named(word).ok_or(Failed)?;
+    let Some(step) = step_named(word) else {
+        return Err(Failed);
+    };
     if let Step::Send(_, change) = &step
         && !flow.holds(change)
     {
@@ -72,14 +82,17 @@ fn give_step(flow: &mut Flow, word: &str, given: &mut Vec<u8>) -> Result<(), Fai
 /// Adds an answer: of a view its version and its number of offers, of a refusal its code.
 fn tell_reply(answer: Result<Reply, StepFault>, given: &mut Vec<u8>) -> Result<(), Failed> {
     match answer {
-        Ok(Reply::Sent) => writeln!(given, "sent"),
-        Ok(Reply::Taken { version }) => writeln!(given, "taken {version}"),
-        Ok(Reply::Published { version }) => writeln!(given, "published {version}"),
-        Ok(Reply::Told { desk, version }) => writeln!(given, "told {desk} {version}"),
-        Ok(Reply::Seen(view)) => {
-            writeln!(given, "seen {} {}", view.version(), view.count(Side::Offer))
-        }
-        Err(fault) => writeln!(given, "{}", fault.code()),
+        Ok(Reply::Sent) => tell(given, "sent"),
+        Ok(Reply::Taken { version }) => tell_two(given, "taken", version),
+        Ok(Reply::Published { version }) => tell_two(given, "published", version),
+        Ok(Reply::Told { desk, version }) => or_failed(writeln!(given, "told {desk} {version}")),
+        Ok(Reply::Seen(view)) => tell_view(&view, given),
+        Err(fault) => tell(given, fault.code()),
     }
-    .map_err(|_| Failed)
+}
+
+/// Adds the version of a view and its number of offers.
+fn tell_view(view: &View, given: &mut Vec<u8>) -> Result<(), Failed> {
+    let (version, count) = (view.version(), view.count(Side::Offer));
+    or_failed(writeln!(given, "seen {version} {count}"))
 }

@@ -11,6 +11,7 @@ mod script_streams;
 mod streams;
 
 use crate::Failed;
+use crate::lines::or_failed;
 use nms_fees::Setup;
 use std::fmt::Debug;
 use std::process::Termination;
@@ -46,7 +47,7 @@ pub(crate) fn give_trials<T: AllocGlobal + Eprint>(
     if !passed {
         return Err(Failed);
     }
-    given.extend_from_slice(b"passed\n").map_err(|_| Failed)
+    or_failed(given.extend_from_slice(b"passed\n"))
 }
 
 /// Scripts.

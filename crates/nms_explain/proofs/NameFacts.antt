@@ -1,9 +1,9 @@
 -- The names of fields are printable ASCII.
 use Rattle.std.proofs.Common.{◌≡◌, true, refl}
-use Rattle.nms_places.specs.FieldNames as names
-use Rattle.nms_places.specs.declared.field_name.FieldName.{FieldName}
-use Rattle.nms_places.specs.declared.field_name.FieldName.TheVariants as name
 use Rattle.nms_show.specs.Plain.{is_plain}
+use Rattle.nms_explain.specs.FieldNames as names
+use Rattle.nms_explain.specs.declared.places.field_name.FieldName.{FieldName}
+use Rattle.nms_explain.specs.declared.places.field_name.FieldName.TheVariants as name
 
 pub name_plain : (shown : FieldName) → is_plain (names.text_of shown) ≡ true
 name_plain name.Kind = refl

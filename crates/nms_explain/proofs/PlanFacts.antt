@@ -5,16 +5,16 @@ use Rattle.std.specs.Prelude.{is_some}
 use Rattle.std.proofs.lemmas.List.{length-append}
 use Rattle.nms_quote.specs.Roster.{Listing}
 use Rattle.nms_lines.specs.Layout.{Record}
-use Rattle.nms_places.specs.PlanOrder.{HasPassed, due_after, is_ended, trouble_after, wrong_in}
-use Rattle.nms_places.proofs.Offered.{reads_where_no_record_is_wrong, wrong_more}
-use Rattle.nms_places.specs.declared.plan_walk.PlanTrouble.{PlanTrouble}
 use Rattle.nms_show.specs.declared.ending.Ending.{Ending}
+use Rattle.nms_explain.specs.PlanOrder.{HasPassed, due_after, is_ended, trouble_after, wrong_in}
 use Rattle.nms_explain.specs.Planned.{AllHaveCome, EndsAsPlan, HaveCome, ending_if, is_done}
+use Rattle.nms_explain.specs.declared.places.plan_walk.PlanTrouble.{PlanTrouble}
 use Rattle.nms_explain.specs.declared.plan_text.Came.{Came}
+use Rattle.nms_explain.proofs.OrderFacts.{reads_where_no_record_is_wrong, wrong_more}
 
 -- before the first record
 pub none_came : (roster : Listing) (came : Came) → came.records ≡ 0 → came.refused ≡ 0 → HasPassed [] came.walk → HaveCome roster [] came
-unfolding Rattle.nms_places.specs.PlanOrder.troubles_after
+unfolding Rattle.nms_explain.specs.PlanOrder.troubles_after
 none_came roster came records refused walk = record { records = records; refused = refused; walk = walk }
 
 -- with a record after them, by what is wrong with it

@@ -5,9 +5,9 @@ use Rattle.nms_quote.specs.Roster.{Listing}
 use Rattle.nms_lines.specs.Layout.{Record}
 use Rattle.nms_lines.specs.PlanReading.{plan_in}
 use Rattle.nms_lines.specs.Records.{AreAllRecords}
-use Rattle.nms_places.specs.PlanOrder.{HasPassed, is_ended, wrong_in}
 use Rattle.nms_show.specs.declared.ending.Ending.{Ending}
 use Rattle.nms_show.specs.declared.ending.Ending.TheVariants as ending
+use Rattle.nms_explain.specs.PlanOrder.{HasPassed, is_ended, wrong_in}
 use Rattle.nms_explain.specs.declared.plan_text.Came.{Came}
 
 -- done if all is right

@@ -17,6 +17,9 @@ use crate::expectation::{expected_field, layout_of};
 use crate::explain_fault::ExplainFault;
 use crate::hints::{hint_of, hint_of_feed, parted_number};
 use crate::line_count::LineCount;
+use crate::places::{
+    Counts, FieldName, FieldPlace, Place, kind_of, place_of, text_at, unknown_name,
+};
 use crate::record_source::{RecordSource, RecordText, next_record, open_source, record_of};
 use crate::refusal::{Refusal, tell_refusal};
 use crate::remedies::remedy_in;
@@ -25,7 +28,6 @@ use crate::tally::{Tally, tell_remark};
 use nms_codes::Code;
 use nms_fees::Setup;
 use nms_lines::{ByteRecord, Kind, LineFault, Reader, Reading, RecordFault, read_line};
-use nms_places::{Counts, FieldName, FieldPlace, Place, kind_of, place_of, text_at, unknown_name};
 use nms_quote::{Feed, Roster};
 use nms_show::{Ending, Form, Item};
 use std::alloc::Global;

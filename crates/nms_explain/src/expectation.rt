@@ -1,6 +1,6 @@
 //! What is expected at the place of a refusal.
+use crate::places::FieldName;
 use nms_lines::{Kind, LineFault, Reading};
-use nms_places::FieldName;
 use nms_quote::Feed;
 
 /// What is expected of a field that was refused.

@@ -2,9 +2,9 @@
 ghost use Rattle.std.specs.Prelude.{◌+◌, ◌<◌, ◌^◌, IfSome, length};
 ghost use Rattle.csv.specs.Records.{fields_of};
 
+use crate::places::{Counts, kind_of, text_at};
 use memchr::memchr;
 use nms_lines::{ByteRecord, LineFault};
-use nms_places::{Counts, kind_of, text_at};
 use nms_quote::{Feed, Roster};
 
 /// The words that the records of a plan begin with.

@@ -7,6 +7,7 @@ mod expectation;
 mod explain_fault;
 mod hints;
 mod line_count;
+mod places;
 mod plan_text;
 mod quoting;
 mod record_source;
@@ -17,4 +18,8 @@ mod tally;
 
 pub use changes::{explain_changes, explain_feed, explain_orders, explain_script};
 pub use explain_fault::ExplainFault;
+pub use places::{
+    a_fault_stands_at_its_fields, a_plan_is_read_where_no_record_is_wrong,
+    a_plan_record_is_read_where_no_field_is_wrong, the_worked_plans_hold,
+};
 pub use plan_text::explain_plan;

@@ -3,7 +3,7 @@ ghost use Rattle.std.specs.Prelude.{◌≡◌, ◌<◌, ◌≤◌, ◌+◌, ◌-
 ghost use Rattle.csv.specs.Records.{fields_of};
 ghost use Rattle.nms_lines.specs.Layout.{Record};
 ghost use Rattle.nms_lines.specs.Records.{ReadsFrom};
-ghost use Rattle.nms_places.specs.PlanOrder.{HasPassed, is_ended};
+ghost use Rattle.nms_explain.specs.PlanOrder.{HasPassed, is_ended};
 ghost use Rattle.nms_explain.specs.Planned.{AllHaveCome, EndsAsPlan, HaveCome, ending_if, is_done};
 ghost use Rattle.nms_explain.specs.Source.{left_of};
 ghost use Rattle.nms_show.specs.Plain.{is_own_plain};
@@ -13,6 +13,7 @@ ghost use Rattle.nms_show.specs.Written.{Writes};
 use crate::changes::{TOO_LONG, quote_at};
 use crate::explain_fault::ExplainFault;
 use crate::hints::hint_of_kind;
+use crate::places::{FieldName, FieldPlace, Place, PlanDue, PlanTrouble, PlanWalk, text_at};
 use crate::record_source::{RecordSource, RecordText, next_record, open_source, record_of};
 use crate::refusal::{Refusal, tell_missing, tell_refusal};
 use crate::span::{Point, Span, span_of};
@@ -20,7 +21,6 @@ use crate::tally::{tell_count, tell_counts};
 use nms_codes::Code;
 use nms_fees::Setup;
 use nms_lines::{ByteRecord, Reader};
-use nms_places::{FieldName, FieldPlace, Place, PlanDue, PlanTrouble, PlanWalk, text_at};
 use nms_quote::Roster;
 use nms_show::{Ending, Form, Item, ShowFault};
 use std::alloc::Global;
@@ -69,11 +69,25 @@ pub fn explain_plan<W: Write>(
     };
     let mut reader = open_source(alloc, text);
     let mut row = ByteRecord::new(alloc);
-    let came = explain_records(&asked, &mut reader, &mut row, answers)?;
+    explain_text(&asked, &mut reader, &mut row, answers)
+}
+
+/// As `explain_plan`, for the text of a reader. It owns neither the reader nor the record, so its exits drop nothing.
+fn explain_text<R: Read, W: Write>(
+    asked: &Asked<'_>,
+    reader: &mut Reader<RecordSource<R>>,
+    row: &mut ByteRecord,
+    answers: &mut W,
+) -> Result<Ending, ExplainFault>
+    ensures ending { (bytes : Option (List ℕ)) → ReadsFrom (left_of R.remaining) reader.old bytes []
+        → IfOk result (EndsAsPlan asked.now.roster.now bytes) }
+    ensures safe { Writes IsSafe (W.contents answers.old) (W.contents answers.new) result }
+{
+    let came = explain_records(asked, reader, row, answers)?;
     let Some(end) = reader.get_ref().end() else {
         return Err(TOO_LONG);
     };
-    match tell_end(&came, &asked, end, answers) {
+    match tell_end(&came, asked, end, answers) {
         Ok(ending) => Ok(ending),
         Err(fault) => Err(ExplainFault::Show(fault)),
     }

@@ -5,9 +5,9 @@ ghost use Rattle.nms_show.specs.Safe.{IsSafe};
 ghost use Rattle.nms_show.specs.Written.{Writes};
 
 use crate::line_count::LineCount;
+use crate::places::{FieldName, FieldPlace};
 use crate::span::{Point, Span, point_at};
 use nms_codes::Code;
-use nms_places::{FieldName, FieldPlace};
 use nms_show::{
     Form, Item, Location, ShowFault, WrongPart, item_if_any, write_advice, write_found,
     write_place, write_plain_line, write_plain_object, write_refused,

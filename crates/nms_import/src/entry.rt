@@ -2,7 +2,7 @@
 use nms_quote::Change;
 
 /// What an accepted row makes: a change, and when it was.
-#[derive(Clone, Copy, PartialEq, Eq)]
+#[derive(Clone, Copy)]
 pub struct Entry {
     /// The time of day as digits, `HHMMSSnnnnnnnnn`: 93000000000001 is a nanosecond after 09:30:00.
     pub time: u64,

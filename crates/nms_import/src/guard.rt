@@ -6,7 +6,7 @@ use crate::noting::Notes;
 use crate::tally::Sums;
 
 /// Why what was written should not be used without a look: the first that holds.
-#[derive(Clone, Copy, PartialEq, Eq)]
+#[derive(Clone, Copy)]
 pub enum Guard {
     /// I1: more than half of the rows were refused.
     MostRefused,

@@ -140,9 +140,7 @@ fn import_row<C: Write, T: Write, E: Write>(
                 changes,
                 times,
             )?;
-            if notes.note(roster, &entry)? {
-                told.tell_fall(columns, &work.row);
-            }
+            note_entry(columns, roster, &entry, &work.row, notes, told)?;
             Ok(())
         }
         Err(cause) => {
@@ -151,6 +149,21 @@ fn import_row<C: Write, T: Write, E: Write>(
             Ok(())
         }
     }
+}
+
+/// Notes an accepted row, and shows it if its time is the first that falls.
+fn note_entry<E: Write>(
+    columns: &Columns,
+    roster: &Roster,
+    entry: &Entry,
+    row: &ByteRecord,
+    notes: &mut Notes,
+    told: &mut Told<'_, E>,
+) -> Result<(), ImportFault> {
+    if notes.note(roster, entry)? {
+        told.tell_fall(columns, row);
+    }
+    Ok(())
 }
 
 /// Writes a change and its time. `text` is room that a caller keeps from row to row.

@@ -30,18 +30,18 @@ pub use guard::Guard;
 pub use import_fault::ImportFault;
 pub use importing::{Work, give, import_rows, write_entry};
 pub use laws::worked_examples;
-pub use map_fault::MapFault;
+pub use map_fault::{MapFault, both};
 pub use map_table::{MapTable, keep};
 pub use mapping::{FileForm, Mapping, Order, Source, place_of, places_of};
 pub use mapping_reading::{
-    document_of, file_of, form_of, mapping_of, names_of, no_others, read_mapping, symbols_of,
-    unit_of,
+    document_of, file_of, form_of, mapping_of, names_of, no_others, read_mapping, skips_of,
+    symbols_of, unit_of,
 };
 pub use meanings::{Half, Meaning, Meanings, PriceUnit, Renamed, Replaced, Said, TimeForm, Word};
 pub use noting::Notes;
 pub use row::{entry_with, read_row, symbol_in};
 pub use rows::{next_row, open_rows};
-pub use tally::{MOST_ROWS, Sums, Tally};
+pub use tally::{MOST_ROWS, Sums, Tally, sum_of};
 pub use telling::{Told, show_row, write_symbols, write_tally};
 pub use time::{append_clock, append_line, clock_of};
 pub use words::{is_listed, name_of};

@@ -1,8 +1,8 @@
 //! Why a mapping is refused: `specs/Refusals`.
-ghost use Rattle.std.specs.Prelude.{◌≡◌, ◌≢◌, true};
+ghost use Rattle.std.specs.Prelude.{◌≡◌, ◌≢◌, ◌⊎◌, Err, IfErr, IfOk, IsOk, Ok, true};
 ghost use Rattle.nms_show.specs.Plain.{is_plain};
 ghost use Rattle.nms_import.specs.Refusals as refusal;
-ghost use Rattle.nms_import.specs.Refusals.{code_of, is_of_document, refusal_of};
+ghost use Rattle.nms_import.specs.Refusals.{code_of, is_of_document, is_of_first_row, refusal_of};
 
 use std::alloc::{AllocError, Global};
 
@@ -136,6 +136,28 @@ impl MapFault {
             Ok(key) => MapFault::NoColumn { key, expected },
             Err(_) => MapFault::NoMemory,
         }
+    }
+}
+
+/// Both of two results, or the fault of the first that has one.
+pub fn both<T: Drop, U: Drop>(
+    one: Result<T, MapFault>,
+    other: Result<U, MapFault>,
+) -> Result<(T, U), MapFault>
+    ensures found { IfOk result (λ found. (one ≡ Ok found.0) × (other ≡ Ok found.1)) }
+    ensures refused { IfErr result (λ fault. (one ≡ Err fault) ⊎ (IsOk one × (other ≡ Err fault))) }
+    ensures document { IfErr one (λ fault. is_of_document fault ≡ true) → IfErr other (λ fault. is_of_document fault ≡ true)
+        → IfErr result (λ fault. is_of_document fault ≡ true) }
+    ensures first_row { IfErr one (λ fault. is_of_first_row fault ≡ true) → IfErr other (λ fault. is_of_first_row fault ≡ true)
+        → IfErr result (λ fault. is_of_first_row fault ≡ true) }
+{
+    let one = match one {
+        Ok(one) => one,
+        Err(fault) => return Err(fault),
+    };
+    match other {
+        Ok(other) => Ok((one, other)),
+        Err(fault) => Err(fault),
     }
 }
 

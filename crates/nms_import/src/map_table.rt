@@ -5,7 +5,7 @@ ghost use Rattle.toml.specs.Data.{as_table, get_member};
 ghost use Rattle.toml.specs.View.{table_view, view};
 ghost use Rattle.nms_import.specs.Refusals.{bad_value, is_of_document, refusal_of};
 
-use crate::map_fault::MapFault;
+use crate::map_fault::{MapFault, both};
 use crate::mapping::Source;
 use crate::meanings::Word;
 use std::alloc::Global;
@@ -43,25 +43,12 @@ impl<'a> MapTable<'a> {
             name,
             members: members_of(alloc, document, name)?,
         };
-        if !keys.is_empty() {
-            table.refuse_others(keys, expected)?;
-        }
-        Ok(table)
-    }
-
-    /// Refuses a key that is none of these.
-    fn refuse_others(self, keys: &[&'static str], expected: &'static str) -> Result<(), MapFault>
-        ensures kind { IfErr result (λ fault. is_of_document fault ≡ true) }
-    {
-        let Some(members) = self.members else {
-            return Ok(());
-        };
-        for key in members.keys() {
-            if !keys.iter().any(|known| *known == key.as_str()) {
-                return Err(MapFault::unknown(self.alloc, self.name, key.as_str(), expected));
+        if let Some(members) = table.members {
+            if !keys.is_empty() {
+                refuse_others(alloc, name, members, keys, expected)?;
             }
         }
-        Ok(())
+        Ok(table)
     }
 
     /// The members, none if the table is absent.
@@ -146,8 +133,18 @@ impl<'a> MapTable<'a> {
         ensures kind { IfErr result (λ fault. is_of_document fault ≡ true) }
     {
         let mut words = Vec::new(self.alloc);
+        match self.add_words(key, &mut words) {
+            Ok(()) => Ok(words),
+            Err(fault) => Err(fault),
+        }
+    }
+
+    /// Adds the words at a key.
+    fn add_words(self, key: &str, words: &mut Vec<Word>) -> Result<(), MapFault>
+        ensures kind { IfErr result (λ fault. is_of_document fault ≡ true) }
+    {
         let Some(value) = self.value(key) else {
-            return Ok(words);
+            return Ok(());
         };
         let Some(values) = value.as_array() else {
             return Err(self.bad(key, WORDS));
@@ -157,9 +154,9 @@ impl<'a> MapTable<'a> {
                 return Err(self.bad(key, WORDS));
             };
             let text = copied(self.alloc, text.as_bytes())?;
-            keep(&mut words, Word { text })?;
+            keep(words, Word { text })?;
         }
-        Ok(words)
+        Ok(())
     }
 
     /// The column at a key, if there is one: a number, a name, or a table with the text that stands for it.
@@ -196,7 +193,7 @@ impl<'a> MapTable<'a> {
         };
         match values.as_slice() {
             [only] => self.after_nothing(key, only, header),
-            [first, second] => self.both(key, first, second, header),
+            [first, second] => self.two(key, first, second, header),
             _ => Err(self.bad(key, "a column, or an array of two")),
         }
     }
@@ -217,7 +214,7 @@ impl<'a> MapTable<'a> {
     }
 
     /// What two values say of two columns.
-    fn both(
+    fn two(
         self,
         key: &str,
         first: &Value,
@@ -226,11 +223,9 @@ impl<'a> MapTable<'a> {
     ) -> Result<(Source, Source), MapFault>
         ensures kind { IfErr result (λ fault. is_of_document fault ≡ true) }
     {
-        let first = self.source(key, first, header)?;
-        match self.source(key, second, header) {
-            Ok(second) => Ok((first, second)),
-            Err(fault) => Err(fault),
-        }
+        let one = self.source(key, first, header);
+        let other = self.source(key, second, header);
+        both(one, other)
     }
 
     /// The empty text in every row.
@@ -267,25 +262,44 @@ impl<'a> MapTable<'a> {
         ensures place { IfOk result (λ source. is_within source ≡ true) }
         ensures kind { IfErr result (λ fault. is_of_document fault ≡ true) }
     {
-        let Some(members) = value.as_table() else {
-            return Err(self.bad(key, column_expected(header)));
-        };
-        let Some(fixed) = members.get("fixed") else {
-            return Err(self.bad(key, column_expected(header)));
-        };
-        match fixed.as_str() {
-            Some(text) if members.len() == 1 => {
-                Ok(Source::Fixed(copied(self.alloc, text.as_bytes())?))
-            }
-            _ => Err(self.bad(key, column_expected(header))),
+        match fixed_text(value) {
+            Some(text) => Ok(Source::Fixed(copied(self.alloc, text.as_bytes())?)),
+            None => Err(self.bad(key, column_expected(header))),
         }
     }
+}
+
+/// Refuses a key that is none of these, in the table of that name.
+pub(crate) fn refuse_others(
+    alloc: Global,
+    name: &'static str,
+    members: &Table,
+    keys: &[&'static str],
+    expected: &'static str,
+) -> Result<(), MapFault>
+    ensures kind { IfErr result (λ fault. is_of_document fault ≡ true) }
+{
+    for key in members.keys() {
+        if !keys.iter().any(|known| *known == key.as_str()) {
+            return Err(MapFault::unknown(alloc, name, key.as_str(), expected));
+        }
+    }
+    Ok(())
 }
 
 /// The most columns of a file.
 const MOST_COLUMNS: u16 = 1000;
 
 const WORDS: &str = "an array of texts, as [\"R\", \"O\"]";
+
+/// The text of a table `{ fixed = "TEXT" }`.
+fn fixed_text(value: &Value) -> Option<&str> {
+    let members = value.as_table()?;
+    if members.len() != 1 {
+        return None;
+    }
+    members.get("fixed")?.as_str()
+}
 
 /// What is expected of a column.
 fn column_expected(header: bool) -> &'static str {

@@ -5,14 +5,14 @@ ghost use Rattle.nms_import.specs.Placing.{IsPlaced, columns_needed};
 ghost use Rattle.nms_import.specs.Refusals.{is_of_first_row};
 
 use crate::column::{Column, Columns};
-use crate::map_fault::MapFault;
+use crate::map_fault::{MapFault, both};
 use crate::map_table::copied;
 use crate::meanings::Meanings;
 use csv::ByteRecord;
 use std::alloc::Global;
 
 /// How a file is laid out.
-#[derive(Clone, Copy, PartialEq, Eq)]
+#[derive(Clone, Copy)]
 pub struct FileForm {
     /// The byte between fields.
     pub delimiter: u8,
@@ -89,7 +89,7 @@ impl Mapping {
     {
         let all = &self.sources;
         let mut width = 0;
-        let (time, participant) = places_of(
+        let quoted = places_of(
             alloc,
             &all.time,
             "time",
@@ -97,8 +97,8 @@ impl Mapping {
             "participant",
             names,
             &mut width,
-        )?;
-        let (symbol, bid) = places_of(
+        );
+        let bids = places_of(
             alloc,
             &all.symbol,
             "symbol",
@@ -106,8 +106,8 @@ impl Mapping {
             "bid",
             names,
             &mut width,
-        )?;
-        let (bid_size, offer) = places_of(
+        );
+        let sizes = places_of(
             alloc,
             &all.bid_size,
             "bid_size",
@@ -115,8 +115,8 @@ impl Mapping {
             "offer",
             names,
             &mut width,
-        )?;
-        let (offer_size, source) = places_of(
+        );
+        let sources = places_of(
             alloc,
             &all.offer_size,
             "offer_size",
@@ -124,8 +124,8 @@ impl Mapping {
             "condition",
             names,
             &mut width,
-        )?;
-        let (condition, skip) = places_of(
+        );
+        let conditions = places_of(
             alloc,
             &all.condition,
             "condition",
@@ -133,20 +133,34 @@ impl Mapping {
             "skip",
             names,
             &mut width,
-        )?;
-        Ok(Columns {
-            width,
-            time,
-            participant,
-            symbol,
-            bid,
-            bid_size,
-            offer,
-            offer_size,
-            source,
-            condition,
-            skip,
-        })
+        );
+        let front = both(quoted, bids);
+        let back = both(sources, conditions);
+        let rest = both(sizes, back);
+        match both(front, rest) {
+            Ok(found) => {
+                let ((quoted, bids), (sizes, (sources, conditions))) = found;
+                let (time, participant) = quoted;
+                let (symbol, bid) = bids;
+                let (bid_size, offer) = sizes;
+                let (offer_size, source) = sources;
+                let (condition, skip) = conditions;
+                Ok(Columns {
+                    width,
+                    time,
+                    participant,
+                    symbol,
+                    bid,
+                    bid_size,
+                    offer,
+                    offer_size,
+                    source,
+                    condition,
+                    skip,
+                })
+            }
+            Err(fault) => Err(fault),
+        }
     }
 }
 

@@ -6,8 +6,8 @@ ghost use Rattle.nms_units.specs.declared.TheConstants.{MOST_LOT};
 ghost use Rattle.nms_import.specs.Refusals.{is_of_document, is_of_text, refusal_of};
 ghost use Rattle.nms_import.specs.Tables.{form_at, form_named, is_delimiter, unit_at, unit_named};
 
-use crate::map_fault::MapFault;
-use crate::map_table::{MapTable, copied, keep};
+use crate::map_fault::{MapFault, both};
+use crate::map_table::{MapTable, copied, keep, refuse_others};
 use crate::mapping::{FileForm, Mapping, Order, Source, Sources};
 use crate::meanings::{
     Half, Meaning, Meanings, PriceUnit, Renamed, Replaced, Said, TimeForm, Word,
@@ -54,7 +54,10 @@ pub fn document_of(alloc: Global, text: &str) -> Result<Table, MapFault>
         Ok(document) => Ok(document),
         Err(error) if error.is_memory() => Err(MapFault::NoMemory),
         Err(error) => {
-            let start = error.span().map_or(0, |span| span.start);
+            let start = match error.span() {
+                Some(span) => span.start,
+                None => 0,
+            };
             Err(MapFault::NotToml {
                 line: line_at(text, start),
             })
@@ -83,14 +86,34 @@ pub fn mapping_of(alloc: Global, document: &Table) -> Result<Mapping, MapFault>
 {
     no_others(alloc, document, &TABLES, A_TABLE)?;
     let (file, ends) = file_of(alloc, document, "quotes")?;
-    let sources = sources_of(alloc, document, file.header)?;
-    match texts_of(alloc, document, ends) {
-        Ok((order, meanings)) => Ok(Mapping {
-            file,
-            order,
-            meanings,
-            sources,
-        }),
+    mapping_with(alloc, document, file, ends)
+}
+
+/// The mapping of a document whose file is laid out in this form, and whose last lines begin with these words.
+fn mapping_with(
+    alloc: Global,
+    document: &Table,
+    file: FileForm,
+    ends: Vec<Word>,
+) -> Result<Mapping, MapFault>
+    requires delimiter { is_delimiter file.delimiter ≡ true }
+    ensures delimiter { IfOk result (λ mapping. is_delimiter mapping.file.delimiter ≡ true) }
+    ensures day { IfOk result (λ mapping. mapping.meanings.zone < 86400) }
+    ensures unit { IfOk result (λ mapping. (0 < mapping.meanings.size_unit) × (mapping.meanings.size_unit ≤ MOST_LOT)) }
+    ensures kind { IfErr result (λ fault. is_of_document fault ≡ true) }
+{
+    let sources = sources_of(alloc, document, file.header);
+    let texts = texts_of(alloc, document, ends);
+    match both(sources, texts) {
+        Ok(found) => {
+            let (sources, (order, meanings)) = found;
+            Ok(Mapping {
+                file,
+                order,
+                meanings,
+                sources,
+            })
+        }
         Err(fault) => Err(fault),
     }
 }
@@ -117,12 +140,7 @@ pub fn no_others(
 ) -> Result<(), MapFault>
     ensures kind { IfErr result (λ fault. is_of_document fault ≡ true) }
 {
-    for key in document.keys() {
-        if !tables.iter().any(|known| *known == key.as_str()) {
-            return Err(MapFault::unknown(alloc, "", key.as_str(), expected));
-        }
-    }
-    Ok(())
+    refuse_others(alloc, "", document, tables, expected)
 }
 
 /// The table `file` of a mapping of this kind: the layout, and the words that a last line begins with.
@@ -142,17 +160,27 @@ pub fn file_of(
         "one of kind, delimiter, header, end, quotes",
     )?;
     check_kind(table, kind)?;
+    layout_of(alloc, table)
+}
+
+/// The layout of a file, and the words that a last line begins with.
+fn layout_of(alloc: Global, table: MapTable<'_>) -> Result<(FileForm, Vec<Word>), MapFault>
+    ensures delimiter { IfOk result (λ found. is_delimiter found.0.delimiter ≡ true) }
+    ensures kind { IfErr result (λ fault. is_of_document fault ≡ true) }
+{
     let delimiter = delimiter_of(table)?;
-    let ends = ends_of(alloc, table)?;
-    match flags_of(table) {
-        Ok((header, quotes)) => Ok((
-            FileForm {
+    let ends = ends_of(alloc, table);
+    let flags = flags_of(table);
+    match both(ends, flags) {
+        Ok(found) => {
+            let (ends, (header, quotes)) = found;
+            let file = FileForm {
                 delimiter,
                 header,
                 quotes,
-            },
-            ends,
-        )),
+            };
+            Ok((file, ends))
+        }
         Err(fault) => Err(fault),
     }
 }
@@ -209,7 +237,9 @@ fn one_word(alloc: Global, text: &str) -> Result<Vec<Word>, MapFault>
 fn flags_of(table: MapTable<'_>) -> Result<(bool, bool), MapFault>
     ensures kind { IfErr result (λ fault. is_of_document fault ≡ true) }
 {
-    Ok((table.flag("header")?, table.flag("quotes")?))
+    let header = table.flag("header");
+    let quotes = table.flag("quotes");
+    both(header, quotes)
 }
 
 /// Whether a byte can be between fields: not a quote, and not the end of a line.
@@ -240,81 +270,63 @@ fn sources_of(alloc: Global, document: &Table, header: bool) -> Result<Sources, 
         ],
         "one of time, participant, symbol, bid, bid_size, offer, offer_size, condition, skip",
     )?;
-    let conditions = table.pair("condition", header)?;
-    let quoted = quoted_of(table, header)?;
-    let sides = sides_of(table, header)?;
-    match skip_of(table, header) {
-        Ok(skip) => Ok(joined(conditions, quoted, sides, skip)),
-        Err(fault) => Err(fault),
-    }
+    sources_in(table, header)
 }
 
-/// The columns of who quotes what, and when.
-#[derive(Drop)]
-struct Quoted {
-    time: Source,
-    participant: Source,
-    symbol: Source,
-}
-
-/// The columns of both sides.
-#[derive(Drop)]
-struct Sides {
-    bid: (Source, Source),
-    offer: (Source, Source),
-}
-
-/// All columns.
-fn joined(conditions: (Source, Source), quoted: Quoted, sides: Sides, skip: Source) -> Sources {
-    let (source, condition) = conditions;
-    let Quoted {
-        time,
-        participant,
-        symbol,
-    } = quoted;
-    let Sides {
-        bid: (bid, bid_size),
-        offer: (offer, offer_size),
-    } = sides;
-    Sources {
-        time,
-        participant,
-        symbol,
-        bid,
-        bid_size,
-        offer,
-        offer_size,
-        source,
-        condition,
-        skip,
-    }
-}
-
-/// The columns of who quotes what, and when.
-fn quoted_of(table: MapTable<'_>, header: bool) -> Result<Quoted, MapFault>
+/// The columns that the table `column` says.
+fn sources_in(table: MapTable<'_>, header: bool) -> Result<Sources, MapFault>
     ensures kind { IfErr result (λ fault. is_of_document fault ≡ true) }
 {
-    let time = table.needed("time", header)?;
-    let participant = table.needed("participant", header)?;
-    match table.needed("symbol", header) {
-        Ok(symbol) => Ok(Quoted {
-            time,
-            participant,
-            symbol,
-        }),
+    let conditions = table.pair("condition", header);
+    let quoted = quoted_of(table, header);
+    let sides = sides_of(table, header);
+    let skip = skip_of(table, header);
+    let front = both(conditions, quoted);
+    let back = both(sides, skip);
+    match both(front, back) {
+        Ok(found) => {
+            let ((conditions, quoted), (sides, skip)) = found;
+            let (source, condition) = conditions;
+            let (time, (participant, symbol)) = quoted;
+            let ((bid, bid_size), (offer, offer_size)) = sides;
+            Ok(Sources {
+                time,
+                participant,
+                symbol,
+                bid,
+                bid_size,
+                offer,
+                offer_size,
+                source,
+                condition,
+                skip,
+            })
+        }
         Err(fault) => Err(fault),
     }
 }
 
-/// The columns of both sides.
-fn sides_of(table: MapTable<'_>, header: bool) -> Result<Sides, MapFault>
+/// The columns of who quotes what, and when: the time, and then the participant and the symbol.
+fn quoted_of(table: MapTable<'_>, header: bool) -> Result<(Source, (Source, Source)), MapFault>
     ensures kind { IfErr result (λ fault. is_of_document fault ≡ true) }
 {
-    let bid = side_of(table, "bid", "bid_size", header)?;
-    match side_of(table, "offer", "offer_size", header) {
-        Ok(offer) => Ok(Sides { bid, offer }),
-        Err(fault) => Err(fault),
-    }
+    let time = table.needed("time", header);
+    let participant = table.needed("participant", header);
+    let symbol = table.needed("symbol", header);
+    let names = both(participant, symbol);
+    both(time, names)
+}
+
+/// The columns of both sides, the bid first.
+fn sides_of(
+    table: MapTable<'_>,
+    header: bool,
+) -> Result<((Source, Source), (Source, Source)), MapFault>
+    ensures kind { IfErr result (λ fault. is_of_document fault ≡ true) }
+{
+    let bid = side_of(table, "bid", "bid_size", header);
+    let offer = side_of(table, "offer", "offer_size", header);
+    both(bid, offer)
 }
 
 /// The columns of a side: its price and its size.
@@ -326,11 +338,9 @@ fn side_of(
 ) -> Result<(Source, Source), MapFault>
     ensures kind { IfErr result (λ fault. is_of_document fault ≡ true) }
 {
-    let price = table.needed(price, header)?;
-    match table.needed(size, header) {
-        Ok(size) => Ok((price, size)),
-        Err(fault) => Err(fault),
-    }
+    let prices = table.needed(price, header);
+    let sizes = table.needed(size, header);
+    both(prices, sizes)
 }
 
 /// The column of the words that skip a row; an absent one is the empty text.
@@ -458,12 +468,22 @@ fn meanings_of(
     ensures unit { IfOk result (λ meanings. (0 < meanings.size_unit) × (meanings.size_unit ≤ MOST_LOT)) }
     ensures kind { IfErr result (λ fault. is_of_document fault ≡ true) }
 {
-    let (price_unit, no_price) = prices_of(alloc, document)?;
-    let size_unit = size_of(alloc, document)?;
-    let ((names, same), (replaced, skips_symbols)) = named_of(alloc, document)?;
-    match said_of(alloc, document) {
+    let prices = prices_of(alloc, document);
+    let size = size_of(alloc, document);
+    let names = names_of(alloc, document);
+    let symbols = symbols_of(alloc, document);
+    let states = states_of(alloc, document);
+    let skips = skips_of(alloc, document);
+    let units = both(prices, size);
+    let named = both(names, symbols);
+    let said = both(states, skips);
+    let texts = both(named, said);
+    match both(units, texts) {
         Ok(found) => {
-            let (states, skips) = found;
+            let ((prices, size_unit), ((names, symbols), (states, skips))) = found;
+            let (price_unit, no_price) = prices;
+            let (names, same) = names;
+            let (replaced, skips_symbols) = symbols;
             let (said, half) = states;
             Ok(Meanings {
                 time_form,
@@ -485,33 +505,8 @@ fn meanings_of(
     }
 }
 
-/// The tables `participant` and `symbol`.
-fn named_of(
-    alloc: Global,
-    document: &Table,
-) -> Result<((Vec<Renamed>, bool), (Vec<Replaced>, bool)), MapFault>
-    ensures kind { IfErr result (λ fault. is_of_document fault ≡ true) }
-{
-    let names = names_of(alloc, document)?;
-    match symbols_of(alloc, document) {
-        Ok(symbols) => Ok((names, symbols)),
-        Err(fault) => Err(fault),
-    }
-}
-
-/// The tables `state` and `skip`.
-fn said_of(alloc: Global, document: &Table) -> Result<((Vec<Said>, Half), Vec<Word>), MapFault>
-    ensures kind { IfErr result (λ fault. is_of_document fault ≡ true) }
-{
-    let states = states_of(alloc, document)?;
-    match skips_of(alloc, document) {
-        Ok(skips) => Ok((states, skips)),
-        Err(fault) => Err(fault),
-    }
-}
-
 /// The table `skip`: the words that skip a row.
-fn skips_of(alloc: Global, document: &Table) -> Result<Vec<Word>, MapFault>
+pub fn skips_of(alloc: Global, document: &Table) -> Result<Vec<Word>, MapFault>
     ensures kind { IfErr result (λ fault. is_of_document fault ≡ true) }
 {
     let table = MapTable::of(alloc, document, "skip", &["words"], "words")?;
@@ -529,8 +524,9 @@ fn prices_of(alloc: Global, document: &Table) -> Result<(PriceUnit, Vec<Word>), 
         &["unit", "none"],
         "one of unit, none",
     )?;
-    let unit = unit_of(table)?;
-    Ok((unit, table.words("none")?))
+    let unit = unit_of(table);
+    let words = table.words("none");
+    both(unit, words)
 }
 
 /// What a price counts.
@@ -575,11 +571,24 @@ fn size_of(alloc: Global, document: &Table) -> Result<u32, MapFault>
     )?;
     let expected = "\"shares\", or \"lots\" beside lot = 100";
     let lot = table.number("lot", u32::from(MOST_LOT), "a whole number from 1 to 1000")?;
-    match (table.text("unit", expected)?, lot) {
-        (Some("shares"), None) => Ok(1),
-        (Some("lots"), Some(lot)) => Ok(lot),
-        (Some(_), _) => Err(table.bad("unit", expected)),
-        (None, _) => Err(MapFault::missing(alloc, "size", "unit", expected)),
+    let Some(text) = table.text("unit", expected)? else {
+        return Err(MapFault::missing(alloc, "size", "unit", expected));
+    };
+    match shares_of(text, lot) {
+        Some(unit) => Ok(unit),
+        None => Err(table.bad("unit", expected)),
+    }
+}
+
+/// The shares of a unit that a text names: 1, or those of a lot.
+fn shares_of(text: &str, lot: Option<u32>) -> Option<u32>
+    requires { IfSome lot (λ unit. (0 < unit) × (unit ≤ MOST_LOT)) }
+    ensures { IfSome result (λ unit. (0 < unit) × (unit ≤ MOST_LOT)) }
+{
+    match text {
+        "shares" if lot.is_none() => Some(1),
+        "lots" => lot,
+        _ => None,
     }
 }
 
@@ -607,20 +616,44 @@ fn add_names(
 ) -> Result<bool, MapFault>
     ensures kind { IfErr result (λ fault. is_of_document fault ≡ true) }
 {
-    let expected = "the participant's name on the roster, as a text";
     let mut same = false;
     for key in members.keys() {
-        let word = key.as_str();
-        match table.text(word, expected)? {
-            Some("same") if word == "*" => same = true,
-            Some(_) if word == "*" => {
-                return Err(table.bad(word, "\"same\": any other word is its own name"));
-            }
-            Some(name) => add_name(alloc, names, word, name)?,
-            None => {}
-        }
+        let any = take_name(alloc, table, key.as_str(), names)?;
+        same = same || any;
     }
     Ok(same)
+}
+
+/// Adds the name of a word, if it is listed. Returns whether the word is `*`, and so any other is its own name.
+fn take_name(
+    alloc: Global,
+    table: MapTable<'_>,
+    word: &str,
+    names: &mut Vec<Renamed>,
+) -> Result<bool, MapFault>
+    ensures kind { IfErr result (λ fault. is_of_document fault ≡ true) }
+{
+    let Some(name) = table.text(word, "the participant's name on the roster, as a text")? else {
+        return Ok(false);
+    };
+    if word == "*" {
+        return star_of(table, word, name);
+    }
+    match add_name(alloc, names, word, name) {
+        Ok(()) => Ok(false),
+        Err(fault) => Err(fault),
+    }
+}
+
+/// What `*` says: `same`, and so any other word is its own name.
+fn star_of(table: MapTable<'_>, word: &str, name: &str) -> Result<bool, MapFault>
+    ensures kind { IfErr result (λ fault. is_of_document fault ≡ true) }
+{
+    if name == "same" {
+        Ok(true)
+    } else {
+        Err(table.bad(word, "\"same\": any other word is its own name"))
+    }
 }
 
 /// Adds a name.
@@ -645,12 +678,17 @@ pub fn symbols_of(alloc: Global, document: &Table) -> Result<(Vec<Replaced>, boo
         &["replace", "unknown"],
         "one of replace, unknown",
     )?;
+    let replaced = replaced_in(alloc, table);
+    let skips = skips_unknown(table);
+    both(replaced, skips)
+}
+
+/// What is replaced in symbols.
+fn replaced_in(alloc: Global, table: MapTable<'_>) -> Result<Vec<Replaced>, MapFault>
+    ensures kind { IfErr result (λ fault. is_of_document fault ≡ true) }
+{
     let words = table.words("replace")?;
-    let replaced = replaced_of(alloc, table, &words)?;
-    match skips_unknown(table) {
-        Ok(skips) => Ok((replaced, skips)),
-        Err(fault) => Err(fault),
-    }
+    replaced_of(alloc, table, &words)
 }
 
 /// What is replaced, by pairs of words.
@@ -762,13 +800,25 @@ fn add_conditions(
     ensures kind { IfErr result (λ fault. is_of_document fault ≡ true) }
 {
     for word in table.words(key)? {
-        let word = word.text;
-        if said.iter().any(|it| it.word == word) {
-            return Err(table.bad(key, "conditions that stand in no other list, and once"));
-        }
-        keep(said, Said { word, meaning })?;
+        add_condition(table, key, word.text, meaning, said)?;
     }
     Ok(())
+}
+
+/// Adds a condition of a key. It stands in no other list, and once.
+fn add_condition(
+    table: MapTable<'_>,
+    key: &str,
+    word: Vec<u8>,
+    meaning: Meaning,
+    said: &mut Vec<Said>,
+) -> Result<(), MapFault>
+    ensures kind { IfErr result (λ fault. is_of_document fault ≡ true) }
+{
+    if said.iter().any(|it| it.word == word) {
+        return Err(table.bad(key, "conditions that stand in no other list, and once"));
+    }
+    keep(said, Said { word, meaning })
 }
 
 /// What becomes of a row of which one side alone is manual.

@@ -2,7 +2,7 @@
 use nms_quote::{QState, Side};
 
 /// What a price counts.
-#[derive(Clone, Copy, PartialEq, Eq)]
+#[derive(Clone, Copy)]
 pub enum PriceUnit {
     /// Dollars: 1 to 7 digits, and at most a point with 1 to 4 digits.
     Dollars,
@@ -13,7 +13,7 @@ pub enum PriceUnit {
 }
 
 /// How a time of day is written. All but the first are moved on by the mapping's zone.
-#[derive(Clone, Copy, PartialEq, Eq)]
+#[derive(Clone, Copy)]
 pub enum TimeForm {
     /// `HHMMSSn`: six digits and up to nine after them.
     Clock,
@@ -26,7 +26,7 @@ pub enum TimeForm {
 }
 
 /// What becomes of a row whose condition makes one side alone manual.
-#[derive(Clone, Copy, PartialEq, Eq)]
+#[derive(Clone, Copy)]
 pub enum Half {
     /// It is refused.
     Refuse,
@@ -37,7 +37,7 @@ pub enum Half {
 }
 
 /// What the condition of a row means.
-#[derive(Clone, Copy, PartialEq, Eq)]
+#[derive(Clone, Copy)]
 pub enum Meaning {
     /// The sides are quoted in this state.
     Quoted(QState),

@@ -1,7 +1,7 @@
 //! Prices and sizes: `specs/Mapping`.
-ghost use Rattle.std.specs.Prelude.{◌≡◌, ◌<◌, ◌≤◌, ◌^◌, IfSome};
+ghost use Rattle.std.specs.Prelude.{◌≡◌, ◌<◌, ◌≤◌, ◌^◌, IfSome, Some};
 ghost use Rattle.nms_units.specs.Price.{price_number};
-ghost use Rattle.nms_import.specs.Mapping.{number_of, price_of, shares_of, side_of};
+ghost use Rattle.nms_import.specs.Mapping.{number_of, price_of, shares_of, shares_within, side_of};
 
 use crate::cause::Cause;
 use crate::meanings::{Meanings, PriceUnit};
@@ -76,12 +76,23 @@ fn shares_in(meanings: &Meanings, side: Side, text: &[u8]) -> Result<Shares, Cau
     ensures { result ≡ shares_of meanings.now side text.now }
 {
     if text.is_empty() {
-        return Shares::new(0).ok_or(Cause::BadSize(side));
+        return shares_within(side, 0);
     }
-    let number = parse_digits(text, 9).ok_or(Cause::BadSize(side))?;
-    let count = number * u64::from(meanings.size_unit);
+    let Some(number) = parse_digits(text, 9) else {
+        return Err(Cause::BadSize(side));
+    };
+    shares_within(side, number * u64::from(meanings.size_unit))
+}
+
+/// A number of shares, if a side may have as many.
+fn shares_within(side: Side, count: u64) -> Result<Shares, Cause>
+    ensures { result ≡ shares_within side (Some count) }
+{
     if count > u64::from(MOST_SHARES) {
         return Err(Cause::BadSize(side));
     }
-    Shares::new(count as u32).ok_or(Cause::BadSize(side))
+    match Shares::new(count as u32) {
+        Some(shares) => Ok(shares),
+        None => Err(Cause::BadSize(side)),
+    }
 }

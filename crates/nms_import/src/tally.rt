@@ -1,5 +1,5 @@
 //! How many rows had each outcome: `specs/Imported`.
-ghost use Rattle.std.specs.Prelude.{◌≡◌, ◌<◌, ◌+◌, IfSome, if◌then◌else◌};
+ghost use Rattle.std.specs.Prelude.{◌≡◌, ◌<◌, ◌+◌, IfSome, if◌then◌else◌, sum};
 ghost use Rattle.nms_import.specs.Imported.{changes_in, refused_in, rows_in, skipped_in};
 
 use crate::cause::Cause;
@@ -8,7 +8,7 @@ use crate::cause::Cause;
 pub const MOST_ROWS: u64 = 1_000_000_000_000;
 
 /// How many rows had each outcome.
-#[derive(Clone, Copy, PartialEq, Eq)]
+#[derive(Clone, Copy)]
 pub struct Tally {
     /// Rows that made a change, but for the next ones.
     pub wholes: u64,
@@ -43,7 +43,7 @@ pub struct Tally {
 }
 
 /// The sums of the outcomes.
-#[derive(Clone, Copy, PartialEq, Eq)]
+#[derive(Clone, Copy)]
 pub struct Sums {
     /// All rows.
     pub rows: u64,
@@ -136,23 +136,21 @@ impl Tally {
         ensures parts { IfSome result (λ sums. (sums.changes ≡ changes_in self.now) × (sums.refused ≡ refused_in self.now) × (sums.skipped ≡ skipped_in self.now)) }
         ensures whole { IfSome result (λ sums. sums.rows ≡ sums.changes + sums.refused + sums.skipped) }
     {
-        let refused = self
-            .too_few_columns
-            .checked_add(self.bad_time)?
-            .checked_add(self.unknown_participant)?
-            .checked_add(self.unknown_symbol)?
-            .checked_add(self.unknown_condition)?
-            .checked_add(self.one_sided)?
-            .checked_add(self.bad_price)?
-            .checked_add(self.bad_size)?
-            .checked_add(self.half_side)?
-            .checked_add(self.returned)?;
-        let skipped = self
-            .trailer
-            .checked_add(self.listed)?
-            .checked_add(self.other_symbol)?;
-        let changes = self.wholes.checked_add(self.halves)?;
-        let rows = changes.checked_add(refused)?.checked_add(skipped)?;
+        let refused = sum_of(&[
+            self.too_few_columns,
+            self.bad_time,
+            self.unknown_participant,
+            self.unknown_symbol,
+            self.unknown_condition,
+            self.one_sided,
+            self.bad_price,
+            self.bad_size,
+            self.half_side,
+            self.returned,
+        ])?;
+        let skipped = sum_of(&[self.trailer, self.listed, self.other_symbol])?;
+        let changes = sum_of(&[self.wholes, self.halves])?;
+        let rows = sum_of(&[changes, refused, skipped])?;
         Some(Sums {
             rows,
             changes,
@@ -160,4 +158,15 @@ impl Tally {
             skipped,
         })
     }
+}
+
+/// The sum of numbers. `None` comes only of a sum above 2^64 - 1.
+pub fn sum_of(numbers: &[u64]) -> Option<u64>
+    ensures { IfSome result (λ total. total ≡ sum numbers.now) }
+{
+    let mut total = 0u64;
+    for number in numbers {
+        total = total.checked_add(*number)?;
+    }
+    Some(total)
 }

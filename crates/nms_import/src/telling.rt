@@ -131,7 +131,10 @@ pub fn show_row<'x, E: Write>(
         Some(Column::At(place)) if *place < row.len() => (*place + 1) as u64,
         Some(Column::At(_) | Column::Fixed(_)) | None => 0,
     };
-    let text = column.map_or(b"".as_slice(), |column| column.text(row));
+    let text = match column {
+        Some(column) => column.text(row),
+        None => b"".as_slice(),
+    };
     let items = [
         Item::Bytes(file.as_bytes()),
         Item::Text(":"),
@@ -226,22 +229,7 @@ pub fn write_tally<W: Write>(
 ) -> Result<(), ImportFault>
     ensures safe { Writes IsSafe (W.contents out.old) (W.contents out.new) result }
 {
-    let counts = [
-        (tally.too_few_columns, "refused: too few columns"),
-        (tally.bad_time, "refused: bad time"),
-        (tally.unknown_participant, "refused: unknown participant"),
-        (tally.unknown_symbol, "refused: unknown symbol"),
-        (tally.unknown_condition, "refused: unknown condition"),
-        (tally.one_sided, "refused: one side manual"),
-        (tally.bad_price, "refused: bad price"),
-        (tally.bad_size, "refused: bad size"),
-        (tally.half_side, "refused: shares without a price"),
-        (tally.returned, "refused: symbol after its end"),
-        (tally.trailer, "skipped: last line of a file"),
-        (tally.listed, "skipped: word to skip"),
-        (tally.other_symbol, "skipped: other symbol"),
-        (tally.halves, halves_are(half)),
-    ];
+    let counts = counts_of(half, tally);
     write_counts(out, &counts)?;
     line(
         out,
@@ -256,6 +244,28 @@ pub fn write_tally<W: Write>(
             Item::Text(" skipped"),
         ],
     )
+}
+
+/// The counts that have lines of their own, each with what is said of it.
+fn counts_of(half: Half, tally: &Tally) -> [(u64, &'static str); 14]
+    ensures { list_all (λ count. is_plain count.1.now) result ≡ true }
+{
+    [
+        (tally.too_few_columns, "refused: too few columns"),
+        (tally.bad_time, "refused: bad time"),
+        (tally.unknown_participant, "refused: unknown participant"),
+        (tally.unknown_symbol, "refused: unknown symbol"),
+        (tally.unknown_condition, "refused: unknown condition"),
+        (tally.one_sided, "refused: one side manual"),
+        (tally.bad_price, "refused: bad price"),
+        (tally.bad_size, "refused: bad size"),
+        (tally.half_side, "refused: shares without a price"),
+        (tally.returned, "refused: symbol after its end"),
+        (tally.trailer, "skipped: last line of a file"),
+        (tally.listed, "skipped: word to skip"),
+        (tally.other_symbol, "skipped: other symbol"),
+        (tally.halves, halves_are(half)),
+    ]
 }
 
 /// Writes a line for each count that is not zero.
@@ -341,7 +351,6 @@ fn shown_name(roster: &Roster, sym: Sym) -> &str
 }
 
 /// Writes a line.
-#[tactic(auto, using(nms_show::proofs::Offered::plain_items))]
 fn line<W: Write>(out: &mut W, items: &[Item<'_>]) -> Result<(), ImportFault>
     ensures { list_all is_own_plain items.now ≡ true → Writes IsSafe (W.contents out.old) (W.contents out.new) result }
 {

@@ -4,7 +4,7 @@ ghost use Rattle.nms_import_trades.specs.Executions.{flag_letter};
 ghost use Rattle.nms_import_trades.specs.TradeRow.{is_exempt, is_reason};
 
 /// A flag of an execution. `trades` reads its letter.
-#[derive(Clone, Copy, PartialEq, Eq)]
+#[derive(Clone, Copy)]
 pub enum Flag {
     /// `C`: not regular way (17 CFR 242.611(b)(2)).
     NotRegular,

@@ -4,7 +4,7 @@ use nms_trades::Deal;
 use nms_units::Shares;
 
 /// What an accepted row says, but for its name and its condition.
-#[derive(Clone, Copy, PartialEq, Eq)]
+#[derive(Clone, Copy)]
 pub struct Trade {
     /// The time of day as digits, `HHMMSSnnnnnnnnn`.
     pub time: u64,

@@ -4,7 +4,7 @@ ghost use Rattle.nms_import_trades.specs.TradeCauses.{is_skipped};
 
 /// Why a row makes no execution: the first that holds, as `specs/TradeRow` orders them. The last three skip the row, the
 /// others refuse it.
-#[derive(Clone, Copy, PartialEq, Eq)]
+#[derive(Clone, Copy)]
 pub enum TradeCause {
     /// Fewer columns than the mapping names.
     TooFewColumns,

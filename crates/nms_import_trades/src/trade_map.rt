@@ -1,12 +1,12 @@
 //! A mapping of a file of trades, from the text of its TOML document: `specs/TradeMap` and `specs/TradePlacing`.
-ghost use Rattle.std.specs.Prelude.{◌≡◌, ◌≢◌, max, map, true, None, Some, IfErr, IfOk, option_map, option_and_then};
+ghost use Rattle.std.specs.Prelude.{◌≡◌, ◌≢◌, ◌<◌, max, map, true, None, Some, IfErr, IfOk, option_map, option_and_then};
 ghost use Rattle.csv.specs.Records.{fields_of};
 ghost use Rattle.toml.specs.Data.{Members, as_str, as_table, get_member};
 ghost use Rattle.toml.specs.Parse.{parse_document};
 ghost use Rattle.toml.specs.View.{table_view, view};
 ghost use Rattle.nms_import.specs.Refusals.{is_of_document, is_of_first_row, is_of_text};
-ghost use Rattle.nms_import.specs.Tables.{is_within};
-ghost use Rattle.nms_import_trades.specs.TradeMap.{AreClaims, AreReadOf, IsMappingOf, are_within, says_trades};
+ghost use Rattle.nms_import.specs.Tables.{is_delimiter, is_within};
+ghost use Rattle.nms_import_trades.specs.TradeMap.{AreClaims, AreReadOf, IsFormOf, IsMappingOf, IsUnitOf, all_flags, are_within, says_trades};
 ghost use Rattle.nms_import_trades.specs.TradePlacing.{IsIdPlaced, needed_by_id};
 
 use crate::claim::{Claim, Flag};
@@ -15,8 +15,9 @@ use crate::trade_columns::TradeColumns;
 use crate::trade_meanings::TradeMeanings;
 use csv::ByteRecord;
 use nms_import::{
-    Column, FileForm, Half, MapFault, MapTable, Meanings, Source, Word, document_of, file_of,
-    form_of, keep, names_of, no_others, place_of, places_of, symbols_of, unit_of,
+    Column, FileForm, Half, MapFault, MapTable, Meanings, PriceUnit, Source, TimeForm, Word, both,
+    document_of, file_of, form_of, keep, names_of, no_others, place_of, places_of, skips_of,
+    symbols_of, unit_of,
 };
 use std::alloc::Global;
 use toml::{Table, Value};
@@ -79,8 +80,8 @@ impl TradeMapping {
     {
         let all = &self.sources;
         let mut width = 0;
-        let id = place_of_id(alloc, &all.id, names, &mut width)?;
-        let (time, participant) = places_of(
+        let id = place_of_id(alloc, &all.id, names, &mut width);
+        let times = places_of(
             alloc,
             &all.time,
             "time",
@@ -88,8 +89,8 @@ impl TradeMapping {
             "participant",
             names,
             &mut width,
-        )?;
-        let (symbol, price) = places_of(
+        );
+        let prices = places_of(
             alloc,
             &all.symbol,
             "symbol",
@@ -97,8 +98,8 @@ impl TradeMapping {
             "price",
             names,
             &mut width,
-        )?;
-        let (shares, side) = places_of(
+        );
+        let sizes = places_of(
             alloc,
             &all.shares,
             "shares",
@@ -106,8 +107,8 @@ impl TradeMapping {
             "side",
             names,
             &mut width,
-        )?;
-        let (condition, exempt) = places_of(
+        );
+        let marks = places_of(
             alloc,
             &all.condition,
             "condition",
@@ -115,21 +116,35 @@ impl TradeMapping {
             "exempt",
             names,
             &mut width,
-        )?;
-        let skip = place_of(alloc, &all.skip, "skip", names, &mut width)?;
-        Ok(TradeColumns {
-            width,
-            id,
-            time,
-            participant,
-            symbol,
-            price,
-            shares,
-            side,
-            condition,
-            exempt,
-            skip,
-        })
+        );
+        let skip = place_of(alloc, &all.skip, "skip", names, &mut width);
+        let front = both(id, times);
+        let middle = both(prices, sizes);
+        let back = both(marks, skip);
+        let rest = both(middle, back);
+        match both(front, rest) {
+            Ok(found) => {
+                let ((id, times), ((prices, sizes), (marks, skip))) = found;
+                let (time, participant) = times;
+                let (symbol, price) = prices;
+                let (shares, side) = sizes;
+                let (condition, exempt) = marks;
+                Ok(TradeColumns {
+                    width,
+                    id,
+                    time,
+                    participant,
+                    symbol,
+                    price,
+                    shares,
+                    side,
+                    condition,
+                    exempt,
+                    skip,
+                })
+            }
+            Err(fault) => Err(fault),
+        }
     }
 }
 
@@ -208,14 +223,68 @@ pub fn trade_mapping_of(alloc: Global, document: &Table) -> Result<TradeMapping,
 {
     no_others(alloc, document, &TABLES, A_TABLE)?;
     let (file, ends) = file_of(alloc, document, "trades")?;
-    let sources = sources_of(alloc, document, file.header)?;
-    let common = common_of(alloc, document, ends)?;
-    let meanings = meanings_of(alloc, document, common)?;
-    Ok(TradeMapping {
-        file,
-        meanings,
-        sources,
-    })
+    mapping_with(alloc, document, file, ends)
+}
+
+/// The mapping of a document whose file is laid out in this form, and whose last lines begin with these words.
+fn mapping_with(
+    alloc: Global,
+    document: &Table,
+    file: FileForm,
+    ends: Vec<Word>,
+) -> Result<TradeMapping, MapFault>
+    requires delimiter { is_delimiter file.delimiter ≡ true }
+    ensures mapping { IfOk result (λ mapping. IsMappingOf (table_view document.now) mapping) }
+    ensures kind { IfErr result (λ fault. is_of_document fault ≡ true) }
+{
+    let sources = sources_of(alloc, document, file.header);
+    let texts = texts_of(alloc, document, ends);
+    match both(sources, texts) {
+        Ok(found) => {
+            let (sources, meanings) = found;
+            Ok(TradeMapping {
+                file,
+                meanings,
+                sources,
+            })
+        }
+        Err(fault) => Err(fault),
+    }
+}
+
+/// What the texts of a file mean.
+fn texts_of(alloc: Global, document: &Table, ends: Vec<Word>) -> Result<TradeMeanings, MapFault>
+    ensures common { IfOk result (λ meanings. AreReadOf (table_view document.now) meanings.common) }
+    ensures claims { IfOk result (λ meanings. AreClaims meanings.claims.items meanings.nothing.items) }
+    ensures kind { IfErr result (λ fault. is_of_document fault ≡ true) }
+{
+    let common = common_of(alloc, document, ends);
+    let words = words_of(alloc, document);
+    match both(common, words) {
+        Ok(found) => {
+            let (common, words) = found;
+            let OwnWords {
+                bought,
+                sold,
+                neither,
+                claims,
+                nothing,
+                marked,
+                unmarked,
+            } = words;
+            Ok(TradeMeanings {
+                common,
+                bought,
+                sold,
+                neither,
+                claims,
+                nothing,
+                marked,
+                unmarked,
+            })
+        }
+        Err(fault) => Err(fault),
+    }
 }
 
 /// The table `column`.
@@ -241,24 +310,46 @@ fn sources_of(alloc: Global, document: &Table, header: bool) -> Result<TradeSour
         ],
         "one of id, time, participant, symbol, price, shares, side, condition, exempt, skip",
     )?;
-    let id = table.column("id", header)?;
-    let (time, participant) = needed_pair(table, "time", "participant", header)?;
-    let (symbol, price) = needed_pair(table, "symbol", "price", header)?;
-    let (shares, side) = shares_and_side(table, header)?;
-    let (condition, exempt) = pair_or_nothing(table, "condition", "exempt", header)?;
-    let skip = or_nothing(table, "skip", header)?;
-    Ok(TradeSources {
-        id,
-        time,
-        participant,
-        symbol,
-        price,
-        shares,
-        side,
-        condition,
-        exempt,
-        skip,
-    })
+    sources_in(table, header)
+}
+
+/// The columns that the table `column` says.
+fn sources_in(table: MapTable<'_>, header: bool) -> Result<TradeSources, MapFault>
+    ensures within { IfOk result (λ sources. are_within sources ≡ true) }
+    ensures kind { IfErr result (λ fault. is_of_document fault ≡ true) }
+{
+    let id = table.column("id", header);
+    let times = needed_pair(table, "time", "participant", header);
+    let prices = needed_pair(table, "symbol", "price", header);
+    let sizes = shares_and_side(table, header);
+    let marks = pair_or_nothing(table, "condition", "exempt", header);
+    let skip = or_nothing(table, "skip", header);
+    let front = both(id, times);
+    let middle = both(prices, sizes);
+    let back = both(marks, skip);
+    let rest = both(middle, back);
+    match both(front, rest) {
+        Ok(found) => {
+            let ((id, times), ((prices, sizes), (marks, skip))) = found;
+            let (time, participant) = times;
+            let (symbol, price) = prices;
+            let (shares, side) = sizes;
+            let (condition, exempt) = marks;
+            Ok(TradeSources {
+                id,
+                time,
+                participant,
+                symbol,
+                price,
+                shares,
+                side,
+                condition,
+                exempt,
+                skip,
+            })
+        }
+        Err(fault) => Err(fault),
+    }
 }
 
 /// The columns at two keys that need one.
@@ -271,11 +362,9 @@ fn needed_pair(
     ensures within { IfOk result (λ found. (is_within found.0 ≡ true) × (is_within found.1 ≡ true)) }
     ensures kind { IfErr result (λ fault. is_of_document fault ≡ true) }
 {
-    let first = table.needed(one, header)?;
-    match table.needed(other, header) {
-        Ok(second) => Ok((first, second)),
-        Err(fault) => Err(fault),
-    }
+    let first = table.needed(one, header);
+    let second = table.needed(other, header);
+    both(first, second)
 }
 
 /// The columns of the shares and of the side, which may be absent.
@@ -283,11 +372,9 @@ fn shares_and_side(table: MapTable<'_>, header: bool) -> Result<(Source, Source)
     ensures within { IfOk result (λ found. (is_within found.0 ≡ true) × (is_within found.1 ≡ true)) }
     ensures kind { IfErr result (λ fault. is_of_document fault ≡ true) }
 {
-    let shares = table.needed("shares", header)?;
-    match or_nothing(table, "side", header) {
-        Ok(side) => Ok((shares, side)),
-        Err(fault) => Err(fault),
-    }
+    let shares = table.needed("shares", header);
+    let side = or_nothing(table, "side", header);
+    both(shares, side)
 }
 
 /// The columns at two keys; an absent one is the empty text.
@@ -300,11 +387,9 @@ fn pair_or_nothing(
     ensures within { IfOk result (λ found. (is_within found.0 ≡ true) × (is_within found.1 ≡ true)) }
     ensures kind { IfErr result (λ fault. is_of_document fault ≡ true) }
 {
-    let first = or_nothing(table, one, header)?;
-    match or_nothing(table, other, header) {
-        Ok(second) => Ok((first, second)),
-        Err(fault) => Err(fault),
-    }
+    let first = or_nothing(table, one, header);
+    let second = or_nothing(table, other, header);
+    both(first, second)
 }
 
 /// The column at a key; an absent one is the empty text.
@@ -324,6 +409,54 @@ fn common_of(alloc: Global, document: &Table, ends: Vec<Word>) -> Result<Meaning
     ensures common { IfOk result (λ common. AreReadOf (table_view document.now) common) }
     ensures kind { IfErr result (λ fault. is_of_document fault ≡ true) }
 {
+    let units = units_of(alloc, document);
+    let names = names_of(alloc, document);
+    let symbols = symbols_of(alloc, document);
+    let skips = skips_of(alloc, document);
+    let front = both(units, names);
+    let back = both(symbols, skips);
+    match both(front, back) {
+        Ok(found) => {
+            let ((units, names), (symbols, skips)) = found;
+            let (names, same) = names;
+            let (replaced, skips_symbols) = symbols;
+            let no_price = Vec::new(alloc);
+            let said = Vec::new(alloc);
+            Ok(Meanings {
+                time_form: units.time_form,
+                zone: units.zone,
+                price_unit: units.price_unit,
+                no_price,
+                size_unit: 1,
+                names,
+                same,
+                replaced,
+                skips_symbols,
+                said,
+                half: Half::Refuse,
+                ends,
+                skips,
+            })
+        }
+        Err(fault) => Err(fault),
+    }
+}
+
+/// How times and prices are written.
+#[derive(Clone, Copy)]
+struct Units {
+    time_form: TimeForm,
+    zone: u32,
+    price_unit: PriceUnit,
+}
+
+/// The tables `time` and `price`.
+fn units_of(alloc: Global, document: &Table) -> Result<Units, MapFault>
+    ensures unit { IfOk result (λ units. IsUnitOf (table_view document.now) units.price_unit) }
+    ensures form { IfOk result (λ units. IsFormOf (table_view document.now) units.time_form) }
+    ensures day { IfOk result (λ units. units.zone < 86400) }
+    ensures kind { IfErr result (λ fault. is_of_document fault ≡ true) }
+{
     let time = MapTable::of(
         alloc,
         document,
@@ -334,30 +467,29 @@ fn common_of(alloc: Global, document: &Table, ends: Vec<Word>) -> Result<Meaning
     let (time_form, zone) = form_of(time)?;
     let price = MapTable::of(alloc, document, "price", &["unit"], "unit")?;
     let price_unit = unit_of(price)?;
-    let (names, same) = names_of(alloc, document)?;
-    let (replaced, skips_symbols) = symbols_of(alloc, document)?;
-    let skip = MapTable::of(alloc, document, "skip", &["words"], "words")?;
-    Ok(Meanings {
+    Ok(Units {
         time_form,
         zone,
         price_unit,
-        no_price: Vec::new(alloc),
-        size_unit: 1,
-        names,
-        same,
-        replaced,
-        skips_symbols,
-        said: Vec::new(alloc),
-        half: Half::Refuse,
-        ends,
-        skips: skip.words("words")?,
     })
 }
 
+/// What trades alone have: the words for a purchase, for a sale and for neither, the claims of letters, and the words of a
+/// trade that is marked exempt and of one that is not.
+#[derive(Drop)]
+struct OwnWords {
+    bought: Vec<Word>,
+    sold: Vec<Word>,
+    neither: Vec<Word>,
+    claims: Vec<Claim>,
+    nothing: Vec<u8>,
+    marked: Vec<Word>,
+    unmarked: Vec<Word>,
+}
+
 /// The tables `side`, `flags` and `exempt`.
-fn meanings_of(alloc: Global, document: &Table, common: Meanings) -> Result<TradeMeanings, MapFault>
-    ensures common { IfOk result (λ meanings. meanings.common ≡ common) }
-    ensures claims { IfOk result (λ meanings. AreClaims meanings.claims.items meanings.nothing.items) }
+fn words_of(alloc: Global, document: &Table) -> Result<OwnWords, MapFault>
+    ensures claims { IfOk result (λ words. AreClaims words.claims.items words.nothing.items) }
     ensures kind { IfErr result (λ fault. is_of_document fault ≡ true) }
 {
     let side = MapTable::of(
@@ -368,17 +500,32 @@ fn meanings_of(alloc: Global, document: &Table, common: Meanings) -> Result<Trad
         "one of bought, sold, neither",
     )?;
     let exempt = MapTable::of(alloc, document, "exempt", &["yes", "no"], "one of yes, no")?;
-    let (claims, nothing) = claims_of(alloc, document)?;
-    Ok(TradeMeanings {
-        common,
-        bought: side.words("bought")?,
-        sold: side.words("sold")?,
-        neither: side.words("neither")?,
-        claims,
-        nothing,
-        marked: exempt.words("yes")?,
-        unmarked: exempt.words("no")?,
-    })
+    let flags = claims_of(alloc, document);
+    let bought = side.words("bought");
+    let sold = side.words("sold");
+    let neither = side.words("neither");
+    let marked = exempt.words("yes");
+    let unmarked = exempt.words("no");
+    let front = both(flags, bought);
+    let middle = both(sold, neither);
+    let back = both(marked, unmarked);
+    let rest = both(middle, back);
+    match both(front, rest) {
+        Ok(found) => {
+            let ((flags, bought), ((sold, neither), (marked, unmarked))) = found;
+            let (claims, nothing) = flags;
+            Ok(OwnWords {
+                bought,
+                sold,
+                neither,
+                claims,
+                nothing,
+                marked,
+                unmarked,
+            })
+        }
+        Err(fault) => Err(fault),
+    }
 }
 
 /// The table `flags`: each flag with its letters, and the letters that claim nothing.
@@ -417,8 +564,27 @@ fn claims_of(alloc: Global, document: &Table) -> Result<(Vec<Claim>, Vec<u8>), M
         ("outside_hours", Flag::OutsideHours),
         ("out_of_sequence", Flag::OutOfSequence),
     ];
-    let claims = claims_in(alloc, table, &flags)?;
-    let nothing = letters_of(alloc, table, "nothing")?;
+    let claims = claims_in(alloc, table, &flags);
+    let nothing = letters_of(alloc, table, "nothing");
+    match both(claims, nothing) {
+        Ok(found) => {
+            let (claims, nothing) = found;
+            kept_apart(table, claims, nothing)
+        }
+        Err(fault) => Err(fault),
+    }
+}
+
+/// All flags with their letters, and the letters that claim nothing, if none of these claims a flag.
+fn kept_apart(
+    table: MapTable<'_>,
+    claims: Vec<Claim>,
+    nothing: Vec<u8>,
+) -> Result<(Vec<Claim>, Vec<u8>), MapFault>
+    requires { map (λ it. it.flag) claims.items ≡ all_flags }
+    ensures claims { IfOk result (λ found. AreClaims found.0.items found.1.items) }
+    ensures kind { IfErr result (λ fault. is_of_document fault ≡ true) }
+{
     if any_claims(&claims, &nothing) {
         return Err(table.bad("nothing", "letters that stand in no other list"));
     }
@@ -447,14 +613,30 @@ fn claims_in(
 fn letters_of(alloc: Global, table: MapTable<'_>, key: &str) -> Result<Vec<u8>, MapFault>
     ensures kind { IfErr result (λ fault. is_of_document fault ≡ true) }
 {
+    let words = table.words(key)?;
     let mut letters = Vec::new(alloc);
-    for word in table.words(key)? {
+    match add_letters(table, key, &words, &mut letters) {
+        Ok(()) => Ok(letters),
+        Err(fault) => Err(fault),
+    }
+}
+
+/// Adds the letters that these words are.
+fn add_letters(
+    table: MapTable<'_>,
+    key: &str,
+    words: &[Word],
+    letters: &mut Vec<u8>,
+) -> Result<(), MapFault>
+    ensures kind { IfErr result (λ fault. is_of_document fault ≡ true) }
+{
+    for word in words {
         match word.text.as_slice() {
-            [letter] => keep(&mut letters, *letter)?,
+            [letter] => keep(letters, *letter)?,
             _ => {
                 return Err(table.bad(key, "an array of texts of one letter, as [\"F\", \"4\"]"));
             }
         }
     }
-    Ok(letters)
+    Ok(())
 }

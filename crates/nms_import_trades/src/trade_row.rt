@@ -56,15 +56,19 @@ fn trade_with(
     if !has_name(&columns.id, row) {
         return Err(TradeCause::BadName);
     }
-    let time = clock_of(common.time_form, common.zone, columns.time.text(row)).ok_or(
-        TradeCause::BadTime,
-    )?;
+    let Some(time) = clock_of(common.time_form, common.zone, columns.time.text(row)) else {
+        return Err(TradeCause::BadTime);
+    };
     let part = venue_of(meanings, roster, columns.participant.text(row))?;
-    let sym = sym.ok_or(no_symbol(common))?;
-    let millionths = millionths_of(common.price_unit, columns.price.text(row)).ok_or(
-        TradeCause::BadPrice,
-    )?;
-    let shares = some_shares_of(columns.shares.text(row)).ok_or(TradeCause::BadShares)?;
+    let Some(sym) = sym else {
+        return Err(no_symbol(common));
+    };
+    let Some(millionths) = millionths_of(common.price_unit, columns.price.text(row)) else {
+        return Err(TradeCause::BadPrice);
+    };
+    let Some(shares) = some_shares_of(columns.shares.text(row)) else {
+        return Err(TradeCause::BadShares);
+    };
     let deal = deal_of(meanings, columns.side.text(row))?;
     if !are_known(meanings, columns.condition.text(row)) {
         return Err(TradeCause::UnknownCondition);

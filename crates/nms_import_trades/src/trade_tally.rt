@@ -3,9 +3,10 @@ ghost use Rattle.std.specs.Prelude.{◌≡◌, ◌<◌, ◌+◌, IfSome};
 ghost use Rattle.nms_import_trades.specs.Executions.{refused_in, rows_in, skipped_in};
 
 use crate::trade_cause::TradeCause;
+use nms_import::sum_of;
 
 /// How many rows had each outcome.
-#[derive(Clone, Copy, PartialEq, Eq)]
+#[derive(Clone, Copy)]
 pub struct TradeTally {
     /// Rows that made an execution.
     pub executions: u64,
@@ -38,7 +39,7 @@ pub struct TradeTally {
 }
 
 /// The sums of the outcomes.
-#[derive(Clone, Copy, PartialEq, Eq)]
+#[derive(Clone, Copy)]
 pub struct TradeSums {
     /// All rows.
     pub rows: u64,
@@ -113,40 +114,26 @@ impl TradeTally {
         ensures parts { IfSome result (λ sums. (sums.executions ≡ self.now.executions) × (sums.refused ≡ refused_in self.now) × (sums.skipped ≡ skipped_in self.now)) }
         ensures whole { IfSome result (λ sums. sums.rows ≡ sums.executions + sums.refused + sums.skipped) }
     {
-        let refused = self.refused()?;
-        let skipped = self.skipped()?;
+        let refused = sum_of(&[
+            self.too_few_columns,
+            self.bad_name,
+            self.bad_time,
+            self.unknown_participant,
+            self.unknown_symbol,
+            self.bad_price,
+            self.bad_shares,
+            self.unknown_side,
+            self.unknown_condition,
+            self.unknown_mark,
+        ])?;
+        let skipped = sum_of(&[self.trailer, self.listed, self.other_symbol])?;
         let executions = self.executions;
-        let rows = executions.checked_add(refused)?.checked_add(skipped)?;
+        let rows = sum_of(&[executions, refused, skipped])?;
         Some(TradeSums {
             rows,
             executions,
             refused,
             skipped,
         })
-    }
-
-    /// The rows that were refused.
-    fn refused(&self) -> Option<u64>
-        ensures { IfSome result (λ refused. refused ≡ refused_in self.now) }
-    {
-        self.too_few_columns
-            .checked_add(self.bad_name)?
-            .checked_add(self.bad_time)?
-            .checked_add(self.unknown_participant)?
-            .checked_add(self.unknown_symbol)?
-            .checked_add(self.bad_price)?
-            .checked_add(self.bad_shares)?
-            .checked_add(self.unknown_side)?
-            .checked_add(self.unknown_condition)?
-            .checked_add(self.unknown_mark)
-    }
-
-    /// The rows that were skipped.
-    fn skipped(&self) -> Option<u64>
-        ensures { IfSome result (λ skipped. skipped ≡ skipped_in self.now) }
-    {
-        self.trailer
-            .checked_add(self.listed)?
-            .checked_add(self.other_symbol)
     }
 }

@@ -52,7 +52,7 @@ impl<'a, E: Write> TradeTold<'a, E> {
     /// Shows a row that makes no execution: its file, line, column and text, and the cause. The first 100 are shown. What
     /// the writer does not take is dropped: the counts have each row.
     pub(crate) fn tell(&mut self, columns: &TradeColumns, row: &ByteRecord, cause: TradeCause) {
-        if self.left == 0 || cause == TradeCause::Trailer {
+        if self.left == 0 || matches!(cause, TradeCause::Trailer) {
             return;
         }
         self.left -= 1;
@@ -117,21 +117,7 @@ pub fn write_trade_tally<W: Write>(
 ) -> Result<(), ShowFault>
     ensures safe { Writes IsSafe (W.contents out.old) (W.contents out.new) result }
 {
-    let counts = [
-        (tally.too_few_columns, " refused: too few columns"),
-        (tally.bad_name, " refused: bad name"),
-        (tally.bad_time, " refused: bad time"),
-        (tally.unknown_participant, " refused: unknown participant"),
-        (tally.unknown_symbol, " refused: unknown symbol"),
-        (tally.bad_price, " refused: bad price"),
-        (tally.bad_shares, " refused: bad shares"),
-        (tally.unknown_side, " refused: unknown side"),
-        (tally.unknown_condition, " refused: unknown condition"),
-        (tally.unknown_mark, " refused: unknown mark"),
-        (tally.trailer, " skipped: last line of a file"),
-        (tally.listed, " skipped: word to skip"),
-        (tally.other_symbol, " skipped: other symbol"),
-    ];
+    let counts = counts_of(tally);
     write_counts(out, &counts)?;
     line(
         out,
@@ -146,6 +132,27 @@ pub fn write_trade_tally<W: Write>(
             Item::Text(" skipped"),
         ],
     )
+}
+
+/// The counts that have lines of their own, each with what is said of it.
+fn counts_of(tally: &TradeTally) -> [(u64, &'static str); 13]
+    ensures { list_all (λ count. is_plain count.1.now) result ≡ true }
+{
+    [
+        (tally.too_few_columns, " refused: too few columns"),
+        (tally.bad_name, " refused: bad name"),
+        (tally.bad_time, " refused: bad time"),
+        (tally.unknown_participant, " refused: unknown participant"),
+        (tally.unknown_symbol, " refused: unknown symbol"),
+        (tally.bad_price, " refused: bad price"),
+        (tally.bad_shares, " refused: bad shares"),
+        (tally.unknown_side, " refused: unknown side"),
+        (tally.unknown_condition, " refused: unknown condition"),
+        (tally.unknown_mark, " refused: unknown mark"),
+        (tally.trailer, " skipped: last line of a file"),
+        (tally.listed, " skipped: word to skip"),
+        (tally.other_symbol, " skipped: other symbol"),
+    ]
 }
 
 /// Writes a line for each count that is not zero.

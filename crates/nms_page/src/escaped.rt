@@ -12,21 +12,26 @@ impl<'a, W: Write> Escaped<'a, W> {
     pub(crate) fn new(page: &'a mut W) -> Self {
         Escaped { page }
     }
+
+    /// Passes a piece on, whose last byte alone may need an escape.
+    fn pass(&mut self, piece: &[u8]) -> Result<()> {
+        let Some((last, rest)) = piece.split_last() else {
+            return Ok(());
+        };
+        match escape_of(*last) {
+            Some(escape) => {
+                self.page.write_all(rest)?;
+                self.page.write_all(escape)
+            }
+            None => self.page.write_all(piece),
+        }
+    }
 }
 
 impl<W: Write> Write for Escaped<'_, W> {
     fn write(&mut self, bytes: &[u8]) -> Result<usize> {
         for piece in bytes.split_inclusive(|byte| escape_of(*byte).is_some()) {
-            match piece.split_last() {
-                Some((last, rest)) => match escape_of(*last) {
-                    Some(escape) => {
-                        self.page.write_all(rest)?;
-                        self.page.write_all(escape)?;
-                    }
-                    None => self.page.write_all(piece)?,
-                },
-                None => {}
-            }
+            self.pass(piece)?;
         }
         Ok(bytes.len())
     }

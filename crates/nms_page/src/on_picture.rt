@@ -94,8 +94,9 @@ fn draw_judged<W: Write>(
 /// The executions in a symbol.
 fn marks_of(alloc: Global, judged: &Judged, sym: Sym) -> Result<Vec<Mark>, AllocError> {
     let mut marks = Vec::new(alloc);
-    for (execution, finding) in judged.records.executions.iter().zip(judged.findings.iter()) {
-        if let Some(finding) = finding {
+    for place in 0..judged.records.executions.len() {
+        let execution = &judged.records.executions[place];
+        if let Some(Some(finding)) = judged.findings.get(place) {
             if execution.sym == sym {
                 marks.push(mark_of(execution, finding))?;
             }

@@ -201,8 +201,10 @@ fn write_rest<P: Write>(
     scenes: &[Scene],
     page: &mut P,
 ) -> Result<(), ShowFault> {
-    for (place, scene) in flagged.places.iter().zip(scenes.iter()) {
-        write_flagged(roster, judged, *place, scene, page)?;
+    for place in 0..flagged.places.len() {
+        if let Some(scene) = scenes.get(place) {
+            write_flagged(roster, judged, flagged.places[place], scene, page)?;
+        }
     }
     mark(page, "</body>\n</html>")
 }
@@ -281,33 +283,35 @@ fn flagged_of(alloc: Global, judged: &Judged) -> Result<Flagged, AllocError> {
         marks: Vec::new(alloc),
         more: 0,
     };
-    let findings = judged.findings.iter();
-    for ((execution, finding), place) in judged
-        .records
-        .executions
-        .iter()
-        .zip(findings)
-        .zip(0..usize::MAX)
-    {
-        let Some(finding) = finding else {
-            continue;
-        };
-        if finding.standing == Standing::Clean {
-            continue;
-        }
-        if flagged.places.len() < MOST_SHOWN {
-            flagged.places.push(place)?;
-            flagged
-                .marks
-                .push((execution.sym, mark_of(execution, finding)))?;
-        } else {
-            match flagged.more.checked_add(1) {
-                Some(more) => flagged.more = more,
-                None => return Err(AllocError),
+    flag_all(&mut flagged, judged)?;
+    Ok(flagged)
+}
+
+/// Adds the executions that traded through, or perhaps did.
+fn flag_all(flagged: &mut Flagged, judged: &Judged) -> Result<(), AllocError> {
+    for place in 0..judged.records.executions.len() {
+        let execution = &judged.records.executions[place];
+        if let Some(Some(finding)) = judged.findings.get(place) {
+            if finding.standing != Standing::Clean {
+                flag(flagged, place, (execution.sym, mark_of(execution, finding)))?;
             }
         }
     }
-    Ok(flagged)
+    Ok(())
+}
+
+/// Adds the execution of a place: it is shown if there is room for it, and else counted.
+fn flag(flagged: &mut Flagged, place: usize, marked: (Sym, Mark)) -> Result<(), AllocError> {
+    if flagged.places.len() < MOST_SHOWN {
+        flagged.places.push(place)?;
+        flagged.marks.push(marked)?;
+        return Ok(());
+    }
+    match flagged.more.checked_add(1) {
+        Some(more) => flagged.more = more,
+        None => return Err(AllocError),
+    }
+    Ok(())
 }
 
 /// Writes how many more there are, if there are more.
@@ -353,6 +357,21 @@ fn write_one<P: Write>(
     page: &mut P,
 ) -> Result<(), ShowFault> {
     let sums = sums_of(execution, finding);
+    write_facts(roster, execution, finding, &sums, page)?;
+    write_causes(execution, finding, &sums, page)?;
+    write_rows(roster, execution, finding, page)?;
+    write_scene(roster, scene, &finding.passed, page)?;
+    mark(page, "</section>")
+}
+
+/// Writes an execution's name, its facts, and how much it traded through.
+fn write_facts<P: Write>(
+    roster: &Roster,
+    execution: &Execution,
+    finding: &Finding,
+    sums: &Sums,
+    page: &mut P,
+) -> Result<(), ShowFault> {
     mark(page, "<section>\n<h3>")?;
     say(page, &[Item::Bytes(execution.name.as_slice())])?;
     mark(page, "</h3>\n<p>")?;
@@ -360,6 +379,12 @@ fn write_one<P: Write>(
     if finding.standing == Standing::Perhaps {
         say(page, &[Item::Text(PERHAPS)])?;
     }
+    write_sums(sums, page)?;
+    mark(page, "</p>")
+}
+
+/// Writes how much an execution traded through.
+fn write_sums<P: Write>(sums: &Sums, page: &mut P) -> Result<(), ShowFault> {
     say(
         page,
         &[
@@ -371,18 +396,23 @@ fn write_one<P: Write>(
             dollars_of(sums.worst),
             Item::Text(" dollars at most."),
         ],
-    )?;
-    mark(page, "</p>")?;
-    write_causes(execution, finding, &sums, page)?;
+    )
+}
+
+/// Writes the table of the quotations that an execution traded through.
+fn write_rows<P: Write>(
+    roster: &Roster,
+    execution: &Execution,
+    finding: &Finding,
+    page: &mut P,
+) -> Result<(), ShowFault> {
     mark(page, ROWS)?;
     for place in 0..finding.passed.len() {
         let (side, row) = &finding.passed[place];
-        let flickers = finding.is_flickering(place);
-        write_row(roster, execution, *side, row, flickers, page)?;
+        let note = note_on(execution, row, finding.is_flickering(place));
+        write_row(roster, execution, *side, row, note, page)?;
     }
-    mark(page, "</tbody>\n</table>")?;
-    write_scene(roster, scene, &finding.passed, page)?;
-    mark(page, "</section>")
+    mark(page, "</tbody>\n</table>")
 }
 
 /// Writes an execution's symbol, price and other facts.
@@ -437,16 +467,7 @@ fn write_causes<P: Write>(
             sums.is_flickering(),
         ) {
             has_one = true;
-            mark(page, "<li>")?;
-            say(
-                page,
-                &[
-                    Item::Text(cause.word()),
-                    Item::Text(": "),
-                    Item::Text(words_of(cause)),
-                ],
-            )?;
-            mark(page, "</li>")?;
+            write_cause(cause, page)?;
         }
     }
     if !has_one {
@@ -455,38 +476,67 @@ fn write_causes<P: Write>(
     mark(page, "</ul>")
 }
 
-/// Writes a quotation that was traded through.
-fn write_row<P: Write>(
-    roster: &Roster,
-    execution: &Execution,
-    side: Side,
-    row: &Row,
-    flickers: bool,
-    page: &mut P,
-) -> Result<(), ShowFault> {
-    let side = word_of_side(side);
+/// Writes an exception that applies.
+fn write_cause<P: Write>(cause: Cause, page: &mut P) -> Result<(), ShowFault> {
+    mark(page, "<li>")?;
+    say(
+        page,
+        &[
+            Item::Text(cause.word()),
+            Item::Text(": "),
+            Item::Text(words_of(cause)),
+        ],
+    )?;
+    mark(page, "</li>")
+}
+
+/// The note on a quotation that was traded through: self-help leaves it out, it is the execution's own, or it flickers.
+fn note_on(execution: &Execution, row: &Row, flickers: bool) -> &'static str {
     let own = execution.part == Some(row.part);
-    let note = match (is_helped(execution, row), own, flickers) {
+    match (is_helped(execution, row), own, flickers) {
         (true, _, _) => "left out: self-help",
         (false, true, true) => "OWN+FLICKER",
         (false, true, false) => "OWN",
         (false, false, true) => "FLICKER",
         (false, false, false) => "",
-    };
-    mark(page, "<tr><td>")?;
-    say(page, &[Item::Text(side)])?;
-    mark(page, "</td><td>")?;
-    say(page, &[Item::Text(name_of_part(roster, row.part))])?;
+    }
+}
+
+/// Writes a quotation that was traded through, with a note.
+fn write_row<P: Write>(
+    roster: &Roster,
+    execution: &Execution,
+    side: Side,
+    row: &Row,
+    note: &str,
+    page: &mut P,
+) -> Result<(), ShowFault> {
+    write_cell("<tr><td>", Item::Text(word_of_side(side)), page)?;
+    write_cell(
+        "</td><td>",
+        Item::Text(name_of_part(roster, row.part)),
+        page,
+    )?;
+    write_numbers(row, difference(row, execution.millionths), page)?;
+    write_cell("</td><td>", Item::Text(note), page)?;
+    mark(page, "</td></tr>")
+}
+
+/// Writes a quotation's price, its size, its receipt, and by how much it is better.
+fn write_numbers<P: Write>(row: &Row, better: u64, page: &mut P) -> Result<(), ShowFault> {
     for item in [
         Item::of_price(row.price),
         Item::Number(u64::from(row.size)),
         Item::Number(row.receipt),
-        dollars_of(difference(row, execution.millionths)),
+        dollars_of(better),
     ] {
-        mark(page, "</td><td class=\"n\">")?;
-        say(page, &[item])?;
+        write_cell("</td><td class=\"n\">", item, page)?;
     }
-    mark(page, "</td><td>")?;
-    say(page, &[Item::Text(note)])?;
-    mark(page, "</td></tr>")
+    Ok(())
+}
+
+/// Writes a cell of a table, after what begins it.
+fn write_cell<P: Write>(begun: &str, item: Item<'_>, page: &mut P) -> Result<(), ShowFault> {
+    mark(page, begun)?;
+    say(page, &[item])
 }

@@ -47,7 +47,7 @@ where
     let name = text_of(request.map);
     let text = read_file(rt, name, About::Map)?;
     match mapping_of(rt.alloc(), &text) {
-        Ok(mapping) => compare_by(rt, screen, setup, request, mapping, answers),
+        Ok(mapping) => compare_by(rt, screen, setup, request, &mapping, answers),
         Err(fault) => tell_map_fault(rt, name, &fault),
     }
 }
@@ -58,7 +58,7 @@ fn compare_by<T, W: Write>(
     screen: Screen,
     setup: &Setup,
     request: &Request<'_>,
-    mapping: NationalMapping,
+    mapping: &NationalMapping,
     answers: &mut W,
 ) -> Result<Ending, Fault>
 where
@@ -103,7 +103,7 @@ fn compare_changes<T, W: Write>(
     screen: Screen,
     setup: &Setup,
     request: &Request<'_>,
-    mapping: NationalMapping,
+    mapping: &NationalMapping,
     changes: &[Change],
     times: &[u8],
     answers: &mut W,
@@ -125,7 +125,7 @@ fn compare_file<T, W: Write>(
     screen: Screen,
     setup: &Setup,
     request: &Request<'_>,
-    mapping: NationalMapping,
+    mapping: &NationalMapping,
     changes: &[Change],
     keys: &[u64],
     answers: &mut W,
@@ -137,29 +137,76 @@ where
     requires each { length keys.now ≡ length changes.now }
 {
     let mut names = ByteRecord::new(rt.alloc());
-    let mut reader = open_vendor(rt, screen, request, NATIONAL, mapping.file(), &mut names)?;
-    let compared = match mapping.vendor(rt.alloc(), &names) {
-        Ok(vendor) => compare_vendor(
-            rt,
-            setup,
-            request,
-            &vendor,
-            changes,
-            keys,
-            &mut reader,
-            answers,
+    match open_vendor(rt, screen, request, NATIONAL, mapping.file(), &mut names) {
+        Ok(reader) => compare_open(
+            rt, setup, request, mapping, &names, changes, keys, reader, answers,
         ),
-        Err(fault) => tell_map_fault(rt, word_at(request, NATIONAL), &fault),
-    };
+        Err(fault) => Err(fault),
+    }
+}
+
+/// Compares the rows of a vendor's file that was opened, and then removes the line of progress.
+fn compare_open<T, W: Write>(
+    rt: &T,
+    setup: &Setup,
+    request: &Request<'_>,
+    mapping: &NationalMapping,
+    names: &ByteRecord,
+    changes: &[Change],
+    keys: &[u64],
+    mut reader: Reader<Source<'_, T, T::File>>,
+    answers: &mut W,
+) -> Result<Ending, Fault>
+where
+    T: AllocGlobal + Clock + Eprint + Files,
+    requires held { All (λ change. holds (sizes_of setup.now.roster) change ≡ true) changes.now }
+    requires few { length changes.now ≤ MOST_CHANGES }
+    requires each { length keys.now ≡ length changes.now }
+{
+    let compared = compare_named(
+        rt,
+        setup,
+        request,
+        mapping,
+        names,
+        changes,
+        keys,
+        &mut reader,
+        answers,
+    );
     ended(&mut reader.into_inner(), compared)
 }
 
-/// Compares the rows of a vendor's file whose names of columns were read.
+/// Compares the rows of a vendor's file by its names of columns.
+fn compare_named<T, W: Write>(
+    rt: &T,
+    setup: &Setup,
+    request: &Request<'_>,
+    mapping: &NationalMapping,
+    names: &ByteRecord,
+    changes: &[Change],
+    keys: &[u64],
+    reader: &mut Reader<Source<'_, T, T::File>>,
+    answers: &mut W,
+) -> Result<Ending, Fault>
+where
+    T: AllocGlobal + Clock + Eprint + Files,
+    requires held { All (λ change. holds (sizes_of setup.now.roster) change ≡ true) changes.now }
+    requires few { length changes.now ≤ MOST_CHANGES }
+    requires each { length keys.now ≡ length changes.now }
+{
+    match mapping.vendor(rt.alloc(), names) {
+        Ok(vendor) => compare_vendor(rt, setup, request, &vendor, changes, keys, reader, answers),
+        Err(fault) => tell_map_fault(rt, word_at(request, NATIONAL), &fault),
+    }
+}
+
+/// Compares the rows of a vendor's file whose columns were found.
 fn compare_vendor<T, W: Write>(
     rt: &T,
     setup: &Setup,
     request: &Request<'_>,
-    vendor: &Vendor,
+    vendor: &Vendor<'_>,
     changes: &[Change],
     keys: &[u64],
     reader: &mut Reader<Source<'_, T, T::File>>,

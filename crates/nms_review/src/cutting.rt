@@ -34,18 +34,11 @@ struct ShardFiles<F> {
     times: Answers<F>,
 }
 
-/// What is known of the rows that were read: those of the shard being written, and of all.
-#[derive(Drop)]
-struct Rows {
-    cutting: Cutting,
-    notes: Notes,
-}
-
 /// The files of the shard being written, and the state kept from one of the vendor's files to the next.
 #[derive(Drop)]
 struct CutJob<'a, F> {
     files: ShardFiles<F>,
-    rows: Rows,
+    notes: Notes,
     row: ByteRecord,
     text: Vec<u8>,
     told: Told<'a, Vec<u8>>,
@@ -72,38 +65,76 @@ where
     if setup.tape_limit() < LEAST_LIMIT {
         return Err(Fault::usage(About::Setup, "a setup with a tape_limit of 66 or more"));
     }
-    match begin_job(rt, setup, request, mapping) {
-        Ok(mut job) => cut_all(rt, screen, setup, request, mapping, &mut job, answers),
-        Err(fault) => Err(fault),
-    }
+    cut_sorted(rt, screen, setup, request, mapping, answers)
 }
 
 /// Reports that the mapping's order is not by symbol.
 fn refuse_order<T: AllocGlobal + Eprint>(rt: &T, request: &Request<'_>) -> Result<Ending, Fault> {
-    let key = String::from_str(rt.alloc(), "order").map_err(|_| no_memory())?;
-    let fault = MapFault::BadValue {
-        table: "time",
-        key,
-        expected: "\"symbol\" with --shards: rows sorted by symbol",
-    };
-    tell_map_fault(rt, word_at(request, 0), &fault)
+    match String::from_str(rt.alloc(), "order") {
+        Ok(key) => {
+            let fault = MapFault::BadValue {
+                table: "time",
+                key,
+                expected: "\"symbol\" with --shards: rows sorted by symbol",
+            };
+            tell_map_fault(rt, word_at(request, 0), &fault)
+        }
+        Err(_) => Err(no_memory()),
+    }
+}
+
+/// Cuts the rows of the files, which are sorted by symbol, and reports the counts.
+fn cut_sorted<T, W: Write>(
+    rt: &T,
+    screen: Screen,
+    setup: &Setup,
+    request: &Request<'_>,
+    mapping: &Mapping,
+    answers: &mut W,
+) -> Result<Ending, Fault>
+where
+    T: AllocGlobal + Clock + Eprint + Files,
+    requires room { LEAST_LIMIT ≤ setup.now.tape_limit }
+{
+    match Cutting::new(rt.alloc(), setup) {
+        Ok(mut cutting) => cut_with(rt, screen, setup, request, mapping, &mut cutting, answers),
+        Err(fault) => Err(fault_in(fault, 0)),
+    }
+}
+
+/// Cuts the rows of the files with what was made to cut them, and reports the counts.
+fn cut_with<T, W: Write>(
+    rt: &T,
+    screen: Screen,
+    setup: &Setup,
+    request: &Request<'_>,
+    mapping: &Mapping,
+    cutting: &mut Cutting,
+    answers: &mut W,
+) -> Result<Ending, Fault>
+where
+    T: AllocGlobal + Clock + Eprint + Files,
+{
+    match begin_job(rt, request, mapping.order) {
+        Ok(mut job) => cut_all(
+            rt, screen, setup, request, mapping, cutting, &mut job, answers,
+        ),
+        Err(fault) => Err(fault),
+    }
 }
 
 /// Begins the first shard.
 fn begin_job<'a, T: AllocGlobal + Files>(
     rt: &T,
-    setup: &Setup,
     request: &Request<'a>,
-    mapping: &Mapping,
-) -> Result<CutJob<'a, T::File>, Fault>
-    requires room { LEAST_LIMIT ≤ setup.now.tape_limit }
-{
+    order: Order,
+) -> Result<CutJob<'a, T::File>, Fault> {
     let alloc = rt.alloc();
     let files = create_files(rt, request, 1)?;
-    match begin_rows(alloc, setup, mapping.order) {
-        Ok(rows) => Ok(CutJob {
+    match Notes::of_symbols(alloc, 1, order) {
+        Ok(notes) => Ok(CutJob {
             files,
-            rows,
+            notes,
             row: ByteRecord::new(alloc),
             text: Vec::new(alloc),
             told: Told::new(Vec::new(alloc)),
@@ -111,7 +142,7 @@ fn begin_job<'a, T: AllocGlobal + Files>(
             shards: 1,
             openings: 0,
         }),
-        Err(fault) => Err(fault),
+        Err(_) => Err(no_memory()),
     }
 }
 
@@ -128,17 +159,6 @@ fn create_files<T: AllocGlobal + Files>(
     }
 }
 
-/// Begins the first shard, before any row.
-fn begin_rows(alloc: Global, setup: &Setup, order: Order) -> Result<Rows, Fault>
-    requires room { LEAST_LIMIT ≤ setup.now.tape_limit }
-{
-    let cutting = Cutting::new(alloc, setup).map_err(|fault| fault_in(fault, 0))?;
-    match Notes::of_symbols(alloc, 1, order) {
-        Ok(notes) => Ok(Rows { cutting, notes }),
-        Err(_) => Err(no_memory()),
-    }
-}
-
 /// Cuts the rows of all files, and reports the counts.
 fn cut_all<'a, T, W: Write>(
     rt: &T,
@@ -146,6 +166,7 @@ fn cut_all<'a, T, W: Write>(
     setup: &Setup,
     request: &Request<'a>,
     mapping: &Mapping,
+    cutting: &mut Cutting,
     job: &mut CutJob<'a, T::File>,
     answers: &mut W,
 ) -> Result<Ending, Fault>
@@ -153,13 +174,13 @@ where
     T: AllocGlobal + Clock + Eprint + Files,
 {
     for place in FILES..request.words.len() {
-        if !cut_file(rt, screen, setup, request, mapping, place, job)? {
+        if !cut_file(rt, screen, setup, request, mapping, place, cutting, job)? {
             return Ok(Ending::SetupRefused);
         }
     }
-    finish_shard(rt, setup, request, job)?;
+    finish_shard(rt, setup, request, cutting, job)?;
     tell_shards(job.shards, job.openings, answers)?;
-    tell_counts(mapping.meanings.half, &job.tally, &job.rows.notes, answers)
+    tell_counts(mapping.meanings.half, &job.tally, &job.notes, answers)
 }
 
 /// Cuts the rows of one file. Returns whether it has the columns that the mapping names; if not, that is reported.
@@ -170,13 +191,23 @@ fn cut_file<'a, T>(
     request: &Request<'a>,
     mapping: &Mapping,
     place: usize,
+    cutting: &mut Cutting,
     job: &mut CutJob<'a, T::File>,
 ) -> Result<bool, Fault>
 where
     T: AllocGlobal + Clock + Eprint + Files,
 {
     let mut reader = open_vendor(rt, screen, request, place, mapping.file, &mut job.row)?;
-    let cut = cut_columns(rt, setup, request, mapping, place, &mut reader, job);
+    let cut = cut_columns(
+        rt,
+        setup,
+        request,
+        mapping,
+        place,
+        &mut reader,
+        cutting,
+        job,
+    );
     let mut source = reader.into_inner();
     source.clear();
     show_told(rt, &mut job.told);
@@ -191,6 +222,7 @@ fn cut_columns<'a, T>(
     mapping: &Mapping,
     place: usize,
     reader: &mut Reader<Source<'_, T, T::File>>,
+    cutting: &mut Cutting,
     job: &mut CutJob<'a, T::File>,
 ) -> Result<bool, Fault>
 where
@@ -199,7 +231,9 @@ where
     match mapping.columns(rt.alloc(), &job.row) {
         Ok(columns) => {
             job.told.enter(word_at(request, place));
-            cut_rows(rt, setup, request, mapping, &columns, place, reader, job)
+            cut_rows(
+                rt, setup, request, mapping, &columns, place, reader, cutting, job,
+            )
         }
         Err(fault) => lacks_columns(rt, word_at(request, place), &fault),
     }
@@ -214,6 +248,7 @@ fn cut_rows<'a, T>(
     columns: &Columns,
     place: usize,
     reader: &mut Reader<Source<'_, T, T::File>>,
+    cutting: &mut Cutting,
     job: &mut CutJob<'a, T::File>,
 ) -> Result<bool, Fault>
 where
@@ -226,19 +261,19 @@ where
             setup.roster(),
             request.rows,
             part > 0,
-            &mut job.rows.cutting,
+            cutting,
             &mut job.row,
             &mut job.text,
             reader,
             &mut job.files.changes,
             &mut job.files.times,
-            &mut job.rows.notes,
+            &mut job.notes,
             &mut job.told,
             &mut job.tally,
         );
         match stopped {
             Ok(Shard::GoesOn) => return Ok(true),
-            Ok(Shard::Full) => next_shard(rt, setup, request, job)?,
+            Ok(Shard::Full) => next_shard(rt, setup, request, cutting, job)?,
             Err(fault) => return Err(fault_in(fault, place)),
         }
     }
@@ -250,27 +285,29 @@ fn next_shard<T>(
     rt: &T,
     setup: &Setup,
     request: &Request<'_>,
+    cutting: &mut Cutting,
     job: &mut CutJob<'_, T::File>,
 ) -> Result<(), Fault>
 where
     T: AllocGlobal + Files,
 {
-    finish_shard(rt, setup, request, job)?;
+    finish_shard(rt, setup, request, cutting, job)?;
     job.shards = sum_of(job.shards, 1)?;
     job.files = create_files(rt, request, job.shards)?;
-    open_shard(setup, request, job)
+    open_shard(setup, request, cutting, job)
 }
 
 /// Writes the opening changes of the shard that was begun.
 fn open_shard<F: Write>(
     setup: &Setup,
     request: &Request<'_>,
+    cutting: &mut Cutting,
     job: &mut CutJob<'_, F>,
 ) -> Result<(), Fault> {
     let opened = begin_shard(
         setup.roster(),
         request.rows,
-        &mut job.rows.cutting,
+        cutting,
         &mut job.text,
         &mut job.files.changes,
         &mut job.files.times,
@@ -297,6 +334,7 @@ fn finish_shard<T>(
     rt: &T,
     setup: &Setup,
     request: &Request<'_>,
+    cutting: &Cutting,
     job: &mut CutJob<'_, T::File>,
 ) -> Result<(), Fault>
 where
@@ -305,9 +343,9 @@ where
     flush(&mut job.files.changes)?;
     flush(&mut job.files.times)?;
     let symbols = create_in(rt, request, job.shards, ".symbols")?;
-    finish_symbols(symbols, &job.rows.cutting)?;
+    finish_symbols(symbols, cutting)?;
     let text = create_in(rt, request, job.shards, ".toml")?;
-    finish_setup(text, setup, &job.rows.cutting)
+    finish_setup(text, setup, cutting)
 }
 
 /// Writes the symbols of a shard to its file.

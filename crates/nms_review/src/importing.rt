@@ -12,12 +12,12 @@ use csv::Reader;
 use nms_codes::Code;
 use nms_fees::Setup;
 use nms_import::{
-    Guard, Half, ImportFault, MapFault, Mapping, Notes, Tally, Told, Work, import_rows,
+    Columns, Guard, Half, ImportFault, MapFault, Mapping, Notes, Tally, Told, Work, import_rows,
     read_mapping, write_symbols, write_tally,
 };
 use nms_show::{Ending, Form, Item, write_line};
 use std::alloc::Global;
-use std::io::Write;
+use std::io::{Read, Write};
 use std::rt::Files;
 use std::str;
 use std::time::Clock;
@@ -37,16 +37,46 @@ where
     T: AllocGlobal + Clock + Eprint + Files,
 {
     let text = read_file(rt, word_at(request, 0), About::Word(0))?;
-    if is_trade_map(rt.alloc(), &text) {
-        return serve_import_trades(rt, screen, setup, request, &text, answers);
+    import_by_text(rt, screen, setup, request, &text, answers)
+}
+
+/// Makes changes, or executions, by the mapping that a text gives.
+fn import_by_text<T, W: Write>(
+    rt: &T,
+    screen: Screen,
+    setup: &Setup,
+    request: &Request<'_>,
+    text: &[u8],
+    answers: &mut W,
+) -> Result<Ending, Fault>
+where
+    T: AllocGlobal + Clock + Eprint + Files,
+{
+    if is_trade_map(rt.alloc(), text) {
+        return serve_import_trades(rt, screen, setup, request, text, answers);
     }
-    match mapping_of(rt.alloc(), &text) {
-        Ok(mapping) => if request.shards {
-            cut_files(rt, screen, setup, request, &mapping, answers)
-        } else {
-            import_files(rt, screen, setup, request, &mapping, answers)
-        },
+    match mapping_of(rt.alloc(), text) {
+        Ok(mapping) => import_quotes(rt, screen, setup, request, &mapping, answers),
         Err(fault) => tell_map_fault(rt, word_at(request, 0), &fault),
+    }
+}
+
+/// Makes changes by a mapping, in one file or in shards.
+fn import_quotes<T, W: Write>(
+    rt: &T,
+    screen: Screen,
+    setup: &Setup,
+    request: &Request<'_>,
+    mapping: &Mapping,
+    answers: &mut W,
+) -> Result<Ending, Fault>
+where
+    T: AllocGlobal + Clock + Eprint + Files,
+{
+    if request.shards {
+        cut_files(rt, screen, setup, request, mapping, answers)
+    } else {
+        import_files(rt, screen, setup, request, mapping, answers)
     }
 }
 
@@ -187,13 +217,31 @@ fn import_columns<'a, T>(
 where
     T: AllocGlobal + Clock + Eprint + Files,
 {
-    let columns = match mapping.columns(rt.alloc(), &job.work.row) {
-        Ok(columns) => columns,
-        Err(fault) => return lacks_columns(rt, word_at(request, place), &fault),
-    };
-    job.told.enter(word_at(request, place));
+    match mapping.columns(rt.alloc(), &job.work.row) {
+        Ok(columns) => {
+            job.told.enter(word_at(request, place));
+            import_placed(setup, request, mapping, &columns, place, reader, job)
+        }
+        Err(fault) => lacks_columns(rt, word_at(request, place), &fault),
+    }
+}
+
+/// Makes changes of the rows that a reader still has, and returns true.
+fn import_placed<T, F>(
+    setup: &Setup,
+    request: &Request<'_>,
+    mapping: &Mapping,
+    columns: &Columns,
+    place: usize,
+    reader: &mut Reader<Source<'_, T, F>>,
+    job: &mut Job<'_, F>,
+) -> Result<bool, Fault>
+where
+    T: Clock + Eprint,
+    F: Read + Write,
+{
     let imported = import_rows(
-        &columns,
+        columns,
         &mapping.meanings,
         setup.roster(),
         request.rows,
@@ -276,22 +324,31 @@ pub(crate) fn flush<W: Write>(writer: &mut W) -> Result<(), Fault> {
 
 /// Shows the rows that were refused or skipped, on standard error.
 pub(crate) fn show_told<T: Eprint>(rt: &T, told: &mut Told<'_, Vec<u8>>) {
-    if let Ok(text) = str::from_utf8(&told.errors) {
-        let _ = rt.eprint(text);
-    }
+    show_text(rt, &told.errors);
     told.errors.clear();
 }
 
 /// Reports on standard error why a mapping is refused: its table, its key and what is expected there.
-pub(crate) fn tell_map_fault<'x, T>(
-    rt: &T,
-    file: &'x str,
-    fault: &'x MapFault,
-) -> Result<Ending, Fault>
+pub(crate) fn tell_map_fault<T>(rt: &T, file: &str, fault: &MapFault) -> Result<Ending, Fault>
 where
     T: AllocGlobal + Eprint,
 {
     let mut text = Vec::new(rt.alloc());
+    match write_map_fault(&mut text, file, fault) {
+        Ok(()) => {
+            show_text(rt, &text);
+            Ok(Ending::SetupRefused)
+        }
+        Err(fault) => Err(fault),
+    }
+}
+
+/// Writes why a mapping is refused: its table, its key and what is expected there.
+fn write_map_fault<'x>(
+    text: &mut Vec<u8>,
+    file: &'x str,
+    fault: &'x MapFault,
+) -> Result<(), Fault> {
     let code = code_of_map(fault);
     let (line, table, key, expected) = match fault {
         MapFault::NotToml { line } => (Item::Number(*line), "", "", ""),
@@ -330,13 +387,17 @@ where
         Item::Text(if key.is_empty() { "" } else { ": expected " }),
         Item::Text(expected),
     ];
-    if write_line(&mut text, Form::Text { colours: false }, &items).is_err() {
-        return Err(no_memory());
+    match write_line(text, Form::Text { colours: false }, &items) {
+        Ok(()) => Ok(()),
+        Err(_) => Err(no_memory()),
     }
-    if let Ok(text) = str::from_utf8(&text) {
+}
+
+/// Shows a text on standard error.
+pub(crate) fn show_text<T: Eprint>(rt: &T, text: &[u8]) {
+    if let Ok(text) = str::from_utf8(text) {
         let _ = rt.eprint(text);
     }
-    Ok(Ending::SetupRefused)
 }
 
 /// A fault of an import, in the file of a word.

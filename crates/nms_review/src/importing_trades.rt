@@ -3,7 +3,7 @@
 use crate::answers::Answers;
 use crate::fault::{About, Fault};
 use crate::files::word_at;
-use crate::importing::{create, fault_in, flush, lacks_columns, tell_map_fault};
+use crate::importing::{create, fault_in, flush, lacks_columns, show_text, tell_map_fault};
 use crate::screen::Screen;
 use crate::source::Source;
 use crate::vendor::open_vendor;
@@ -13,12 +13,12 @@ use nms_codes::Code;
 use nms_fees::Setup;
 use nms_import::{ImportFault, MapFault, document_of};
 use nms_import_trades::{
-    TradeMapping, TradeTally, TradeTold, TradeWork, import_trades, is_of_trades,
+    TradeColumns, TradeMapping, TradeTally, TradeTold, TradeWork, import_trades, is_of_trades,
     read_trade_mapping, write_trade_tally,
 };
 use nms_show::Ending;
 use std::alloc::Global;
-use std::io::Write;
+use std::io::{Read, Write};
 use std::rt::Files;
 use std::str;
 use std::time::Clock;
@@ -155,13 +155,30 @@ fn import_columns<'a, T>(
 where
     T: AllocGlobal + Clock + Eprint + Files,
 {
-    let columns = match mapping.columns(rt.alloc(), &job.work.row) {
-        Ok(columns) => columns,
-        Err(fault) => return lacks_columns(rt, word_at(request, place), &fault),
-    };
-    job.told.enter(word_at(request, place));
+    match mapping.columns(rt.alloc(), &job.work.row) {
+        Ok(columns) => {
+            job.told.enter(word_at(request, place));
+            import_placed(setup, mapping, &columns, place, reader, job)
+        }
+        Err(fault) => lacks_columns(rt, word_at(request, place), &fault),
+    }
+}
+
+/// Makes executions of the rows that a reader still has, and returns true.
+fn import_placed<T, F>(
+    setup: &Setup,
+    mapping: &TradeMapping,
+    columns: &TradeColumns,
+    place: usize,
+    reader: &mut Reader<Source<'_, T, F>>,
+    job: &mut TradeJob<'_, F>,
+) -> Result<bool, Fault>
+where
+    T: Clock + Eprint,
+    F: Read + Write,
+{
     let imported = import_trades(
-        &columns,
+        columns,
         &mapping.meanings,
         setup.roster(),
         &mut job.work,
@@ -191,8 +208,6 @@ fn finish<F: Write, W: Write>(job: &mut TradeJob<'_, F>, answers: &mut W) -> Res
 
 /// Shows the rows that were refused or skipped, on standard error.
 fn show_told<T: Eprint>(rt: &T, told: &mut TradeTold<'_, Vec<u8>>) {
-    if let Ok(text) = str::from_utf8(&told.errors) {
-        let _ = rt.eprint(text);
-    }
+    show_text(rt, &told.errors);
     told.errors.clear();
 }

@@ -26,16 +26,47 @@ where
 {
     check_words(request)?;
     let text = read_file(rt, word_at(request, 0), About::Word(0))?;
-    let times = times_of(rt.alloc(), &text, About::Word(0))?;
+    find_in(rt, screen, request, &text, answers)
+}
+
+/// Finds versions by time, or the time of a version, in a text of times.
+fn find_in<T, W: Write>(
+    rt: &T,
+    screen: Screen,
+    request: &Request<'_>,
+    text: &[u8],
+    answers: &mut W,
+) -> Result<Ending, Fault>
+where
+    T: AllocGlobal + Files,
+{
+    match times_of(rt.alloc(), text, About::Word(0)) {
+        Ok(times) => find_among(rt, screen, request, text, &times, answers),
+        Err(fault) => Err(fault),
+    }
+}
+
+/// Finds versions by time, or the time of a version, among times.
+fn find_among<T, W: Write>(
+    rt: &T,
+    screen: Screen,
+    request: &Request<'_>,
+    text: &[u8],
+    times: &Times,
+    answers: &mut W,
+) -> Result<Ending, Fault>
+where
+    T: AllocGlobal + Files,
+{
     let form = form_of(screen, request);
     match request.version {
         Some(word) => {
             let version = version_in(word, About::Version)?;
-            tell_time(rt.alloc(), &text, &times, version, form, answers)
+            tell_time(rt.alloc(), text, times, version, form, answers)
         }
         None => {
             let symbol = (symbol_of(request), About::Symbol);
-            let rising = rising_of(rt, request, symbol, &times, About::Word(0))?;
+            let rising = rising_of(rt, request, symbol, times, About::Word(0))?;
             tell_versions(rt.alloc(), request, rising, form, answers)
         }
     }

@@ -1,8 +1,11 @@
 -- A command line with one more option.
-use Rattle.std.proofs.Common.{◌≡◌, ◌∙◌, ap}
-use Rattle.clap.specs.Words.{App, Rule, with_rule}
+use Rattle.std.proofs.Common.{◌≡◌, ◌<◌, ◌+◌, ℕ, List, length, map, drop, fold, slice_index_or, refl, add-one, drop-cons}
+use Rattle.clap.specs.Words.{App, with_rule}
+use Rattle.nms_serve_words.specs.Options.{option_rule}
+use Rattle.nms_serve_words.specs.declared.option_word.OptionWord.{OptionWord}
 
--- it is as it should be if the command before and the option are
-pub behind : {more app was : App} {met due : Rule} → more ≡ with_rule app met → app ≡ was → met ≡ due → more ≡ with_rule was due
-behind {was = was} {met = met} is first rule =
-    is ∙ ap (λ (a : App). with_rule a met) first ∙ ap (λ (r : Rule). with_rule was r) rule
+-- what is left of the options takes the next one first
+pub next_option : (app : App) (options : List OptionWord) (i : ℕ) (option : OptionWord) → i < length options
+    → fold with_rule app (map option_rule (drop i options))
+    ≡ fold with_rule (with_rule app (option_rule (slice_index_or options i option))) (map option_rule (drop (i + 1) options))
+next_option app options i option within = rw (add-one, drop-cons options i option within) refl

@@ -30,9 +30,12 @@ pub fn read_words<'a>(alloc: Global, words: &'a [&'a str]) -> Result<Request, Wo
         → IsAsked (given_by (map (λ word. word.now) words.entry.now)) asked
         → MatchResult result (λ request. shown request ≡ asked) (λ fault. fault ≡ WordsFault.NoMemory) }
 {
-    match serve_command(alloc)?.try_get_matches_from(words) {
-        Ok(matches) => request_in(alloc, &matches),
-        Err(error) => Err(fault_of(alloc, &error)),
+    match serve_command(alloc) {
+        Ok(command) => match command.try_get_matches_from(words) {
+            Ok(matches) => request_in(alloc, &matches),
+            Err(error) => Err(fault_of(alloc, &error)),
+        },
+        Err(_) => Err(WordsFault::NoMemory),
     }
 }
 

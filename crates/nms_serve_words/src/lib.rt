@@ -4,6 +4,7 @@
 mod command_line;
 mod command_words;
 mod help_text;
+mod option_word;
 mod request;
 mod words_fault;
 

@@ -1,1 +1,4 @@
 mod NamedLemmas
+mod LeastLemmas
+mod NamesTwice
+mod LeastFinding

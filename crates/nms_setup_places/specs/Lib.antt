@@ -4,3 +4,4 @@ pub mod Forms
 pub mod Findings
 pub mod Known
 pub mod Examined
+pub mod Laws

@@ -4,6 +4,7 @@
 mod finding;
 mod form;
 mod known_key;
+mod laws;
 mod naming;
 mod noting;
 mod reading;
@@ -12,6 +13,7 @@ mod setup_table;
 pub use finding::{Finding, Spot};
 pub use form::{Form, form_of};
 pub use known_key::KnownKey;
+pub use laws::the_least_finding_is_read;
 pub use naming::name_in;
 pub use nms_fees::{Choices, choices_in, rows_at};
 pub use noting::find_faults;

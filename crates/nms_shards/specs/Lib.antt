@@ -1,1 +1,3 @@
 pub mod Shard
+pub mod OfSymbol
+pub mod ShardExamples

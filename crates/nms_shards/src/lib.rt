@@ -3,6 +3,7 @@
 
 mod begun;
 mod cutting;
+mod laws;
 mod rosters;
 mod setup_text;
 mod sharding;
@@ -11,5 +12,8 @@ mod sharding;
 pub const LEAST_LIMIT: u64 = 66;
 
 pub use cutting::{Cutting, Listed};
+pub use laws::{
+    a_cut_shows_what_the_whole_shows, a_shard_shows_what_the_whole_shows, worked_examples,
+};
 pub use setup_text::{write_listed, write_setup};
 pub use sharding::{Shard, begin_shard, import_shard};

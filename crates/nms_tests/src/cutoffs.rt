@@ -9,7 +9,6 @@ use nms_sweep::{Cutoff, Cutoffs};
 use nms_units::{Price, Shares};
 use std::alloc::Global;
 use std::process::Abort;
-use std::test::Fail;
 
 /// An offer of a participant.
 fn offer(sym: Sym, place: u8, state: QState, price: u64, shares: u32) -> Option<Change> {
@@ -45,21 +44,22 @@ fn order_for(sym: Sym) -> Option<Order>
 }
 
 /// Compares the answers for that order, one after another.
-fn compare<R: Abort>(rt: &R, view: &View, fees: &FeeBook, due: &[Option<Told>]) -> Option<()> {
-    let order = order_for(view.sym())?;
+fn compare<R: Abort>(rt: &R, view: &View, fees: &FeeBook, due: &[Option<Told>]) {
+    let Some(order) = order_for(view.sym()) else {
+        panic!(rt; "no order");
+    };
     let mut cutoffs = Cutoffs::new(view, &order, fees);
     for due in due {
         same(rt, told(cutoffs.next()), *due);
     }
-    Some(())
 }
 
 /// N's manual offer is in the pool at each price and is never swept. P's protected one is in the pool at its own price, and is
 /// swept with its fee at the worse one. After the last price there is no more, and it stays so.
 #[test]
-fn a_protected_row_is_swept_with_its_fee_at_the_next_price(rt: HostRuntime) -> Result<(), Fail> {
-    let setup = read_setup(rt.alloc(), SETUP_K)?;
-    compare_under(&rt, rt.alloc(), &setup)
+fn a_protected_row_is_swept_with_its_fee_at_the_next_price(rt: HostRuntime) {
+    let setup = read_setup(rt.alloc(), SETUP_K).expect(&rt, "a setup");
+    compare_under(&rt, rt.alloc(), &setup);
 }
 
 /// Quotes the worked offers.
@@ -78,9 +78,9 @@ fn quote_all(boards: &mut Boards, sym: Sym) {
 }
 
 /// Compares the answers on the worked offers, by values worked out by hand.
-fn compare_under<R: Abort>(rt: &R, alloc: Global, setup: &Setup) -> Result<(), Fail> {
-    let sym = setup.roster().find_sym(b"PNY").ok_or("no PNY")?;
-    let mut boards = Boards::new(alloc, setup.roster())?;
+fn compare_under<R: Abort>(rt: &R, alloc: Global, setup: &Setup) {
+    let sym = setup.roster().find_sym(b"PNY").expect(rt, "PNY");
+    let mut boards = Boards::new(alloc, setup.roster()).expect(rt, "memory");
     quote_all(&mut boards, sym);
     let due = [
         Some((5000, 0, 0, 200)),
@@ -89,6 +89,5 @@ fn compare_under<R: Abort>(rt: &R, alloc: Global, setup: &Setup) -> Result<(), F
         None,
         None,
     ];
-    compare(rt, &boards.view(sym), setup.fees(), &due).ok_or("an order")?;
-    Ok(())
+    compare(rt, &boards.view(sym), setup.fees(), &due);
 }

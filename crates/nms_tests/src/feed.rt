@@ -1,6 +1,7 @@
 //! Tests of what no clause says: that the calls succeed and return, and a run of two threads.
-ghost use Rattle.std.specs.Prelude.{◌≡◌, ◌≤◌, ◌+◌, ◌∷◌, [], length, IfErr, IfOk, IfSome};
+ghost use Rattle.std.specs.Prelude.{◌≡◌, ◌≤◌, ◌+◌, ◌∷◌, [], length, IfErr, IfSome};
 ghost use Rattle.std.specs.List.{AllByRecursion};
+ghost use Rattle.std.specs.Vec.{vec_len, vec_capacity};
 ghost use Rattle.nms_quote.specs.declared.feed.Feed.TheVariants as feed;
 ghost use Rattle.nms_feed.specs.Lane.{AreSendersOf};
 ghost use Rattle.nms_feed.specs.declared.TheConstants.{LEAST_CAPACITY, MOST_CAPACITY};
@@ -13,7 +14,7 @@ use nms_feed::{
 };
 use nms_quote::{Change, Part, QState, SideQuote, Sym};
 use nms_units::{Lot, Price, Shares};
-use std::alloc::{AllocError, Global};
+use std::alloc::Global;
 use std::process::Abort;
 use std::snapshot::Snapshot;
 use std::sync::Wait;
@@ -62,19 +63,23 @@ fn three_changes() -> Option<[Change; 3]> {
 }
 
 /// Opens a lane for two senders.
-fn open_two(alloc: Global, capacity: usize) -> Option<(Sender, Sender, Taker)>
+fn open_two<R: Abort>(rt: &R, alloc: Global, capacity: usize) -> (Sender, Sender, Taker)
     requires { (LEAST_CAPACITY ≤ capacity) × (capacity ≤ MOST_CAPACITY) }
-    ensures one_lane { IfSome result (λ ends. (ends.0.lane ≡ ends.2.lane) × (ends.1.lane ≡ ends.2.lane)) }
-    ensures feeds { IfSome result (λ ends. (ends.0.feed ≡ feed.A) × (ends.1.feed ≡ feed.B)) }
-    ensures empty { IfSome result (λ ends. (ends.0.sent ≡ []) × (ends.1.sent ≡ []) × (ends.2.taken ≡ [])) }
-    ensures two { IfSome result (λ ends. ends.2.senders ≡ 2) }
+    ensures one_lane { (result.0.lane ≡ result.2.lane) × (result.1.lane ≡ result.2.lane) }
+    ensures feeds { (result.0.feed ≡ feed.A) × (result.1.feed ≡ feed.B) }
+    ensures empty { (result.0.sent ≡ []) × (result.1.sent ≡ []) × (result.2.taken ≡ []) }
+    ensures two { result.2.senders ≡ 2 }
 {
     let Ok((mut senders, taker)) = open_lane(alloc, capacity, 2) else {
-        return None;
+        panic!(rt; "no memory for a lane");
     };
-    let b = senders.pop()?;
-    let a = senders.pop()?;
-    Some((a, b, taker))
+    let Some(b) = senders.pop() else {
+        panic!(rt; "a lane without senders");
+    };
+    let Some(a) = senders.pop() else {
+        panic!(rt; "a lane with one sender");
+    };
+    (a, b, taker)
 }
 
 /// Closes a lane of two senders. All ends come back if not all was taken, and none if memory ran out.
@@ -98,6 +103,25 @@ fn close_two(
         Ok(delivered) => Ok(delivered),
         Err(back) => Err(apart(back)),
     }
+}
+
+/// Closes a lane of two senders in which a change is left, so that its ends come back.
+fn close_early<R: Abort>(
+    rt: &R,
+    alloc: Global,
+    a: Sender,
+    b: Sender,
+    taker: Taker,
+) -> (Sender, Sender, Taker)
+    requires one_lane { (a.lane ≡ taker.lane) × (b.lane ≡ taker.lane) }
+    requires feeds { (a.feed ≡ feed.A) × (b.feed ≡ feed.B) }
+    requires two { taker.senders ≡ 2 }
+    ensures { (result.0 ≡ a) × (result.1 ≡ b) × (result.2 ≡ taker) }
+{
+    let Err(Some(ends)) = close_two(alloc, a, b, taker) else {
+        panic!(rt; "a lane with changes was closed");
+    };
+    ends
 }
 
 /// The ends of a lane of two senders that was not closed.
@@ -134,30 +158,25 @@ fn compare_closed<R: Abort>(
 }
 
 #[test]
-fn a_full_lane_gives_the_change_back_and_closing_waits_for_the_taker(
-    rt: HostRuntime,
-) -> Result<(), Fail> {
-    let [a1, a2, b1] = &three_changes().ok_or("a change")?;
-    let (mut a, mut b, taker) = open_two(rt.alloc(), 2).ok_or("a lane")?;
+fn a_full_lane_gives_the_change_back_and_closing_waits_for_the_taker(rt: HostRuntime) {
+    let [a1, a2, b1] = &three_changes().expect(&rt, "changes");
+    let (mut a, mut b, taker) = open_two(&rt, rt.alloc(), 2);
     a.send(&rt, *a1);
     b.send(&rt, *b1);
     same(&rt, a.try_send(&rt, *a2), Err(Full { change: *a2 }));
-    let Err(Some((mut a, b, mut taker))) = close_two(rt.alloc(), a, b, taker) else {
-        return Err("a lane with changes was closed")?;
-    };
+    let (mut a, b, mut taker) = close_early(&rt, rt.alloc(), a, b, taker);
     take_one(&rt, &mut taker, Some(*a1));
     a.send(&rt, *a2);
     take_one(&rt, &mut taker, Some(*b1));
     take_one(&rt, &mut taker, Some(*a2));
     take_one(&rt, &mut taker, None);
     compare_closed(&rt, rt.alloc(), a, b, taker, (2, 1, 3));
-    Ok(())
 }
 
 #[test]
 fn a_new_lane_takes_a_change_at_once(rt: HostRuntime) -> Result<(), Fail> {
     let change = bid_of(0, 1).ok_or("a bid")?;
-    let (mut a, _b, _taker) = open_two(rt.alloc(), 1024).ok_or("a lane")?;
+    let (mut a, _b, _taker) = open_two(&rt, rt.alloc(), 1024);
     same(&rt, a.try_send(&rt, change), Ok(()));
     Ok(())
 }
@@ -175,12 +194,12 @@ fn fill<R: Wait>(rt: &R, sender: &mut Sender, change: &Change) -> u32
 }
 
 /// How many changes a lane takes that was opened for that many.
-fn room<R: Wait>(rt: &R, alloc: Global, capacity: usize) -> Option<u32> {
+fn room<R: Wait + Abort>(rt: &R, alloc: Global, capacity: usize) -> Option<u32> {
     if !(LEAST_CAPACITY..=MOST_CAPACITY).contains(&capacity) {
         return None;
     }
     let change = bid_of(0, 1)?;
-    let (mut a, _b, _taker) = open_two(alloc, capacity)?;
+    let (mut a, _b, _taker) = open_two(rt, alloc, capacity);
     Some(fill(rt, &mut a, &change))
 }
 
@@ -193,42 +212,37 @@ fn a_lane_takes_as_many_as_it_was_opened_for(rt: HostRuntime) {
 }
 
 #[test]
-fn a_taker_that_stops_and_takes_again_loses_nothing(rt: HostRuntime) -> Result<(), Fail> {
-    let [a1, a2, b1] = &three_changes().ok_or("a change")?;
-    let (mut a, mut b, mut taker) = open_two(rt.alloc(), 4).ok_or("a lane")?;
+fn a_taker_that_stops_and_takes_again_loses_nothing(rt: HostRuntime) {
+    let [a1, a2, b1] = &three_changes().expect(&rt, "changes");
+    let (mut a, mut b, mut taker) = open_two(&rt, rt.alloc(), 4);
     take_one(&rt, &mut taker, None);
     a.send(&rt, *a1);
     b.send(&rt, *b1);
     a.send(&rt, *a2);
     take_one(&rt, &mut taker, Some(*a1));
-    let Err(Some((a, b, mut taker))) = close_two(rt.alloc(), a, b, taker) else {
-        return Err("a lane with changes was closed")?;
-    };
+    let (a, b, mut taker) = close_early(&rt, rt.alloc(), a, b, taker);
     take_one(&rt, &mut taker, Some(*b1));
     take_one(&rt, &mut taker, Some(*a2));
     take_one(&rt, &mut taker, None);
     compare_closed(&rt, rt.alloc(), a, b, taker, (2, 1, 3));
-    Ok(())
 }
 
-/// Sends a bid from each sender of a lane, of as many shares as its feed's place after 1.
+/// Sends a bid from each sender of a lane, of as many shares as its feed's place after 1. The senders come back in `back`.
 fn each_sends<R: Wait>(
     rt: &R,
-    alloc: Global,
     senders: Vec<Sender>,
+    mut back: Vec<Sender>,
     taker: &Taker,
-) -> Option<Vec<Sender>>
+) -> Vec<Sender>
     requires all { AreSendersOf taker.now senders.items }
     requires new { AllByRecursion (λ sender. sender.sent ≡ []) senders.items }
-    ensures all { IfSome result (λ back. AreSendersOf taker.now back.items) }
+    requires room { (back.items ≡ []) × (vec_len senders ≤ vec_capacity back) }
+    ensures all { AreSendersOf taker.now result.items }
 {
-    let Ok(mut back) = Vec::with_capacity(alloc, senders.len()) else {
-        return None;
-    };
     for sender in senders {
         back.push_reserved(send_one(rt, sender));
     }
-    Some(back)
+    back
 }
 
 /// Sends a bid of as many shares as its feed's place after 1.
@@ -246,15 +260,14 @@ fn send_one<R: Wait>(rt: &R, mut sender: Sender) -> Sender
 #[test]
 fn eight_feeds_send_through_one_lane(rt: HostRuntime) -> Result<(), Fail> {
     let (senders, mut taker) = open_lane(rt.alloc(), 8, 8)?;
-    let Some(senders) = each_sends(&rt, rt.alloc(), senders, &taker) else {
-        return Err("no memory")?;
+    let Ok(back) = Vec::with_capacity(rt.alloc(), senders.len()) else {
+        panic!(rt; "no memory");
     };
+    let senders = each_sends(&rt, senders, back, &taker);
     for shares in 1..9u32 {
         take_one(&rt, &mut taker, bid_of(0, shares));
     }
-    let Ok(delivered) = close(senders, taker) else {
-        return Err("all was taken")?;
-    };
+    let delivered = close(senders, taker).ok().expect(&rt, "all was taken");
     same(&rt, delivered.taken, 8);
     same(&rt, delivered.sent.as_slice(), &[1u64; 8]);
     Ok(())
@@ -322,61 +335,59 @@ fn run_both<R: Threads + Wait + Abort + Sync>(
     a: Sender,
     b: Sender,
     taker: Taker,
-) -> Result<(Sender, Sender, Taker), AllocError>
+) -> (Sender, Sender, Taker)
     requires { (a.sent ≡ []) × (b.sent ≡ []) }
-    ensures a { IfOk result (λ ends. (ends.0.lane ≡ a.lane) × (ends.0.feed ≡ a.feed)) }
-    ensures b { IfOk result (λ ends. (ends.1.lane ≡ b.lane) × (ends.1.feed ≡ b.feed)) }
-    ensures taker { IfOk result (λ ends. (ends.2.lane ≡ taker.lane) × (ends.2.senders ≡ taker.senders)) }
+    ensures a { (result.0.lane ≡ a.lane) × (result.0.feed ≡ a.feed) }
+    ensures b { (result.1.lane ≡ b.lane) × (result.1.feed ≡ b.feed) }
+    ensures taker { (result.2.lane ≡ taker.lane) × (result.2.senders ≡ taker.senders) }
 {
     thread::scope(
         thread::scope_env(),
         rt,
-        |scope| -> Result<(Sender, Sender, Taker), AllocError>
+        |scope| -> (Sender, Sender, Taker)
             requires { (a.sent ≡ []) × (b.sent ≡ []) }
-            ensures a { IfOk result (λ ends. (ends.0.lane ≡ a.lane) × (ends.0.feed ≡ a.feed)) }
-            ensures b { IfOk result (λ ends. (ends.1.lane ≡ b.lane) × (ends.1.feed ≡ b.feed)) }
-            ensures taker { IfOk result (λ ends. (ends.2.lane ≡ taker.lane) × (ends.2.senders ≡ taker.senders)) }
+            ensures a { (result.0.lane ≡ a.lane) × (result.0.feed ≡ a.feed) }
+            ensures b { (result.1.lane ≡ b.lane) × (result.1.feed ≡ b.feed) }
+            ensures taker { (result.2.lane ≡ taker.lane) × (result.2.senders ≡ taker.senders) }
         {
             let promise_a = SameEnd(Snapshot::of(&a));
             let promise_b = SameEnd(Snapshot::of(&b));
-            let child_a = scope.spawn_with(
+            let Ok(child_a) = scope.spawn_with(
                 promise_a,
                 move ||
                     requires { a.sent ≡ [] }
                 { send_1000(rt, a, 0) },
-            )?;
+            ) else {
+                panic!(rt; "no first thread");
+            };
             let Ok(child_b) = scope.spawn_with(
                 promise_b,
                 move ||
                     requires { b.sent ≡ [] }
                 { send_1000(rt, b, 1) },
             ) else {
-                // The first thread ends once its changes are taken.
-                take_all(rt, taker, 1000);
-                return Err(AllocError);
+                panic!(rt; "no second thread");
             };
             let taker = take_all(rt, taker, 2000);
-            Ok((child_a.join(rt), child_b.join(rt), taker))
+            (child_a.join(rt), child_b.join(rt), taker)
         },
     )
 }
 
 #[test]
-fn two_threads_send_1000_changes_each_through_a_lane_of_4(rt: HostRuntime) -> Result<(), Fail> {
-    let (a, b, taker) = open_two(rt.alloc(), 4).ok_or("a lane")?;
-    let (a, b, taker) = run_both(&rt, a, b, taker)?;
+fn two_threads_send_1000_changes_each_through_a_lane_of_4(rt: HostRuntime) {
+    let (a, b, taker) = open_two(&rt, rt.alloc(), 4);
+    let (a, b, taker) = run_both(&rt, a, b, taker);
     compare_closed(&rt, rt.alloc(), a, b, taker, (1000, 1000, 2000));
-    Ok(())
 }
 
 #[test]
-fn faults_print_their_codes(rt: HostRuntime) -> Result<(), Fail> {
-    let change = bid_of(0, 1).ok_or("a bid")?;
-    let told = format!(in rt.alloc(); "{}; {}", LaneFault::NoMemory, Full { change })?;
+fn faults_print_their_codes(rt: HostRuntime) {
+    let change = bid_of(0, 1).expect(&rt, "a bid");
+    let told = format!(in rt.alloc(); "{}; {}", LaneFault::NoMemory, Full { change });
     same(
         &rt,
-        told.as_str(),
+        told.expect(&rt, "memory").as_str(),
         "N1: out of memory; N2: the lane is full",
     );
-    Ok(())
 }

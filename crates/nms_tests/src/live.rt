@@ -1,5 +1,5 @@
 //! Live runs over words: a setup's text, the texts of its feeds, and a table of orders.
-ghost use Rattle.std.specs.Prelude.{◌≡◌, ◌<◌, All, IfSome};
+ghost use Rattle.std.specs.Prelude.{◌<◌, All};
 
 mod chance;
 mod drawn;
@@ -17,6 +17,7 @@ use nms_live::{DeskOrder, Gate, Live, LiveFault, run_live};
 use nms_quote::{Order, OrderSide, PartSet, Sym};
 use nms_units::{Price, Shares};
 use std::alloc::Global;
+use std::process::Abort;
 use std::sync::Wait;
 use std::thread::Threads;
 
@@ -32,14 +33,21 @@ pub(crate) struct Wanted {
 }
 
 /// A setup of N and P on feed A, Y and Z on feed B, ABC and PNY in lots of 100, with the given limits.
-pub(crate) fn setup_text(alloc: Global, limit: u32, queue: u32, desks: u32) -> Option<String> {
+pub(crate) fn setup_text<R: Abort>(
+    rt: &R,
+    alloc: Global,
+    limit: u32,
+    queue: u32,
+    desks: u32,
+) -> String {
     format!(in alloc;
         "tape_limit = {limit}\nqueue = {queue}\ndesks = {desks}\n{}",
         participants()
     )
-    .ok()
+    .expect(rt, "memory")
 }
 
+/// Its participants and symbols.
 fn participants() -> &'static str {
     r#"
 [[participant]]
@@ -91,100 +99,94 @@ pub(crate) fn order_of(wanted: &Wanted) -> Option<Order> {
 }
 
 /// Adds an order, if its desk is one of that many.
-fn add_order(orders: &mut Vec<DeskOrder>, desks: u8, wanted: &Wanted) -> Option<()>
+fn add_order<R: Abort>(rt: &R, orders: &mut Vec<DeskOrder>, desks: u8, wanted: &Wanted)
     requires { All (λ order. order.desk < desks) orders.old.items }
     ensures { All (λ order. order.desk < desks) orders.new.items }
 {
-    let order = order_of(wanted)?;
+    let order = order_of(wanted).expect(rt, "an order");
     let desk = wanted.desk;
     if desk < desks {
-        orders.push(DeskOrder { desk, order }).ok()?;
+        orders.push(DeskOrder { desk, order }).expect(rt, "memory");
     }
-    Some(())
 }
 
 /// The orders of a table, each of one of that many desks.
-fn orders_of(alloc: Global, desks: u8, table: &[Wanted]) -> Option<Vec<DeskOrder>>
-    ensures { IfSome result (λ orders. All (λ order. order.desk < desks) orders.items) }
+fn orders_of<R: Abort>(rt: &R, alloc: Global, desks: u8, table: &[Wanted]) -> Vec<DeskOrder>
+    ensures { All (λ order. order.desk < desks) result.items }
 {
     let mut orders = Vec::new(alloc);
     for wanted in table {
-        add_order(&mut orders, desks, wanted)?;
+        add_order(rt, &mut orders, desks, wanted);
     }
-    Some(orders)
+    orders
 }
 
 /// The texts of feeds, each in memory of its own.
-fn texts_of(alloc: Global, feeds: &[&[u8]]) -> Option<Vec<Vec<u8>>> {
+fn texts_of<R: Abort>(rt: &R, alloc: Global, feeds: &[&[u8]]) -> Vec<Vec<u8>> {
     let mut texts = Vec::new(alloc);
     for feed in feeds {
-        texts.push(Vec::from_slice(alloc, feed).ok()?).ok()?;
+        let text = Vec::from_slice(alloc, feed).expect(rt, "memory");
+        texts.push(text).expect(rt, "memory");
     }
-    Some(texts)
+    texts
 }
 
-/// A run of these orders; `None` if out of memory for the feeds' texts, or if the setup has another number of feeds.
-fn run_orders<R: Threads + Wait + Sync, G: Gate>(
+/// A run of these orders. The setup has to have as many feeds.
+fn run_orders<R: Threads + Wait + Abort + Sync, G: Gate>(
     rt: &R,
     alloc: Global,
     setup: &Setup,
     feeds: &[&[u8]],
     orders: Vec<DeskOrder>,
     gate: &G,
-) -> Option<Result<Live, LiveFault>>
+) -> Result<Live, LiveFault>
     requires { All (λ order. order.desk < setup.now.desks) orders.items }
 {
-    let texts = texts_of(alloc, feeds)?;
-    if texts.len() != usize::from(setup.feeds()) {
-        return None;
-    }
-    Some(run_live(rt, alloc, setup, texts, orders, gate))
+    let texts = texts_of(rt, alloc, feeds);
+    assert!(rt; texts.len() == usize::from(setup.feeds()));
+    run_live(rt, alloc, setup, texts, orders, gate)
 }
 
-/// One run; `None` if there is no memory to prepare it.
-fn run_once<R: Threads + Wait + Sync, G: Gate>(
+/// One run.
+fn run_once<R: Threads + Wait + Abort + Sync, G: Gate>(
     rt: &R,
     alloc: Global,
     setup: &Setup,
     feeds: &[&[u8]],
     table: &[Wanted],
     gate: &G,
-) -> Option<Result<Live, LiveFault>> {
-    match orders_of(alloc, setup.desks(), table) {
-        Some(orders) => run_orders(rt, alloc, setup, feeds, orders, gate),
-        None => None,
-    }
+) -> Result<Live, LiveFault> {
+    let orders = orders_of(rt, alloc, setup.desks(), table);
+    run_orders(rt, alloc, setup, feeds, orders, gate)
 }
 
 /// A run over a setup's text.
-pub(crate) fn run<R: Threads + Wait + Sync, G: Gate>(
+pub(crate) fn run<R: Threads + Wait + Abort + Sync, G: Gate>(
     rt: &R,
     alloc: Global,
     setup: &str,
     feeds: &[&[u8]],
     table: &[Wanted],
     gate: &G,
-) -> Option<Result<Live, LiveFault>> {
-    match read_setup(alloc, setup) {
-        Ok(setup) => run_under(rt, alloc, &setup, feeds, table, gate),
-        Err(_) => None,
-    }
+) -> Result<Live, LiveFault> {
+    let setup = read_setup(alloc, setup).expect(rt, "a setup");
+    run_under(rt, alloc, &setup, feeds, table, gate)
 }
 
 /// A run, tried again up to 100 times if it could not be opened: the place of a reader may be missing without a cause.
-fn run_under<R: Threads + Wait + Sync, G: Gate>(
+fn run_under<R: Threads + Wait + Abort + Sync, G: Gate>(
     rt: &R,
     alloc: Global,
     setup: &Setup,
     feeds: &[&[u8]],
     table: &[Wanted],
     gate: &G,
-) -> Option<Result<Live, LiveFault>> {
+) -> Result<Live, LiveFault> {
     for _ in 0..100u32 {
-        let came_to = run_once(rt, alloc, setup, feeds, table, gate)?;
+        let came_to = run_once(rt, alloc, setup, feeds, table, gate);
         if !matches!(&came_to, Err(LiveFault::Open)) {
-            return Some(came_to);
+            return came_to;
         }
     }
-    None
+    Err(LiveFault::Open)
 }

@@ -4,13 +4,14 @@ ghost use Rattle.std.specs.Prelude.{◌≡◌};
 ghost use Rattle.nms_quote.specs.Roster.{sizes_of};
 
 use crate::chance::Chance;
-use crate::rank_order::{apply, drawn_change, fill, offer};
+use crate::rank_order::{apply, drawn_change, fill, offer, sym_at};
 use crate::same::same;
 use nms_board::{Boards, View};
 use nms_opening::{opening, reopened};
-use nms_quote::{Change, Part, Roster, Side, SideQuote, Sym};
+use nms_quote::{Change, Part, Roster, Side, SideQuote};
 use nms_units::{Lot, Price};
 use std::alloc::Global;
+use std::process::Abort;
 
 /// How many boards are tried.
 const BOARDS: u64 = 5_000;
@@ -23,36 +24,35 @@ type Came = (&'static str, u64, Vec<Change>);
 #[test]
 fn opening_changes(rt: HostRuntime) {
     let none = Vec::new(rt.alloc());
-    same(&rt, try_boards(rt.alloc()), Some(("", 0, none)));
+    same(&rt, try_boards(&rt, rt.alloc()), ("", 0, none));
 }
 
 /// A board with one quotation is reopened: it took one change, and shows the shares.
 #[test]
 fn a_board_is_reopened(rt: HostRuntime) {
-    same(&rt, reopened_in_all(rt.alloc()), Some((1, 300)));
+    same(&rt, reopened_in_all(&rt, rt.alloc()), Some((1, 300)));
 }
 
 /// The version of a board that was reopened, and the shares of its offers.
-fn reopened_in_all(alloc: Global) -> Option<(u64, u64)> {
-    match Roster::new(alloc) {
-        Ok(mut roster) => reopened_under(alloc, &mut roster),
-        Err(_) => None,
-    }
+fn reopened_in_all<R: Abort>(rt: &R, alloc: Global) -> Option<(u64, u64)> {
+    let mut roster = Roster::new(alloc).expect(rt, "memory");
+    fill(rt, &mut roster, 2, 1);
+    reopened_under(rt, alloc, &roster)
 }
 
-/// As above, for a roster that has yet to be filled.
-fn reopened_under(alloc: Global, roster: &mut Roster) -> Option<(u64, u64)> {
+/// As above, for a roster.
+fn reopened_under<R: Abort>(rt: &R, alloc: Global, roster: &Roster) -> Option<(u64, u64)> {
     let _seen: (Option<SideQuote>, Option<Lot>) = (None, None);
-    fill(roster, 2, 1)?;
-    let change = offer(0, 300)?;
+    let change = offer(rt, 0, 300);
     match Boards::new(alloc, roster) {
-        Ok(mut board) => reopened_after(alloc, roster, &mut board, &change),
+        Ok(mut board) => reopened_after(rt, alloc, roster, &mut board, &change),
         Err(_) => None,
     }
 }
 
 /// As above, for a board after one change.
-fn reopened_after(
+fn reopened_after<R: Abort>(
+    rt: &R,
     alloc: Global,
     roster: &Roster,
     board: &mut Boards,
@@ -65,19 +65,22 @@ fn reopened_after(
     }
     board.apply(*change);
     match reopened(alloc, roster, board) {
-        Ok(again) => Some((again.applied(), again.view(Sym::new(0)?).total(Side::Offer))),
+        Ok(again) => Some((
+            again.applied(),
+            again.view(sym_at(rt, 0)).total(Side::Offer),
+        )),
         Err(_) => None,
     }
 }
 
 /// Tries each board, and gives the first that fails.
-fn try_boards(alloc: Global) -> Option<Came> {
+fn try_boards<R: Abort>(rt: &R, alloc: Global) -> Came {
     for seed in 1..=BOARDS {
-        if !try_board(alloc, seed, count_of(seed))?.is_empty() {
-            return least(alloc, seed);
+        if !try_board(rt, alloc, seed, count_of(seed)).is_empty() {
+            return least(rt, alloc, seed);
         }
     }
-    Some(("", 0, Vec::new(alloc)))
+    ("", 0, Vec::new(alloc))
 }
 
 /// How many changes a board has, 0 to 239.
@@ -86,14 +89,14 @@ fn count_of(seed: u64) -> u32 {
 }
 
 /// The least number of the board's changes after which it fails, with these.
-fn least(alloc: Global, seed: u64) -> Option<Came> {
+fn least<R: Abort>(rt: &R, alloc: Global, seed: u64) -> Came {
     for count in 0..=count_of(seed) {
-        let told = try_board(alloc, seed, count)?;
+        let told = try_board(rt, alloc, seed, count);
         if !told.is_empty() {
-            return Some((told, seed, changes_of(alloc, seed, count)?));
+            return (told, seed, changes_of(rt, alloc, seed, count));
         }
     }
-    None
+    ("it fails no more", seed, Vec::new(alloc))
 }
 
 /// A board's roster, drawn from its seed: how many participants and symbols it has.
@@ -112,35 +115,23 @@ fn drawn_crowd(chance: &mut Chance) -> Crowd {
 }
 
 /// The next change of a crowd, and its symbol's place. A calm board has neither halts nor withdrawals, so that its sides fill.
-fn next_change(chance: &mut Chance, crowd: Crowd, calm: bool) -> Option<(Change, u32)> {
-    let place = chance.draw().checked_rem(crowd.syms)?;
-    Some((drawn_change(chance, crowd.parts, place, calm)?, place))
+fn next_change<R: Abort>(rt: &R, chance: &mut Chance, crowd: Crowd, calm: bool) -> (Change, u32) {
+    let place = chance.draw().checked_rem(crowd.syms).expect(rt, "symbols");
+    (drawn_change(rt, chance, crowd.parts, place, calm), place)
 }
 
 /// The first changes of a board.
-fn changes_of(alloc: Global, seed: u64, count: u32) -> Option<Vec<Change>> {
+fn changes_of<R: Abort>(rt: &R, alloc: Global, seed: u64, count: u32) -> Vec<Change> {
+    // The prover has to see the types of a change before it is held, so the code mentions them.
+    let _seen: (Option<SideQuote>, Option<Lot>) = (None, None);
     let mut chance = Chance { state: seed };
     let crowd = drawn_crowd(&mut chance);
     let mut changes = Vec::new(alloc);
-    push_changes(&mut changes, &mut chance, crowd, seed, count)?;
-    Some(changes)
-}
-
-/// Appends the first changes of a board.
-fn push_changes(
-    changes: &mut Vec<Change>,
-    chance: &mut Chance,
-    crowd: Crowd,
-    seed: u64,
-    count: u32,
-) -> Option<()> {
-    // The prover has to see the types of a change before it is held, so the code mentions them.
-    let _seen: (Option<SideQuote>, Option<Lot>) = (None, None);
     for _ in 0..count {
-        let (change, _) = next_change(chance, crowd, is_calm(seed))?;
-        changes.push(change).ok()?;
+        let (change, _) = next_change(rt, &mut chance, crowd, is_calm(seed));
+        changes.push(change).expect(rt, "memory");
     }
-    Some(())
+    changes
 }
 
 /// Whether a board is calm, as one of four is.
@@ -149,97 +140,91 @@ fn is_calm(seed: u64) -> bool {
 }
 
 /// What is wrong with a board after that many of its changes, or nothing.
-fn try_board(alloc: Global, seed: u64, count: u32) -> Option<&'static str> {
-    match Roster::new(alloc) {
-        Ok(mut roster) => try_roster(alloc, &mut roster, seed, count),
-        Err(_) => None,
-    }
-}
-
-/// As above, if the crowd has yet to come on the roster.
-fn try_roster(alloc: Global, roster: &mut Roster, seed: u64, count: u32) -> Option<&'static str> {
+fn try_board<R: Abort>(rt: &R, alloc: Global, seed: u64, count: u32) -> &'static str {
     let mut chance = Chance { state: seed };
     let crowd = drawn_crowd(&mut chance);
-    fill(roster, crowd.parts, crowd.syms)?;
-    match Boards::new(alloc, roster) {
-        Ok(mut board) => {
-            run(&mut board, &mut chance, crowd, seed, count)?;
-            try_opening(alloc, roster, &mut board, &mut chance, crowd, seed)
-        }
-        Err(_) => None,
-    }
+    let mut roster = Roster::new(alloc).expect(rt, "memory");
+    fill(rt, &mut roster, crowd.parts, crowd.syms);
+    let mut board = Boards::new(alloc, &roster).expect(rt, "memory");
+    run(rt, &mut board, &mut chance, crowd, seed, count);
+    try_opening(rt, alloc, &roster, &mut board, &mut chance, crowd, seed)
 }
 
 /// Applies that many changes.
-fn run(board: &mut Boards, chance: &mut Chance, crowd: Crowd, seed: u64, count: u32) -> Option<()> {
+fn run<R: Abort>(
+    rt: &R,
+    board: &mut Boards,
+    chance: &mut Chance,
+    crowd: Crowd,
+    seed: u64,
+    count: u32,
+) {
     let _seen: (Option<SideQuote>, Option<Lot>) = (None, None);
     for _ in 0..count {
-        let (change, _) = next_change(chance, crowd, is_calm(seed))?;
+        let (change, _) = next_change(rt, chance, crowd, is_calm(seed));
         apply(board, &change);
     }
-    Some(())
 }
 
 /// Makes the opening changes, applies them to a new board, and compares.
-fn try_opening(
+fn try_opening<R: Abort>(
+    rt: &R,
     alloc: Global,
     roster: &Roster,
     board: &mut Boards,
     chance: &mut Chance,
     crowd: Crowd,
     seed: u64,
-) -> Option<&'static str> {
-    match (opening(alloc, board), Boards::new(alloc, roster)) {
-        (Ok(changes), Ok(mut again)) => {
-            for change in &changes {
-                apply(&mut again, change);
-            }
-            compare(board, &mut again, chance, crowd, seed)
-        }
-        (Ok(_), Err(_)) | (Err(_), _) => None,
+) -> &'static str {
+    let changes = opening(alloc, board).expect(rt, "memory");
+    let mut again = Boards::new(alloc, roster).expect(rt, "memory");
+    for change in &changes {
+        apply(&mut again, change);
     }
+    compare(rt, board, &mut again, chance, crowd, seed)
 }
 
 /// Compares two boards at once, after each of 50 more changes, and at the end.
-fn compare(
+fn compare<R: Abort>(
+    rt: &R,
     board: &mut Boards,
     again: &mut Boards,
     chance: &mut Chance,
     crowd: Crowd,
     seed: u64,
-) -> Option<&'static str> {
+) -> &'static str {
     let _seen: (Option<SideQuote>, Option<Lot>) = (None, None);
-    let told = compare_all(board, again, crowd)?;
+    let told = compare_all(rt, board, again, crowd);
     if !told.is_empty() {
-        return Some(told);
+        return told;
     }
     for _ in 0..50 {
-        let (change, place) = next_change(chance, crowd, is_calm(seed))?;
+        let (change, place) = next_change(rt, chance, crowd, is_calm(seed));
         apply(board, &change);
         apply(again, &change);
-        let told = compare_at(board, again, place)?;
+        let told = compare_at(rt, board, again, place);
         if !told.is_empty() {
-            return Some(told);
+            return told;
         }
     }
-    compare_all(board, again, crowd)
+    compare_all(rt, board, again, crowd)
 }
 
 /// Compares two boards in each symbol.
-fn compare_all(board: &Boards, again: &Boards, crowd: Crowd) -> Option<&'static str> {
+fn compare_all<R: Abort>(rt: &R, board: &Boards, again: &Boards, crowd: Crowd) -> &'static str {
     for place in 0..crowd.syms {
-        let told = compare_at(board, again, place)?;
+        let told = compare_at(rt, board, again, place);
         if !told.is_empty() {
-            return Some(told);
+            return told;
         }
     }
-    Some("")
+    ""
 }
 
 /// Compares two boards in a symbol.
-fn compare_at(board: &Boards, again: &Boards, place: u32) -> Option<&'static str> {
-    let sym = Sym::new(u16::try_from(place).ok()?)?;
-    Some(difference(&board.view(sym), &again.view(sym)))
+fn compare_at<R: Abort>(rt: &R, board: &Boards, again: &Boards, place: u32) -> &'static str {
+    let sym = sym_at(rt, place);
+    difference(&board.view(sym), &again.view(sym))
 }
 
 /// What differs between two looks at a symbol, but for receipts and versions; nothing if they show the same.

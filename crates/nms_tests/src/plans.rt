@@ -15,6 +15,7 @@ use nms_sweep::plan;
 use nms_units::{Price, Shares};
 use plain::plain_plan;
 use std::alloc::Global;
+use std::process::Abort;
 
 /// How many random plans are compared. `bench/plans.sh` compares a million, with a program that it makes of this file.
 const RANDOM_PLANS: u32 = 4000;
@@ -182,40 +183,31 @@ fn plan_all(
 /// name nobody, and as many that name P.
 #[test]
 fn same_plan(rt: HostRuntime) {
-    same(&rt, plan_small(rt.alloc()), Some((41_472, "")));
+    same(&rt, plan_small(&rt, rt.alloc()), (41_472, ""));
 }
 
 /// How many plans were right under the built-in setup, and what is wrong with the first that is not.
-fn plan_small(alloc: Global) -> Option<(u32, &'static str)> {
-    match read_setup(alloc, SETUP_K) {
-        Ok(setup) => plan_small_under(alloc, &setup),
-        Err(_) => None,
-    }
-}
-
-/// As above, under a setup.
-fn plan_small_under(alloc: Global, setup: &Setup) -> Option<(u32, &'static str)> {
-    match Boards::new(alloc, setup.roster()) {
-        Ok(mut boards) => plan_both_sides(&mut boards, setup),
-        Err(_) => None,
-    }
+fn plan_small<R: Abort>(rt: &R, alloc: Global) -> (u32, &'static str) {
+    let setup = read_setup(alloc, SETUP_K).expect(rt, "a setup");
+    let mut boards = Boards::new(alloc, setup.roster()).expect(rt, "memory");
+    plan_both_sides(rt, &mut boards, &setup)
 }
 
 /// As above, on a board, for orders that name nobody and for those that name P, of both sides.
-fn plan_both_sides(boards: &mut Boards, setup: &Setup) -> Option<(u32, &'static str)> {
-    let sym = setup.roster().find_sym(b"ABC")?;
-    let p = setup.roster().find_part(b"P")?;
+fn plan_both_sides<R: Abort>(rt: &R, boards: &mut Boards, setup: &Setup) -> (u32, &'static str) {
+    let sym = setup.roster().find_sym(b"ABC").expect(rt, "ABC");
+    let p = setup.roster().find_part(b"P").expect(rt, "P");
     let mut right = 0u32;
     for self_help in [PartSet::none(), PartSet::none().with(p)] {
         for side in [OrderSide::Buy, OrderSide::Sell] {
             let (more, found) = plan_all(boards, setup.fees(), sym, side, self_help);
             right = right.wrapping_add(more);
             if !found.is_empty() {
-                return Some((right, found));
+                return (right, found);
             }
         }
     }
-    Some((right, ""))
+    (right, "")
 }
 
 // ---- boards drawn at random
@@ -324,23 +316,14 @@ fn try_boards(boards: &mut Boards, fees: &FeeBook, number: u32) -> (u32, &'stati
 
 #[test]
 fn same_random_plans(rt: HostRuntime) {
-    same(&rt, plan_drawn(rt.alloc()), Some((RANDOM_PLANS, "")));
+    same(&rt, plan_drawn(&rt, rt.alloc()), (RANDOM_PLANS, ""));
 }
 
 /// How many random plans were right, and what is wrong with the first that is not.
-fn plan_drawn(alloc: Global) -> Option<(u32, &'static str)> {
-    match read_setup(alloc, eight_participants()) {
-        Ok(setup) => plan_drawn_under(alloc, &setup),
-        Err(_) => None,
-    }
-}
-
-/// As above, under a setup.
-fn plan_drawn_under(alloc: Global, setup: &Setup) -> Option<(u32, &'static str)> {
-    match Boards::new(alloc, setup.roster()) {
-        Ok(mut boards) => Some(try_boards(&mut boards, setup.fees(), RANDOM_PLANS)),
-        Err(_) => None,
-    }
+fn plan_drawn<R: Abort>(rt: &R, alloc: Global) -> (u32, &'static str) {
+    let setup = read_setup(alloc, eight_participants()).expect(rt, "a setup");
+    let mut boards = Boards::new(alloc, setup.roster()).expect(rt, "memory");
+    try_boards(&mut boards, setup.fees(), RANDOM_PLANS)
 }
 
 // ---- ties
@@ -432,32 +415,17 @@ symbol = [{ name = "ABC", lot = 100 }]
 }
 
 /// Whether both planners buy so, if the four participants offer these.
-fn buys_on(
+fn buys_on<R: Abort>(
+    rt: &R,
     alloc: Global,
     offers: &[Quoted],
     shares: u32,
     legs: &[ToldLeg],
     cuts: &[ToldCut],
 ) -> Option<bool> {
-    match read_setup(alloc, four_participants()) {
-        Ok(setup) => buys_under(alloc, &setup, offers, shares, legs, cuts),
-        Err(_) => None,
-    }
-}
-
-/// As above, under a setup.
-fn buys_under(
-    alloc: Global,
-    setup: &Setup,
-    offers: &[Quoted],
-    shares: u32,
-    legs: &[ToldLeg],
-    cuts: &[ToldCut],
-) -> Option<bool> {
-    match Boards::new(alloc, setup.roster()) {
-        Ok(mut boards) => buys_from(&mut boards, setup.fees(), offers, shares, legs, cuts),
-        Err(_) => None,
-    }
+    let setup = read_setup(alloc, four_participants()).expect(rt, "a setup");
+    let mut boards = Boards::new(alloc, setup.roster()).expect(rt, "memory");
+    buys_from(&mut boards, setup.fees(), offers, shares, legs, cuts)
 }
 
 /// As above, on an empty board.
@@ -488,7 +456,7 @@ fn of_two_prices_that_cost_alike_the_better_is_chosen(rt: HostRuntime) {
         (100_000, Some(10_000_200_000)),
         (100_002, Some(10_000_100_000)),
     ];
-    let told = buys_on(rt.alloc(), &offers, 200, &legs, &cuts);
+    let told = buys_on(&rt, rt.alloc(), &offers, 200, &legs, &cuts);
     same(&rt, told, Some(true));
 }
 
@@ -499,7 +467,14 @@ fn of_equal_costs_at_a_price_the_lower_place_is_first(rt: HostRuntime) {
     let tied = offered(QState::Automated, 100_000, 100);
     let legs = [(0, 100_000, 100), (3, 100_000, 50)];
     let cuts = [(100_000, Some(10_000_300_000))];
-    let told = buys_on(rt.alloc(), &[tied, none, none, tied], 150, &legs, &cuts);
+    let told = buys_on(
+        &rt,
+        rt.alloc(),
+        &[tied, none, none, tied],
+        150,
+        &legs,
+        &cuts,
+    );
     same(&rt, told, Some(true));
 }
 
@@ -512,6 +487,13 @@ fn of_equal_costs_at_two_prices_the_better_price_is_first(rt: HostRuntime) {
     let better = offered(QState::Manual, 100_000, 100);
     let legs = [(3, 100_000, 100), (1, 100_001, 50)];
     let cuts = [(100_000, None), (100_001, Some(10_000_300_000))];
-    let told = buys_on(rt.alloc(), &[none, dearer, none, better], 150, &legs, &cuts);
+    let told = buys_on(
+        &rt,
+        rt.alloc(),
+        &[none, dearer, none, better],
+        150,
+        &legs,
+        &cuts,
+    );
     same(&rt, told, Some(true));
 }

@@ -72,26 +72,19 @@ fn two_of(publisher: &Publisher, mut desks: Vec<Desk>) -> Option<(Desk, Desk)>
     Some((one, other))
 }
 
-/// The publisher and its two desks. Without two it is closed.
-fn with_two<R: Wait>(
-    rt: &R,
-    publisher: Publisher,
-    desks: Vec<Desk>,
-) -> Result<(Publisher, Desk, Desk), Fail>
+/// The publisher and its two desks.
+fn with_two<R: Abort>(rt: &R, publisher: Publisher, desks: Vec<Desk>) -> (Publisher, Desk, Desk)
     requires { All (λ desk. desk.opening ≡ publisher.opening) desks.items }
-    ensures { IfOk result (λ ends. (ends.1.opening ≡ ends.0.opening) × (ends.2.opening ≡ ends.0.opening)) }
+    ensures { (result.1.opening ≡ result.0.opening) × (result.2.opening ≡ result.0.opening) }
 {
-    match two_of(&publisher, desks) {
-        Some((one, other)) => Ok((publisher, one, other)),
-        None => {
-            publisher.close(rt);
-            Err("two desks")?
-        }
-    }
+    let Some((one, other)) = two_of(&publisher, desks) else {
+        panic!(rt; "less than two desks");
+    };
+    (publisher, one, other)
 }
 
 /// Opens with two desks; `None` if there was no place for a reader.
-fn try_open<R: Wait>(
+fn try_open<R: Wait + Abort>(
     alloc: Global,
     rt: &R,
     setup: &Setup,
@@ -99,14 +92,18 @@ fn try_open<R: Wait>(
     ensures { IfOk result (λ opened. IfSome opened (λ ends. (ends.1.opening ≡ ends.0.opening) × (ends.2.opening ≡ ends.0.opening))) }
 {
     match open_tape(alloc, rt, setup) {
-        Ok((publisher, desks)) => Ok(Some(with_two(rt, publisher, desks)?)),
+        Ok((publisher, desks)) => Ok(Some(with_two(rt, publisher, desks))),
         Err(OpenFault::NoPlace) => Ok(None),
-        Err(fault) => Err(fault)?,
+        Err(fault) => Err(Fail::from(fault)),
     }
 }
 
 /// Opens with two desks. V2 may come without a cause, so it tries up to 100 times.
-fn open<R: Wait>(alloc: Global, rt: &R, setup: &Setup) -> Result<(Publisher, Desk, Desk), Fail>
+fn open<R: Wait + Abort>(
+    alloc: Global,
+    rt: &R,
+    setup: &Setup,
+) -> Result<(Publisher, Desk, Desk), Fail>
     ensures { IfOk result (λ ends. (ends.1.opening ≡ ends.0.opening) × (ends.2.opening ≡ ends.0.opening)) }
 {
     for _ in 0..100u32 {
@@ -114,11 +111,15 @@ fn open<R: Wait>(alloc: Global, rt: &R, setup: &Setup) -> Result<(Publisher, Des
             return Ok(ends);
         }
     }
-    Err("a place")?
+    Err(Fail::from("a place"))
 }
 
 /// Opens over a setup's text.
-fn open_on<R: Wait>(alloc: Global, rt: &R, text: &str) -> Result<(Publisher, Desk, Desk), Fail>
+fn open_on<R: Wait + Abort>(
+    alloc: Global,
+    rt: &R,
+    text: &str,
+) -> Result<(Publisher, Desk, Desk), Fail>
     ensures { IfOk result (λ ends. (ends.1.opening ≡ ends.0.opening) × (ends.2.opening ≡ ends.0.opening)) }
 {
     let setup = read_setup(alloc, text)?;
@@ -206,7 +207,7 @@ fn go<R: Wait + Abort>(
     one: &mut Desk,
     other: &mut Desk,
     word: &str,
-) -> Result<String, Fail>
+) -> String
     requires { one.old.opening ≡ publisher.old.opening }
     ensures publisher { publisher.new.opening ≡ publisher.old.opening }
     ensures one { one.new.opening ≡ one.old.opening }
@@ -214,28 +215,28 @@ fn go<R: Wait + Abort>(
     match word {
         "publish" => {
             publisher.publish(rt);
-            Ok(String::from_str(alloc, "published")?)
+            printed(rt, alloc, "published")
         }
-        "tell" => printed(alloc, &tell(publisher, one)),
-        "tape" => printed(alloc, &publisher.tape().len()),
-        "desk 0" => seen(alloc, looked(one)),
-        "desk 1" => seen(alloc, looked(other)),
-        "lot 101" => Ok(String::from_str(alloc, append_lot(rt, publisher, 101))?),
-        "lot 40" => Ok(String::from_str(alloc, append_lot(rt, publisher, 40))?),
-        _ => Ok(String::from_str(alloc, append(rt, publisher, place_of(word)))?),
+        "tell" => printed(rt, alloc, tell(publisher, one)),
+        "tape" => printed(rt, alloc, publisher.tape().len()),
+        "desk 0" => seen(rt, alloc, looked(one)),
+        "desk 1" => seen(rt, alloc, looked(other)),
+        "lot 101" => printed(rt, alloc, append_lot(rt, publisher, 101)),
+        "lot 40" => printed(rt, alloc, append_lot(rt, publisher, 40)),
+        _ => printed(rt, alloc, append(rt, publisher, place_of(word))),
     }
 }
 
-/// A number or a fault as a text.
-fn printed<V: Display>(alloc: Global, value: &V) -> Result<String, Fail> {
-    Ok(format!(in alloc; "{value}")?)
+/// A word, a number or a fault as a text.
+fn printed<R: Abort, V: Display + Drop>(rt: &R, alloc: Global, value: V) -> String {
+    format!(in alloc; "{value}").expect(rt, "memory")
 }
 
 /// A look as a text: its version and how many offers it shows.
-fn seen(alloc: Global, look: Result<(u64, usize), NoReading>) -> Result<String, Fail> {
+fn seen<R: Abort>(rt: &R, alloc: Global, look: Result<(u64, usize), NoReading>) -> String {
     match look {
-        Ok((version, offers)) => Ok(format!(in alloc; "{version} {offers}")?),
-        Err(fault) => printed(alloc, &fault),
+        Ok((version, offers)) => format!(in alloc; "{version} {offers}").expect(rt, "memory"),
+        Err(fault) => printed(rt, alloc, fault),
     }
 }
 
@@ -247,7 +248,8 @@ fn run<R: Wait + Abort>(
     steps: &[(&str, &str)],
 ) -> Result<(), Fail> {
     let (publisher, one, other) = open_on(alloc, rt, text)?;
-    run_on(rt, alloc, publisher, one, other, steps)
+    run_on(rt, alloc, publisher, one, other, steps);
+    Ok(())
 }
 
 /// Makes each step and compares its answer. A desk sees nothing once the publisher is closed.
@@ -258,22 +260,18 @@ fn run_on<R: Wait + Abort>(
     mut one: Desk,
     mut other: Desk,
     steps: &[(&str, &str)],
-) -> Result<(), Fail>
+)
     requires { one.opening ≡ publisher.opening }
 {
-    let told = make_all(rt, alloc, &mut publisher, &mut one, &mut other, steps);
+    make_all(rt, alloc, &mut publisher, &mut one, &mut other, steps);
     publisher.close(rt);
-    match told {
-        Ok(()) => see_nothing(rt, alloc, &mut one),
-        Err(fault) => Err(fault),
-    }
+    see_nothing(rt, alloc, &mut one);
 }
 
 /// Looks once the publisher is closed.
-fn see_nothing<R: Abort>(rt: &R, alloc: Global, desk: &mut Desk) -> Result<(), Fail> {
-    let answer = seen(alloc, looked(desk))?;
+fn see_nothing<R: Abort>(rt: &R, alloc: Global, desk: &mut Desk) {
+    let answer = seen(rt, alloc, looked(desk));
     same(rt, answer.as_str(), "V5: no reading");
-    Ok(())
 }
 
 /// Makes each step and compares its answer.
@@ -284,14 +282,13 @@ fn make_all<R: Wait + Abort>(
     one: &mut Desk,
     other: &mut Desk,
     steps: &[(&str, &str)],
-) -> Result<(), Fail>
+)
     requires { one.old.opening ≡ publisher.old.opening }
 {
     for (word, answer) in steps {
-        let told = go(rt, alloc, publisher, one, other, word)?;
+        let told = go(rt, alloc, publisher, one, other, word);
         same(rt, (*word, told.as_str()), (*word, *answer));
     }
-    Ok(())
 }
 
 #[test]
@@ -361,7 +358,8 @@ fn a_desk_settles_on_no_receipt_older_than_what_it_knows(rt: HostRuntime) -> Res
     publish_often(&rt, &mut publisher, 3);
     let late = publisher.receipt();
     same(&rt, looked(&mut desk), Ok((3, 1)));
-    settle_twice(&rt, publisher, desk, early, late)
+    settle_twice(&rt, publisher, desk, early, late);
+    Ok(())
 }
 
 /// Settles a desk on an early receipt, which is refused, and then, with the publisher closed, on that of version 3.
@@ -371,17 +369,16 @@ fn settle_twice<R: Wait + Abort>(
     desk: Desk,
     early: Receipt,
     late: Receipt,
-) -> Result<(), Fail>
+)
     requires { (early.opening ≡ desk.opening) × (late.opening ≡ desk.opening) }
 {
     let refused = desk.settle(early);
     publisher.close(rt);
     let Err(Unsettled::Newer { desk, version }) = refused else {
-        return Err("a desk settled on an older receipt")?;
+        panic!(rt; "a desk settled on an older receipt");
     };
     same(rt, version, 3);
     same(rt, desk.settle(late).ok(), Some(Settled { version: 3 }));
-    Ok(())
 }
 
 /// The worked offers: N's, P's and Y's.
@@ -446,7 +443,8 @@ fn a_desk_settles_on_what_it_saw_and_was_told_of(rt: HostRuntime) -> Result<(), 
         append(&rt, &mut publisher, 0),
     );
     same(&rt, (more, sees_worked(&mut one)), (("ok", "ok"), true));
-    settle_twice(&rt, publisher, one, early, last)
+    settle_twice(&rt, publisher, one, early, last);
+    Ok(())
 }
 
 /// Appends an offer to a tape of that many changes. A refused one leaves the tape and the view, and is appended once there is
@@ -543,18 +541,17 @@ fn a_thousand_publications_beside_two_desks_never_fall(rt: HostRuntime) -> Resul
 }
 
 #[test]
-fn faults_print_their_codes(rt: HostRuntime) -> Result<(), Fail> {
+fn faults_print_their_codes(rt: HostRuntime) {
     for (fault, text) in [
         (OpenFault::NoMemory, "V1: out of memory"),
         (OpenFault::NoPlace, "V2: no place for a reader"),
     ] {
-        same(&rt, printed(rt.alloc(), &fault)?.as_str(), text);
+        same(&rt, printed(&rt, rt.alloc(), fault).as_str(), text);
     }
     for (fault, text) in [
         (AppendFault::NoMemory, "V3: out of memory"),
         (AppendFault::TapeFull, "V4: the tape is full"),
     ] {
-        same(&rt, printed(rt.alloc(), &fault)?.as_str(), text);
+        same(&rt, printed(&rt, rt.alloc(), fault).as_str(), text);
     }
-    Ok(())
 }

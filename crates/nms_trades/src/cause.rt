@@ -8,7 +8,7 @@ use crate::claims::Claims;
 pub const CAUSES: usize = 13;
 
 /// Why a trade-through may be lawful, in the order of 17 CFR 242.611(b); then what no paragraph of it says.
-#[derive(Clone, Copy, Debug, PartialEq, Eq)]
+#[derive(Clone, Copy)]
 pub enum Cause {
     /// (b)(1): self-help is claimed against a participant that was traded through.
     SelfHelp,

@@ -2,7 +2,7 @@
 use nms_quote::PartSet;
 
 /// The exceptions that an execution claims by its flags. None of them is checked.
-#[derive(Clone, Copy, Debug, PartialEq, Eq)]
+#[derive(Clone, Copy)]
 pub struct Claims {
     /// `H=N/P`: the participants against which self-help was declared (242.611(b)(1)).
     pub self_help: PartSet,

@@ -44,7 +44,7 @@ pub(crate) struct Clock<'a> {
 }
 
 /// When an execution took place.
-#[derive(Clone, Copy, Debug, PartialEq, Eq)]
+#[derive(Clone, Copy)]
 pub(crate) struct When {
     /// The version that was in force.
     pub(crate) version: u64,

@@ -9,7 +9,7 @@ use nms_units::Shares;
 pub(crate) const MOST_NAME: usize = 32;
 
 /// Whether an execution bought or sold. It is not judged: a trade is both.
-#[derive(Clone, Copy, Debug, PartialEq, Eq)]
+#[derive(Clone, Copy)]
 pub enum Deal {
     /// `B`
     Bought,

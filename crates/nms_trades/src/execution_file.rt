@@ -19,7 +19,7 @@ use std::alloc::Global;
 use std::io::Read;
 
 /// A record that is refused.
-#[derive(Clone, Copy, Debug, PartialEq, Eq)]
+#[derive(Clone, Copy)]
 pub struct Refusal {
     /// The number of the record, from 1. A blank line is no record.
     pub number: u64,

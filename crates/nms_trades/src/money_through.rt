@@ -9,7 +9,7 @@ use nms_board::Row;
 use nms_quote::Side;
 
 /// How much an execution traded through, without the rows that self-help takes out.
-#[derive(Clone, Copy, Debug, PartialEq, Eq)]
+#[derive(Clone, Copy)]
 pub struct Sums {
     /// How many rows are left.
     pub count: u64,

@@ -6,7 +6,7 @@ use crate::execution::Execution;
 use std::alloc::{AllocError, Global};
 
 /// Where an execution stands among those that were given, and its version.
-#[derive(Clone, Copy, Debug, PartialEq, Eq)]
+#[derive(Clone, Copy)]
 pub(crate) struct Turn {
     pub(crate) version: u64,
     pub(crate) place: usize,

@@ -1,5 +1,5 @@
 //! What a record of an execution says: `specs/Reading`.
-ghost use Rattle.std.specs.Prelude.{◌≡◌, IfErr, IfOk, true};
+ghost use Rattle.std.specs.Prelude.{◌≡◌, ◌<◌, IfErr, IfOk, IfSome, length, true};
 ghost use Rattle.std.specs.List.{list_all};
 ghost use Rattle.csv.specs.Records.{fields_of};
 ghost use Rattle.nms_trades.specs.Reading.{IsInWindow, IsOn, IsReadFrom, deal_in, is_name, is_name_byte, part_of};
@@ -36,15 +36,21 @@ pub(crate) fn read_execution(
     if !is_name(field_at(row, 1)) {
         return Err(TradeFault::BadName);
     }
-    let sym = roster
-        .find_sym(field_at(row, 2))
-        .ok_or(TradeFault::UnknownSymbol)?;
-    let millionths = millionths_in(field_at(row, 3)).ok_or(TradeFault::BadPrice)?;
-    let shares = some_shares_of(field_at(row, 4)).ok_or(TradeFault::BadShares)?;
+    let Some(sym) = roster.find_sym(field_at(row, 2)) else {
+        return Err(TradeFault::UnknownSymbol);
+    };
+    let Some(millionths) = millionths_in(field_at(row, 3)) else {
+        return Err(TradeFault::BadPrice);
+    };
+    let Some(shares) = some_shares_of(field_at(row, 4)) else {
+        return Err(TradeFault::BadShares);
+    };
     let deal = deal_in(field_at(row, 5))?;
     let when = clock.when_in(field_at(row, 6), sym)?;
     let part = part_in(field_at(row, 7), roster)?;
-    let claims = claims_in(field_at(row, 8), roster).ok_or(TradeFault::BadFlags)?;
+    let Some(claims) = claims_in(field_at(row, 8), roster) else {
+        return Err(TradeFault::BadFlags);
+    };
     Ok(Execution {
         number,
         name: name_of(field_at(row, 1)),
@@ -107,7 +113,8 @@ fn deal_in(text: &[u8]) -> Result<Option<Deal>, TradeFault>
 
 /// The participant that a text names; an empty one names none.
 fn part_in(text: &[u8], roster: &Roster) -> Result<Option<Part>, TradeFault>
-    ensures { result ≡ part_of roster.now text.now }
+    ensures part { result ≡ part_of roster.now text.now }
+    ensures there { IfOk result (λ part. IfSome part (λ place. place < length roster.now.parts)) }
 {
     if text.is_empty() {
         return Ok(None);

@@ -3,7 +3,7 @@ ghost use Rattle.std.specs.Prelude.{◌≡◌};
 ghost use Rattle.nms_trades.specs.Around.{standing_of};
 
 /// Whether an execution trades through a protected quotation on the versions of its window.
-#[derive(Clone, Copy, Debug, PartialEq, Eq)]
+#[derive(Clone, Copy, PartialEq, Eq)]
 pub enum Standing {
     /// On none of them.
     Clean,

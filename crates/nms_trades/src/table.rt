@@ -1,5 +1,5 @@
 //! The counts and sums of all executions, as tables.
-ghost use Rattle.std.specs.Prelude.{◌≡◌, [], IfErr, IfOk, false, filter, length, true};
+ghost use Rattle.std.specs.Prelude.{◌≡◌, ◌+◌, [], IfErr, IfOk, OnSome, false, filter, if◌then◌else◌, length, true};
 ghost use Rattle.nms_show.specs.Plain.{is_own_plain, is_plain};
 ghost use Rattle.nms_show.specs.Safe.{IsSafe, own_text};
 ghost use Rattle.nms_show.specs.Written.{Writes};
@@ -69,14 +69,24 @@ fn tally_of(
     };
     let mut place = 0;
     for answer in findings {
-        if let Some(finding) = answer {
-            let Some(()) = tally.add(&executions[place], finding) else {
-                return Err(TradesFault::TooLong);
-            };
-        }
+        let Some(()) = count_one(&mut tally, &executions[place], answer) else {
+            return Err(TradesFault::TooLong);
+        };
         place += 1;
     }
     Ok(tally)
+}
+
+/// Counts an execution, if there is a finding of it. `None` comes only of sums that no number holds.
+fn count_one(tally: &mut Tally, execution: &Execution, answer: &Option<Finding>) -> Option<()>
+    ensures executions { OnSome result (tally.new.all.executions ≡ tally.old.all.executions + (if is_found answer.now then 1 else 0)) }
+    ensures perhaps { OnSome result (tally.new.all.perhaps ≡ tally.old.all.perhaps + (if stands is_perhaps answer.now then 1 else 0)) }
+    ensures through { OnSome result (tally.new.all.through ≡ tally.old.all.through + (if stands is_through answer.now then 1 else 0)) }
+{
+    match answer {
+        Some(finding) => tally.add(execution, finding),
+        None => Some(()),
+    }
 }
 
 /// Writes a tally.

@@ -17,7 +17,7 @@ pub(crate) const HALF_HOURS: usize = 48;
 const HALF_HOUR: u64 = 1_800_000_000_000;
 
 /// How many executions there were, and how much they traded through.
-#[derive(Clone, Copy, Debug, PartialEq, Eq)]
+#[derive(Clone, Copy)]
 pub(crate) struct Count {
     /// Executions.
     pub(crate) executions: u64,
@@ -149,16 +149,16 @@ impl Tally {
         sums: &Sums,
     ) -> Option<()> {
         let off = self.executed.len().checked_sub(1)?;
-        let place = execution.part.map_or(off, |part| usize::from(part.get()));
-        if let Some(count) = self.executed.get_mut(place) {
-            *count = count.with(finding, is_open, sums)?;
-        }
-        if let Some(count) = self.syms.get_mut(usize::from(execution.sym.get())) {
-            *count = count.with(finding, is_open, sums)?;
-        }
+        let place = match execution.part {
+            Some(part) => usize::from(part.get()),
+            None => off,
+        };
+        add_to(&mut self.executed, place, finding, is_open, sums)?;
+        let sym = usize::from(execution.sym.get());
+        add_to(&mut self.syms, sym, finding, is_open, sums)?;
         if let Some(time) = execution.time {
             let half_hour = half_hour_of(time);
-            self.half_hours[half_hour] = self.half_hours[half_hour].with(finding, is_open, sums)?;
+            add_to(&mut self.half_hours, half_hour, finding, is_open, sums)?;
         }
         if finding.standing != Standing::Through {
             return Some(());
@@ -201,6 +201,20 @@ impl Tally {
         }
         Some(())
     }
+}
+
+/// Counts an execution at a place, if there is that place.
+fn add_to(
+    counts: &mut [Count],
+    place: usize,
+    finding: &Finding,
+    is_open: bool,
+    sums: &Sums,
+) -> Option<()> {
+    if let Some(count) = counts.get_mut(place) {
+        *count = count.with(finding, is_open, sums)?;
+    }
+    Some(())
 }
 
 /// A number of counts of nothing.

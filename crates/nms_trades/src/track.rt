@@ -9,7 +9,7 @@ use nms_quote::Side;
 use std::alloc::{AllocError, Global};
 
 /// Protected prices in 1/10,000 dollar.
-#[derive(Clone, Copy, Debug, PartialEq, Eq)]
+#[derive(Clone, Copy)]
 pub(crate) struct Limits {
     /// The highest protected bid, if there is one.
     pub(crate) bid: Option<u64>,
@@ -27,7 +27,7 @@ impl Limits {
 }
 
 /// The limits from a version on.
-#[derive(Clone, Copy, Debug, PartialEq, Eq)]
+#[derive(Clone, Copy)]
 pub(crate) struct Mark {
     pub(crate) version: u64,
     pub(crate) limits: Limits,
@@ -40,7 +40,7 @@ pub(crate) struct Track {
 }
 
 /// What is asked of limits, at a price in 1/1,000,000 dollar.
-#[derive(Clone, Copy, Debug, PartialEq, Eq)]
+#[derive(Clone, Copy)]
 pub(crate) enum Test {
     /// Whether the price trades through one of them.
     Through,

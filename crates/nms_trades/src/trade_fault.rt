@@ -3,7 +3,7 @@ ghost use Rattle.std.specs.Prelude.{◌≡◌};
 ghost use Rattle.nms_trades.specs.Faults.{code_of, column_of};
 
 /// Why an execution's record is refused: the first that holds, in this order.
-#[derive(Clone, Copy, Debug, PartialEq, Eq)]
+#[derive(Clone, Copy)]
 pub enum TradeFault {
     /// X1: the first field is not `D`.
     UnknownKind,

@@ -25,7 +25,7 @@ use std::alloc::Global;
 use std::io::{Read, Write};
 
 /// What is written of executions.
-#[derive(Clone, Copy, Debug, PartialEq, Eq)]
+#[derive(Clone, Copy)]
 pub enum Layout {
     /// A line or more for each.
     Lines,

@@ -1,4 +1,11 @@
+mod BreachHolds
 mod CheckFacts
+mod CutLemmas
+mod DoubtHolds
 mod EndingFacts
+mod FindLemmas
+mod FirstLemmas
 mod LineFacts
 mod PieceFacts
+mod RepeatLemmas
+mod ThroughLemmas

@@ -11,7 +11,7 @@ use Rattle.nms_fee_book.specs.Fees.{Charges}
 use Rattle.nms_fees.specs.Settings.{Settings}
 use Rattle.nms_cert.specs.Doubts.{doubt_of}
 use Rattle.nms_file_answers.specs.Audit.{seen_by}
-use Rattle.nms_plan_places.specs.DoubtPlaces.{IsDoubtPlace}
+use Rattle.nms_verdicts.specs.DoubtPlaces.{IsDoubtPlace}
 use Rattle.nms_verdicts.specs.declared.verdict.Verdict.{Verdict}
 use Rattle.nms_verdicts.specs.declared.verdict.Verdict.TheVariants as verdict
 

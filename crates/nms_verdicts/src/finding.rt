@@ -1,7 +1,7 @@
 //! What was found at the place of a doubt, what was expected, and the words for it.
 use crate::names::name_of;
+use crate::plan_places::{BreachPlace, CutPlace, CutSums, DoubtPlace, LegPlace, PassedOver};
 use crate::verdict::Verdict;
-use nms_plan_places::{BreachPlace, CutPlace, CutSums, DoubtPlace, LegPlace, PassedOver};
 use nms_quote::{CutKind, Order, Plan, Roster};
 use nms_show::Item;
 
@@ -52,29 +52,29 @@ fn of_doubt<'a>(place: &DoubtPlace, roster: &'a Roster, order: &Order) -> Findin
             Item::Number(u64::from(*found)),
             Item::Number(*expected),
         ),
-        DoubtPlace::CutMissing(row) => Finding {
-            other: name_of(roster, row.part),
-            ..of_plan(
+        DoubtPlace::CutMissing(row) => with_other(
+            of_plan(
                 "      no cut is at |expected|, the price of a usable |contra| of |other|",
                 Item::Absent,
                 Item::of_price(row.price),
-            )
-        },
+            ),
+            name_of(roster, row.part),
+        ),
         DoubtPlace::CutExtra(cut) => of_cut(
             cut,
             "      no usable |contra| is at that price",
             Item::of_price(cut.cut.price),
             Item::Absent,
         ),
-        DoubtPlace::OutOfOrder { cut, later } => Finding {
-            other: number_of(later.number),
-            ..of_cut(
+        DoubtPlace::OutOfOrder { cut, later } => with_other(
+            of_cut(
                 cut,
                 "      it does not stand at a better price than cut |other| after it, at |expected|",
                 Item::of_price(cut.cut.price),
                 Item::of_price(later.cut.price),
-            )
-        },
+            ),
+            number_of(later.number),
+        ),
         DoubtPlace::WrongKind { cut, sums } => of_kind(cut, sums),
         DoubtPlace::MarginalRange(cut) => of_cut(
             cut,
@@ -190,16 +190,16 @@ fn of_leg_breach<'a>(place: &BreachPlace, roster: &'a Roster, order: &Order) -> 
             leg_price(leg),
             Item::of_price(*limit),
         ),
-        BreachPlace::Repeated { first, again } => Finding {
-            other: number_of(first.number),
-            ..of_leg(
+        BreachPlace::Repeated { first, again } => with_other(
+            of_leg(
                 roster,
                 again,
                 "      leg |other| goes there too",
                 shares_in(again),
                 Item::Absent,
-            )
-        },
+            ),
+            number_of(first.number),
+        ),
         BreachPlace::TradedThrough { worst, passed } => {
             let expected = first_price(passed.as_slice());
             of_leg(roster, worst, "", leg_price(worst), expected)
@@ -313,8 +313,19 @@ fn of_cut(
 ) -> Finding<'static> {
     Finding {
         place: "      cut |cut| at |price|:",
+        words,
+        leg: Item::Absent,
         cut: number_of(place.number),
+        sent: Item::Absent,
+        participant: Item::Absent,
         price: Item::of_price(place.cut.price),
-        ..of_plan(words, found, expected)
+        found,
+        expected,
+        other: Item::Absent,
     }
+}
+
+/// The same, of which the words name another leg or cut, or a participant.
+fn with_other<'a>(finding: Finding<'a>, other: Item<'a>) -> Finding<'a> {
+    Finding { other, ..finding }
 }

@@ -4,11 +4,11 @@ ghost use Rattle.nms_quote.specs.Roster.{holds, sizes_of};
 ghost use Rattle.nms_quote.specs.declared.TheConstants.{MOST_CHANGES};
 ghost use Rattle.nms_verdicts.specs.Verdicts.{IsAt, IsVerdict, IsVerdictOn};
 
+use crate::plan_places::doubt_place;
 use crate::verdict::Verdict;
 use nms_board::{BoardFault, Boards, View};
 use nms_cert::confirm;
 use nms_fees::{FeeBook, Setup};
-use nms_plan_places::doubt_place;
 use nms_quote::{Certificate, Change, Plan, Roster};
 use std::alloc::Global;
 

@@ -8,6 +8,7 @@ mod finding;
 mod judging;
 mod names;
 mod pieces;
+mod plan_places;
 mod plan_telling;
 mod rows;
 mod telling;

@@ -1,9 +1,9 @@
 //! A plan with its verdict.
 use crate::finding::{Finding, finding_of};
 use crate::names::{code_item, name_of, push_named, quotation_of, symbol_of, verb_of};
+use crate::plan_places::{BreachPlace, DoubtPlace, PassedOver};
 use crate::telling::{Heading, tell};
 use crate::verdict::Verdict;
-use nms_plan_places::{BreachPlace, DoubtPlace, PassedOver};
 use nms_quote::{Plan, Roster};
 use nms_show::{Form, Item, ShowFault};
 use nms_times::Times;

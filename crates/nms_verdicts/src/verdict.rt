@@ -2,9 +2,9 @@
 ghost use Rattle.std.specs.Prelude.{◌≡◌};
 ghost use Rattle.nms_verdicts.specs.Explained.{ending_of};
 
+use crate::plan_places::DoubtPlace;
 use nms_cert::Doubt;
 use nms_codes::Code;
-use nms_plan_places::DoubtPlace;
 use nms_show::Ending;
 
 /// The result of judging a plan.

@@ -26,7 +26,7 @@ lot = 100
 "#;
 
 /// The result.
-#[derive(Clone, Copy, Debug, PartialEq, Eq)]
+#[derive(Drop)]
 pub(crate) struct Appended {
     /// How many of the changes stand at their places on the tape.
     pub(crate) in_place: usize,

@@ -15,7 +15,7 @@ use std::thread;
 use std::thread::Threads;
 
 /// The result of a run: what went through the lane, and the version that the desk was settled on.
-#[derive(Debug, Drop)]
+#[derive(Drop)]
 pub(crate) struct Came {
     pub(crate) delivered: Delivered,
     pub(crate) settled: u64,
@@ -143,20 +143,33 @@ fn send_and_look<R: Threads + Wait + Sync>(
         move || -> (Sender, Desk)
             requires { b.sent ≡ [] }
             ensures { (result.0.lane ≡ b.lane) × (result.0.feed ≡ b.feed) × (result.1.opening ≡ desk.opening) }
-        {
-            thread::join(
-                rt,
-                move || -> Sender
-                    requires { b.sent ≡ [] }
-                    ensures { (result.lane ≡ b.lane) × (result.feed ≡ b.feed) }
-                { send_all(rt, b, change, times) },
-                move || -> Desk
-                    ensures { result.opening ≡ desk.opening }
-                { look_often(desk, sym, 1000) },
-            )
-        },
+        { send_beside_looks(rt, b, desk, change, times, sym) },
     );
     (a, b, desk)
+}
+
+/// Sends from one feed and looks, both at once.
+fn send_beside_looks<R: Threads + Wait + Sync>(
+    rt: &R,
+    sender: Sender,
+    desk: Desk,
+    change: &Change,
+    times: u32,
+    sym: Sym,
+) -> (Sender, Desk)
+    requires { sender.sent ≡ [] }
+    ensures { (result.0.lane ≡ sender.lane) × (result.0.feed ≡ sender.feed) × (result.1.opening ≡ desk.opening) }
+{
+    thread::join(
+        rt,
+        move || -> Sender
+            requires { sender.sent ≡ [] }
+            ensures { (result.lane ≡ sender.lane) × (result.feed ≡ sender.feed) }
+        { send_all(rt, sender, change, times) },
+        move || -> Desk
+            ensures { result.opening ≡ desk.opening }
+        { look_often(desk, sym, 1000) },
+    )
 }
 
 /// Takes that many changes and appends them. Publishes if the lane is empty, and at the end.

@@ -17,8 +17,7 @@ pub(super) fn a_failed_write_of_a_plan_is_told<T: AllocGlobal>(
     let out = &Cell::new(0);
     let mut pipe = Pipe::taking(0, 0, out);
     let told = write_plan(rt.alloc(), &plan, &certificate, setup.roster(), &mut pipe);
-    same(told, Err(PlanTextFault::WriteFault))?;
-    Ok(())
+    same(told, Err(PlanTextFault::WriteFault))
 }
 
 /// The code of what ends a plan on no changes if that many writes and flushes succeed, `""` for none, and how many bytes are
@@ -29,7 +28,9 @@ fn planned(
     writes: usize,
     flushes: usize,
 ) -> Result<(&'static str, usize), Fail> {
-    let order = order_of(setup.roster(), "B", "ABC", "100", "10", false, None).ok_or("an order")?;
+    let Some(order) = order_of(setup.roster(), "B", "ABC", "100", "10", false, None) else {
+        return Err(Fail::new("an order"));
+    };
     let out = &Cell::new(0);
     let mut pipe = Pipe::taking(writes, flushes, out);
     let file = b"".as_slice();

@@ -36,10 +36,12 @@ fn look(
 }
 
 pub(super) mod shown {
-    use super::look;
+    use super::{LookFault, look};
     use crate::trials::same;
+    use nms_board::Row;
     use nms_engine::read_changes;
     use nms_fees::Setup;
+    use nms_nbbo::Market;
     use nms_quote::Sym;
     use std::alloc::Global;
     use std::test::Fail;
@@ -47,9 +49,19 @@ pub(super) mod shown {
     /// The market and the receipt of the best offer that the block reports after those changes, or the place of the
     /// change that it refuses.
     fn told(alloc: Global, setup: &Setup, records: &str) -> Result<String, Fail> {
+        let Some(sym) = Sym::new(0) else {
+            return Err(Fail::new("ABC"));
+        };
         let changes = read_changes(alloc, setup, records.as_bytes())?;
-        let sym = Sym::new(0).ok_or("ABC")?;
-        match look(alloc, setup.roster(), changes.as_slice(), sym) {
+        written(alloc, look(alloc, setup.roster(), changes.as_slice(), sym))
+    }
+
+    /// That as a text.
+    fn written(
+        alloc: Global,
+        came_to: Result<(Market, Option<Row>, Option<Row>), LookFault>,
+    ) -> Result<String, Fail> {
+        match came_to {
             Ok((market, bid, offer)) => {
                 let receipt = offer.map(|row| row.receipt);
                 Ok(format!(in alloc; "{market:?} {} {receipt:?}", bid.is_some())?)

@@ -16,7 +16,9 @@ fn reported(
     writes: usize,
     flushes: usize,
 ) -> Result<(&'static str, usize), Fail> {
-    let sym = setup.roster().find_sym(b"ABC").ok_or("a symbol")?;
+    let Some(sym) = setup.roster().find_sym(b"ABC") else {
+        return Err(Fail::new("a symbol"));
+    };
     let out = &Cell::new(0);
     let mut pipe = Pipe::taking(writes, flushes, out);
     Ok(match report_changes(alloc, setup, file, sym, &mut pipe) {

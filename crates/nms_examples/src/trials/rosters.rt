@@ -91,15 +91,21 @@ fn state_at(part: u8, sym: u16) -> Option<Change> {
 /// Compares what a roster of one participant and one symbol holds, and what its board takes.
 fn try_holding(roster: &Roster, boards: &Boards) -> Result<(), Fail> {
     for (part, sym, told) in [(0, 0, true), (1, 0, false), (0, 1, false), (1, 1, false)] {
-        let change = state_at(part, sym).ok_or("a change")?;
+        let Some(change) = state_at(part, sym) else {
+            return Err(Fail::new("a change"));
+        };
         same((roster.holds(&change), boards.takes(&change)), (told, told))?;
     }
     Ok(())
 }
 
+/// Adds one participant and one symbol, and compares what is held.
+fn try_one_of_each(alloc: Global, roster: &mut Roster) -> Result<(), Fail> {
+    same(participant_added(roster, "N"), Ok(0))?;
+    same(symbol_added(roster, "ABC"), Some(Ok(0)))?;
+    try_holding(roster, &Boards::new(alloc, roster)?)
+}
+
 pub(super) fn a_roster_holds_what_is_of_it_alone<T: AllocGlobal>(rt: &T) -> Result<(), Fail> {
-    let mut roster = Roster::new(rt.alloc())?;
-    same(participant_added(&mut roster, "N"), Ok(0))?;
-    same(symbol_added(&mut roster, "ABC"), Some(Ok(0)))?;
-    try_holding(&roster, &Boards::new(rt.alloc(), &roster)?)
+    try_one_of_each(rt.alloc(), &mut Roster::new(rt.alloc())?)
 }

@@ -71,8 +71,7 @@ pub(super) fn each_answer_is_one_write_and_out_before_the_next_read<T: AllocGlob
     setup: &Setup,
 ) -> Result<(), Fail> {
     // Five of the records are answered.
-    same(asked(rt.alloc(), setup)?, (8, 4, 4, 61))?;
-    Ok(())
+    same(asked(rt.alloc(), setup)?, (8, 4, 4, 61))
 }
 
 /// What ends a script if that many writes and flushes succeed, and how many bytes are written by then.
@@ -82,11 +81,11 @@ fn ended(
     script: Source<'_>,
     writes: usize,
     flushes: usize,
-) -> Result<(Option<ScriptFault>, usize), Fail> {
+) -> (Option<ScriptFault>, usize) {
     let out = &Cell::new(0);
     let mut pipe = Pipe::taking(writes, flushes, out);
     let came_to = run_script(alloc, setup, script, &mut pipe);
-    Ok((came_to.err(), pipe.bytes))
+    (came_to.err(), pipe.bytes)
 }
 
 pub(super) fn a_failed_read_leaves_the_answers_so_far<T: AllocGlobal>(
@@ -108,7 +107,7 @@ pub(super) fn a_failed_read_leaves_the_answers_so_far<T: AllocGlobal>(
             behind,
             rest: b"",
         };
-        let ended = ended(rt.alloc(), setup, script, 9, 9)?;
+        let ended = ended(rt.alloc(), setup, script, 9, 9);
         same(ended, (Some(ScriptFault::ReadFault), answers))?;
     }
     Ok(())
@@ -136,7 +135,7 @@ pub(super) fn a_failed_write_or_flush_ends_the_script<T: AllocGlobal>(
             behind: b"",
             rest: b"",
         };
-        let ended = ended(rt.alloc(), setup, script, writes, flushes)?;
+        let ended = ended(rt.alloc(), setup, script, writes, flushes);
         same(ended, (fault, written))?;
     }
     Ok(())
@@ -170,6 +169,6 @@ pub(super) fn the_worked_script_writes_nothing_where_its_first_write_fails<T: Al
     rt: &T,
     setup: &Setup,
 ) -> Result<(), Fail> {
-    let told = ended(rt.alloc(), setup, worked(false), 0, 9)?;
+    let told = ended(rt.alloc(), setup, worked(false), 0, 9);
     same(told, (Some(ScriptFault::WriteFault), 0))
 }

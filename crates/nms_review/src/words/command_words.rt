@@ -61,9 +61,17 @@ fn request_in<'a>(alloc: Global, matches: &ArgMatches<'a>) -> Result<Request<'a>
     let Some(command) = Sub::named(name) else {
         return Err(AllocError);
     };
-    Ok(Request {
+    match own_words(alloc, command, inner) {
+        Ok(words) => Ok(request_with(command, words, inner)),
+        Err(fault) => Err(fault),
+    }
+}
+
+/// The request of a subcommand with its own words, and the options that the matches hold.
+fn request_with<'a>(command: Sub, words: Vec<&'a str>, inner: &ArgMatches<'a>) -> Request<'a> {
+    Request {
         command,
-        words: own_words(alloc, command, inner)?,
+        words,
         setup: inner.get_str("setup"),
         feed: inner.get_str("feed"),
         plan: inner.get_str("plan"),
@@ -84,7 +92,7 @@ fn request_in<'a>(alloc: Global, matches: &ArgMatches<'a>) -> Result<Request<'a>
         before: is_flagged(inner, "before"),
         json: is_flagged(inner, "json"),
         table: is_flagged(inner, "table"),
-    })
+    }
 }
 
 /// Whether the matches hold the flag. The parser gives it the text `true` or `false`.

@@ -7,13 +7,14 @@ use crate::same::same;
 use nms_live::{Gate, GatePoint, Live, LiveFault};
 use nms_quote::Feed;
 use std::alloc::Global;
+use std::process::Abort;
 use std::sync::Wait;
 use std::sync::atomic::{AtomicU64, Ordering};
 use std::thread;
 use std::thread::Threads;
 
 /// Up to 6 orders of some of the desks.
-fn drawn_orders(alloc: Global, chance: &mut Chance, desks: u32) -> Option<Vec<Wanted>> {
+fn drawn_orders<R: Abort>(rt: &R, alloc: Global, chance: &mut Chance, desks: u32) -> Vec<Wanted> {
     let mut table = Vec::new(alloc);
     for _ in 0..chance.draw() % 7 {
         let (cents, lots) = (chance.draw() % 10, chance.draw() % 9);
@@ -25,9 +26,9 @@ fn drawn_orders(alloc: Global, chance: &mut Chance, desks: u32) -> Option<Vec<Wa
             limit: u64::from(cents).wrapping_mul(100).wrapping_add(100_000),
             manual: chance.draw() % 2 == 0,
         };
-        table.push(wanted).ok()?;
+        table.push(wanted).expect(rt, "memory");
     }
-    Some(table)
+    table
 }
 
 /// Lets a desk's looks wait until that many changes were sent, more for each look, or all.
@@ -110,6 +111,7 @@ pub(crate) struct Limits {
     pub(crate) feeds: u8,
 }
 
+/// Limits that let some runs end in a full tape.
 fn drawn_limits(chance: &mut Chance) -> Limits {
     let tape = if chance.draw() % 4 == 0 {
         (chance.draw() % 40).wrapping_add(1)
@@ -125,7 +127,7 @@ fn drawn_limits(chance: &mut Chance) -> Limits {
 }
 
 /// A setup of these limits, with two participants on each feed.
-pub(crate) fn setup_of(alloc: Global, limits: Limits) -> Option<String> {
+pub(crate) fn setup_of<R: Abort>(rt: &R, alloc: Global, limits: Limits) -> String {
     let Limits {
         tape,
         queue,
@@ -134,25 +136,25 @@ pub(crate) fn setup_of(alloc: Global, limits: Limits) -> Option<String> {
     } = limits;
     let mut text = format!(in alloc;
         "tape_limit = {tape}\nqueue = {queue}\ndesks = {desks}\nfeeds = {feeds}\n"
-    ).ok()?;
+    ).expect(rt, "memory");
     for part in 0..feeds.saturating_mul(2) {
-        add_participant(alloc, &mut text, part)?;
+        add_participant(rt, alloc, &mut text, part);
     }
     text.push_str("[[symbol]]\nname = \"ABC\"\nlot = 100\n[[symbol]]\nname = \"PNY\"\nlot = 100\n")
-        .ok()?;
-    Some(text)
+        .expect(rt, "memory");
+    text
 }
 
 /// Adds the participant at a place to a setup.
-fn add_participant(alloc: Global, text: &mut String, part: u8) -> Option<()> {
+fn add_participant<R: Abort>(rt: &R, alloc: Global, text: &mut String, part: u8) {
     let name = part_name(part);
     let letters = ["A", "B", "C", "D", "E", "F", "G", "H"];
-    let letter: &str = *letters.get(usize::from(part / 2))?;
+    let letter: &str = *letters.get(usize::from(part / 2)).expect(rt, "a feed");
     let fee = u32::from(part).wrapping_mul(100_000);
     let entry = format!(in alloc;
         "[[participant]]\nname = \"{name}\"\nfeed = \"{letter}\"\nfee = {fee}\nrate = 300\n"
-    ).ok()?;
-    text.push_str(entry.as_str()).ok()
+    ).expect(rt, "memory");
+    text.push_str(entry.as_str()).expect(rt, "memory");
 }
 
 /// What is wrong with the result of a run, or nothing.
@@ -175,54 +177,54 @@ fn judged(
 }
 
 /// Draws a run and makes it: what is wrong with its result, or nothing.
-fn try_run<R: Threads + Wait + Sync>(
+fn try_run<R: Threads + Wait + Abort + Sync>(
     rt: &R,
     alloc: Global,
     chance: &mut Chance,
-) -> Option<&'static str> {
+) -> &'static str {
     let limits = drawn_limits(chance);
-    let sent = drawn_feeds(alloc, chance, limits.feeds)?;
+    let sent = drawn_feeds(rt, alloc, chance, limits.feeds);
     try_feeds(rt, alloc, chance, limits, &sent)
 }
 
 /// Draws the orders and the gate, and makes the run.
-fn try_feeds<R: Threads + Wait + Sync>(
+fn try_feeds<R: Threads + Wait + Abort + Sync>(
     rt: &R,
     alloc: Global,
     chance: &mut Chance,
     limits: Limits,
     sent: &[Sent],
-) -> Option<&'static str> {
-    let table = drawn_orders(alloc, chance, limits.desks)?;
+) -> &'static str {
+    let table = drawn_orders(rt, alloc, chance, limits.desks);
     let pace = u64::from(chance.draw() % 12);
     try_orders(rt, alloc, limits, sent, &table, pace)
 }
 
 /// Makes the run over the text of a setup of these limits.
-fn try_orders<R: Threads + Wait + Sync>(
+fn try_orders<R: Threads + Wait + Abort + Sync>(
     rt: &R,
     alloc: Global,
     limits: Limits,
     sent: &[Sent],
     table: &[Wanted],
     pace: u64,
-) -> Option<&'static str> {
-    let setup = setup_of(alloc, limits)?;
+) -> &'static str {
+    let setup = setup_of(rt, alloc, limits);
     let due = due(sent, u64::from(limits.tape));
     try_under(rt, alloc, setup.as_str(), sent, table, pace, due)
 }
 
 /// The texts of the feeds.
-fn texts_of<'s>(alloc: Global, sent: &'s [Sent]) -> Option<Vec<&'s [u8]>> {
+fn texts_of<'s, R: Abort>(rt: &R, alloc: Global, sent: &'s [Sent]) -> Vec<&'s [u8]> {
     let mut texts = Vec::new(alloc);
     for own in sent {
-        texts.push(own.text.as_slice()).ok()?;
+        texts.push(own.text.as_slice()).expect(rt, "memory");
     }
-    Some(texts)
+    texts
 }
 
 /// Makes the run over a setup's text: what is wrong with its result, if this fault has to end it.
-fn try_under<R: Threads + Wait + Sync>(
+fn try_under<R: Threads + Wait + Abort + Sync>(
     rt: &R,
     alloc: Global,
     setup: &str,
@@ -230,15 +232,15 @@ fn try_under<R: Threads + Wait + Sync>(
     table: &[Wanted],
     pace: u64,
     due: Option<LiveFault>,
-) -> Option<&'static str> {
+) -> &'static str {
     let gate = Paced {
         sent: AtomicU64::new(0),
         pace,
         all: all_of(sent),
     };
-    let texts = texts_of(alloc, sent)?;
-    let came_to = run(rt, alloc, setup, &texts, table, &gate)?;
-    Some(judged(alloc, setup, sent, table, &came_to, due))
+    let texts = texts_of(rt, alloc, sent);
+    let came_to = run(rt, alloc, setup, &texts, table, &gate);
+    judged(alloc, setup, sent, table, &came_to, due)
 }
 
 /// 200 runs of one to eight feeds: the result of each equals that of a plain slow program.
@@ -247,6 +249,6 @@ fn runs_drawn_by_chance_come_to_what_their_feeds_say(rt: HostRuntime) {
     let mut chance = Chance { state: 611 };
     for number in 1..=200u32 {
         let told = try_run(&rt, rt.alloc(), &mut chance);
-        same(&rt, (number, told), (number, Some("")));
+        same(&rt, (number, told), (number, ""));
     }
 }

@@ -3,7 +3,8 @@ use crate::chance::Chance;
 use nms_lines::LineFault;
 use nms_quote::{Change, Feed, Part, QState, SideQuote, Sym};
 use nms_units::{Lot, Price, Shares};
-use std::alloc::Global;
+use std::alloc::{AllocError, Global};
+use std::process::Abort;
 
 /// A record in numbers. For each side: the cents over 10 dollars, below 10, and the shares; for a new round lot: its place
 /// among those that are drawn.
@@ -65,6 +66,7 @@ fn lot_of(place: u32) -> (u16, &'static str) {
     }
 }
 
+/// A state, and the field that says it.
 fn state_of(state: u32) -> (QState, &'static str) {
     match state {
         0..=5 => (QState::Automated, "A"),
@@ -73,6 +75,7 @@ fn state_of(state: u32) -> (QState, &'static str) {
     }
 }
 
+/// What is quoted on a side.
 fn side_of((cents, shares): (u32, u32)) -> Option<SideQuote> {
     let price = cents.wrapping_mul(100).wrapping_add(100_000);
     SideQuote::new(Price::new(u64::from(price))?, Shares::new(shares)?)
@@ -108,6 +111,7 @@ const NAMES: [&str; 16] = [
     "N", "P", "Y", "Z", "A", "B", "C", "D", "J", "K", "M", "Q", "T", "U", "V", "X",
 ];
 
+/// The name of the participant at a place.
 pub(crate) fn part_name(part: u8) -> &'static str {
     match NAMES.get(usize::from(part)) {
         Some(name) => *name,
@@ -115,33 +119,41 @@ pub(crate) fn part_name(part: u8) -> &'static str {
     }
 }
 
+/// The name of one of the two symbols.
+fn sym_name(sym: u16) -> &'static str {
+    if sym == 0 { "ABC" } else { "PNY" }
+}
+
 /// The two fields of a side.
-fn side_text(alloc: Global, (cents, shares): (u32, u32)) -> Option<String> {
+fn side_text<R: Abort>(rt: &R, alloc: Global, (cents, shares): (u32, u32)) -> String {
     if shares == 0 {
-        String::from_str(alloc, ",").ok()
+        String::from_str(alloc, ",").expect(rt, "memory")
     } else {
-        format!(in alloc; "10.0{cents},{shares}").ok()
+        format!(in alloc; "10.0{cents},{shares}").expect(rt, "memory")
     }
 }
 
-/// The record as a text.
-fn record_text(alloc: Global, record: &Record) -> Option<String> {
-    let part = part_name(record.part);
-    let sym = if record.sym == 0 { "ABC" } else { "PNY" };
+/// A quotation as a text.
+fn quote_text<R: Abort>(rt: &R, alloc: Global, record: &Record) -> Result<String, AllocError> {
+    let (part, sym) = (part_name(record.part), sym_name(record.sym));
     let (_, state) = state_of(record.state);
-    match record.kind {
-        0 => format!(in alloc; "X,{part}").ok(),
-        1 | 2 => format!(in alloc; "S,{part},{sym},{state}").ok(),
-        16 | 17 => {
-            let (_, fields) = lot_of(record.lot);
-            format!(in alloc; "R,{sym},{fields}").ok()
-        }
-        _ => {
-            let bid = side_text(alloc, record.bid)?;
-            let offer = side_text(alloc, record.offer)?;
-            format!(in alloc; "Q,{part},{sym},{state},{bid},{offer}").ok()
-        }
-    }
+    let bid = side_text(rt, alloc, record.bid);
+    let offer = side_text(rt, alloc, record.offer);
+    format!(in alloc; "Q,{part},{sym},{state},{bid},{offer}")
+}
+
+/// The record as a text.
+fn record_text<R: Abort>(rt: &R, alloc: Global, record: &Record) -> String {
+    let (part, sym) = (part_name(record.part), sym_name(record.sym));
+    let (_, state) = state_of(record.state);
+    let (_, lot) = lot_of(record.lot);
+    let text = match record.kind {
+        0 => format!(in alloc; "X,{part}"),
+        1 | 2 => format!(in alloc; "S,{part},{sym},{state}"),
+        16 | 17 => format!(in alloc; "R,{sym},{lot}"),
+        _ => quote_text(rt, alloc, record),
+    };
+    text.expect(rt, "memory")
 }
 
 /// A record that is refused: the text before the participant, whether it is of the feed, the text after, and the fault.
@@ -190,15 +202,16 @@ fn named(feed: Feed, is_own: bool) -> &'static str {
 }
 
 /// A refused record as a text, and its fault.
-fn refused_text(alloc: Global, number: u32, feed: Feed) -> Option<(String, LineFault)> {
+fn refused_text<R: Abort>(rt: &R, alloc: Global, number: u32, feed: Feed) -> (String, LineFault) {
     if number > 10 {
         let (text, fault) = refused_lot(number, feed);
-        return Some((String::from_str(alloc, text).ok()?, fault));
+        (String::from_str(alloc, text).expect(rt, "memory"), fault)
+    } else {
+        let (front, is_own, behind, fault) = refused(number);
+        let part = named(feed, is_own);
+        let text = format!(in alloc; "{front}{part}{behind}");
+        (text.expect(rt, "memory"), fault)
     }
-    let (front, is_own, behind, fault) = refused(number);
-    let part = named(feed, is_own);
-    let text = format!(in alloc; "{front}{part}{behind}").ok()?;
-    Some((text, fault))
 }
 
 /// A feed's text, the changes that it says up to the first record that is refused, and why that one is.
@@ -210,50 +223,49 @@ pub(crate) struct Sent {
 }
 
 /// Adds a record and the end of its line.
-fn add_line(text: &mut Vec<u8>, line: &str, end: u32) -> Option<()> {
+fn add_line<R: Abort>(rt: &R, text: &mut Vec<u8>, line: &str, end: u32) {
     let end = match end {
         0 => "\r\n",
         1 => "\n\n",
         _ => "\n",
     };
-    text.extend_from_slice(line.as_bytes()).ok()?;
-    text.extend_from_slice(end.as_bytes()).ok()
+    text.extend_from_slice(line.as_bytes()).expect(rt, "memory");
+    text.extend_from_slice(end.as_bytes()).expect(rt, "memory");
 }
 
 /// Adds a record of the feed.
-fn add_record(alloc: Global, chance: &mut Chance, feed: Feed, sent: &mut Sent) -> Option<()> {
+fn add_record<R: Abort>(rt: &R, alloc: Global, chance: &mut Chance, feed: Feed, sent: &mut Sent) {
     let record = drawn_record(chance, feed);
-    let line = record_text(alloc, &record)?;
-    add_line(&mut sent.text, line.as_str(), chance.draw() % 8)?;
+    let line = record_text(rt, alloc, &record);
+    add_line(rt, &mut sent.text, line.as_str(), chance.draw() % 8);
     if sent.fault.is_none() {
         // The prover has to see the types of a change before the change moves, so the code mentions them.
         let _seen: (Option<SideQuote>, Option<Lot>) = (None, None);
-        let change = change_of(&record)?;
-        sent.changes.push(change).ok()?;
+        let change = change_of(&record).expect(rt, "a change");
+        sent.changes.push(change).expect(rt, "memory");
     }
-    Some(())
 }
 
 /// Adds a record that is refused. If there is only one feed, no record is of another.
-fn add_refused(
+fn add_refused<R: Abort>(
+    rt: &R,
     alloc: Global,
     chance: &mut Chance,
     feed: Feed,
     is_alone: bool,
     sent: &mut Sent,
-) -> Option<()> {
+) {
     let number = chance.draw() % 18;
     let number = if is_alone && number >= 8 && number <= 10 {
         number.wrapping_sub(8)
     } else {
         number
     };
-    let (line, fault) = refused_text(alloc, number, feed)?;
-    add_line(&mut sent.text, line.as_str(), chance.draw() % 8)?;
+    let (line, fault) = refused_text(rt, alloc, number, feed);
+    add_line(rt, &mut sent.text, line.as_str(), chance.draw() % 8);
     if sent.fault.is_none() {
         sent.fault = Some(fault);
     }
-    Some(())
 }
 
 /// How many records a feed has.
@@ -267,7 +279,7 @@ fn drawn_count(chance: &mut Chance) -> u32 {
 }
 
 /// What a feed sends. A third of the feeds have refused records, and fewer do if there are many feeds.
-fn drawn_feed(alloc: Global, chance: &mut Chance, feed: Feed, feeds: u8) -> Option<Sent> {
+fn drawn_feed<R: Abort>(rt: &R, alloc: Global, chance: &mut Chance, feed: Feed, feeds: u8) -> Sent {
     let mut sent = Sent {
         text: Vec::new(alloc),
         changes: Vec::new(alloc),
@@ -281,20 +293,26 @@ fn drawn_feed(alloc: Global, chance: &mut Chance, feed: Feed, feeds: u8) -> Opti
         != 0;
     for _ in 0..count {
         if is_sound || chance.draw() % 16 != 0 {
-            add_record(alloc, chance, feed, &mut sent)?;
+            add_record(rt, alloc, chance, feed, &mut sent);
         } else {
-            add_refused(alloc, chance, feed, feeds == 1, &mut sent)?;
+            add_refused(rt, alloc, chance, feed, feeds == 1, &mut sent);
         }
     }
-    Some(sent)
+    sent
 }
 
 /// What each of that many feeds sends.
-pub(crate) fn drawn_feeds(alloc: Global, chance: &mut Chance, feeds: u8) -> Option<Vec<Sent>> {
+pub(crate) fn drawn_feeds<R: Abort>(
+    rt: &R,
+    alloc: Global,
+    chance: &mut Chance,
+    feeds: u8,
+) -> Vec<Sent> {
     let mut all = Vec::new(alloc);
     for place in 0..feeds {
-        let sent = drawn_feed(alloc, chance, Feed::at(place)?, feeds)?;
-        all.push(sent).ok()?;
+        let feed = Feed::at(place).expect(rt, "a feed");
+        let sent = drawn_feed(rt, alloc, chance, feed, feeds);
+        all.push(sent).expect(rt, "memory");
     }
-    Some(all)
+    all
 }

@@ -9,11 +9,10 @@ use nms_quote::{Change, Feed};
 use std::alloc::Global;
 use std::process::Abort;
 use std::sync::Wait;
-use std::test::Fail;
 use std::thread::Threads;
 
 /// The worked run's participants, of which N, P, Y and Z are on these feeds.
-fn worked_setup(alloc: Global, feeds: u8, letters: [&str; 4]) -> Option<String> {
+fn worked_setup<R: Abort>(rt: &R, alloc: Global, feeds: u8, letters: [&str; 4]) -> String {
     let [n, p, y, z] = letters;
     format!(in alloc;
         "tape_limit = 1000\nqueue = 16\ndesks = 2\nfeeds = {feeds}\n
@@ -23,19 +22,19 @@ fn worked_setup(alloc: Global, feeds: u8, letters: [&str; 4]) -> Option<String> 
 [[participant]]\nname = \"Z\"\nfeed = \"{z}\"\nfee = 3000000\nrate = 300\n
 [[symbol]]\nname = \"ABC\"\nlot = 100\n[[symbol]]\nname = \"PNY\"\nlot = 100\n"
     )
-    .ok()
+    .expect(rt, "memory")
 }
 
 /// The worked run over these feeds.
-fn run_worked<R: Threads + Wait + Sync>(
+fn run_worked<R: Threads + Wait + Abort + Sync>(
     rt: &R,
     alloc: Global,
     feeds: &[&[u8]],
     letters: [&str; 4],
-) -> Option<Live> {
-    let count = u8::try_from(feeds.len()).ok()?;
-    let setup = worked_setup(alloc, count, letters)?;
-    run(rt, alloc, setup.as_str(), feeds, &[order()], &OpenGate)?.ok()
+) -> Live {
+    let count = u8::try_from(feeds.len()).expect(rt, "at most eight feeds");
+    let setup = worked_setup(rt, alloc, count, letters);
+    run(rt, alloc, setup.as_str(), feeds, &[order()], &OpenGate).expect(rt, "a run")
 }
 
 /// The place in the tape of a participant's first change.
@@ -49,13 +48,10 @@ const OF_Y: &[u8] = b"Q,Y,ABC,A,,,10.01,200\n";
 const OF_Z: &[u8] = b"Q,Z,ABC,A,,,10.02,100\n";
 
 #[test]
-fn three_feeds_come_to_one_tape(rt: HostRuntime) -> Result<(), Fail> {
+fn three_feeds_come_to_one_tape(rt: HostRuntime) {
     let feeds = [feed_a(), OF_Y, OF_Z];
-    match run_worked(&rt, rt.alloc(), &feeds, ["A", "A", "B", "C"]) {
-        Some(live) => compare_three(&rt, rt.alloc(), &live),
-        None => return Err("a run")?,
-    }
-    Ok(())
+    let live = run_worked(&rt, rt.alloc(), &feeds, ["A", "A", "B", "C"]);
+    compare_three(&rt, rt.alloc(), &live);
 }
 
 /// Compares the result of three feeds.
@@ -68,14 +64,11 @@ fn compare_three<R: Abort>(rt: &R, alloc: Global, live: &Live) {
 }
 
 #[test]
-fn one_feed_is_the_tape(rt: HostRuntime) -> Result<(), Fail> {
+fn one_feed_is_the_tape(rt: HostRuntime) {
     let all: &[u8] =
         b"Q,N,ABC,A,,,10.00,300\nQ,P,ABC,A,,,10.00,500\nQ,Y,ABC,A,,,10.01,200\nQ,Z,ABC,A,,,10.02,100\n";
-    match run_worked(&rt, rt.alloc(), &[all], ["A", "A", "A", "A"]) {
-        Some(live) => compare_one(&rt, rt.alloc(), &live),
-        None => return Err("a run")?,
-    }
-    Ok(())
+    let live = run_worked(&rt, rt.alloc(), &[all], ["A", "A", "A", "A"]);
+    compare_one(&rt, rt.alloc(), &live);
 }
 
 /// Compares the result of one feed.
@@ -89,14 +82,11 @@ fn compare_one<R: Abort>(rt: &R, alloc: Global, live: &Live) {
 }
 
 #[test]
-fn eight_feeds_of_which_six_send_nothing(rt: HostRuntime) -> Result<(), Fail> {
+fn eight_feeds_of_which_six_send_nothing(rt: HostRuntime) {
     let none: &[u8] = b"";
     let feeds = [feed_a(), feed_b(), none, none, none, none, none, none];
-    match run_worked(&rt, rt.alloc(), &feeds, ["A", "A", "B", "B"]) {
-        Some(live) => compare_eight(&rt, rt.alloc(), &live),
-        None => return Err("a run")?,
-    }
-    Ok(())
+    let live = run_worked(&rt, rt.alloc(), &feeds, ["A", "A", "B", "B"]);
+    compare_eight(&rt, rt.alloc(), &live);
 }
 
 /// Compares the result of eight feeds.
@@ -107,13 +97,13 @@ fn compare_eight<R: Abort>(rt: &R, alloc: Global, live: &Live) {
 }
 
 /// The fault of a run of eight feeds, some of which send a record that is refused.
-fn fault_of<R: Threads + Wait + Sync>(
+fn fault_of<R: Threads + Wait + Abort + Sync>(
     rt: &R,
     alloc: Global,
     feeds: &[&[u8]; 8],
 ) -> Option<LiveFault> {
-    let setup = worked_setup(alloc, 8, ["A", "C", "E", "H"])?;
-    run(rt, alloc, setup.as_str(), feeds, &[order()], &OpenGate)?.err()
+    let setup = worked_setup(rt, alloc, 8, ["A", "C", "E", "H"]);
+    run(rt, alloc, setup.as_str(), feeds, &[order()], &OpenGate).err()
 }
 
 #[test]
@@ -135,14 +125,14 @@ fn of_the_feeds_that_are_refused_the_first_is_named(rt: HostRuntime) {
 }
 
 /// The text of a feed of that many changes of one participant.
-fn changes_of(alloc: Global, part: &str, count: u32) -> Option<Vec<u8>> {
+fn changes_of<R: Abort>(rt: &R, alloc: Global, part: &str, count: u32) -> Vec<u8> {
     let mut text = Vec::new(alloc);
     for number in 0..count {
         let cents = number % 10;
-        let line = format!(in alloc; "Q,{part},ABC,A,,,10.0{cents},300\n").ok()?;
-        text.extend_from_slice(line.as_bytes()).ok()?;
+        let line = format!(in alloc; "Q,{part},ABC,A,,,10.0{cents},300\n").expect(rt, "memory");
+        text.extend_from_slice(line.as_bytes()).expect(rt, "memory");
     }
-    Some(text)
+    text
 }
 
 /// Lets no feed go on before its last change was published: so each change is published alone, or nearly so.
@@ -169,39 +159,51 @@ impl Gate for Stepped {
 }
 
 /// An order of each of 16 desks.
-fn orders_of_all(alloc: Global) -> Option<Vec<Wanted>> {
+fn orders_of_all<R: Abort>(rt: &R, alloc: Global) -> Vec<Wanted> {
     let mut table = Vec::new(alloc);
     for desk in 0..16u8 {
         let mut wanted = order();
         wanted.desk = desk;
-        table.push(wanted).ok()?;
+        table.push(wanted).expect(rt, "memory");
     }
-    Some(table)
+    table
+}
+
+/// The texts of eight feeds of that many changes each.
+fn texts_of_all<R: Abort>(rt: &R, alloc: Global, each: u32) -> Vec<Vec<u8>> {
+    let mut texts = Vec::new(alloc);
+    for name in ["N", "Y", "A", "C", "J", "M", "T", "V"] {
+        let text = changes_of(rt, alloc, name, each);
+        texts.push(text).expect(rt, "memory");
+    }
+    texts
 }
 
 /// A run of eight feeds and 16 desks, in which each feed sends that many changes.
-fn run_all<R: Threads + Wait + Sync>(rt: &R, alloc: Global, each: u32) -> Option<Live> {
+fn run_all<R: Threads + Wait + Abort + Sync>(rt: &R, alloc: Global, each: u32) -> Live {
     let limits = Limits {
         tape: 100_000,
         queue: 8,
         desks: 16,
         feeds: 8,
     };
-    let setup = setup_of(alloc, limits)?;
-    let names = ["N", "Y", "A", "C", "J", "M", "T", "V"];
-    let mut texts = Vec::new(alloc);
-    for name in names {
-        texts.push(changes_of(alloc, name, each)?).ok()?;
-    }
-    let mut feeds = Vec::new(alloc);
-    for text in &texts {
-        feeds.push(text.as_slice()).ok()?;
-    }
-    let table = orders_of_all(alloc)?;
+    let setup = setup_of(rt, alloc, limits);
+    let texts = texts_of_all(rt, alloc, each);
+    let feeds = slices_of(rt, alloc, &texts);
+    let table = orders_of_all(rt, alloc);
     let gate = Stepped {
         published: std::sync::atomic::AtomicU64::new(0),
     };
-    run(rt, alloc, setup.as_str(), &feeds, &table, &gate)?.ok()
+    run(rt, alloc, setup.as_str(), &feeds, &table, &gate).expect(rt, "a run")
+}
+
+/// Each text as bytes.
+fn slices_of<'t, R: Abort>(rt: &R, alloc: Global, texts: &'t [Vec<u8>]) -> Vec<&'t [u8]> {
+    let mut slices = Vec::new(alloc);
+    for text in texts {
+        slices.push(text.as_slice()).expect(rt, "memory");
+    }
+    slices
 }
 
 /// Compares a run of eight feeds and 16 desks with the expected result.
@@ -217,12 +219,7 @@ fn compare_all<R: Abort>(rt: &R, live: &Live, each: u32) {
 }
 
 #[test]
-fn eight_feeds_and_sixteen_desks_while_a_thousand_versions_are_published(
-    rt: HostRuntime,
-) -> Result<(), Fail> {
-    match run_all(&rt, rt.alloc(), 1100) {
-        Some(live) => compare_all(&rt, &live, 1100),
-        None => return Err("a run")?,
-    }
-    Ok(())
+fn eight_feeds_and_sixteen_desks_while_a_thousand_versions_are_published(rt: HostRuntime) {
+    let live = run_all(&rt, rt.alloc(), 1100);
+    compare_all(&rt, &live, 1100);
 }

@@ -8,7 +8,6 @@ use std::alloc::Global;
 use std::process::Abort;
 use std::sync::Wait;
 use std::sync::atomic::{AtomicBool, AtomicU64, Ordering};
-use std::test::Fail;
 use std::thread;
 use std::thread::Threads;
 
@@ -35,19 +34,19 @@ impl Gate for Counting {
 }
 
 /// A run through a lane of 16.
-fn run_small<R: Threads + Wait + Sync, G: Gate>(
+fn run_small<R: Threads + Wait + Abort + Sync, G: Gate>(
     rt: &R,
     alloc: Global,
     feeds: &[&[u8]],
     table: &[Wanted],
     gate: &G,
-) -> Option<Live> {
-    let setup = setup_text(alloc, 1000, 16, 2)?;
-    run(rt, alloc, setup.as_str(), feeds, table, gate)?.ok()
+) -> Live {
+    let setup = setup_text(rt, alloc, 1000, 16, 2);
+    run(rt, alloc, setup.as_str(), feeds, table, gate).expect(rt, "a run")
 }
 
 #[test]
-fn closing_looks_do_not_pass_the_gate(rt: HostRuntime) -> Result<(), Fail> {
+fn closing_looks_do_not_pass_the_gate(rt: HostRuntime) {
     let gate = Counting {
         asked: AtomicU64::new(0),
         told: AtomicU64::new(0),
@@ -55,11 +54,8 @@ fn closing_looks_do_not_pass_the_gate(rt: HostRuntime) -> Result<(), Fail> {
     let mut other = order();
     other.desk = 1;
     let table = [order(), other, order()];
-    match run_small(&rt, rt.alloc(), &[FIVE, b""], &table, &gate) {
-        Some(live) => compare_counts(&rt, &gate, &live),
-        None => return Err("a run")?,
-    }
-    Ok(())
+    let live = run_small(&rt, rt.alloc(), &[FIVE, b""], &table, &gate);
+    compare_counts(&rt, &gate, &live);
 }
 
 /// Compares how many answers there are, and how many calls came before and after looks.
@@ -90,10 +86,12 @@ fn make_relay() -> Relay {
     }
 }
 
+/// Whether a flag is set.
 fn is_set(flag: &AtomicBool) -> bool {
     flag.load(Ordering::SeqCst)
 }
 
+/// Sets a flag.
 fn set(flag: &AtomicBool) {
     flag.store(true, Ordering::SeqCst);
 }
@@ -141,13 +139,10 @@ impl Gate for Relay {
 }
 
 #[test]
-fn a_gate_is_told_of_what_was_made(rt: HostRuntime) -> Result<(), Fail> {
+fn a_gate_is_told_of_what_was_made(rt: HostRuntime) {
     let gate = make_relay();
-    match run_small(&rt, rt.alloc(), &[FIVE, b""], &[order()], &gate) {
-        Some(live) => compare_relayed(&rt, &gate, &live.answers),
-        None => return Err("a run")?,
-    }
-    Ok(())
+    let live = run_small(&rt, rt.alloc(), &[FIVE, b""], &[order()], &gate);
+    compare_relayed(&rt, &gate, &live.answers);
 }
 
 /// The first send was taken and published while the feed waited; the look showed it, and not the second one, while

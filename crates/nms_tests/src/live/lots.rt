@@ -9,7 +9,6 @@ use std::alloc::Global;
 use std::process::Abort;
 use std::sync::Wait;
 use std::sync::atomic::{AtomicU64, Ordering};
-use std::test::Fail;
 use std::thread::Threads;
 
 /// Lets feed A and a desk take turns: each look is made on what was published after one change more.
@@ -47,13 +46,13 @@ const FEED: &[u8] =
     b"Q,N,ABC,A,,,10.00,290\nQ,P,ABC,A,,,10.00,250\nR,ABC,40\nR,ABC,300\nR,PNY,1\nR,ABC,AVG,10000.0000\n";
 
 /// The result of a run over that feed, with an order for each of its changes.
-fn run_lots<R: Threads + Wait + Sync>(rt: &R, alloc: Global) -> Option<Live> {
+fn run_lots<R: Threads + Wait + Abort + Sync>(rt: &R, alloc: Global) -> Live {
     let gate = Turns {
         looked: AtomicU64::new(0),
         published: AtomicU64::new(0),
     };
     let table: [Wanted; 6] = [order(), order(), order(), order(), order(), order()];
-    run(rt, alloc, SETUP_K, &[FEED, b""], &table, &gate)?.ok()
+    run(rt, alloc, SETUP_K, &[FEED, b""], &table, &gate).expect(rt, "a run")
 }
 
 /// The shares of a leg to the participant at a place, and 0 if there is none.
@@ -89,10 +88,7 @@ fn compare_lots<R: Abort>(rt: &R, live: &Live) {
 }
 
 #[test]
-fn a_desk_plans_on_the_round_lot_that_is_published(rt: HostRuntime) -> Result<(), Fail> {
-    match run_lots(&rt, rt.alloc()) {
-        Some(live) => compare_lots(&rt, &live),
-        None => return Err("a run")?,
-    }
-    Ok(())
+fn a_desk_plans_on_the_round_lot_that_is_published(rt: HostRuntime) {
+    let live = run_lots(&rt, rt.alloc());
+    compare_lots(&rt, &live);
 }

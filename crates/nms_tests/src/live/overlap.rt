@@ -8,7 +8,6 @@ use nms_quote::Feed;
 use std::alloc::Global;
 use std::process::Abort;
 use std::sync::atomic::{AtomicBool, Ordering};
-use std::test::Fail;
 use std::thread;
 
 /// A place where a thread waits for the others.
@@ -141,12 +140,10 @@ fn compare_overlap<R: Abort>(rt: &R, alloc: Global, gate: &Overlap, live: &Live)
 }
 
 #[test]
-fn feed_and_desk_overlap(rt: HostRuntime) -> Result<(), Fail> {
+fn feed_and_desk_overlap(rt: HostRuntime) {
     let gate = make_gate();
     let feeds = [feed_a(), feed_b()];
-    match run(&rt, rt.alloc(), SETUP_K, &feeds, &[order(), order()], &gate) {
-        Some(Ok(live)) => compare_overlap(&rt, rt.alloc(), &gate, &live),
-        _ => return Err("no run")?,
-    }
-    Ok(())
+    let came_to = run(&rt, rt.alloc(), SETUP_K, &feeds, &[order(), order()], &gate);
+    let live = came_to.expect(&rt, "a run");
+    compare_overlap(&rt, rt.alloc(), &gate, &live);
 }

@@ -4,9 +4,9 @@ use crate::same::same;
 use nms_live::{Gate, GatePoint};
 use nms_quote::Feed;
 use std::alloc::Global;
+use std::process::Abort;
 use std::sync::Wait;
 use std::sync::atomic::{AtomicBool, Ordering};
-use std::test::Fail;
 use std::thread::Threads;
 
 /// Holds the taker at its first publishing, with one change taken, until feed A has sent that many more.
@@ -49,52 +49,49 @@ impl Gate for Held {
 }
 
 /// That many changes of one participant.
-fn changes(alloc: Global, count: u64) -> Option<Vec<u8>> {
+fn changes<R: Abort>(rt: &R, alloc: Global, count: u64) -> Vec<u8> {
     let mut text = Vec::new(alloc);
     for _ in 0..count {
         let record = b"Q,N,ABC,A,,,10.00,100\n".as_slice();
-        text.extend_from_slice(record).ok()?;
+        text.extend_from_slice(record).expect(rt, "memory");
     }
-    Some(text)
+    text
 }
 
 /// The publishings if feed A sends one change and then more, all of these while the taker is held, through a lane of that
 /// capacity.
-fn published<R: Threads + Wait + Sync>(
+fn published<R: Threads + Wait + Abort + Sync>(
     rt: &R,
     alloc: Global,
     queue: u32,
     more: u64,
 ) -> Option<Vec<u64>> {
-    let setup = setup_text(alloc, 2000, queue, 1)?;
+    let setup = setup_text(rt, alloc, 2000, queue, 1);
     published_under(rt, alloc, setup.as_str(), more)
 }
 
 /// As above, over a setup's text.
-fn published_under<R: Threads + Wait + Sync>(
+fn published_under<R: Threads + Wait + Abort + Sync>(
     rt: &R,
     alloc: Global,
     setup: &str,
     more: u64,
 ) -> Option<Vec<u64>> {
-    let text = changes(alloc, more.saturating_add(1))?;
+    let text = changes(rt, alloc, more.saturating_add(1));
     let gate = make_held(more);
     let feeds = [text.as_slice(), b"".as_slice()];
     match run(rt, alloc, setup, &feeds, &[], &gate) {
-        Some(Ok(live)) => Some(live.published),
-        _ => None,
+        Ok(live) => Some(live.published),
+        Err(_) => None,
     }
 }
 
 #[test]
-fn the_taker_publishes_behind_64_changes_and_where_the_lane_is_empty(
-    rt: HostRuntime,
-) -> Result<(), Fail> {
-    let lengths = published(&rt, rt.alloc(), 1024, 200).ok_or("a run")?;
+fn the_taker_publishes_behind_64_changes_and_where_the_lane_is_empty(rt: HostRuntime) {
+    let lengths = published(&rt, rt.alloc(), 1024, 200).expect(&rt, "a run");
     // The first change alone; 64 at a time of those in the lane; the 8 that were left; the end.
     let due = [1u64, 65, 129, 193, 201, 201];
     same(&rt, lengths.as_slice(), due.as_slice());
-    Ok(())
 }
 
 #[test]

@@ -8,7 +8,6 @@ use nms_quote::{Certificate, Change, Feed, Leg, Part, Plan, Roster};
 use std::alloc::Global;
 use std::process::Abort;
 use std::sync::Wait;
-use std::test::Fail;
 use std::thread::Threads;
 
 /// What N and P send.
@@ -131,25 +130,23 @@ fn compare_worked<R: Abort>(rt: &R, alloc: Global, live: &Live) {
 }
 
 #[test]
-fn the_worked_run_answers_on_the_whole_tape(rt: HostRuntime) -> Result<(), Fail> {
+fn the_worked_run_answers_on_the_whole_tape(rt: HostRuntime) {
     let feeds = [feed_a(), feed_b()];
-    match run(&rt, rt.alloc(), SETUP_K, &feeds, &[order()], &OpenGate) {
-        Some(Ok(live)) => compare_worked(&rt, rt.alloc(), &live),
-        _ => return Err("no run")?,
-    }
-    Ok(())
+    let came_to = run(&rt, rt.alloc(), SETUP_K, &feeds, &[order()], &OpenGate);
+    let live = came_to.expect(&rt, "a run");
+    compare_worked(&rt, rt.alloc(), &live);
 }
 
 /// The fault that ends a run over a setup of these limits, with the worked order.
-fn fault<R: Threads + Wait + Sync, G: Gate>(
+fn fault<R: Threads + Wait + Abort + Sync, G: Gate>(
     rt: &R,
     alloc: Global,
     limit: u32,
     feeds: &[&[u8]],
     gate: &G,
 ) -> Option<LiveFault> {
-    let setup = setup_text(alloc, limit, 2, 2)?;
-    run(rt, alloc, setup.as_str(), feeds, &[order()], gate)?.err()
+    let setup = setup_text(rt, alloc, limit, 2, 2);
+    run(rt, alloc, setup.as_str(), feeds, &[order()], gate).err()
 }
 
 #[test]
@@ -192,21 +189,21 @@ fn lengths_of(live: &Live) -> (usize, usize, usize, Option<u64>) {
 }
 
 /// The lengths of the tape and of the answers of a run through a lane of 2, with no order.
-fn lengths<R: Threads + Wait + Sync>(
+fn lengths<R: Threads + Wait + Abort + Sync>(
     rt: &R,
     alloc: Global,
     feeds: &[&[u8]],
-) -> Option<(usize, usize, usize, Option<u64>)> {
-    let setup = setup_text(alloc, 1000, 2, 2)?;
-    let live = run(rt, alloc, setup.as_str(), feeds, &[], &OpenGate)?.ok()?;
-    Some(lengths_of(&live))
+) -> (usize, usize, usize, Option<u64>) {
+    let setup = setup_text(rt, alloc, 1000, 2, 2);
+    let live = run(rt, alloc, setup.as_str(), feeds, &[], &OpenGate).expect(rt, "a run");
+    lengths_of(&live)
 }
 
 #[test]
 fn five_changes_go_through_a_lane_of_2_and_not_on_a_tape_of_4(rt: HostRuntime) {
     for (text, all) in [(FIVE, 5), (b"", 0)] {
         let told = lengths(&rt, rt.alloc(), &[text, b""]);
-        same(&rt, told, Some((all, 0, 0, Some(all as u64))));
+        same(&rt, told, (all, 0, 0, Some(all as u64)));
     }
     let told = fault(&rt, rt.alloc(), 4, &[FIVE, b""], &OpenGate);
     same(&rt, told, Some(LiveFault::Append));

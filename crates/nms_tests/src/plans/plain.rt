@@ -9,7 +9,7 @@ use nms_quote::{Certificate, Cut, CutKind, Leg, Order, OrderSide, Part, Plan, Si
 use nms_units::{Money, Price, Shares};
 
 /// A quotation that the order may trade with, and what a share costs there with its fee, in nanodollars.
-#[derive(Clone, Copy, Debug)]
+#[derive(Clone, Copy)]
 struct Offered {
     part: Part,
     price: Price,

@@ -3,13 +3,13 @@ use Rattle.nms_show.specs.Safe.{IsSafe, nothing}
 use Rattle.nms_show.proofs.Offered.{adds_none, safe_part, safe_then, writes_err}
 use Rattle.nms_drawing.proofs.scene.write_offers.Goals as goal
 
-pub loop-side-init : goal.loop-side-init
-loop-side-init g c = adds_none IsSafe (g.W.Write.contents c.args.answers.now) nothing
+pub loop-done-init : goal.loop-done-init
+loop-done-init g c = adds_none IsSafe (g.W.Write.contents c.args.answers.now) nothing
 
 pub returns-in_err-words-clause-safe : goal.returns-in_err-words-clause-safe
 returns-in_err-words-clause-safe g c =
     writes_err IsSafe _ _ c.from_residual.result c.from_residual.ensures.0
-    (safe_part _ _ _ c.loop-side.invariant c.in_err-words.ensures.safe)
+    (safe_part _ _ _ c.loop-done.invariant c.in_err-words.ensures.safe)
 
-pub loop-side-preserved : goal.loop-side-preserved
-loop-side-preserved g c = safe_then _ _ _ c.loop-side.invariant c.in_ok-words.ensures.safe
+pub loop-done-preserved : goal.loop-done-preserved
+loop-done-preserved g c = safe_then _ _ _ c.loop-done.invariant c.in_ok-words.ensures.safe

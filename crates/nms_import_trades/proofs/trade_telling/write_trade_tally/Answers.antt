@@ -6,10 +6,11 @@ use Rattle.nms_import_trades.proofs.trade_telling.write_trade_tally.Goals as goa
 
 pub returns-in_err-write_counts : goal.returns-in_err-write_counts
 returns-in_err-write_counts g c = record {
-  safe = writes_err IsSafe _ _ c.from_residual.result c.from_residual.ensures.0 (c.in_err-write_counts.ensures refl);
+  safe = writes_err IsSafe _ _ c.from_residual.result c.from_residual.ensures.0
+      (c.in_err-write_counts.ensures c.counts_of-counts.ensures);
 }
 
 pub returns : goal.returns
 returns g c = record {
-  safe = safe_writes c.line.result _ _ _ (c.in_ok-write_counts.ensures refl) (c.line.ensures refl);
+  safe = safe_writes c.line.result _ _ _ (c.in_ok-write_counts.ensures c.counts_of-counts.ensures) (c.line.ensures refl);
 }

@@ -2,7 +2,7 @@
 use Rattle.std.proofs.Common.{option_copied, subst}
 use Rattle.nms_quote.specs.Tape.{Tape}
 use Rattle.nms_drawing.specs.Days.{IsDayFault}
-use Rattle.nms_page.proofs.FaultFacts.{file_day}
+use Rattle.nms_drawing.proofs.Offered.{file_day}
 use Rattle.nms_page.proofs.on_picture.draw_executions.Goals as goal
 
 pub returns-clause-refused : goal.returns-clause-refused

@@ -7,40 +7,40 @@ use Rattle.nms_serve_words.proofs.Refusals.{among, exact, faultless, given_fault
 use Rattle.nms_serve_words.proofs.RightWords.{answered, only_memory}
 use Rattle.nms_serve_words.proofs.command_words.read_words.Goals as goal
 
-pub returns-in-Ok-clause-read : goal.returns-in-Ok-clause-read
-returns-in-Ok-clause-read c =
-    let command = c.in_ok-serve_command.ensures in
+pub returns-in-Ok-try_get_matches_from-clause-read : goal.returns-in-Ok-try_get_matches_from-clause-read
+returns-in-Ok-try_get_matches_from-clause-read c =
+    let command = c.in-Ok.ensures in
     let words = map (λ word. word.now) c.args.words.now in
-    let met = (c.in-Ok.ensures.matches (ap is_simple command ∙ simple)).0 ∙ ap (λ (a : App). matches_of a words) command in
+    let met = (c.in-Ok-try_get_matches_from.ensures.matches (ap is_simple command ∙ simple)).0 ∙ ap (λ (a : App). matches_of a words) command in
     subst (λ (rows : List Row). IfOk c.request_in.result (λ request. IsAsked (given_in rows) (shown request))) met c.request_in.ensures.read
 
-pub returns-in-Ok-clause-accepted : goal.returns-in-Ok-clause-accepted
-returns-in-Ok-clause-accepted c = IfOk-weaker c.request_in.result _ _
-    (λ _ _. faultless _ (map (λ word. word.now) c.args.words.now) c.in_ok-serve_command.ensures c.in-Ok.ensures.kinds)
+pub returns-in-Ok-try_get_matches_from-clause-accepted : goal.returns-in-Ok-try_get_matches_from-clause-accepted
+returns-in-Ok-try_get_matches_from-clause-accepted c = IfOk-weaker c.request_in.result _ _
+    (λ _ _. faultless _ (map (λ word. word.now) c.args.words.now) c.in-Ok.ensures c.in-Ok-try_get_matches_from.ensures.kinds)
     c.request_in.ensures.read
 
-pub returns-in-Ok-clause-refused : goal.returns-in-Ok-clause-refused
-returns-in-Ok-clause-refused c =
-    let command = c.in_ok-serve_command.ensures in
+pub returns-in-Ok-try_get_matches_from-clause-refused : goal.returns-in-Ok-try_get_matches_from-clause-refused
+returns-in-Ok-try_get_matches_from-clause-refused c =
+    let command = c.in-Ok.ensures in
     let words = map (λ word. word.now) c.args.words.now in
-    let met = (c.in-Ok.ensures.matches (ap is_simple command ∙ simple)).0 ∙ ap (λ (a : App). matches_of a words) command in
+    let met = (c.in-Ok-try_get_matches_from.ensures.matches (ap is_simple command ∙ simple)).0 ∙ ap (λ (a : App). matches_of a words) command in
     IfErr-weaker c.request_in.result _ _
-    (λ why is. given_fault words why (faultless _ words command c.in-Ok.ensures.kinds) is)
+    (λ why is. given_fault words why (faultless _ words command c.in-Ok-try_get_matches_from.ensures.kinds) is)
     (subst (λ (rows : List Row). IfErr c.request_in.result (IsFaultOf (given_in rows))) met c.request_in.ensures.refused)
 
-pub returns-in-Err-clause-refused : goal.returns-in-Err-clause-refused
-returns-in-Err-clause-refused c =
-    let command = c.in_ok-serve_command.ensures in
+pub returns-in-Err-try_get_matches_from-clause-refused : goal.returns-in-Err-try_get_matches_from-clause-refused
+returns-in-Err-try_get_matches_from-clause-refused c =
+    let command = c.in-Ok.ensures in
     let words = map (λ word. word.now) c.args.words.now in
-    let has = subst (λ (app : App). HasKind (fault_of app words) c.in-Err.error) command
-    (c.in-Err.ensures.kinds (ap is_simple_and_free command ∙ exact)) in
-    among words c.in-Err.error c.fault_of.result has c.fault_of.ensures.memory c.fault_of.ensures.refused
+    let has = subst (λ (app : App). HasKind (fault_of app words) c.in-Err-try_get_matches_from.error) command
+    (c.in-Err-try_get_matches_from.ensures.kinds (ap is_simple_and_free command ∙ exact)) in
+    among words c.in-Err-try_get_matches_from.error c.fault_of.result has c.fault_of.ensures.memory c.fault_of.ensures.refused
 
-pub returns-in-Ok-clause-answered : goal.returns-in-Ok-clause-answered
-returns-in-Ok-clause-answered c = λ asked none is.
+pub returns-in-Ok-try_get_matches_from-clause-answered : goal.returns-in-Ok-try_get_matches_from-clause-answered
+returns-in-Ok-try_get_matches_from-clause-answered c = λ asked none is.
     answered c.request_in.result (map (λ word. word.now) c.args.words.now) asked none is
-    (returns-in-Ok-clause-read c) (returns-in-Ok-clause-refused c)
+    (returns-in-Ok-try_get_matches_from-clause-read c) (returns-in-Ok-try_get_matches_from-clause-refused c)
 
-pub returns-in-Err-clause-answered : goal.returns-in-Err-clause-answered
-returns-in-Err-clause-answered c = λ asked none is.
-    only_memory (map (λ word. word.now) c.args.words.now) asked c.fault_of.result none is (returns-in-Err-clause-refused c)
+pub returns-in-Err-try_get_matches_from-clause-answered : goal.returns-in-Err-try_get_matches_from-clause-answered
+returns-in-Err-try_get_matches_from-clause-answered c = λ asked none is.
+    only_memory (map (λ word. word.now) c.args.words.now) asked c.fault_of.result none is (returns-in-Err-try_get_matches_from-clause-refused c)

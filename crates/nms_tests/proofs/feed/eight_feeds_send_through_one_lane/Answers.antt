@@ -5,7 +5,7 @@ use Rattle.nms_tests.proofs.feed.eight_feeds_send_through_one_lane.Goals as goal
 
 pub close-requires : goal.close-requires
 close-requires g c =
-    let all = c.in-Some.ensures.all in
+    let all = c.each_sends-senders.ensures.all in
     let kept = c.loop-shares.invariant in
     record {
       all = record {

@@ -6,7 +6,7 @@ use Rattle.nms_quote.specs.Roster.{Sizes, sizes_of}
 use Rattle.nms_quote.specs.Tape.{version}
 use Rattle.nms_board.specs.Cells.{Board, StandsFor}
 use Rattle.nms_trades.specs.Bests.{AreBests}
-use Rattle.nms_trades.proofs.AlongFacts.{along_first, along_more, ok_then, one_more}
+use Rattle.nms_trades.proofs.AlongFacts.{along_first, along_more, along_takes, ok_then, one_more}
 use Rattle.nms_trades.proofs.BestFacts.{bests_first}
 use Rattle.nms_trades.proofs.bests.bests_of.Goals as goal
 
@@ -43,3 +43,12 @@ loop-change-preserved c =
           (subst (λ (s : Sizes). AreBests s c.args.changes.now k c.loop-change.bests.items) (sym along.same)
           c.loop-change.invariant.bests)));
     }
+
+pub take_change-requires-clause-taken : goal.take_change-requires-clause-taken
+take_change-requires-clause-taken c =
+    along_takes (sizes_of c.args.roster.now) c.args.changes.now c.loop-change.board c.change-item.result c.loop-change.change-index
+    c.loop-change.invariant.at c.loop-change.invariant.moved c.requires.held c.requires.few c.loop-change-test.true c.change-item.is
+
+pub take_change-requires-clause-count : goal.take_change-requires-clause-count
+take_change-requires-clause-count c =
+    c.loop-change.invariant.count ∙ ap (λ (s : Sizes). length s.lots) (sym c.loop-change.invariant.at.same)

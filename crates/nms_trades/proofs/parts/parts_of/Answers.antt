@@ -7,7 +7,7 @@ use Rattle.nms_quote.specs.Tape.{version}
 use Rattle.nms_board.specs.Cells.{Board, StandsFor}
 use Rattle.nms_board.specs.declared.TheConstants.{MOST_ROWS}
 use Rattle.nms_trades.specs.Parts.{AreParts}
-use Rattle.nms_trades.proofs.AlongFacts.{along_first, along_more, ok_then, one_more}
+use Rattle.nms_trades.proofs.AlongFacts.{along_first, along_more, along_takes, ok_then, one_more}
 use Rattle.nms_trades.proofs.PartFacts.{parts_first}
 use Rattle.nms_trades.proofs.parts.parts_of.Goals as goal
 
@@ -46,3 +46,15 @@ loop-change-preserved c =
           (subst (λ (s : Sizes). AreParts s c.args.changes.now k c.loop-change.tracks.items) (sym along.same)
           c.loop-change.invariant.parts)));
     }
+
+pub take_change-requires-clause-count : goal.take_change-requires-clause-count
+take_change-requires-clause-count c =
+    c.loop-change.invariant.count ∙ ap (λ (s : Sizes). MOST_ROWS * length s.lots) (sym c.loop-change.invariant.at.same)
+
+pub returns-clause-count : goal.returns-clause-count
+returns-clause-count c = c.loop-change.invariant.count
+
+pub take_change-requires-clause-taken : goal.take_change-requires-clause-taken
+take_change-requires-clause-taken c =
+    along_takes (sizes_of c.args.roster.now) c.args.changes.now c.loop-change.board c.change-item.result c.loop-change.change-index
+    c.loop-change.invariant.at c.loop-change.invariant.moved c.requires.held c.requires.few c.loop-change-test.true c.change-item.is

@@ -1,0 +1,51 @@
+//! Texts that are read and lines that are added. What fails on the way is no more than failed.
+
+use crate::Failed;
+use std::fmt::{Debug, Display};
+use std::io::Write;
+use std::str;
+
+/// What a call gave, whatever the fault is if it failed.
+pub(crate) fn or_failed<V, E: Drop>(came_to: Result<V, E>) -> Result<V, Failed> {
+    match came_to {
+        Ok(value) => Ok(value),
+        Err(_) => Err(Failed),
+    }
+}
+
+/// A value that has to be there.
+pub(crate) fn some_or_failed<V>(found: Option<V>) -> Result<V, Failed> {
+    match found {
+        Some(value) => Ok(value),
+        None => Err(Failed),
+    }
+}
+
+/// Bytes as a text.
+pub(crate) fn text_of(bytes: &[u8]) -> Result<&str, Failed> {
+    or_failed(str::from_utf8(bytes))
+}
+
+/// What stands before the first such mark in a text, and what stands after it.
+pub(crate) fn around<'a>(text: &'a str, mark: &str) -> Result<(&'a str, &'a str), Failed> {
+    some_or_failed(text.split_once(mark))
+}
+
+/// Adds a line.
+pub(crate) fn tell(given: &mut Vec<u8>, text: impl Display + Drop) -> Result<(), Failed> {
+    or_failed(writeln!(given, "{text}"))
+}
+
+/// Adds a line of two values.
+pub(crate) fn tell_two(
+    given: &mut Vec<u8>,
+    first: impl Display + Drop,
+    second: impl Display + Drop,
+) -> Result<(), Failed> {
+    or_failed(writeln!(given, "{first} {second}"))
+}
+
+/// Adds a line with all the parts of a value.
+pub(crate) fn tell_debug(given: &mut Vec<u8>, value: impl Debug + Drop) -> Result<(), Failed> {
+    or_failed(writeln!(given, "{value:?}"))
+}

@@ -1,0 +1,31 @@
+//! Places in a record: `specs/Looks`.
+ghost use Rattle.std.specs.Prelude.{◌≡◌};
+
+use super::field_name::FieldName;
+
+/// A field of a record.
+#[derive(Clone, Copy)]
+pub(crate) struct FieldPlace {
+    /// How many fields stand before it.
+    pub(crate) place: usize,
+    /// What it is called.
+    pub(crate) name: FieldName,
+}
+
+impl FieldPlace {
+    /// The field of that name after that many others.
+    pub(crate) fn at(place: usize, name: FieldName) -> Self
+        ensures { result ≡ record { place = place; name = name } }
+    {
+        FieldPlace { place, name }
+    }
+}
+
+/// What a fault of a record is about.
+#[derive(Clone, Copy)]
+pub(crate) enum Place {
+    /// The record as a whole: it has another number of fields than its kind.
+    Count,
+    /// One of its fields.
+    Field(FieldPlace),
+}

@@ -1,0 +1,131 @@
+//! A walk over the records of a plan's text: which record is due, and what is wrong with the one that came
+//! (`specs/PlanFields`, `specs/PlanOrder`).
+ghost use Rattle.std.specs.Prelude.{◌≡◌, ◌+◌, ◌++◌, ◌∷◌, [], List, Some, None, min};
+ghost use Rattle.csv.specs.Records.{fields_of};
+ghost use Rattle.nms_lines.specs.Layout.{Record};
+ghost use Rattle.nms_explain.specs.PlanFields.{due_place, later_place};
+ghost use Rattle.nms_explain.specs.PlanOrder.{HasPassed, count_next, due_next, trouble_after};
+
+use super::field_name::FieldName;
+use super::place::{FieldPlace, Place};
+use super::plan_place::{cut_place, end_place, head_place, leg_place};
+use super::record_field::text_at;
+use nms_lines::ByteRecord;
+use nms_quote::Roster;
+
+/// How many legs a plan has at most, and how many cuts.
+const MOST: u8 = 32;
+
+/// Which records of a plan's text may come next.
+#[derive(Clone, Copy)]
+pub(crate) enum PlanDue {
+    /// The record of the plan.
+    Plan,
+    /// A leg, a cut, or the end.
+    Leg,
+    /// A cut, or the end.
+    Cut,
+    /// Nothing: the end came.
+    Nothing,
+}
+
+/// What is wrong with a record of a plan's text.
+#[derive(Clone, Copy)]
+pub(crate) enum PlanTrouble {
+    /// It is not due, or a plan can't have one of its fields.
+    Wrong(Place),
+    /// It is the 33rd leg, or the 33rd cut.
+    TooMany,
+}
+
+/// How far the records of a plan's text have come.
+#[derive(Clone, Copy)]
+pub(crate) struct PlanWalk {
+    /// What is due.
+    pub(crate) due: PlanDue,
+    /// How many legs came, or cuts if cuts are due, at most 33.
+    pub(crate) count: u8,
+}
+
+impl PlanWalk {
+    /// Before the first record.
+    pub(crate) fn new() -> Self
+        ensures due { result.due ≡ PlanDue.Plan }
+        ensures passed { HasPassed [] result }
+    {
+        PlanWalk {
+            due: PlanDue::Plan,
+            count: 0,
+        }
+    }
+
+    /// What is wrong with the next record. The walk then goes on after it, by its first word.
+    pub(crate) fn next(&mut self, row: &ByteRecord, roster: &Roster) -> Option<PlanTrouble>
+        ensures wrong { (at : Place) → result ≡ Some (PlanTrouble.Wrong at)
+            → due_place self.old.due roster.now (fields_of row.now) ≡ Some at }
+        ensures right { result ≡ None → due_place self.old.due roster.now (fields_of row.now) ≡ None }
+        ensures trouble { (before : List Record) → HasPassed before self.old
+            → result ≡ trouble_after roster.now before (fields_of row.now) }
+        ensures passed { (before : List Record) → HasPassed before self.old
+            → HasPassed (before ++ fields_of row.now ∷ []) self.new }
+    {
+        let wrong = due_place(self.due, row, roster);
+        *self = self.after(text_at(row, 0));
+        match wrong {
+            Some(place) => Some(PlanTrouble::Wrong(place)),
+            None if self.count > MOST => Some(PlanTrouble::TooMany),
+            None => None,
+        }
+    }
+
+    /// The walk after a record that begins with a word.
+    fn after(self, word: &[u8]) -> Self
+        ensures due { result.due ≡ due_next self.due word.now }
+        ensures count { result.count ≡ min 33 (count_next self.due self.count word.now) }
+    {
+        let (due, count) = match self.due {
+            PlanDue::Plan => (PlanDue::Leg, 0),
+            PlanDue::Leg => match word {
+                b"END" => (PlanDue::Nothing, 0),
+                b"CUT" => (PlanDue::Cut, 1),
+                _ => (PlanDue::Leg, one_more(self.count)),
+            },
+            PlanDue::Cut => match word {
+                b"END" => (PlanDue::Nothing, 0),
+                _ => (PlanDue::Cut, one_more(self.count)),
+            },
+            PlanDue::Nothing => (PlanDue::Nothing, 0),
+        };
+        PlanWalk { due, count }
+    }
+}
+
+/// The next number, as far as the first that is too many.
+fn one_more(count: u8) -> u8
+    ensures { result ≡ min 33 (count + 1) }
+{
+    if count < MOST { count + 1 } else { MOST + 1 }
+}
+
+/// What is wrong with a record if that is due.
+fn due_place(due: PlanDue, row: &ByteRecord, roster: &Roster) -> Option<Place>
+    ensures { result ≡ due_place due roster.now (fields_of row.now) }
+{
+    match due {
+        PlanDue::Plan => head_place(row, roster),
+        PlanDue::Leg => later_place(row, leg_place(row, roster)),
+        PlanDue::Cut => later_place(row, cut_place(row)),
+        PlanDue::Nothing => Some(Place::Field(FieldPlace::at(0, FieldName::Kind))),
+    }
+}
+
+/// What is wrong with an end or a cut if its word says so, else what is wrong with a record of another word.
+fn later_place(row: &ByteRecord, other: Option<Place>) -> Option<Place>
+    ensures { result ≡ later_place (fields_of row.now) other }
+{
+    match text_at(row, 0) {
+        b"END" => end_place(row),
+        b"CUT" => cut_place(row),
+        _ => other,
+    }
+}

@@ -1,9 +1,0 @@
-pub use Rattle.nms_lines.specs.FaultTable as FaultTable
-pub use Rattle.nms_lines.specs.Layout as Layout
-pub mod FieldNames
-pub mod FieldTable
-pub mod Looks
-pub mod Names
-pub mod PlanExamples
-pub mod PlanFields
-pub mod PlanOrder

@@ -1,7 +1,0 @@
-mod BreachHolds
-mod CutLemmas
-mod DoubtHolds
-mod FindLemmas
-mod FirstLemmas
-mod RepeatLemmas
-mod ThroughLemmas

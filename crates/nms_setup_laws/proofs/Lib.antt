@@ -1,3 +1,0 @@
-mod LeastLemmas
-mod NamesTwice
-mod Findings

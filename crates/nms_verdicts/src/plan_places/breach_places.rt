@@ -1,0 +1,171 @@
+//! Where a breach stands in a plan (specs/BreachPlaces).
+ghost use Rattle.std.specs.Prelude.{◌≡◌, ◌<◌, ◌≤◌, Some, length, true};
+ghost use Rattle.nms_rules.specs.Breach.{breach_of, has_repeat};
+ghost use Rattle.nms_verdicts.specs.BreachPlaces.{IsBreachPlace, IsWorst};
+ghost use Rattle.nms_verdicts.specs.LegPlaces.{IsRepeat};
+
+use super::leg_place::{LegPlace, leg_place};
+use super::leg_tests::{first_broken, repeat_in};
+use super::passed_over::{PassedOver, passed_over, worst_of};
+use arrayvec::ArrayVec;
+use nms_board::{MOST_ROWS, View};
+use nms_fee_book::FeeBook;
+use nms_quote::{Leg, Order, OrderSide, Plan, Sym};
+use nms_rules::{Breach, cost_of, sum_of};
+use nms_units::{Money, Price};
+
+/// Where a breach stands in a plan, what was found there, and what was expected.
+#[derive(Drop)]
+pub(crate) enum BreachPlace {
+    /// P1: the plan's version, and the view's.
+    OtherVersion {
+        /// The version that the plan names.
+        found: u64,
+        /// The version of the view.
+        expected: u64,
+    },
+    /// P2: the plan's order, and the order given, or the view's symbol.
+    OtherOrder {
+        /// The order that the plan names.
+        found: Order,
+        /// The order that was given.
+        expected: Order,
+        /// The symbol of the view.
+        seen: Sym,
+    },
+    /// P3: the first leg whose participant has no quotation there, is named by the order, or has a manual one that the order
+    /// does not allow.
+    NoSuchQuotation(LegPlace),
+    /// P4: the first leg at another price than its quotation.
+    PriceDiffers(LegPlace),
+    /// P5: the first leg of 0 shares.
+    ZeroLeg(LegPlace),
+    /// P6: the first leg of more shares than its quotation displays.
+    OverSize(LegPlace),
+    /// P8: the first leg at a price that is worse than the limit.
+    BeyondLimit {
+        /// The leg.
+        leg: LegPlace,
+        /// The order's limit.
+        limit: Price,
+    },
+    /// P7: two legs to one participant.
+    Repeated {
+        /// The first leg with a later one to the same participant.
+        first: LegPlace,
+        /// The first such later leg.
+        again: LegPlace,
+    },
+    /// P9: the shares of all legs, and those asked for.
+    OverAsked {
+        /// The shares of all legs.
+        found: u64,
+        /// The shares that were asked for, which they exceed.
+        expected: u32,
+    },
+    /// P10: the quotations that the plan's worst price trades through.
+    TradedThrough {
+        /// The first leg at the plan's worst price.
+        worst: LegPlace,
+        /// The protected quotations at better prices that get less than they display, by participant place.
+        passed: ArrayVec<PassedOver, MOST_ROWS>,
+    },
+    /// P11: the shares that the plan says are filled, and those of its legs.
+    FilledWrong {
+        /// What the plan says.
+        found: u32,
+        /// The shares of all legs.
+        expected: u64,
+    },
+    /// P12: what the plan says that it costs, and what its legs cost with fees, in nanodollars.
+    CostWrong {
+        /// What the plan says.
+        found: Money,
+        /// What the legs cost, with the fees of the book.
+        expected: Money,
+    },
+}
+
+/// Where the breach of a plan that `breach` of `nms_rules` reports stands: the first leg that has it, what was found
+/// and what was expected. Takes no memory. This product's own rule.
+pub(crate) fn breach_place(
+    view: &View,
+    order: &Order,
+    plan: &Plan,
+    fees: &FeeBook,
+    breach: Breach,
+) -> BreachPlace
+    requires { breach_of view.now order.now fees.now plan.now ≡ Some breach }
+    ensures { IsBreachPlace view.now order.now fees.now plan.now breach result }
+{
+    let legs = plan.legs.as_slice();
+    match breach {
+        Breach::OtherVersion => BreachPlace::OtherVersion {
+            found: plan.version,
+            expected: view.version(),
+        },
+        Breach::OtherOrder => BreachPlace::OtherOrder {
+            found: plan.order,
+            expected: *order,
+            seen: view.sym(),
+        },
+        Breach::NoSuchQuotation => {
+            BreachPlace::NoSuchQuotation(first_broken(view, order, legs, Breach::NoSuchQuotation))
+        }
+        Breach::PriceDiffers => {
+            BreachPlace::PriceDiffers(first_broken(view, order, legs, Breach::PriceDiffers))
+        }
+        Breach::ZeroLeg => {
+            BreachPlace::ZeroLeg(first_broken(view, order, legs, Breach::ZeroLeg))
+        }
+        Breach::OverSize => {
+            BreachPlace::OverSize(first_broken(view, order, legs, Breach::OverSize))
+        }
+        Breach::BeyondLimit => BreachPlace::BeyondLimit {
+            leg: first_broken(view, order, legs, Breach::BeyondLimit),
+            limit: order.limit,
+        },
+        Breach::Repeated => {
+            let (first, again) = repeat_places(view, order.side, legs);
+            BreachPlace::Repeated { first, again }
+        }
+        Breach::OverAsked => BreachPlace::OverAsked {
+            found: sum_of(legs),
+            expected: order.shares.get(),
+        },
+        Breach::TradedThrough { .. } => BreachPlace::TradedThrough {
+            worst: worst_place(view, order.side, legs),
+            passed: passed_over(view, order, legs),
+        },
+        Breach::FilledWrong => BreachPlace::FilledWrong {
+            found: plan.filled,
+            expected: sum_of(legs),
+        },
+        Breach::CostWrong => BreachPlace::CostWrong {
+            found: plan.cost,
+            expected: cost_of(fees, order.side, legs),
+        },
+    }
+}
+
+/// The first leg with a later one to the same participant, and that later leg.
+fn repeat_places(view: &View, side: OrderSide, legs: &[Leg]) -> (LegPlace, LegPlace)
+    requires repeat { has_repeat legs.now ≡ true }
+    requires few { length legs.now ≤ MOST_ROWS }
+    ensures { IsRepeat view.now side legs.now result.0 result.1 }
+{
+    let (first, again) = repeat_in(legs);
+    (
+        leg_place(view, side, legs, first),
+        leg_place(view, side, legs, again),
+    )
+}
+
+/// The first leg at the plan's worst price.
+fn worst_place(view: &View, side: OrderSide, legs: &[Leg]) -> LegPlace
+    requires some { 0 < length legs.now }
+    requires few { length legs.now ≤ MOST_ROWS }
+    ensures { IsWorst view.now side legs.now result }
+{
+    leg_place(view, side, legs, worst_of(side, legs))
+}
