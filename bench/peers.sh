@@ -1,7 +1,7 @@
 # Read by lane.sh and looks.sh: the programs that they compare, and the best of several runs.
 bench=$(cd "$(dirname "$0")" && pwd)
-ours=$bench/../crates/nms_bench/out/nms_bench
-[ -x "$ours" ] || (cd "$bench/../crates/nms_bench" && rt run <stdin >/dev/null)
+ours=$bench/../crates/nms_examples/out/nms_examples
+[ -x "$ours" ] || (cd "$bench/../crates/nms_examples" && rt run <stdin >/dev/null)
 
 # Builds a program in ordinary Rust, and calls it `peer`. Words after its name are cargo's.
 build_peer() {

@@ -301,7 +301,7 @@ def check_made():
         check(there == wanted, page, f"docs/claims.py writes it otherwise, from this line on: {differing!r}")
         for name in claims.named(page):
             check(name in claims.parts(), page, f"docs/claims.py makes no part `{name}`")
-    wanted = {name for name, it in claims.tree().items() if it.functions and name not in ("nms_examples", "nms_bench", "nms_tests")}
+    wanted = {name for name, it in claims.tree().items() if it.functions and name not in ("nms_examples", "nms_tests")}
     for name in sorted(wanted):
         check(name in claims.named("docs/CLAIMS.md"), "docs/CLAIMS.md", f"it has no part on `{name}`")
     check(read("docs/crates.svg") == draw_crates.drawn(), "docs/crates.svg", "docs/draw_crates.py draws another picture")

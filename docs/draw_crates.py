@@ -16,7 +16,7 @@ FILE = os.path.join(TOP, "docs", "crates.svg")
 # The groups: the programs that each stands below, its colour and its name. The product stands under the others, which use it.
 GROUPS = ((("nms_tool", "nms_serve", "nms_c", "nms_engine"), "#dbe9f6", "the product: nms_tool, nms_serve, and nms_c for other languages"),
           (("nms_review",), "#e3f1dc", "the reviewer's program"),
-          (("nms_examples", "nms_bench", "nms_tests"), "#f3e6d8", "the gate"))
+          (("nms_examples", "nms_tests"), "#f3e6d8", "the gate"))
 WIDE, HIGH, GAP, RISE, EDGE = 134, 24, 8, 76, 20
 
 

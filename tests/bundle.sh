@@ -1,7 +1,7 @@
 #!/bin/sh
-# Writes the examples of examples/ and the cases of cases/ as one input of crates/nms_examples, which the gate runs: all but
-# those that a call of the program shows whole, which check.py runs. With the word `check` it compares instead, and ends
-# with a line `N passed, M failed`; with `print` it writes all examples and cases out.
+# Writes the benchmark loads, the examples of examples/ and the cases of cases/ as one input of crates/nms_examples, which
+# the gate runs: all but those that a call of the program shows whole, which check.py runs. With the word `check` it compares
+# instead, and ends with a line `N passed, M failed`; with `print` it writes all loads, examples and cases out.
 set -eu
 export LC_ALL=C
 cd "$(dirname "$0")"/../examples
@@ -115,8 +115,15 @@ runs() {
     printf '%s\n' 7 '-- errors' 'nms_tool: E7'
 }
 
-# All: the examples that have files of their own, then what is made above, then each file of cases.
+# The loads of benchmarks, each small, and a call of each caller of docs/CALLING.md.
+loads() {
+    printf '%s\n' 'lane 4 2 100' 'lane 64 8 100' 'lane 1024 1 100' 'looks 1 100' 'looks 4 100' \
+        'machine 0 32' 'sweep 0 16' 'threads 0 100' 'again 0 70'
+}
+
+# All: the loads, the examples that have files of their own, then what is made above, then each file of cases.
 bundle() {
+    loads
     setup
     script first.script
     script refused.script

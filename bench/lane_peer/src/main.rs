@@ -1,4 +1,4 @@
-//! The runs of `crates/nms_bench` in ordinary Rust over the upstream queue, with no proofs: one to eight threads send
+//! The `lane` loads of `crates/nms_examples` in ordinary Rust over the upstream queue, with no proofs: one to eight threads send
 //! changes, one more takes them. Each line of standard input is `lane CAPACITY SENDERS CHANGES`.
 #![allow(dead_code)]
 #[path = "../../change.rs"]

@@ -1,4 +1,4 @@
-//! The looks of `crates/nms_bench` in ordinary Rust over a mutex round one board, with no proofs and the standard
+//! The `looks` loads of `crates/nms_examples` in ordinary Rust over a mutex round one board, with no proofs and the standard
 //! library alone: desks look while a publisher publishes every 64 changes. Each line of standard input is
 //! `looks DESKS LOOKS`. The board, the changes and the view of a look are those of `crates/nms_board`.
 #![allow(dead_code)]

@@ -1,14 +1,19 @@
 //! Runs the examples that come on standard input. It writes what each gives, or whether it gives what it says that it must; if
-//! one does not, the program fails at its end. The gate compares what it writes with `stdout`, byte for byte. `tests/README.md`
-//! has the form of the input, and `tests/bundle.sh` makes it.
+//! one does not, the program fails at its end. It also runs the benchmark loads: the lines before the first setup, each of which
+//! it writes with its result. The gate compares what it writes with `stdout`, byte for byte. `tests/README.md` has the form of
+//! the input, and `tests/bundle.sh` makes it.
 #![tactic(auto)]
 
 mod breaches;
+mod callers;
 mod escapes;
 mod example;
 mod exits;
 mod faults;
+mod lane;
 mod lines;
+mod loads;
+mod looks;
 mod numbers;
 mod plans;
 mod records;
@@ -18,11 +23,15 @@ mod trials;
 
 use example::give;
 use lines::{around, or_failed, text_of};
+use loads::run_loads;
 use nms_engine::SETUP_K;
 use nms_fees::{Setup, read_setup};
 use std::io;
 use std::io::{Read, Write};
 use std::process::ExitCode;
+use std::rt::Clock;
+use std::sync::Wait;
+use std::thread::Threads;
 
 /// The line after which an example says what it must give.
 const GIVES: &str = "-- gives\n";
@@ -38,22 +47,28 @@ fn main(rt: HostRuntime) -> ExitCode {
     }
 }
 
-/// Shows the examples of the input, and gives whether each was as it must be.
-fn show_all<T: AllocGlobal + Input + Print + Eprint>(rt: &T) -> Result<bool, Failed> {
+/// Runs the loads and shows the examples of the input, and gives whether each was as it must be.
+fn show_all<T>(rt: &T) -> Result<bool, Failed>
+where
+    T: AllocGlobal + Input + Print + Eprint + Threads + Wait + Clock + Sync,
+{
     let mut input = Vec::new(rt.alloc());
     or_failed(rt.reader().read_to_end(&mut input))?;
-    let text = text_of(&input)?;
-    show_parts(rt, text, &mut io::writer(rt))
+    show_parts(rt, text_of(&input)?, &mut io::writer(rt))
 }
 
-/// Shows the examples of a text under each of its setups.
+/// Runs the loads of a text, and shows its examples under each of its setups.
 fn show_parts<T, W>(rt: &T, text: &str, answers: &mut W) -> Result<bool, Failed>
 where
-    T: AllocGlobal + Eprint,
+    T: AllocGlobal + Eprint + Threads + Wait + Clock + Sync,
     W: Write,
 {
+    let mut parts = text.split("== setup");
+    if let Some(loads) = parts.next() {
+        run_loads(rt, loads, answers)?;
+    }
     let mut all = true;
-    for part in text.split("== setup").skip(1) {
+    for part in parts {
         all &= show_part(rt, part, answers)?;
     }
     Ok(all)

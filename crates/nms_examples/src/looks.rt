@@ -1,5 +1,6 @@
 //! Looks: desks look while a publisher publishes every 64 changes.
-use crate::{Failed, or_failed};
+use crate::Failed;
+use crate::lines::or_failed;
 use nms_board::View;
 use nms_fees::{Setup, read_setup};
 use nms_quote::{Change, Part, QState, Side, SideQuote, Sym};

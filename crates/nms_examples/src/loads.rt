@@ -1,60 +1,24 @@
-//! Measures the lane and the looks, and makes the calls of `docs/CALLING.md`. Each line of standard input is a run. `lane
-//! CAPACITY SENDERS CHANGES` runs a lane of that capacity with that many changes from each of that many threads. `looks DESKS
-//! LOOKS` makes that many looks by each of that many desks. `machine`, `sweep`, `threads` and `again` take the place of a
-//! symbol and a number of changes.
-#![tactic(auto)]
+//! The loads: runs that measure the lane and the looks, and the calls of `docs/CALLING.md`. Each line is a run. `lane CAPACITY
+//! SENDERS CHANGES` runs a lane of that capacity with that many changes from each of that many threads. `looks DESKS LOOKS`
+//! makes that many looks by each of that many desks. `machine`, `sweep`, `threads` and `again` take the place of a symbol and a
+//! number of changes.
 
-mod callers;
-mod lane;
-mod looks;
-
+use crate::Failed;
+use crate::lines::{around, or_failed};
+use crate::{callers, lane, looks};
 use nms_feed::Delivered;
-use std::io::{Read, Write};
-use std::process::ExitCode;
+use std::io::Write;
 use std::rt::Clock;
 use std::sync::Wait;
 use std::thread::Threads;
-use std::{io, str};
 
-/// The input is no list of runs, a stream failed, or memory ran out.
-#[derive(Drop)]
-pub(crate) struct Failed;
-
-/// What a call gave, whatever the fault is if it failed.
-pub(crate) fn or_failed<V, E: Drop>(came_to: Result<V, E>) -> Result<V, Failed> {
-    match came_to {
-        Ok(value) => Ok(value),
-        Err(_) => Err(Failed),
-    }
-}
-
-/// What stands before the first space of a line, and what stands after it.
-fn parted(line: &str) -> Result<(&str, &str), Failed> {
-    match line.split_once(' ') {
-        Some(parts) => Ok(parts),
-        None => Err(Failed),
-    }
-}
-
-fn main(rt: HostRuntime) -> ExitCode {
-    let mut input = Vec::new(rt.alloc());
-    if rt.reader().read_to_end(&mut input).is_err() {
-        return ExitCode::FAILURE;
-    }
-    match run_all(&rt, &input, &mut io::writer(&rt)) {
-        Ok(()) => ExitCode::SUCCESS,
-        Err(_) => ExitCode::FAILURE,
-    }
-}
-
-/// Makes each run and writes its line with the result.
-fn run_all<R: AllocGlobal + Threads + Wait + Clock + Sync, W: Write>(
+/// Makes the run of each line and writes the line with the result.
+pub(crate) fn run_loads<R: AllocGlobal + Threads + Wait + Clock + Sync, W: Write>(
     rt: &R,
-    input: &[u8],
+    lines: &str,
     answers: &mut W,
 ) -> Result<(), Failed> {
-    let text = or_failed(str::from_utf8(input))?;
-    for line in text.lines() {
+    for line in lines.lines() {
         run_line(rt, line, answers)?;
     }
     Ok(())
@@ -78,8 +42,8 @@ fn told_of<R: AllocGlobal + Threads + Wait + Clock + Sync>(
     rt: &R,
     line: &str,
 ) -> Result<String, Failed> {
-    let (kind, sizes) = parted(line)?;
-    let (first, rest) = parted(sizes)?;
+    let (kind, sizes) = around(line, " ")?;
+    let (first, rest) = around(sizes, " ")?;
     if kind == "lane" {
         return run_lane(rt, first, rest);
     }
@@ -109,7 +73,7 @@ fn run_lane<R: AllocGlobal + Threads + Wait + Sync>(
     rest: &str,
 ) -> Result<String, Failed> {
     let capacity = or_failed(capacity.parse::<usize>())?;
-    let (senders, changes) = parted(rest)?;
+    let (senders, changes) = around(rest, " ")?;
     let senders = or_failed(senders.parse::<u8>())?;
     let changes = or_failed(changes.parse::<u32>())?;
     match lane::measure(rt, capacity, senders, changes) {

@@ -5,8 +5,9 @@ mod machine;
 mod sweeping;
 mod threads;
 
+use crate::Failed;
+use crate::lines::or_failed;
 use crate::looks::{quotation, setup_text};
-use crate::{Failed, or_failed};
 use nms_board::Boards;
 use nms_fees::{FeeBook, Setup, read_setup};
 use nms_quote::{Change, Feed, Order, OrderSide, PartSet, SideQuote, Sym};

@@ -1,6 +1,6 @@
 -- `run`: the senders that came back are still all that the lane has, by `all_back`.
-use Rattle.nms_bench.proofs.LaneLemmas.{all_back}
-use Rattle.nms_bench.proofs.lane.run.Goals as goal
+use Rattle.nms_examples.proofs.LaneLemmas.{all_back}
+use Rattle.nms_examples.proofs.lane.run.Goals as goal
 
 pub close-requires : goal.close-requires
 close-requires g c =

@@ -1,6 +1,6 @@
 -- `measure`: the ends of the lane that was opened are its senders, and they have sent nothing, by `opened` and `opened_new`.
-use Rattle.nms_bench.proofs.LaneLemmas.{opened, opened_new}
-use Rattle.nms_bench.proofs.lane.measure.Goals as goal
+use Rattle.nms_examples.proofs.LaneLemmas.{opened, opened_new}
+use Rattle.nms_examples.proofs.lane.measure.Goals as goal
 
 pub run-requires-clause-all : goal.run-requires-clause-all
 run-requires-clause-all g c = λ loans lives.
