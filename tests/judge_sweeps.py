@@ -8,12 +8,17 @@ all: the quotations of a named participant are neither usable nor binding for it
 boards have the built-in setup, half have one whose fees lie whole steps of price apart, so that unit costs tie
 across prices, with round lots of 100 and of 1. What is judged of a plan: its record says the order, with the names by
 place; its legs are in their one order, lawful and summed rightly; no lawful way to give shares to the quotations, by the
-lot, fills more, or as much for less; and each cut says what it has to (`doubt` of rules.py). Names that are none are
-refused by their code.
+lot, fills more, or as much for less; and each cut says what it has to (`doubt` of rules.py). Of the best plans it has to be
+the one of the fixed choice, with its cuts (`chosen` of rules.py). Names that are none are refused by their code.
 
 The best of every lawful way is found here once more: it gives shares to all quotations and asks of each whether it may have
 them, while `best_way` of rules.py tries only the usable ones. The trials `both judges, seed N` compare the two. A script
 that differs is made as short as it can be. The trials are `seed N`, 25 boards each; odd seeds have the second setup.
+
+Two kinds of trial ask for the plan of the fixed choice and its cuts alone, since every way would take too long. Those of
+`small boards, N` are together the 1,728 boards on which N, P and Y each show one of twelve quotations, with 24 orders on
+each. Those of `eight participants, seed N` are 100 random boards each, with an order on each. Their unit costs tie within a
+price and across prices, and each cut has to say what it must.
 """
 import itertools
 import random
@@ -21,22 +26,37 @@ import subprocess
 import sys
 import tempfile
 
-from rules import FEES, best_way, dollars, doubt, is_better, is_named, money, names_of, price_of, unit_cost
+from rules import (
+    FEES, best_way, chosen, dollars, doubt, is_better, is_named, money, names_of, price_of, records_of, unit_cost
+)
 from stored import MOST, programs
 from trials import Trial, Wrong, least, run
 
 BOARDS_OF_A_SCRIPT = 25
+# Boards of a script of eight participants, and how many such scripts there are.
+BOARDS_OF_EIGHT, SCRIPTS_OF_EIGHT = 100, 40
 # The eighth field of an order that is refused: one of the names is not on the roster.
 NO_NAMES = ["", "Q", "+", "N+", "+P", "N++P", "N+Q", "n", "N P", "N+P+"]
 # A setup in which a share costs as much with its fee at one participant as a step of price further on at another.
 TIED_FEES = {"N": (300_000, 30), "P": (200_000, 20), "Y": (-100_000, -10), "Z": (300_000, 30)}
-TIED_SETUP = "tape_limit = 99\nqueue = 9\ndesks = 1\n" + "".join(
-    [
-        f'[[participant]]\nname = "{part}"\nfeed = "{"B" if part in "YZ" else "A"}"\nfee = {fee}\nrate = {rate}\n'
-        for part, (fee, rate) in TIED_FEES.items()
-    ]
-    + [f'[[symbol]]\nname = "{sym}"\nlot = {lot}\n' for sym, lot in (("ABC", 100), ("PNY", 1))]
-)
+# The same of eight participants.
+EIGHT_FEES = {
+    **{"A": (300_000, 30), "B": (200_000, 20), "C": (-100_000, -10), "D": (300_000, 30)},
+    **{"E": (0, 0), "F": (-200_000, -20), "G": (100_000, 10), "H": (0, 0)},
+}
+# The quotations of a small board: their states, prices and shares.
+SMALL = list(itertools.product("AM", (9_999, 10_000, 10_001), (100, 200)))
+
+
+def setup_of(fees):
+    """The text of a setup with such fees, and round lots of 100 and of 1."""
+    parts = [f'[[participant]]\nname = "{it}"\nfeed = "A"\nfee = {fee}\nrate = {rate}\n' for it, (fee, rate) in fees.items()]
+    syms = [f'[[symbol]]\nname = "{sym}"\nlot = {lot}\n' for sym, lot in (("ABC", 100), ("PNY", 1))]
+    return "tape_limit = 999\nqueue = 9\ndesks = 1\n" + "".join(parts + syms)
+
+
+# The setups that are not the built-in one, by the name of their file.
+SETUPS = {"tied": setup_of(TIED_FEES), "eight": setup_of(EIGHT_FEES)}
 
 
 def is_lawful(order, rows, given):
@@ -97,7 +117,18 @@ def wrong(order, rows, version, records):
     given = [sum(leg[2] for leg in legs if leg[0] == row[0]) for row in rows]
     if not is_lawful(order, rows, given) or sums(order, rows, given) != (filled, cost):
         return "legs that are not lawful, or not as good as the best"
-    return doubt(order, rows, (legs, filled, cost), cuts)
+    return doubt(order, rows, (legs, filled, cost), cuts) or not_chosen(order, rows, version, records)
+
+
+def not_chosen(order, rows, version, records):
+    """The records of the fixed choice, if those of a plan differ from them; or None."""
+    due = [*records_of(order, version, order["sym"], *chosen(order, rows))]
+    return None if records == due else f"another plan or certificate than {due}"
+
+
+def not_chosen_or_doubtful(order, rows, version, records):
+    """The same, or what is doubtful of the fixed choice."""
+    return not_chosen(order, rows, version, records) or doubt(order, rows, *chosen(order, rows))
 
 
 def cut_of(fields):
@@ -133,6 +164,11 @@ def record_of(chance, order):
     names = list(order["self_help"])
     if names and chance.random() < 0.2:
         names.append(chance.choice(names))
+    return record(order, names)
+
+
+def record(order, names):
+    """The record of an order, with its names as they are given."""
     head = f"O,0,{order['side']},{order['sym']},{order['shares']},{dollars(order['limit'])}"
     if names:
         return f"{head},{'M' if order['manual'] else ''},{'+'.join(names)}"
@@ -140,11 +176,11 @@ def record_of(chance, order):
 
 
 def drawn_kind(chance, is_tied):
-    """The symbol and its lot, how far prices are apart, the fees, and the price about which all are drawn."""
+    """The symbol and its lot, how far prices are apart, the fees and their setup, and the price about which all are drawn."""
     if not is_tied:
-        return {"sym": "ABC", "lot": 100, "step": 100, "fees": FEES}, chance.choice([100_000, 100_000, 9_999])
+        return {"sym": "ABC", "lot": 100, "step": 100, "fees": FEES, "setup": ""}, chance.choice([100_000, 100_000, 9_999])
     sym, lot = chance.choice([("ABC", 100), ("PNY", 1)])
-    return {"sym": sym, "lot": lot, "step": 1, "fees": TIED_FEES}, chance.choice([100_000, 9_999])
+    return {"sym": sym, "lot": lot, "step": 1, "fees": TIED_FEES, "setup": "tied"}, chance.choice([100_000, 9_999])
 
 
 def drawn_side(chance, kind, base):
@@ -157,7 +193,7 @@ def drawn_steps(seed):
     """The symbol with its lot and fees, and the steps of a script: ("quote", participant, state, bid, offer), ("order",
     order, record), or ("refused", record, code)."""
     chance = random.Random(seed)
-    kind, base = drawn_kind(chance, is_tied(seed))
+    kind, base = drawn_kind(chance, seed % 2 == 1)
     steps = []
     for _ in range(BOARDS_OF_A_SCRIPT):
         part, letter = chance.choice(list(FEES)), chance.choice("AAAAMH")
@@ -173,8 +209,38 @@ def drawn_steps(seed):
     return kind, steps
 
 
-def is_tied(seed):
-    return seed % 2 == 1
+def small_steps(number):
+    """The same of the small boards on which Y shows the quotation of that number, on both sides: orders of each side and of
+    three sizes, for manual quotations or not, that name nobody or P."""
+    kind = {"sym": "ABC", "lot": 100, "fees": FEES, "setup": ""}
+    steps = []
+    for shown_by_others in itertools.product(SMALL, SMALL):
+        for part, (letter, *quoted) in zip("NPY", (*shown_by_others, SMALL[number])):
+            steps.append(("quote", part, letter, quoted, quoted))
+        for side, shares, manual, names in itertools.product("BS", (100, 300, 600), (False, True), ([], ["P"])):
+            order = {"side": side, "shares": shares, "limit": 10_001 if side == "B" else 9_999, "manual": manual}
+            order.update(kind, self_help=names)
+            steps.append(("order", order, record(order, names)))
+    return kind, steps
+
+
+def eight_steps(seed):
+    """The same of random boards of eight participants, which all quote anew: at most three lots at one of five prices, and an
+    order of at most 24 lots, one half for manual quotations, one half with names."""
+    chance = random.Random(seed)
+    sym, lot = [("ABC", 100), ("PNY", 1)][seed % 2]
+    kind = {"sym": sym, "lot": lot, "fees": EIGHT_FEES, "setup": "eight"}
+    steps = []
+    for _ in range(BOARDS_OF_EIGHT):
+        base = chance.choice([9_998, 100_000])
+        for part in EIGHT_FEES:
+            bid, offer = ((base + chance.randrange(5), chance.randrange(4) * lot) for _ in "bo")
+            steps.append(("quote", part, chance.choice("AAAAAMMH"), bid, offer))
+        names = [it for it in EIGHT_FEES if chance.random() < 0.25] if chance.random() < 0.5 else []
+        order = {"side": chance.choice("BS"), "shares": chance.randrange(1, 25) * lot, "limit": base + chance.randrange(5)}
+        order.update(kind, manual=chance.random() < 0.5, self_help=names)
+        steps.append(("order", order, record_of(chance, order)))
+    return kind, steps
 
 
 def scripted(kind, steps):
@@ -200,14 +266,14 @@ def scripted(kind, steps):
 def shown(board, order):
     """What the participants display on the side that an order trades with: whole lots, and nothing of a halted one."""
     at, rows = 2 if order["side"] == "B" else 1, []
-    for part in FEES:
+    for part in order["fees"]:
         if part in board and board[part][0] != "H":
             price, shares = board[part][at]
             rows.append((part, price, shares - shares % order["lot"], board[part][0] == "A"))
     return [row for row in rows if row[2]]
 
 
-def judge(words, kind, steps):
+def judge(words, wrong_of, kind, steps):
     """How many plans are as they must be before the first that is not, and what is wrong with that one."""
     script, due = scripted(kind, steps)
     ran = subprocess.run(words, input=script.encode(), capture_output=True, timeout=MOST, check=False)
@@ -221,7 +287,7 @@ def judge(words, kind, steps):
             while records[-1] not in ("END", ""):
                 records.append(next(lines, ""))
             try:
-                fault = wrong(*it, records)
+                fault = wrong_of(*it, records)
             except (ValueError, KeyError, TypeError) as error:
                 fault = f"records that are none of a plan: {error}"
             fault = fault and f"{fault}; answered is {records}, asked was {it}"
@@ -233,15 +299,16 @@ def judge(words, kind, steps):
     return right, None
 
 
-def judged(program, setup, seed):
-    """How many plans are as they must be; raises what is wrong with the first that is not, on the least script."""
-    kind, steps = drawn_steps(seed)
-    words = [program, "script", "--setup", setup] if is_tied(seed) else [program]
-    right, fault = judge(words, kind, steps)
+def judged(program, room, steps_of, wrong_of, number):
+    """How many plans are as they must be; raises what is wrong with the first that is not, on the least script. The setups are
+    in a room."""
+    kind, steps = steps_of(number)
+    words = [program, "script", "--setup", f"{room}/{kind['setup']}"] if kind["setup"] else [program]
+    right, fault = judge(words, wrong_of, kind, steps)
     if fault:
-        steps = least(steps, lambda steps: judge(words, kind, steps)[1])
-        fault = judge(words, kind, steps)[1]
-        setup = TIED_SETUP if is_tied(seed) else "the built-in setup\n"
+        steps = least(steps, lambda steps: judge(words, wrong_of, kind, steps)[1])
+        fault = judge(words, wrong_of, kind, steps)[1]
+        setup = SETUPS.get(kind["setup"], "the built-in setup\n")
         raise Wrong(fault, f"the least script that shows it:\n{scripted(kind, steps)[0]}under {setup}", right)
     return right
 
@@ -259,11 +326,17 @@ def both(seed):
 def main(program, boards=6000, first=242_611):
     seeds = range(first, first + -(-boards // BOARDS_OF_A_SCRIPT))
     print(f"seeds {seeds[0]} to {seeds[-1]}: {BOARDS_OF_A_SCRIPT} boards each")
-    with tempfile.NamedTemporaryFile("w", suffix=".toml") as setup:
-        setup.write(TIED_SETUP)
-        setup.flush()
-        found = [Trial(f"seed {it}", judged, (program, setup.name, it)) for it in seeds]
-        return run("sweeps", found + [Trial(f"both judges, seed {it}", both, (it,)) for it in seeds], processes=True)
+    with tempfile.TemporaryDirectory(prefix="nms-") as room:
+        for name, text in SETUPS.items():
+            with open(f"{room}/{name}", "w") as file:
+                file.write(text)
+        found = [Trial(f"seed {it}", judged, (program, room, drawn_steps, wrong, it)) for it in seeds]
+        found += [Trial(f"both judges, seed {it}", both, (it,)) for it in seeds]
+        found += [Trial(f"small boards, {it}", judged, (program, room, small_steps, not_chosen, it)) for it in range(len(SMALL))]
+        for it in range(first, first + SCRIPTS_OF_EIGHT):
+            words = program, room, eight_steps, not_chosen_or_doubtful, it
+            found.append(Trial(f"eight participants, seed {it}", judged, words))
+        return run("sweeps", found, processes=True)
 
 
 if __name__ == "__main__":

@@ -204,7 +204,7 @@ def is_named(order, row):
 
 def names_of(order):
     """The participants that the order names, by place, joined as a record has them."""
-    return "+".join(part for part in FEES if part in order.get("self_help", ()))
+    return "+".join(part for part in order.get("fees", FEES) if part in order.get("self_help", ()))
 
 
 def may_trade(order, row):
@@ -366,12 +366,19 @@ def records_of(order, version, symbol, plan, cuts):
     yield "END"
 
 
-def planned(order, quotes, version):
-    """The records of the plan of the fixed choice, under the built-in setup. It has to be as good as the best way."""
+def chosen(order, quotes):
+    """The plan of the fixed choice and its cuts: of the prices of least cost it takes the best, of quotations whose shares
+    cost the same the better price, then the lower place. Its legs are by price and place."""
     plans, cuts = tried(order, quotes, True)
     legs = min(plans, key=lambda it: cost_of(order, it))
-    legs.sort(key=lambda leg: (leg[1] if order["side"] == "B" else -leg[1], list(FEES).index(leg[0])))
-    filled, cost = sum(leg[2] for leg in legs), cost_of(order, legs)
+    legs.sort(key=lambda leg: (rank(order, leg), list(order.get("fees", FEES)).index(leg[0])))
+    return (legs, sum(leg[2] for leg in legs), cost_of(order, legs)), cuts
+
+
+def planned(order, quotes, version):
+    """The records of the plan of the fixed choice, under the built-in setup. It has to be as good as the best way."""
+    plan, cuts = chosen(order, quotes)
+    legs, filled, cost = plan
     if (-filled, cost) != best_way(order, quotes):
         raise AssertionError(f"a lawful plan is better: {order}, {quotes}, {legs}")
-    return [*records_of(order, version, "ABC", (legs, filled, cost), cuts)]
+    return [*records_of(order, version, "ABC", plan, cuts)]

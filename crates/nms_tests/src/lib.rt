@@ -1,6 +1,6 @@
-//! The tests of the crates below that take threads or long: the lane, published versions, live runs, the cutoffs of an order,
-//! the rank order of a board, its opening changes, and the planner against a plain slow one. Other facts that no clause states
-//! are tested in `nms_examples`, and the program's answers to a call in `examples/`.
+//! The tests of the crates below that take threads, or calls that no program makes: the lane, published versions, live runs,
+//! the cutoffs of an order, the rank order of a board, and its opening changes. Other facts that no clause states are tested
+//! in `nms_examples`, and the program's answers to a call in `examples/` and `tests/`.
 //!
 //! They stand here because the gate proves a crate once more for its own tests.
 #![tactic(auto)]
@@ -15,8 +15,6 @@ mod feed;
 mod live;
 #[cfg(test)]
 mod opening;
-#[cfg(test)]
-mod plans;
 #[cfg(test)]
 mod rank_order;
 #[cfg(test)]
