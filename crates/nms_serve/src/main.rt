@@ -6,8 +6,8 @@ mod program_fault;
 mod setting_up;
 mod tape_paths;
 mod telling;
+mod words;
 
-use nms_serve_words::{Request, WordsFault, read_words};
 use nms_serving::{Run, Ways};
 use opening::serve_request;
 use program_fault::ProgramFault;
@@ -19,6 +19,7 @@ use std::process::ExitCode;
 use std::sync::Wait;
 use std::thread::Threads;
 use telling::{tell_fault, tell_help};
+pub use words::{ClientPaths, FeedPath, Request, WordsFault, read_words};
 
 fn main(rt: HostRuntime) -> ExitCode {
     ExitCode::from(answer_words(&rt, &rt))

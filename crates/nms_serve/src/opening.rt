@@ -2,8 +2,8 @@
 use crate::program_fault::ProgramFault;
 use crate::tape_paths::TapePaths;
 use crate::telling::{tell_client, tell_feed, tell_tape};
+use crate::words::{ClientPaths, FeedPath, Request};
 use nms_fees::Setup;
-use nms_serve_words::{ClientPaths, FeedPath, Request};
 use nms_serving::{
     ClientStreams, Door, Doors, Means, Run, ServeFault, Served, has_room_for_epochs, serve,
 };

@@ -1,6 +1,6 @@
 //! Why the program ends with a status other than 0 and 6.
+use crate::words::WordsFault;
 use nms_fees::SetupFault;
-use nms_serve_words::WordsFault;
 use nms_serving::ServeFault;
 use thiserror::Error;
 

@@ -1,7 +1,7 @@
 //! The setup that a request names.
 use crate::program_fault::ProgramFault;
+use crate::words::Request;
 use nms_fees::{SETUP_K, Setup, SetupFault, read_setup};
-use nms_serve_words::Request;
 use nms_serving::ServeFault;
 use std::alloc::Global;
 use std::io::ErrorKind;

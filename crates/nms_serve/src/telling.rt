@@ -1,6 +1,6 @@
 //! The program's reports about itself.
 use crate::program_fault::ProgramFault;
-use nms_serve_words::WordsFault;
+use crate::words::WordsFault;
 use nms_serving::{ClientEnd, FeedEnd, letter_of};
 use std::io;
 use std::io::Write;

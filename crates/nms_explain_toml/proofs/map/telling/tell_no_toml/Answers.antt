@@ -1,0 +1,16 @@
+-- `tell_no_toml`: the fault, and the sum.
+use Rattle.std.proofs.Common.{refl}
+use Rattle.nms_show.specs.Safe.{IsSafe}
+use Rattle.nms_show.proofs.Offered.{safe_part, safe_then, writes_err}
+use Rattle.nms_explain_toml.proofs.map.telling.tell_no_toml.Goals as goal
+
+pub tell_refusal-requires : goal.tell_refusal-requires
+tell_refusal-requires g c = record { code = refl; sentence = refl; found = refl }
+
+pub returns-in_err-tell_summary-clause-safe : goal.returns-in_err-tell_summary-clause-safe
+returns-in_err-tell_summary-clause-safe g c =
+    writes_err IsSafe _ _ c.from_residual-in_err-tell_summary.result c.from_residual-in_err-tell_summary.ensures.0
+    (safe_part _ _ _ c.in_ok-tell_refusal.ensures.safe c.in_err-tell_summary.ensures.safe)
+
+pub returns-clause-safe : goal.returns-clause-safe
+returns-clause-safe g c = safe_then _ _ _ c.in_ok-tell_refusal.ensures.safe c.in_ok-tell_summary.ensures.safe

@@ -1,0 +1,22 @@
+//! Why a setup or a mapping is refused, in a report for people: each fault with its line, its table and its key, what was found
+//! and what is expected. Both are TOML texts.
+#![tactic(auto)]
+
+mod blanks;
+mod line_start;
+mod map;
+mod marked;
+mod marking;
+mod named;
+mod near;
+mod nest;
+mod setup;
+mod told;
+mod toml_line;
+
+pub use map::explain_map;
+pub use marked::{Marked, mark_at};
+pub use marking::{write_finding, write_marked};
+pub use named::locate_named;
+pub use setup::explain_setup;
+pub use toml_line::Pair;

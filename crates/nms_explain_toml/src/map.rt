@@ -1,0 +1,8 @@
+//! Why a mapping of a vendor's files is refused.
+mod explaining;
+mod kind;
+mod mending;
+mod nearest;
+mod telling;
+
+pub use explaining::explain_map;

@@ -1,0 +1,344 @@
+//! One fault of a mapping, as it is printed.
+ghost use Rattle.std.specs.Prelude.{◌≡◌, ◌&&◌, IfOk, true};
+ghost use Rattle.std.specs.List.{list_all};
+ghost use Rattle.nms_show.specs.Plain.{is_own_plain, is_plain};
+ghost use Rattle.nms_show.specs.Safe.{IsSafe};
+ghost use Rattle.nms_show.specs.Written.{Writes};
+
+use super::nearest::nearest_known;
+use crate::marked::{Marked, mark_at};
+use crate::marking::{write_finding, write_marked};
+use crate::named::locate_named;
+use crate::told::Told;
+use nms_import::MapFault;
+use nms_show::{
+    Ending, Form, Item, ShowFault, item_of, words_before, write_plain_line, write_plain_object,
+};
+use std::alloc::{AllocError, Global};
+use std::io::Write;
+use toml::Table;
+
+/// The place of a fault in a document, and what is expected there.
+#[derive(Clone, Copy)]
+pub(crate) struct Place<'a> {
+    /// The table's name, empty for the document itself.
+    pub(crate) table: &'static str,
+    /// The key.
+    pub(crate) key: &'a str,
+    pub(crate) expected: &'static str,
+}
+
+impl<'a> Place<'a> {
+    /// The place of a fault of a document, if it has one.
+    pub(crate) fn of(fault: &'a MapFault) -> Option<Place<'a>> {
+        match fault {
+            MapFault::Missing {
+                table,
+                key,
+                expected,
+            }
+            | MapFault::Unknown {
+                table,
+                key,
+                expected,
+            }
+            | MapFault::BadValue {
+                table,
+                key,
+                expected,
+            } => Some(Place {
+                table: *table,
+                key: key.as_str(),
+                expected: *expected,
+            }),
+            MapFault::NotToml { .. } | MapFault::NoColumn { .. } | MapFault::NoMemory => None,
+        }
+    }
+}
+
+/// A fault, with the facts that are printed.
+#[derive(Clone, Copy)]
+struct Refusal<'a> {
+    /// The file, as the call named it.
+    file: &'a str,
+    marked: Marked<'a>,
+    code: &'static str,
+    sentence: &'static str,
+    /// The table and the key; none if the text is no document.
+    table: Option<&'static str>,
+    key: Option<&'a str>,
+    /// What stands there.
+    found: Item<'a>,
+    /// What should stand there; or the parser's message, if the text is no document.
+    expected: &'a str,
+    /// The key that was meant, or one in the place of an absent one.
+    meant: Option<&'a str>,
+}
+
+/// The members of a table of a document.
+pub(crate) fn members_of<'a>(document: &'a Table, table: &str) -> Option<&'a Table> {
+    if table.is_empty() {
+        return Some(document);
+    }
+    document.get(table)?.as_table()
+}
+
+/// Prints where and why a text is no TOML document.
+pub(crate) fn tell_no_toml<'a, W: Write>(
+    told: Told<'a>,
+    start: usize,
+    end: usize,
+    expected: &'a str,
+    answers: &mut W,
+) -> Result<Ending, ShowFault>
+    ensures ending { IfOk result (λ ending. ending ≡ Ending.SetupRefused) }
+    ensures safe { Writes IsSafe (W.contents answers.old) (W.contents answers.new) result }
+{
+    let refusal = Refusal {
+        file: told.file,
+        marked: mark_at(told.text, start, end),
+        code: "M1",
+        sentence: "the text is no TOML document",
+        table: None,
+        key: None,
+        found: Item::Absent,
+        expected,
+        meant: None,
+    };
+    tell_refusal(told.alloc, told.form, &refusal, answers)?;
+    tell_summary(told, 1, false, answers)?;
+    Ok(Ending::SetupRefused)
+}
+
+/// Prints a fault of a document.
+pub(crate) fn tell_fault<'a, W: Write>(
+    told: Told<'a>,
+    document: &'a Table,
+    fault: &'a MapFault,
+    place: &Place<'a>,
+    answers: &mut W,
+) -> Result<(), ShowFault>
+    ensures safe { Writes IsSafe (W.contents answers.old) (W.contents answers.new) result }
+{
+    let Ok(meant) = meant_at(told.alloc, document, fault, place) else {
+        return Err(ShowFault::NoMemory);
+    };
+    let at_key = locate_named(told.text, place.table.as_bytes(), place.key.as_bytes());
+    let refusal = Refusal {
+        file: told.file,
+        marked: part_at(fault, at_key, marked_table(told.text, place.table)),
+        code: fault.code(),
+        sentence: sentence_of(fault),
+        table: Some(place.table),
+        key: Some(place.key),
+        found: found_at(fault, at_key, place.key),
+        expected: place.expected,
+        meant,
+    };
+    tell_refusal(told.alloc, told.form, &refusal, answers)
+}
+
+/// The key that was meant by one that is not known.
+fn meant_at(
+    alloc: Global,
+    document: &Table,
+    fault: &MapFault,
+    place: &Place<'_>,
+) -> Result<Option<&'static str>, AllocError> {
+    match fault {
+        MapFault::Unknown { .. } => nearest_known(alloc, members_of(document, place.table), place),
+        MapFault::Missing { .. }
+        | MapFault::BadValue { .. }
+        | MapFault::NotToml { .. }
+        | MapFault::NoColumn { .. }
+        | MapFault::NoMemory => Ok(None),
+    }
+}
+
+/// The part of the text that is reported: the key or its value if its line was found, else its table.
+fn part_at<'a>(fault: &MapFault, at_key: Option<Marked<'a>>, at_table: Marked<'a>) -> Marked<'a> {
+    match (fault, at_key) {
+        (MapFault::Unknown { .. }, Some(marked)) => marked.at_key(),
+        (MapFault::BadValue { .. }, Some(marked)) => marked,
+        (
+            MapFault::Unknown { .. }
+            | MapFault::BadValue { .. }
+            | MapFault::Missing { .. }
+            | MapFault::NotToml { .. }
+            | MapFault::NoColumn { .. }
+            | MapFault::NoMemory,
+            _,
+        ) => at_table,
+    }
+}
+
+/// What stands at a place: the key that is not known, or the value that is not allowed, if its line was found.
+fn found_at<'a>(fault: &MapFault, at_key: Option<Marked<'a>>, key: &'a str) -> Item<'a>
+    ensures { is_own_plain result ≡ true }
+{
+    match (fault, at_key) {
+        (MapFault::Unknown { .. }, _) => Item::Bytes(key.as_bytes()),
+        (MapFault::BadValue { .. }, Some(marked)) => Item::Bytes(marked.value()),
+        (
+            MapFault::BadValue { .. }
+            | MapFault::Missing { .. }
+            | MapFault::NotToml { .. }
+            | MapFault::NoColumn { .. }
+            | MapFault::NoMemory,
+            _,
+        ) => Item::Absent,
+    }
+}
+
+/// A fault of a document, in words.
+fn sentence_of(fault: &MapFault) -> &'static str
+    ensures { is_plain result.now ≡ true }
+{
+    match fault {
+        MapFault::Unknown { .. } => "a key that is not known",
+        MapFault::BadValue { .. } => "a value that is not allowed",
+        MapFault::Missing { .. }
+        | MapFault::NotToml { .. }
+        | MapFault::NoColumn { .. }
+        | MapFault::NoMemory => "a key is absent",
+    }
+}
+
+/// The line to report for a table: its header, or the text's first.
+fn marked_table<'a>(text: &'a [u8], table: &str) -> Marked<'a> {
+    let header = if table.is_empty() {
+        None
+    } else {
+        locate_named(text, b"", table.as_bytes())
+    };
+    header.unwrap_or(mark_at(text, 0, 0))
+}
+
+/// Writes a fault: its place in the file, the line with carets under what is wrong, what was found and what is expected.
+fn tell_refusal<W: Write>(
+    alloc: Global,
+    form: Form,
+    refusal: &Refusal<'_>,
+    answers: &mut W,
+) -> Result<(), ShowFault>
+    requires code { is_plain refusal.now.code.now ≡ true }
+    requires sentence { is_plain refusal.now.sentence.now ≡ true }
+    requires found { is_own_plain refusal.now.found ≡ true }
+    ensures safe { Writes IsSafe (W.contents answers.old) (W.contents answers.new) result }
+{
+    if form.is_json() {
+        return tell_object(alloc, refusal, answers);
+    }
+    tell_place(form, refusal, answers)?;
+    let (found, expected) = (refusal.found, refusal.expected);
+    write_finding(answers, form, refusal.table.is_some(), found, expected)?;
+    tell_meant(form, refusal.meant, answers)
+}
+
+/// Writes the line of a fault's place, and the mapping's line with carets under what is wrong.
+fn tell_place<W: Write>(form: Form, refusal: &Refusal<'_>, answers: &mut W) -> Result<(), ShowFault>
+    requires code { is_plain refusal.now.code.now ≡ true }
+    requires sentence { is_plain refusal.now.sentence.now ≡ true }
+    ensures safe { Writes IsSafe (W.contents answers.old) (W.contents answers.new) result }
+{
+    let items = [
+        words_before(refusal.table, ": "),
+        table_item(refusal.table),
+        words_before(refusal.key, ", key "),
+        item_of(refusal.key),
+        Item::Text(": "),
+        Item::Text(refusal.sentence),
+    ];
+    let (file, marked) = (refusal.file, refusal.marked);
+    write_marked(answers, form, file, marked, refusal.code, &items)
+}
+
+/// The name of a table, if there is one.
+fn table_item(table: Option<&'static str>) -> Item<'static>
+    ensures { is_own_plain result ≡ true }
+{
+    match table {
+        Some("") => Item::Text("top"),
+        Some(table) => Item::Bytes(table.as_bytes()),
+        None => Item::Absent,
+    }
+}
+
+/// Writes the key that was meant, if there is one.
+fn tell_meant<W: Write>(form: Form, meant: Option<&str>, answers: &mut W) -> Result<(), ShowFault>
+    ensures safe { Writes IsSafe (W.contents answers.old) (W.contents answers.new) result }
+{
+    let Some(meant) = meant else {
+        return Ok(());
+    };
+    let items = [
+        Item::Text("    did you mean `"),
+        Item::Bytes(meant.as_bytes()),
+        Item::Text("`?"),
+    ];
+    write_plain_line(answers, form, &items)
+}
+
+/// Writes a fault as a JSON object.
+fn tell_object<W: Write>(
+    alloc: Global,
+    refusal: &Refusal<'_>,
+    answers: &mut W,
+) -> Result<(), ShowFault>
+    requires code { is_plain refusal.now.code.now ≡ true }
+    requires found { is_own_plain refusal.now.found ≡ true }
+    ensures safe { Writes IsSafe (W.contents answers.old) (W.contents answers.new) result }
+{
+    let members = [
+        ("what", Item::Text("refusal")),
+        ("file", Item::Bytes(refusal.file.as_bytes())),
+        ("line", Item::Number(refusal.marked.number)),
+        ("column", Item::Number(refusal.marked.column())),
+        ("code", Item::Text(refusal.code)),
+        ("table", table_item(refusal.table)),
+        ("key", item_of(refusal.key)),
+        ("text", Item::Bytes(refusal.marked.line)),
+        ("found", refusal.found),
+        ("expected", Item::Bytes(refusal.expected.as_bytes())),
+        ("meant", item_of(refusal.meant)),
+    ];
+    write_plain_object(alloc, answers, &members)
+}
+
+/// Writes how many faults of a mapping were reported, and whether there are more.
+pub(crate) fn tell_summary<W: Write>(
+    told: Told<'_>,
+    faults: u64,
+    more: bool,
+    answers: &mut W,
+) -> Result<(), ShowFault>
+    ensures safe { Writes IsSafe (W.contents answers.old) (W.contents answers.new) result }
+{
+    if told.form.is_json() {
+        let members = [
+            ("what", Item::Text("summary")),
+            ("file", Item::Bytes(told.file.as_bytes())),
+            ("faults", Item::Number(faults)),
+            ("more", Item::Flag(more)),
+        ];
+        return write_plain_object(told.alloc, answers, &members);
+    }
+    let items = [
+        Item::Bytes(told.file.as_bytes()),
+        Item::Text(": faults: "),
+        Item::Number(faults),
+        more_item(more),
+    ];
+    write_plain_line(answers, told.form, &items)
+}
+
+/// Words that say that there are more faults, if there are.
+fn more_item(more: bool) -> Item<'static>
+    ensures { is_own_plain result ≡ true }
+{
+    if more {
+        Item::Text(", and there are more")
+    } else {
+        Item::Absent
+    }
+}

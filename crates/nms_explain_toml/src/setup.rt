@@ -1,0 +1,12 @@
+//! Why a setup is refused.
+mod expected;
+mod explaining;
+mod findings;
+mod hints;
+mod in_braces;
+mod locating;
+mod nearest;
+mod sentences;
+mod telling;
+
+pub use explaining::explain_setup;

@@ -1,0 +1,355 @@
+//! The faults of a document, in the form of a report.
+ghost use Rattle.std.specs.Prelude.{◌≡◌, true};
+ghost use Rattle.nms_show.specs.Plain.{is_own_plain};
+ghost use Rattle.nms_show.specs.Safe.{IsSafe};
+ghost use Rattle.nms_show.specs.Written.{Writes};
+
+use super::expected::{expected_at, keys_expected};
+use super::hints::value_hint;
+use super::locating::{locate_key, locate_table, row_of};
+use super::nearest::{nearest_known, nearest_other};
+use super::sentences::sentence_of;
+use super::telling::{Refusal, tell_refusal};
+use crate::marked::{Marked, mark_at};
+use crate::told::Told;
+use nms_fees::SetupFault;
+use nms_setup_places::{
+    Choices, Finding, KnownKey, SetupArray, SetupTable, Spot, name_in, rows_at,
+};
+use nms_show::{Item, ShowFault};
+use std::alloc::{AllocError, Global};
+use std::io::Write;
+use toml::{Table, Value};
+
+/// How many faults a finding has: each key that may not stand in a table is one.
+pub(crate) fn faults_at(document: &Table, finding: &Finding) -> usize {
+    match (finding.spot, members_of(document, finding.table)) {
+        (Spot::OtherKeys, Some(members)) => members
+            .keys()
+            .filter(|key| !finding.table.has_key(key.as_str()))
+            .count(),
+        _ => 1,
+    }
+}
+
+/// Reports a finding, up to that many of its faults.
+#[tactic(auto, using(nms_show::proofs::Offered::nothing_added))]
+pub(crate) fn tell_finding<W: Write>(
+    told: Told<'_>,
+    choices: Choices,
+    document: &Table,
+    finding: &Finding,
+    room: usize,
+    answers: &mut W,
+) -> Result<(), ShowFault>
+    ensures safe { Writes IsSafe (W.contents answers.old) (W.contents answers.new) result }
+{
+    if room == 0 {
+        return Ok(());
+    }
+    match finding.spot {
+        Spot::OtherKeys => tell_others(told, document, finding.table, room, answers),
+        Spot::Key(key) => tell_key(told, choices, document, finding, key, answers),
+        Spot::Element => tell_element(told, finding, answers),
+        Spot::NameOf(first) => tell_again(told, document, finding, first, answers),
+    }
+}
+
+/// Reports the fault of a key that may stand in a table.
+#[tactic(auto, using(nms_show::proofs::Offered::nothing_added, nms_show::proofs::Offered::no_part_added))]
+fn tell_key<W: Write>(
+    told: Told<'_>,
+    choices: Choices,
+    document: &Table,
+    finding: &Finding,
+    key: KnownKey,
+    answers: &mut W,
+) -> Result<(), ShowFault>
+    ensures safe { Writes IsSafe (W.contents answers.old) (W.contents answers.new) result }
+{
+    let Ok(expected) = expected_at(told.alloc, choices, finding.table, key) else {
+        return Err(ShowFault::NoMemory);
+    };
+    let text = expected.as_str();
+    match members_of(document, finding.table) {
+        Some(members) if finding.fault == SetupFault::Missing => {
+            tell_absent(told, document, finding.table, members, key, text, answers)
+        }
+        Some(members) => tell_value(told, document, finding, members, key, text, answers),
+        None => Ok(()),
+    }
+}
+
+/// Reports that a key is absent, and which similar key the table has.
+#[tactic(auto, using(nms_show::proofs::Offered::no_part_added))]
+fn tell_absent<'a, W: Write>(
+    told: Told<'a>,
+    document: &'a Table,
+    table: SetupTable,
+    members: &'a Table,
+    key: KnownKey,
+    expected: &'a str,
+    answers: &mut W,
+) -> Result<(), ShowFault>
+    ensures safe { Writes IsSafe (W.contents answers.old) (W.contents answers.new) result }
+{
+    let Ok(hint) = absent_hint(told.alloc, table, members, key) else {
+        return Err(ShowFault::NoMemory);
+    };
+    let fault = SetupFault::Missing;
+    let refusal = Refusal {
+        file: told.file,
+        marked: marked_table(told.text, table),
+        fault,
+        sentence: sentence_of(fault),
+        table: Some(table),
+        name: row_name(document, table),
+        key: Some(key.text()),
+        found: Item::Absent,
+        expected,
+        hint: hint.as_str(),
+    };
+    tell_refusal(told.alloc, told.form, &refusal, answers)
+}
+
+/// The key that the table has in place of an absent one.
+fn absent_hint(
+    alloc: Global,
+    table: SetupTable,
+    members: &Table,
+    key: KnownKey,
+) -> Result<String, AllocError> {
+    match nearest_other(alloc, table, members, key)? {
+        Some(other) => format!(in alloc; "`{other}` stands there: is it misspelt?"),
+        None => Ok(String::new(alloc)),
+    }
+}
+
+/// Reports the fault of a key's value.
+#[tactic(auto, using(nms_show::proofs::Offered::nothing_added))]
+fn tell_value<'a, W: Write>(
+    told: Told<'a>,
+    document: &'a Table,
+    finding: &Finding,
+    members: &'a Table,
+    key: KnownKey,
+    expected: &'a str,
+    answers: &mut W,
+) -> Result<(), ShowFault>
+    ensures safe { Writes IsSafe (W.contents answers.old) (W.contents answers.new) result }
+{
+    let table = finding.table;
+    let Some(value) = members.get(key.text()) else {
+        return Ok(());
+    };
+    let at_key = locate_key(told.text, table, key.text().as_bytes());
+    let refusal = Refusal {
+        file: told.file,
+        marked: at_key.unwrap_or(marked_table(told.text, table)),
+        fault: finding.fault,
+        sentence: sentence_of(finding.fault),
+        table: Some(table),
+        name: row_name(document, table),
+        key: Some(key.text()),
+        found: found_at(at_key, finding.fault, value),
+        expected,
+        hint: value_hint(finding, value),
+    };
+    tell_refusal(told.alloc, told.form, &refusal, answers)
+}
+
+/// What stands at a key: how many tables, if their number is refused; else the value as it is written. If its line was not
+/// found, the kind of the value.
+fn found_at<'a>(at_key: Option<Marked<'a>>, fault: SetupFault, value: &'a Value) -> Item<'a>
+    ensures { is_own_plain result ≡ true }
+{
+    if let Some(rows) = counted_at(fault, value) {
+        return Item::Number(rows as u64);
+    }
+    let written = match at_key {
+        Some(marked) => marked.value(),
+        None => value.type_str().as_bytes(),
+    };
+    Item::Bytes(written)
+}
+
+/// How many tables there are, if their number is refused.
+fn counted_at(fault: SetupFault, value: &Value) -> Option<usize> {
+    match fault {
+        SetupFault::OutOfRange | SetupFault::TooMany => Some(value.as_array()?.len()),
+        _ => None,
+    }
+}
+
+/// Reports each key that may not stand in a table, up to that many.
+#[tactic(auto, using(nms_show::proofs::Offered::nothing_added))]
+fn tell_others<W: Write>(
+    told: Told<'_>,
+    document: &Table,
+    table: SetupTable,
+    room: usize,
+    answers: &mut W,
+) -> Result<(), ShowFault>
+    ensures safe { Writes IsSafe (W.contents answers.old) (W.contents answers.new) result }
+{
+    let Some(members) = members_of(document, table) else {
+        return Ok(());
+    };
+    let mut left = room;
+    for key in members.keys() {
+        if left == 0 {
+            break;
+        }
+        if !table.has_key(key.as_str()) {
+            tell_other(told, document, table, members, key.as_str(), answers)?;
+            left -= 1;
+        }
+    }
+    Ok(())
+}
+
+/// Reports one key that may not stand in a table, with the nearest known key.
+#[tactic(auto, using(nms_show::proofs::Offered::no_part_added))]
+fn tell_other<'a, W: Write>(
+    told: Told<'a>,
+    document: &'a Table,
+    table: SetupTable,
+    members: &'a Table,
+    key: &'a str,
+    answers: &mut W,
+) -> Result<(), ShowFault>
+    ensures safe { Writes IsSafe (W.contents answers.old) (W.contents answers.new) result }
+{
+    let Ok(hint) = other_hint(told.alloc, table, members, key) else {
+        return Err(ShowFault::NoMemory);
+    };
+    let marked = match locate_key(told.text, table, key.as_bytes()) {
+        Some(marked) => marked.at_key(),
+        None => marked_table(told.text, table),
+    };
+    let fault = SetupFault::UnknownKey;
+    let refusal = Refusal {
+        file: told.file,
+        marked,
+        fault,
+        sentence: sentence_of(fault),
+        table: Some(table),
+        name: row_name(document, table),
+        key: Some(key),
+        found: Item::Bytes(key.as_bytes()),
+        expected: keys_expected(table),
+        hint: hint.as_str(),
+    };
+    tell_refusal(told.alloc, told.form, &refusal, answers)
+}
+
+/// The known key that another key probably means.
+fn other_hint(
+    alloc: Global,
+    table: SetupTable,
+    members: &Table,
+    key: &str,
+) -> Result<String, AllocError> {
+    match nearest_known(alloc, table, members, key)? {
+        Some(known) => {
+            let known = known.text();
+            format!(in alloc; "did you mean `{known}`?")
+        }
+        None => Ok(String::new(alloc)),
+    }
+}
+
+/// Reports an element of an array that is no table.
+fn tell_element<'a, W: Write>(
+    told: Told<'a>,
+    finding: &Finding,
+    answers: &mut W,
+) -> Result<(), ShowFault>
+    ensures safe { Writes IsSafe (W.contents answers.old) (W.contents answers.new) result }
+{
+    let marked = marked_table(told.text, finding.table);
+    let refusal = Refusal {
+        file: told.file,
+        marked,
+        fault: finding.fault,
+        sentence: sentence_of(finding.fault),
+        table: Some(finding.table),
+        name: None,
+        key: None,
+        found: Item::Bytes(marked.value()),
+        expected: "a table, as after a line [[participant]] or [[symbol]]",
+        hint: "",
+    };
+    tell_refusal(told.alloc, told.form, &refusal, answers)
+}
+
+/// Reports a name that an earlier element of the array has.
+#[tactic(auto, using(nms_show::proofs::Offered::no_part_added))]
+fn tell_again<'a, W: Write>(
+    told: Told<'a>,
+    document: &'a Table,
+    finding: &Finding,
+    first: usize,
+    answers: &mut W,
+) -> Result<(), ShowFault>
+    ensures safe { Writes IsSafe (W.contents answers.old) (W.contents answers.new) result }
+{
+    // No memory holds as many elements as a number can count.
+    let Some(place) = first.checked_add(1) else {
+        return Err(ShowFault::NoMemory);
+    };
+    let alloc = told.alloc;
+    let Ok(expected) = format!(in alloc; "a name of its own: number {place} has it too") else {
+        return Err(ShowFault::NoMemory);
+    };
+    let at_key = locate_key(told.text, finding.table, b"name");
+    let name = row_name(document, finding.table);
+    let refusal = Refusal {
+        file: told.file,
+        marked: at_key.unwrap_or(marked_table(told.text, finding.table)),
+        fault: finding.fault,
+        sentence: "a name that stands twice",
+        table: Some(finding.table),
+        name,
+        key: Some("name"),
+        found: match name {
+            Some(name) => Item::Bytes(name.as_bytes()),
+            None => Item::Absent,
+        },
+        expected: expected.as_str(),
+        hint: "",
+    };
+    tell_refusal(told.alloc, told.form, &refusal, answers)
+}
+
+/// The line to report for a table: its first line, or that of its array's key, or the text's first.
+fn marked_table(text: &[u8], table: SetupTable) -> Marked<'_> {
+    let first = mark_at(text, 0, 0);
+    let Some((array, _)) = row_of(table) else {
+        return first;
+    };
+    if let Some(marked) = locate_table(text, table) {
+        return marked;
+    }
+    let key = array.key().text().as_bytes();
+    locate_key(text, SetupTable::Top, key).unwrap_or(first)
+}
+
+/// The keys at a place of a document, if that is a table.
+fn members_of(document: &Table, table: SetupTable) -> Option<&Table> {
+    match table {
+        SetupTable::Top => Some(document),
+        _ => element_of(document, table)?.as_table(),
+    }
+}
+
+/// An element of one of the two arrays.
+fn element_of(document: &Table, table: SetupTable) -> Option<&Value> {
+    let (array, place) = row_of(table)?;
+    rows_at(document, array.key().text()).get(place)
+}
+
+/// The name of an element of one of the two arrays, if it has one.
+fn row_name(document: &Table, table: SetupTable) -> Option<&str> {
+    name_in(element_of(document, table)?)
+}

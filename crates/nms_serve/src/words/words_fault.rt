@@ -1,0 +1,60 @@
+//! Why the words of the command line are no request.
+use std::alloc::AllocError;
+use thiserror::Error;
+
+/// Why the words of the command line are no request.
+#[derive(Debug, Drop, Error)]
+pub enum WordsFault {
+    /// G1: the parser's text: a fault or, if `help` holds, the help or the version that was asked for.
+    #[error("{text}")]
+    Parser { text: String, help: bool },
+    /// G2: out of memory.
+    #[error("G2: out of memory")]
+    NoMemory,
+    /// The value of `--feed` is not a letter from `A` to `H`, an equals sign and a path.
+    #[error("usage: --feed takes LETTER=PATH, with a letter from A to H")]
+    FeedForm,
+    /// Two of the values of `--feed` have one letter.
+    #[error("usage: --feed names a feed twice")]
+    FeedTwice,
+    /// The value of `--client` is not two paths with one comma between them.
+    #[error("usage: --client takes IN,OUT: two paths, with no comma in them")]
+    ClientForm,
+    /// Two clients have the same input, or one path is written to twice: by two clients, or by a client and the tape.
+    #[error("usage: a path is given to two clients, or to a client and --tape")]
+    PathTwice,
+    /// The value of `--stale` is not a whole number from 1 to 86,400, in digits only.
+    #[error("usage: --stale takes whole seconds, from 1 to 86400")]
+    StaleForm,
+}
+
+impl WordsFault {
+    ghost use Rattle.std.specs.Prelude.{◌≡◌};
+    ghost use Rattle.nms_serve.specs.Faults.{status_of};
+
+    /// The exit status of a program that it ends: 2 for words, 5 for memory.
+    pub fn status(&self) -> u8
+        ensures { result ≡ status_of self.now }
+    {
+        match self {
+            WordsFault::Parser { .. }
+            | WordsFault::FeedForm
+            | WordsFault::FeedTwice
+            | WordsFault::ClientForm
+            | WordsFault::PathTwice
+            | WordsFault::StaleForm => 2,
+            WordsFault::NoMemory => 5,
+        }
+    }
+}
+
+impl From<AllocError> for WordsFault {
+    ghost use Rattle.std.specs.Prelude.{◌≡◌};
+    ghost use Rattle.nms_serve.specs.declared.words.words_fault.WordsFault.TheVariants.{NoMemory};
+
+    ghost from_gives = { λ _ fault. fault ≡ NoMemory };
+
+    fn from(_error: AllocError) -> WordsFault {
+        WordsFault::NoMemory
+    }
+}
