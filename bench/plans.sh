@@ -14,8 +14,12 @@ below='nms_(units|quote|board|fee_book|fees|rules|cert|sweep)'
 tar -c --exclude=out --exclude=must-fail crates/nms_{units,quote,board,fee_book,fees,rules,cert,sweep} | tar -x -C "$room"
 grep -E "^$below:" crates.txt >"$room/crates.txt"
 echo 'nms_plans: nms_units nms_quote nms_board nms_fees nms_cert nms_sweep arrayvec' >>"$room/crates.txt"
-mkdir -p "$room/crates/nms_plans"
-cp -r bench/plans "$room/crates/nms_plans/src"
+source=$room/crates/nms_plans/src
+mkdir -p "$source"
+# The gate allows files `.rt` in crates alone.
+for file in bench/plans/*.rattle; do
+    cp "$file" "$source/$(basename "$file" .rattle).rt"
+done
 cd "$room/crates/nms_plans"
 printf '10 600\n' | rt run --jobs 1 >&2
 left=$number
