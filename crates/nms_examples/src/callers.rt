@@ -13,68 +13,77 @@ use nms_fees::{FeeBook, Setup, read_setup};
 use nms_quote::{Change, Feed, Order, OrderSide, PartSet, SideQuote, Sym};
 use nms_units::{Price, Shares};
 use std::alloc::Global;
+use std::io::Write;
 use std::sync::Wait;
 use std::thread::Threads;
-pub(crate) use threads::{close_two, open_two};
 
-/// Makes the call that a word names, with that many changes, on the symbol at a place, and reports the result.
-pub(crate) fn make<R: AllocGlobal + Threads + Wait + Sync>(
+/// Makes the call that a word names, with that many changes, on the symbol at a place, and adds the result.
+pub(crate) fn give_call<R: AllocGlobal + Threads + Wait + Sync>(
     rt: &R,
     kind: &str,
     sym: u16,
     changes: u32,
-) -> Result<String, Failed> {
+    given: &mut Vec<u8>,
+) -> Result<(), Failed> {
     let Some(sym) = Sym::new(sym) else {
         return Err(Failed);
     };
     if kind == "again" {
-        return make_over(rt, again::SMALL, kind, sym, changes);
+        return give_over(rt, again::SMALL, kind, sym, changes, given);
     }
     match setup_text(rt.alloc(), 1) {
-        Ok(text) => make_over(rt, text.as_str(), kind, sym, changes),
+        Ok(text) => give_over(rt, text.as_str(), kind, sym, changes, given),
         Err(_) => Err(Failed),
     }
 }
 
 /// As above, over a setup's text.
-fn make_over<R: AllocGlobal + Threads + Wait + Sync>(
+fn give_over<R: AllocGlobal + Threads + Wait + Sync>(
     rt: &R,
     text: &str,
     kind: &str,
     sym: Sym,
     changes: u32,
-) -> Result<String, Failed> {
+    given: &mut Vec<u8>,
+) -> Result<(), Failed> {
     match read_setup(rt.alloc(), text) {
-        Ok(setup) => make_under(rt, &setup, kind, sym, changes),
+        Ok(setup) => give_under(rt, &setup, kind, sym, changes, given),
         Err(_) => Err(Failed),
     }
 }
 
 /// As above, under a setup.
-fn make_under<R: AllocGlobal + Threads + Wait + Sync>(
+fn give_under<R: AllocGlobal + Threads + Wait + Sync>(
     rt: &R,
     setup: &Setup,
     kind: &str,
     sym: Sym,
     changes: u32,
-) -> Result<String, Failed> {
+    given: &mut Vec<u8>,
+) -> Result<(), Failed> {
     let alloc = rt.alloc();
     match kind {
-        "machine" => tell_machine(alloc, setup, sym, changes),
-        "sweep" => tell_sweep(alloc, setup, sym, changes),
-        "threads" => tell_threads(rt, alloc, setup, sym, changes),
-        "again" => tell_again(rt, alloc, setup, sym, changes),
+        "machine" => tell_machine(alloc, setup, sym, changes, given),
+        "sweep" => tell_sweep(alloc, setup, sym, changes, given),
+        "threads" => tell_threads(rt, alloc, setup, sym, changes, given),
+        "again" => tell_again(rt, alloc, setup, sym, changes, given),
         _ => Err(Failed),
     }
 }
 
-/// The published version, and the participant of the best bid.
-fn tell_machine(alloc: Global, setup: &Setup, sym: Sym, changes: u32) -> Result<String, Failed> {
+/// Adds the published version, and the participant of the best bid.
+fn tell_machine(
+    alloc: Global,
+    setup: &Setup,
+    sym: Sym,
+    changes: u32,
+    given: &mut Vec<u8>,
+) -> Result<(), Failed> {
     let changes = changes_of(alloc, changes)?;
     match machine::consolidate(alloc, setup, Feed::A, changes.as_slice(), sym) {
         Ok((version, best)) => {
             let place = best.bid.map(|row| row.part.get());
-            or_failed(format!(in alloc; "{version} {place:?}"))
+            or_failed(writeln!(given, "{version} {place:?}"))
         }
         Err(_) => Err(Failed),
     }
@@ -102,28 +111,35 @@ fn push_change(changes: &mut Vec<Change>, number: u32) -> Result<(), Failed> {
     }
 }
 
-/// The shares that an order for 950 fills and its cost after that many changes, and whether it was confirmed.
-fn tell_sweep(alloc: Global, setup: &Setup, sym: Sym, changes: u32) -> Result<String, Failed> {
+/// Adds the shares that an order for 950 fills and its cost after that many changes, and whether it was confirmed.
+fn tell_sweep(
+    alloc: Global,
+    setup: &Setup,
+    sym: Sym,
+    changes: u32,
+    given: &mut Vec<u8>,
+) -> Result<(), Failed> {
     match Boards::new(alloc, setup.roster()) {
-        Ok(mut board) => tell_sweep_on(alloc, &mut board, setup.fees(), sym, changes),
+        Ok(mut board) => tell_sweep_on(&mut board, setup.fees(), sym, changes, given),
         Err(_) => Err(Failed),
     }
 }
 
 /// As above, on an empty board.
 fn tell_sweep_on(
-    alloc: Global,
     board: &mut Boards,
     fees: &FeeBook,
     sym: Sym,
     changes: u32,
-) -> Result<String, Failed> {
+    given: &mut Vec<u8>,
+) -> Result<(), Failed> {
     apply_all(board, changes)?;
     let Some(order) = order_of(sym) else {
         return Err(Failed);
     };
     let (plan, finding) = sweeping::plan_and_confirm(board, &order, fees);
-    or_failed(format!(in alloc; "{} {} {}", plan.filled, plan.cost, finding.is_ok()))
+    let is_confirmed = finding.is_ok();
+    or_failed(writeln!(given, "{} {} {is_confirmed}", plan.filled, plan.cost))
 }
 
 /// Applies that many changes, those that the board takes.
@@ -147,23 +163,24 @@ fn order_of(sym: Sym) -> Option<Order> {
     Order::new(OrderSide::Buy, sym, shares, limit, false, PartSet::none())
 }
 
-/// How many changes each feed sent, how many were taken, and the version that the desk was settled on.
+/// Adds how many changes each feed sent, how many were taken, and the version that the desk was settled on.
 fn tell_threads<R: Threads + Wait + Sync>(
     rt: &R,
     alloc: Global,
     setup: &Setup,
     sym: Sym,
     changes: u32,
-) -> Result<String, Failed> {
+    given: &mut Vec<u8>,
+) -> Result<(), Failed> {
     let Some(change) = quotation(0) else {
         return Err(Failed);
     };
     let came = threads::run(rt, alloc, setup, &change, changes, sym)?;
     let (delivered, settled) = (&came.delivered, came.settled);
-    or_failed(format!(in alloc; "{:?} {} {settled}", delivered.sent, delivered.taken))
+    or_failed(writeln!(given, "{:?} {} {settled}", delivered.sent, delivered.taken))
 }
 
-/// How many changes were appended at their places, how many the tape has, the version and the shares that a desk saw, and
+/// Adds how many changes were appended at their places, how many the tape has, the version and the shares that a desk saw, and
 /// whether no change was left out.
 fn tell_again<R: Wait>(
     rt: &R,
@@ -171,10 +188,12 @@ fn tell_again<R: Wait>(
     setup: &Setup,
     sym: Sym,
     changes: u32,
-) -> Result<String, Failed> {
+    given: &mut Vec<u8>,
+) -> Result<(), Failed> {
     let came = again::append_all(rt, alloc, setup, sym, changes)?;
     let (version, shares) = came.shown;
-    or_failed(format!(in alloc;
+    or_failed(writeln!(
+        given,
         "{} {} {version} {shares} {}",
         came.in_place, came.tape, came.is_whole
     ))

@@ -3,9 +3,9 @@
 //! makes that many looks by each of that many desks. `machine`, `sweep`, `threads` and `again` take the place of a symbol and a
 //! number of changes.
 
-use crate::Failed;
-use crate::lines::{around, or_failed};
-use crate::{callers, lane, looks};
+use crate::callers::give_call;
+use crate::lines::{around, or_failed, tell, text_of};
+use crate::{Failed, lane, looks, write};
 use nms_feed::Delivered;
 use std::io::Write;
 use std::rt::Clock;
@@ -30,59 +30,62 @@ fn run_line<R: AllocGlobal + Threads + Wait + Clock + Sync, W: Write>(
     line: &str,
     answers: &mut W,
 ) -> Result<(), Failed> {
-    match told_of(rt, line) {
-        Ok(told) => or_failed(writeln!(answers, "{line} {told}")),
+    let mut given = Vec::new(rt.alloc());
+    match give_run(rt, line, &mut given) {
+        Ok(()) => write(answers, &[line, " ", text_of(&given)?]),
         Err(fault) => Err(fault),
     }
 }
 
-/// Makes the run of a line, and reports the result: how many changes each thread sent and how many were taken, how many rows of
+/// Makes the run of a line, and adds the result: how many changes each thread sent and how many were taken, how many rows of
 /// the looks were right, or the result of a call.
-fn told_of<R: AllocGlobal + Threads + Wait + Clock + Sync>(
+fn give_run<R: AllocGlobal + Threads + Wait + Clock + Sync>(
     rt: &R,
     line: &str,
-) -> Result<String, Failed> {
+    given: &mut Vec<u8>,
+) -> Result<(), Failed> {
     let (kind, sizes) = around(line, " ")?;
     let (first, rest) = around(sizes, " ")?;
     if kind == "lane" {
-        return run_lane(rt, first, rest);
+        return give_lane(rt, first, rest, given);
     }
     let first = or_failed(first.parse::<u16>())?;
     let second = or_failed(rest.parse::<u32>())?;
     match kind {
-        "looks" => run_looks(rt, first, second),
-        _ => callers::make(rt, kind, first, second),
+        "looks" => give_looks(rt, first, second, given),
+        _ => give_call(rt, kind, first, second, given),
     }
 }
 
-/// Looks from that many desks, and reports how many rows were right.
-fn run_looks<R: AllocGlobal + Threads + Wait + Clock + Sync>(
+/// Looks from that many desks, and adds how many rows were right.
+fn give_looks<R: AllocGlobal + Threads + Wait + Clock + Sync>(
     rt: &R,
     desks: u16,
     looks: u32,
-) -> Result<String, Failed> {
+    given: &mut Vec<u8>,
+) -> Result<(), Failed> {
     let desks = or_failed(u8::try_from(desks))?;
-    let rows = looks::measure(rt, desks, looks)?;
-    or_failed(format!(in rt.alloc(); "{rows}"))
+    tell(given, looks::measure(rt, desks, looks)?)
 }
 
-/// Runs a lane of a capacity, with senders and changes as the rest of a line says, and reports the counts.
-fn run_lane<R: AllocGlobal + Threads + Wait + Sync>(
+/// Runs a lane of a capacity, with senders and changes as the rest of a line says, and adds the counts.
+fn give_lane<R: AllocGlobal + Threads + Wait + Sync>(
     rt: &R,
     capacity: &str,
     rest: &str,
-) -> Result<String, Failed> {
+    given: &mut Vec<u8>,
+) -> Result<(), Failed> {
     let capacity = or_failed(capacity.parse::<usize>())?;
     let (senders, changes) = around(rest, " ")?;
     let senders = or_failed(senders.parse::<u8>())?;
     let changes = or_failed(changes.parse::<u32>())?;
     match lane::measure(rt, capacity, senders, changes) {
-        Ok(came) => told_of_lane(rt, &came),
+        Ok(came) => tell_delivered(&came, given),
         Err(fault) => Err(fault),
     }
 }
 
-/// How many changes each thread sent, and how many were taken.
-fn told_of_lane<R: AllocGlobal>(rt: &R, came: &Delivered) -> Result<String, Failed> {
-    or_failed(format!(in rt.alloc(); "{:?} {}", came.sent, came.taken))
+/// Adds how many changes each thread sent, and how many were taken.
+fn tell_delivered(came: &Delivered, given: &mut Vec<u8>) -> Result<(), Failed> {
+    or_failed(writeln!(given, "{:?} {}", came.sent, came.taken))
 }

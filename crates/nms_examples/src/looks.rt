@@ -7,7 +7,6 @@ use nms_quote::{Change, Part, QState, Side, SideQuote, Sym};
 use nms_units::{Price, Shares};
 use nms_versions::{Desk, Publisher, open_tape};
 use std::alloc::{AllocError, Global};
-use std::fmt::Write;
 use std::rt::Clock;
 use std::sync::Wait;
 use std::sync::atomic::{AtomicU64, Ordering};
@@ -49,28 +48,24 @@ pub(crate) fn measure<R: AllocGlobal + Threads + Wait + Clock + Sync>(
 
 /// A setup of that board and that many desks.
 pub(crate) fn setup_text(alloc: Global, desks: u8) -> Result<String, AllocError> {
-    let mut text = format!(in alloc; "tape_limit = 10000000\nqueue = 2\ndesks = {desks}\n")?;
-    add_participants(alloc, &mut text)?;
-    add_symbols(alloc, &mut text)?;
-    Ok(text)
+    let mut text = String::new(alloc);
+    match write_setup(&mut text, desks) {
+        Ok(()) => Ok(text),
+        Err(fault) => Err(fault),
+    }
 }
 
-/// Adds the participants of that board to a setup.
-fn add_participants(alloc: Global, text: &mut String) -> Result<(), AllocError> {
+/// Writes it.
+fn write_setup(text: &mut String, desks: u8) -> Result<(), AllocError> {
+    write!(text, "tape_limit = 10000000\nqueue = 2\ndesks = {desks}\n")?;
     for place in 0..PARTICIPANTS {
-        let entry = format!(in alloc;
+        write!(
+            text,
             "[[participant]]\nname = \"P{place}\"\nfeed = \"A\"\nfee = 0\nrate = 0\n"
         )?;
-        text.push_str(entry.as_str())?;
     }
-    Ok(())
-}
-
-/// Adds its symbols.
-fn add_symbols(alloc: Global, text: &mut String) -> Result<(), AllocError> {
     for place in 0..SYMBOLS {
-        let entry = format!(in alloc; "[[symbol]]\nname = \"S{place}\"\nlot = 100\n")?;
-        text.push_str(entry.as_str())?;
+        write!(text, "[[symbol]]\nname = \"S{place}\"\nlot = 100\n")?;
     }
     Ok(())
 }

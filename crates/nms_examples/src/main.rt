@@ -155,15 +155,16 @@ where
 /// Writes what was given, or whether it is the expected text.
 fn tell<W: Write>(given: &[u8], wanted: Option<&str>, answers: &mut W) -> Result<bool, Failed> {
     let given = text_of(given)?;
-    match wanted {
-        None => write(answers, &[given])?,
-        Some(wanted) if given == wanted => write(answers, &["as it must\n"])?,
-        Some(_) => {
-            write(answers, &["NOT AS IT MUST, but:\n", given])?;
-            return Ok(false);
-        }
-    }
-    Ok(true)
+    let is_wanted = wanted.is_none() || wanted == Some(given);
+    let told = if wanted.is_none() {
+        ["", given]
+    } else if is_wanted {
+        ["as it must\n", ""]
+    } else {
+        ["NOT AS IT MUST, but:\n", given]
+    };
+    write(answers, &told)?;
+    Ok(is_wanted)
 }
 
 /// Writes each piece.

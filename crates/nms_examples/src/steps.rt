@@ -42,15 +42,15 @@ fn step_named(word: &str) -> Option<Step> {
             desk: 0,
             sym: Sym::new(0)?,
         }),
-        "N" => Some(Step::Send(Feed::A, offer_of(0)?)),
-        "P" => Some(Step::Send(Feed::A, offer_of(1)?)),
-        _ => Some(Step::Send(Feed::B, offer_of(2)?)),
+        "N" => Some(Step::Send(Feed::A, offer_of(0, 100)?)),
+        "P" => Some(Step::Send(Feed::A, offer_of(1, 100)?)),
+        _ => Some(Step::Send(Feed::B, offer_of(2, 100)?)),
     }
 }
 
-/// An offer of 100 shares of the first symbol at 10.00 by the participant at a place.
-fn offer_of(place: u8) -> Option<Change> {
-    let offer = SideQuote::new(Price::new(100_000)?, Shares::new(100)?);
+/// An offer of so many shares of the first symbol at 10.00 by the participant at a place.
+pub(crate) fn offer_of(place: u8, shares: u32) -> Option<Change> {
+    let offer = SideQuote::new(Price::new(100_000)?, Shares::new(shares)?);
     Some(Change::Quote {
         part: Part::new(place)?,
         sym: Sym::new(0)?,

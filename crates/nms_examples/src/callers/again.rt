@@ -3,9 +3,9 @@ ghost use Rattle.std.specs.Prelude.{◌≡◌, true};
 ghost use Rattle.nms_quote.specs.Roster.{holds};
 
 use crate::Failed;
+use crate::steps::offer_of;
 use nms_fees::Setup;
-use nms_quote::{Change, Part, QState, Side, SideQuote, Sym};
-use nms_units::{Price, Shares};
+use nms_quote::{Change, Side, Sym};
 use nms_versions::{AppendFault, Desk, Publisher, open_tape};
 use std::alloc::Global;
 use std::sync::Wait;
@@ -77,20 +77,13 @@ fn append_each<R: Wait>(rt: &R, publisher: &mut Publisher, count: u32) -> bool {
 }
 
 /// The change of that number: the participant offers a round lot more each time.
-fn offer_of(number: u32) -> Option<Change> {
-    let shares = Shares::new((number % 1000 + 1) * 100)?;
-    Some(Change::Quote {
-        part: Part::new(0)?,
-        sym: Sym::new(0)?,
-        state: QState::Automated,
-        bid: None,
-        offer: SideQuote::new(Price::new(100_000)?, shares),
-    })
+fn offer_numbered(number: u32) -> Option<Change> {
+    offer_of(0, (number % 1000 + 1) * 100)
 }
 
 /// Appends a change, and reports whether it is on the tape now.
 fn append_again(publisher: &mut Publisher, number: u32) -> bool {
-    match offer_of(number) {
+    match offer_numbered(number) {
         Some(change) => publisher.holds(&change) && append_held(publisher, &change),
         None => false,
     }
@@ -137,7 +130,7 @@ fn shown_to(desk: &mut Desk, sym: Sym) -> (u64, u32) {
 fn in_place(tape: &[Change]) -> usize {
     let mut count = 0usize;
     for (change, number) in tape.iter().zip(0..1000u32) {
-        if offer_of(number) == Some(*change) {
+        if offer_numbered(number) == Some(*change) {
             count = count.saturating_add(1);
         }
     }

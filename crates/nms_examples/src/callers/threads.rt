@@ -54,13 +54,15 @@ pub(crate) fn run<R: Threads + Wait + Sync>(
         },
     );
     take_back(back);
-    let settled = settle(rt, publisher, desk).ok_or(Failed)?;
-    let delivered = close_two(alloc, a, b, taker).ok_or(Failed)?;
-    Ok(Came { delivered, settled })
+    let settled = settle(rt, publisher, desk);
+    match (close_two(alloc, a, b, taker), settled) {
+        (Some(delivered), Some(settled)) => Ok(Came { delivered, settled }),
+        _ => Err(Failed),
+    }
 }
 
 /// Opens a lane for two feeds.
-pub(crate) fn open_two(alloc: Global, capacity: usize) -> Option<(Sender, Sender, Taker)>
+fn open_two(alloc: Global, capacity: usize) -> Option<(Sender, Sender, Taker)>
     requires { (LEAST_CAPACITY ≤ capacity) × (capacity ≤ MOST_CAPACITY) }
     ensures one_lane { IfSome result (λ ends. (ends.0.lane ≡ ends.2.lane) × (ends.1.lane ≡ ends.2.lane)) }
     ensures feeds { IfSome result (λ ends. (ends.0.feed ≡ feed.A) × (ends.1.feed ≡ feed.B)) }
@@ -76,7 +78,7 @@ pub(crate) fn open_two(alloc: Global, capacity: usize) -> Option<(Sender, Sender
 }
 
 /// Closes it, once all was taken.
-pub(crate) fn close_two(alloc: Global, a: Sender, b: Sender, taker: Taker) -> Option<Delivered>
+fn close_two(alloc: Global, a: Sender, b: Sender, taker: Taker) -> Option<Delivered>
     requires one_lane { (a.lane ≡ taker.lane) × (b.lane ≡ taker.lane) }
     requires feeds { (a.feed ≡ feed.A) × (b.feed ≡ feed.B) }
     requires two { taker.senders ≡ 2 }
