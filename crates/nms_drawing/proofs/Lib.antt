@@ -1,4 +1,3 @@
 pub mod DayFacts
-pub mod Offered
 mod SceneFacts
 mod VersionFacts

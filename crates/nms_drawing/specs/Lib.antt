@@ -9,3 +9,5 @@ pub mod Versions
 pub mod Streamed
 pub mod Days
 pub mod Scenes
+pub mod PageFaults
+pub mod Pages

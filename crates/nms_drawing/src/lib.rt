@@ -1,4 +1,5 @@
-//! The changes of a day for people: at a version, as its opening changes, as a stream, as a picture.
+//! The changes of a day for people: at a version, as its opening changes, as a stream, as a picture; and its executions, on the
+//! picture and as a page.
 #![tactic(auto)]
 
 mod axis;
@@ -7,6 +8,7 @@ mod curve;
 mod day;
 mod drawing;
 mod drawing_fault;
+mod executions;
 mod json_lines;
 mod judged;
 mod legs;
@@ -23,6 +25,7 @@ mod words;
 
 pub use drawing::{Frame, draw_changes, draw_day};
 pub use drawing_fault::DrawingFault;
+pub use executions::{Named, PageFault, draw_executions, write_page};
 pub use marks::Mark;
 pub use moments::{Scene, scenes_of};
 pub use opened::write_opening;

@@ -16,6 +16,7 @@ mod progress;
 mod screen;
 mod serving;
 mod source;
+mod tape;
 mod telling;
 mod timing;
 mod trading;
@@ -35,6 +36,7 @@ use std::process::ExitCode;
 use std::rt::{Env, Files};
 use std::time::Clock;
 use std::{env, io};
+pub use tape::{taken_by_script, write_tape};
 use telling::tell_fault;
 
 fn main(rt: HostRuntime) -> ExitCode {

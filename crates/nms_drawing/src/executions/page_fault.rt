@@ -1,0 +1,31 @@
+//! Why executions were not drawn, or their page not written: `specs/PageFaults`.
+ghost use Rattle.nms_codes.specs.Codes.{IsToldAs};
+ghost use Rattle.nms_drawing.specs.PageFaults.{code_of, status_of};
+
+use crate::drawing_fault::DrawingFault;
+use nms_codes::Code;
+use nms_trades::TradesFault;
+use thiserror::Error;
+
+/// Why executions were not drawn, or their page not written.
+#[derive(Clone, Copy, Debug, PartialEq, Eq, Error)]
+pub enum PageFault {
+    /// The day was not drawn.
+    #[error("{0}")]
+    Drawing(DrawingFault),
+    /// The executions were not judged.
+    #[error("{0}")]
+    Trades(TradesFault),
+}
+
+impl PageFault {
+    /// The code of the fault: that of the picture, or that of judging executions.
+    pub fn code(self) -> Code
+        ensures { IsToldAs result (code_of self) (status_of self) }
+    {
+        match self {
+            PageFault::Drawing(fault) => fault.code(),
+            PageFault::Trades(fault) => fault.code(),
+        }
+    }
+}
