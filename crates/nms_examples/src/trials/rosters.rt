@@ -13,8 +13,7 @@ fn participant_added(roster: &mut Roster, name: &str) -> Result<u8, RosterFault>
 /// Adds a participant named by the number of its place, which is the place that it gets.
 fn add_participant_of(alloc: Global, roster: &mut Roster, place: u8) -> Result<(), Fail> {
     let name = format!(in alloc; "{place}")?;
-    let added = participant_added(roster, name.as_str());
-    same(added, Ok(place))
+    same(participant_added(roster, name.as_str()), Ok(place))
 }
 
 /// Adds N and 31 more, and compares the answers before and after. A board of this roster is empty.
@@ -57,8 +56,7 @@ fn symbol_added(roster: &mut Roster, name: &str) -> Option<Result<u16, RosterFau
 /// Adds a symbol named by the number of its place, which is the place that it gets.
 fn add_symbol_of(alloc: Global, roster: &mut Roster, place: u16) -> Result<(), Fail> {
     let name = format!(in alloc; "{place}")?;
-    let added = symbol_added(roster, name.as_str());
-    same(added, Some(Ok(place)))
+    same(symbol_added(roster, name.as_str()), Some(Ok(place)))
 }
 
 fn try_symbols(alloc: Global, roster: &mut Roster) -> Result<(), Fail> {
