@@ -26,11 +26,7 @@ fn main(rt: HostRuntime) -> ExitCode {
 }
 
 /// Makes each run and writes its result.
-fn run_all<R: AllocGlobal, W: Write>(
-    rt: &R,
-    input: &[u8],
-    answers: &mut W,
-) -> Result<(), Failed> {
+fn run_all<R: AllocGlobal, W: Write>(rt: &R, input: &[u8], answers: &mut W) -> Result<(), Failed> {
     let text = str::from_utf8(input).map_err(|_| Failed)?;
     for line in text.lines() {
         let (number, seed) = line.split_once(' ').ok_or(Failed)?;
