@@ -3,7 +3,7 @@ use crate::chance::Chance;
 use nms_lines::LineFault;
 use nms_quote::{Change, Feed, Part, QState, SideQuote, Sym};
 use nms_units::{Lot, Price, Shares};
-use std::alloc::{AllocError, Global};
+use std::alloc::Global;
 use std::process::Abort;
 
 /// A record in numbers. For each side: the cents over 10 dollars, below 10, and the shares; for a new round lot: its place
@@ -124,36 +124,55 @@ fn sym_name(sym: u16) -> &'static str {
     if sym == 0 { "ABC" } else { "PNY" }
 }
 
-/// The two fields of a side.
-fn side_text<R: Abort>(rt: &R, alloc: Global, (cents, shares): (u32, u32)) -> String {
-    if shares == 0 {
-        String::from_str(alloc, ",").expect(rt, "memory")
-    } else {
-        format!(in alloc; "10.0{cents},{shares}").expect(rt, "memory")
+/// Adds words to a text.
+fn add<R: Abort>(rt: &R, text: &mut Vec<u8>, words: &[&str]) {
+    for word in words {
+        text.extend_from_slice(word.as_bytes()).expect(rt, "memory");
     }
 }
 
-/// A quotation as a text.
-fn quote_text<R: Abort>(rt: &R, alloc: Global, record: &Record) -> Result<String, AllocError> {
-    let (part, sym) = (part_name(record.part), sym_name(record.sym));
-    let (_, state) = state_of(record.state);
-    let bid = side_text(rt, alloc, record.bid);
-    let offer = side_text(rt, alloc, record.offer);
-    format!(in alloc; "Q,{part},{sym},{state},{bid},{offer}")
+/// A number of shares that is drawn, as a text.
+fn shares_text(shares: u32) -> &'static str {
+    match shares {
+        150 => "150",
+        300 => "300",
+        _ => "450",
+    }
 }
 
-/// The record as a text.
-fn record_text<R: Abort>(rt: &R, alloc: Global, record: &Record) -> String {
+/// Adds the two fields of a side, of less than 10 cents.
+fn add_side<R: Abort>(rt: &R, text: &mut Vec<u8>, (cents, shares): (u32, u32)) {
+    if shares == 0 {
+        add(rt, text, &[","]);
+    } else {
+        let digit = b'0'.wrapping_add(u8::try_from(cents).unwrap_or(0));
+        add(rt, text, &["10.0"]);
+        text.push(digit).expect(rt, "memory");
+        add(rt, text, &[",", shares_text(shares)]);
+    }
+}
+
+/// Adds a quotation.
+fn add_quote<R: Abort>(rt: &R, text: &mut Vec<u8>, record: &Record) {
+    let (part, sym) = (part_name(record.part), sym_name(record.sym));
+    let (_, state) = state_of(record.state);
+    add(rt, text, &["Q,", part, ",", sym, ",", state, ","]);
+    add_side(rt, text, record.bid);
+    add(rt, text, &[","]);
+    add_side(rt, text, record.offer);
+}
+
+/// Adds a record.
+fn add_text<R: Abort>(rt: &R, text: &mut Vec<u8>, record: &Record) {
     let (part, sym) = (part_name(record.part), sym_name(record.sym));
     let (_, state) = state_of(record.state);
     let (_, lot) = lot_of(record.lot);
-    let text = match record.kind {
-        0 => format!(in alloc; "X,{part}"),
-        1 | 2 => format!(in alloc; "S,{part},{sym},{state}"),
-        16 | 17 => format!(in alloc; "R,{sym},{lot}"),
-        _ => quote_text(rt, alloc, record),
-    };
-    text.expect(rt, "memory")
+    match record.kind {
+        0 => add(rt, text, &["X,", part]),
+        1 | 2 => add(rt, text, &["S,", part, ",", sym, ",", state]),
+        16 | 17 => add(rt, text, &["R,", sym, ",", lot]),
+        _ => add_quote(rt, text, record),
+    }
 }
 
 /// A record that is refused: the text before the participant, whether it is of the feed, the text after, and the fault.
@@ -201,16 +220,16 @@ fn named(feed: Feed, is_own: bool) -> &'static str {
     part_name(place.wrapping_mul(2))
 }
 
-/// A refused record as a text, and its fault.
-fn refused_text<R: Abort>(rt: &R, alloc: Global, number: u32, feed: Feed) -> (String, LineFault) {
+/// Adds a refused record, and gives its fault.
+fn add_refused_text<R: Abort>(rt: &R, text: &mut Vec<u8>, number: u32, feed: Feed) -> LineFault {
     if number > 10 {
-        let (text, fault) = refused_lot(number, feed);
-        (String::from_str(alloc, text).expect(rt, "memory"), fault)
+        let (line, fault) = refused_lot(number, feed);
+        add(rt, text, &[line]);
+        fault
     } else {
         let (front, is_own, behind, fault) = refused(number);
-        let part = named(feed, is_own);
-        let text = format!(in alloc; "{front}{part}{behind}");
-        (text.expect(rt, "memory"), fault)
+        add(rt, text, &[front, named(feed, is_own), behind]);
+        fault
     }
 }
 
@@ -222,22 +241,20 @@ pub(crate) struct Sent {
     pub(crate) fault: Option<LineFault>,
 }
 
-/// Adds a record and the end of its line.
-fn add_line<R: Abort>(rt: &R, text: &mut Vec<u8>, line: &str, end: u32) {
-    let end = match end {
+/// The end of a line: of one in eight it is `\r\n`, of another a blank line follows.
+fn end_of(end: u32) -> &'static str {
+    match end {
         0 => "\r\n",
         1 => "\n\n",
         _ => "\n",
-    };
-    text.extend_from_slice(line.as_bytes()).expect(rt, "memory");
-    text.extend_from_slice(end.as_bytes()).expect(rt, "memory");
+    }
 }
 
 /// Adds a record of the feed.
-fn add_record<R: Abort>(rt: &R, alloc: Global, chance: &mut Chance, feed: Feed, sent: &mut Sent) {
+fn add_record<R: Abort>(rt: &R, chance: &mut Chance, feed: Feed, sent: &mut Sent) {
     let record = drawn_record(chance, feed);
-    let line = record_text(rt, alloc, &record);
-    add_line(rt, &mut sent.text, line.as_str(), chance.draw() % 8);
+    add_text(rt, &mut sent.text, &record);
+    add(rt, &mut sent.text, &[end_of(chance.draw() % 8)]);
     if sent.fault.is_none() {
         // The prover has to see the types of a change before the change moves, so the code mentions them.
         let _seen: (Option<SideQuote>, Option<Lot>) = (None, None);
@@ -247,22 +264,15 @@ fn add_record<R: Abort>(rt: &R, alloc: Global, chance: &mut Chance, feed: Feed, 
 }
 
 /// Adds a record that is refused. If there is only one feed, no record is of another.
-fn add_refused<R: Abort>(
-    rt: &R,
-    alloc: Global,
-    chance: &mut Chance,
-    feed: Feed,
-    is_alone: bool,
-    sent: &mut Sent,
-) {
+fn add_refused<R: Abort>(rt: &R, chance: &mut Chance, feed: Feed, is_alone: bool, sent: &mut Sent) {
     let number = chance.draw() % 18;
     let number = if is_alone && number >= 8 && number <= 10 {
         number.wrapping_sub(8)
     } else {
         number
     };
-    let (line, fault) = refused_text(rt, alloc, number, feed);
-    add_line(rt, &mut sent.text, line.as_str(), chance.draw() % 8);
+    let fault = add_refused_text(rt, &mut sent.text, number, feed);
+    add(rt, &mut sent.text, &[end_of(chance.draw() % 8)]);
     if sent.fault.is_none() {
         sent.fault = Some(fault);
     }
@@ -293,9 +303,9 @@ fn drawn_feed<R: Abort>(rt: &R, alloc: Global, chance: &mut Chance, feed: Feed, 
         != 0;
     for _ in 0..count {
         if is_sound || chance.draw() % 16 != 0 {
-            add_record(rt, alloc, chance, feed, &mut sent);
+            add_record(rt, chance, feed, &mut sent);
         } else {
-            add_refused(rt, alloc, chance, feed, feeds == 1, &mut sent);
+            add_refused(rt, chance, feed, feeds == 1, &mut sent);
         }
     }
     sent
