@@ -19,8 +19,8 @@ from trials import Trial, Wrong, jobs, run
 
 PAGE = 4096
 STACK = 256 * 1024
-# Limits tried of each call.
-STEPS = 320
+# Limits tried of each call at first.
+STEPS = 160
 # The C library asks the system for each piece of memory by itself; or only for pieces that are not small.
 EACH = "glibc.malloc.mmap_threshold=1:glibc.malloc.mmap_max=1000000000:glibc.malloc.tcache_count=0"
 LARGE = "glibc.malloc.mmap_threshold=65536:glibc.malloc.top_pad=0:glibc.malloc.trim_threshold=4096"
@@ -88,20 +88,42 @@ class Call:
                 return [f"with ample memory: {ample}"[:500]]
             most = self.least(program, room, start, lambda ran: ran == ample)
             wide = max(PAGE, (most - start) // STEPS // PAGE * PAGE)
-            limits = sorted({*range(start, most, wide), *range(max(start, most - STEPS // 4 * PAGE), most, PAGE)})
-            with ThreadPoolExecutor(jobs()) as pool:
-                rans = list(pool.map(lambda it: self.run(program, room, it), limits))
-            return self.judge(ample, zip(limits, rans))
+            limits = {*range(start, most, wide), *range(max(start, most - STEPS // 4 * PAGE), most, PAGE)}
+            rans = {}
+            while limits:
+                rans |= self.runs(program, room, sorted(limits))
+                limits = self.between(rans) if self.unseen(rans) else ()
+            return self.judge(ample, sorted(rans.items()))
+
+    def runs(self, program, room, limits):
+        """What the call ends with under each of some limits."""
+        with ThreadPoolExecutor(jobs()) as pool:
+            return dict(zip(limits, pool.map(lambda it: self.run(program, room, it), limits)))
+
+    @staticmethod
+    def between(rans):
+        """The limits halfway between neighbours that end otherwise: what is seen under a few limits alone stands there."""
+        limits = sorted(rans)
+        pairs = [(low, high) for low, high in zip(limits, limits[1:]) if code_of(rans[low][2]) != code_of(rans[high][2])]
+        return {(low + high) // 2 // PAGE * PAGE for low, high in pairs} - rans.keys()
+
+    def unseen(self, rans):
+        """Those of the codes that have to be seen that no run ended with."""
+        return self.must - {code_of(errors) for _, _, errors in rans.values()}
 
     def judge(self, ample, rans):
-        seen, found = set(), []
+        found = []
         for most, (status, answers, errors) in rans:
-            code = errors.removeprefix("nms_tool: ").removesuffix("\n")
-            seen.add(code)
+            code = code_of(errors)
             is_right = status == STATUS.get(code, 5) and code in self.may and ample[1].startswith(answers)
             if not is_right and (status, answers, errors) != ample:
                 found.append(f"with {most // 1024} kB: status {status}, {errors[:200]!r}, {answers[:200]!r}")
-        return found[:5] + [f"no limit gave {it}" for it in sorted(self.must - seen)]
+        return found[:5] + [f"no limit gave {it}" for it in sorted(self.unseen(dict(rans)))]
+
+
+def code_of(errors):
+    """The code that standard error names."""
+    return errors.removeprefix("nms_tool: ").removesuffix("\n")
 
 
 def start_of(program):
