@@ -48,7 +48,7 @@ fn step_named(word: &str) -> Option<Step> {
     }
 }
 
-/// An offer of so many shares of the first symbol at 10.00 by the participant at a place.
+/// An offer of a number of shares of the first symbol, at 10.00, by the participant at a place.
 pub(crate) fn offer_of(place: u8, shares: u32) -> Option<Change> {
     let offer = SideQuote::new(Price::new(100_000)?, Shares::new(shares)?);
     Some(Change::Quote {
