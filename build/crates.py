@@ -35,8 +35,8 @@ sys.dont_write_bytecode = True
 TOP = os.path.dirname(os.path.dirname(os.path.realpath(__file__)))
 # Memory that a check of the largest crate takes, with some room.
 LANE_BYTES = 4_000_000_000
-# The crate that is built as a static library. `rt ci` proves it as any other, which costs half: it keeps no archive, so the
-# gate's last part proves and builds that once more, by this program.
+# The crate that is built as a static library. `rt ci` keeps no archive, so the gate's part `library` proves and builds it by
+# this program. That is why crates.txt has it as an ordinary library: its proof in `rt ci` costs half then.
 ARCHIVE = "nms_c"
 # The longest silence, in seconds.
 SILENCE = 30

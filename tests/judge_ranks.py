@@ -1,7 +1,7 @@
 #!/usr/bin/env python3
 """Applies random changes by the library, and compares all rows of a symbol with what the changes say.
 
-    tests/judge_ranks.py [LIBRARY]      LIBRARY is crates/nms_c/out/libnms.so
+    tests/judge_ranks.py [LIBRARY]      LIBRARY is libnms.so of crates/nms_c/out, or of the folder NMS_OUT
 
 - `rank order`: 20,000 changes by 32 participants in four symbols, new round lots among them. After each change the rows of its
   symbol have to be those that a plain model has, sorted by price, then by size, then by receipt. Half of them come in calm
@@ -10,8 +10,8 @@
   withdrawals, and ties. A new board that takes its opening changes has to show the same but for receipts and versions, at
   once and after each of 50 more changes that both take.
 
-A failing board is shown with the least number of its changes after which it fails. The library has to be built
-(`tests/library.py`, `./nms_lib`).
+A failing board is shown with the least number of its changes after which it fails. The library has to be built: by
+`tests/library.py` or `./nms_lib`.
 """
 import ctypes
 import os
@@ -259,4 +259,5 @@ def main(path):
 
 
 if __name__ == "__main__":
-    sys.exit(main(os.path.realpath(sys.argv[1] if len(sys.argv) > 1 else f"{TOP}/crates/nms_c/out/libnms.so")))
+    built = os.environ.get("NMS_OUT", f"{TOP}/crates/nms_c/out")
+    sys.exit(main(os.path.realpath(sys.argv[1] if len(sys.argv) > 1 else f"{built}/libnms.so")))

@@ -328,7 +328,7 @@ def main(program, boards=6000, first=242_611):
     print(f"seeds {seeds[0]} to {seeds[-1]}: {BOARDS_OF_A_SCRIPT} boards each")
     with tempfile.TemporaryDirectory(prefix="nms-") as room:
         for name, text in SETUPS.items():
-            with open(f"{room}/{name}", "w") as file:
+            with open(f"{room}/{name}", "w", encoding="ascii") as file:
                 file.write(text)
         found = [Trial(f"seed {it}", judged, (program, room, drawn_steps, wrong, it)) for it in seeds]
         found += [Trial(f"both judges, seed {it}", both, (it,)) for it in seeds]
