@@ -264,9 +264,13 @@ fn eight_feeds_send_through_one_lane(rt: HostRuntime) -> Result<(), Fail> {
         panic!(rt; "no memory");
     };
     let senders = each_sends(&rt, senders, back, &taker);
-    for shares in 1..9u32 {
+    for shares in 1..8u32 {
         take_one(&rt, &mut taker, bid_of(0, shares));
     }
+    let Err(NotEmpty { senders, mut taker }) = close(senders, taker) else {
+        panic!(rt; "a lane was closed before the last of its eight changes was taken");
+    };
+    take_one(&rt, &mut taker, bid_of(0, 8));
     let delivered = close(senders, taker).ok().expect(&rt, "all was taken");
     same(&rt, delivered.taken, 8);
     same(&rt, delivered.sent.as_slice(), &[1u64; 8]);

@@ -362,6 +362,21 @@ fn a_desk_settles_on_no_receipt_older_than_what_it_knows(rt: HostRuntime) -> Res
     Ok(())
 }
 
+#[test]
+fn a_desk_that_was_told_of_a_version_settles_on_none_before_it(
+    rt: HostRuntime,
+) -> Result<(), Fail> {
+    let (mut publisher, mut desk, _other) = open_on(rt.alloc(), &rt, SETUP_K)?;
+    publish_often(&rt, &mut publisher, 2);
+    let early = publisher.receipt();
+    same(&rt, looked(&mut desk), Ok((2, 1)));
+    publish_often(&rt, &mut publisher, 1);
+    let (newer, late) = (publisher.receipt(), publisher.receipt());
+    desk.learn(newer);
+    settle_twice(&rt, publisher, desk, early, late);
+    Ok(())
+}
+
 /// Settles a desk on an early receipt, which is refused, and then, with the publisher closed, on that of version 3.
 fn settle_twice<R: Wait + Abort>(
     rt: &R,
