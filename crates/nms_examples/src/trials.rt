@@ -55,8 +55,8 @@ fn try_scripts<T: AllocGlobal>(rt: &T, setup: &Setup) -> Result<(), Fail> {
     script_streams::each_answer_is_one_write_and_out_before_the_next_read(rt, setup)?;
     script_streams::a_failed_read_leaves_the_answers_so_far(rt, setup)?;
     script_streams::a_failed_write_or_flush_ends_the_script(rt, setup)?;
-    script_streams::the_worked_script_breaks_off_behind_its_publishing(rt, setup)?;
-    script_streams::the_worked_script_writes_nothing_where_its_first_write_fails(rt, setup)
+    script_streams::the_worked_script_ends_after_its_publishing(rt, setup)?;
+    script_streams::the_worked_script_writes_nothing_if_its_first_write_fails(rt, setup)
 }
 
 /// Reports, and the first caller of `docs/CALLING.md`.

@@ -477,7 +477,7 @@ fn append_again<R: Abort>(rt: &R, publisher: &mut Publisher, desk: &mut Desk, co
 /// Run with each allocation refused in turn (`rt try --test --fail-alloc N`): the opening ends the test by V1. A refused change
 /// leaves the tape and the view, and is appended once there is memory.
 #[test]
-fn want_of_memory_leaves_the_tape_as_it_was(rt: HostRuntime) -> Result<(), Fail> {
+fn out_of_memory_leaves_the_tape_as_it_was(rt: HostRuntime) -> Result<(), Fail> {
     let (mut publisher, mut desk, _other) = open_on(rt.alloc(), &rt, SETUP_K)?;
     append_70(&rt, &mut publisher, &mut desk);
     publisher.publish(&rt);

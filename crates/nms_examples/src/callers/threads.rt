@@ -206,7 +206,7 @@ fn append(publisher: &mut Publisher, change: Change) -> bool
     publisher.holds(&change) && publisher.append(change).is_ok()
 }
 
-/// Looks so often. No look shows an older version than one before it.
+/// Looks that many times. No look shows an older version than one before it.
 fn look_often(mut desk: Desk, sym: Sym, looks: u32) -> Desk
     ensures { result.opening ≡ desk.opening }
 {

@@ -153,7 +153,7 @@ fn worked(fails: bool) -> Source<'static> {
 }
 
 /// The read after its fourth record fails, and the order is never answered.
-pub(super) fn the_worked_script_breaks_off_behind_its_publishing<T: AllocGlobal>(
+pub(super) fn the_worked_script_ends_after_its_publishing<T: AllocGlobal>(
     rt: &T,
     setup: &Setup,
 ) -> Result<(), Fail> {
@@ -165,7 +165,7 @@ pub(super) fn the_worked_script_breaks_off_behind_its_publishing<T: AllocGlobal>
     )
 }
 
-pub(super) fn the_worked_script_writes_nothing_where_its_first_write_fails<T: AllocGlobal>(
+pub(super) fn the_worked_script_writes_nothing_if_its_first_write_fails<T: AllocGlobal>(
     rt: &T,
     setup: &Setup,
 ) -> Result<(), Fail> {

@@ -245,7 +245,7 @@ fn try_under<R: Threads + Wait + Abort + Sync>(
 
 /// 200 runs of one to eight feeds: the result of each equals that of a plain slow program.
 #[test]
-fn runs_drawn_by_chance_come_to_what_their_feeds_say(rt: HostRuntime) {
+fn random_runs_come_to_what_their_feeds_say(rt: HostRuntime) {
     let mut chance = Chance { state: 611 };
     for number in 1..=200u32 {
         let told = try_run(&rt, rt.alloc(), &mut chance);

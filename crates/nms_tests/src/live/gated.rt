@@ -139,7 +139,7 @@ impl Gate for Relay {
 }
 
 #[test]
-fn a_gate_is_told_of_what_was_made(rt: HostRuntime) {
+fn a_gate_learns_of_what_was_made(rt: HostRuntime) {
     let gate = make_relay();
     let live = run_small(&rt, rt.alloc(), &[FIVE, b""], &[order()], &gate);
     compare_relayed(&rt, &gate, &live.answers);

@@ -87,7 +87,7 @@ fn published_under<R: Threads + Wait + Abort + Sync>(
 }
 
 #[test]
-fn the_taker_publishes_behind_64_changes_and_where_the_lane_is_empty(rt: HostRuntime) {
+fn the_taker_publishes_after_64_changes_and_when_the_lane_is_empty(rt: HostRuntime) {
     let lengths = published(&rt, rt.alloc(), 1024, 200).expect(&rt, "a run");
     // The first change alone; 64 at a time of those in the lane; the 8 that were left; the end.
     let due = [1u64, 65, 129, 193, 201, 201];
