@@ -121,7 +121,7 @@ impl Held {
 }
 
 /// A participant in a symbol.
-#[derive(Clone, Copy, PartialEq, Eq)]
+#[derive(Clone, Copy)]
 pub struct Cell {
     /// `None` if the participant never quoted there.
     pub state: Option<QState>,

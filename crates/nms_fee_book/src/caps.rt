@@ -7,7 +7,7 @@ use crate::{FEE_CAP_OF_2005, FEE_CAP_OF_2024, RATE_CAP_OF_2005, RATE_CAP_OF_2024
 /// The caps of access fees of 17 CFR 242.610(c): as adopted in 2005, or as amended in 2024.
 ///
 /// Which of them is in force, and from when, is not claimed: the caller who makes a `FeeBook` chooses.
-#[derive(Clone, Copy, PartialEq, Eq)]
+#[derive(Clone, Copy)]
 pub enum Caps {
     /// As adopted in 2005: $0.003 a share at a price of one dollar or more, else 0.3 percent of the price.
     Of2005,

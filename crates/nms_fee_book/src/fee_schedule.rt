@@ -1,7 +1,7 @@
 //! The access fees of one participant.
 
 /// The access fees of a participant (17 CFR 242.610(c)); a negative number is a rebate. Its book's caps apply.
-#[derive(Clone, Copy, PartialEq, Eq)]
+#[derive(Clone, Copy)]
 pub struct FeeSchedule {
     /// Nanodollars for a share, at a price of one dollar or more: -`MOST_FEE` to `Caps::fee`.
     pub fee: i64,

@@ -2,7 +2,7 @@
 use arrayvec::ArrayVec;
 
 /// How many changes went over a lane.
-#[derive(Debug, PartialEq, Drop)]
+#[derive(PartialEq, Drop)]
 pub struct Delivered {
     /// Those that each sender sent, in order of feed: at most 2^40 each.
     pub sent: ArrayVec<u64, 8>,

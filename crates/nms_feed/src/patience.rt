@@ -15,7 +15,7 @@ const LONGEST_REST: u32 = 1024;
 
 /// How long a thread has waited for another one so far, and so how it waits next: it spins, then it lets others run,
 /// then it rests, each time twice as long. It checks between two turns, and nobody wakes it. No proof rests on it.
-#[derive(Clone, Copy, PartialEq, Eq)]
+#[derive(Clone, Copy)]
 pub struct Patience {
     /// How many turns it waited without a rest.
     turns: u32,

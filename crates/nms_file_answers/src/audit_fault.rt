@@ -3,19 +3,17 @@ ghost use Rattle.std.specs.Prelude.{◌≡◌};
 ghost use Rattle.nms_file_answers.specs.Faults.{code_of_audit};
 
 use nms_cert::Doubt;
+use std::fmt;
 use thiserror::Error;
 
 /// Why an audit does not confirm a plan, least number first.
 #[derive(Clone, Copy, Debug, PartialEq, Eq, Error)]
 pub enum AuditFault {
     /// A1: the plan is of a version that has more changes than there are.
-    #[error("A1: the plan's version is beyond the changes")]
     VersionBeyondTape,
     /// A2: what is doubtful of the plan, or of its certificate, on its version.
-    #[error("A2: the plan is not confirmed")]
     Doubt(Doubt),
     /// A3: out of memory.
-    #[error("A3: out of memory")]
     NoMemory,
 }
 
@@ -28,6 +26,18 @@ impl AuditFault {
             AuditFault::VersionBeyondTape => "A1",
             AuditFault::Doubt(_) => "A2",
             AuditFault::NoMemory => "A3",
+        }
+    }
+}
+
+impl fmt::Display for AuditFault {
+    fn fmt<W: fmt::Write>(&self, f: &mut fmt::Formatter<W>) -> fmt::Result {
+        match self {
+            AuditFault::VersionBeyondTape => f.write_str(
+                "A1: the plan's version is beyond the changes",
+            ),
+            AuditFault::Doubt(_) => f.write_str("A2: the plan is not confirmed"),
+            AuditFault::NoMemory => f.write_str("A3: out of memory"),
         }
     }
 }

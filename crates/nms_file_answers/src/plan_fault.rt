@@ -5,20 +5,18 @@ ghost use Rattle.nms_file_answers.specs.Faults.{code_of_plan, status_of_plan};
 use nms_board::BoardFault;
 use nms_files::ChangesFault;
 use nms_text::TextFault;
+use std::fmt;
 use thiserror::Error;
 
 /// Why a plan on a file of changes was not written.
 #[derive(Clone, Copy, Debug, PartialEq, Eq, Error)]
 pub enum PlanFault {
     /// The file of changes is no tape. Nothing was written.
-    #[error("{0}")]
     Changes(ChangesFault),
     /// B1: no board was made. Nothing was written.
-    #[error("{0}")]
     Board(BoardFault),
     /// L12 or L13: there was no memory for the text, and nothing was written; or the writer failed, and a first part of
     /// the text was written, and nothing else.
-    #[error("{0}")]
     Text(TextFault),
 }
 
@@ -42,6 +40,16 @@ impl PlanFault {
             PlanFault::Changes(fault) => fault.status(),
             PlanFault::Board(BoardFault::NoMemory) => 5,
             PlanFault::Text(fault) => fault.status(),
+        }
+    }
+}
+
+impl fmt::Display for PlanFault {
+    fn fmt<W: fmt::Write>(&self, f: &mut fmt::Formatter<W>) -> fmt::Result {
+        match self {
+            PlanFault::Changes(fault) => fault.fmt(f),
+            PlanFault::Board(fault) => fault.fmt(f),
+            PlanFault::Text(fault) => fault.fmt(f),
         }
     }
 }

@@ -4,22 +4,19 @@ ghost use Rattle.nms_file_answers.specs.Faults.{code_of_report, status_of_report
 
 use nms_board::BoardFault;
 use nms_files::ChangesFault;
+use std::fmt;
 use thiserror::Error;
 
 /// Why a report was not written.
 #[derive(Clone, Copy, Debug, PartialEq, Eq, Error)]
 pub enum ReportFault {
     /// The file of changes is no tape. Nothing was written.
-    #[error("{0}")]
     Changes(ChangesFault),
     /// B1: no board was made. Nothing was written.
-    #[error("{0}")]
     Board(BoardFault),
     /// E2: the writer failed. A first part of the report was written, and nothing else.
-    #[error("E2: the output could not be written")]
     WriteFault,
     /// E4: out of memory. Nothing was written.
-    #[error("E4: out of memory")]
     NoMemory,
 }
 
@@ -44,6 +41,17 @@ impl ReportFault {
             ReportFault::Changes(fault) => fault.status(),
             ReportFault::Board(BoardFault::NoMemory) | ReportFault::NoMemory => 5,
             ReportFault::WriteFault => 1,
+        }
+    }
+}
+
+impl fmt::Display for ReportFault {
+    fn fmt<W: fmt::Write>(&self, f: &mut fmt::Formatter<W>) -> fmt::Result {
+        match self {
+            ReportFault::Changes(fault) => fault.fmt(f),
+            ReportFault::Board(fault) => fault.fmt(f),
+            ReportFault::WriteFault => f.write_str("E2: the output could not be written"),
+            ReportFault::NoMemory => f.write_str("E4: out of memory"),
         }
     }
 }

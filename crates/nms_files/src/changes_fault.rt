@@ -3,19 +3,17 @@ ghost use Rattle.std.specs.Prelude.{◌≡◌};
 ghost use Rattle.nms_files.specs.Faults.{code_of_changes, status_of_changes};
 
 use nms_lines::{LineFault, RecordFault};
+use std::fmt;
 use thiserror::Error;
 
 /// Why a file of changes is no tape. Nothing is left of it.
 #[derive(Clone, Copy, Debug, PartialEq, Eq, Error)]
 pub enum ChangesFault {
     /// E1 or E4: the file could not be read, or memory ran out.
-    #[error("{0}")]
     Record(RecordFault),
     /// L1 to L10, or L14: the first line that is refused; every line before it was taken.
-    #[error("{0}")]
     Line(LineFault),
     /// F4: a line says one change more than the setup's tape holds.
-    #[error("F4: the tape is full")]
     TapeFull,
 }
 
@@ -39,6 +37,16 @@ impl ChangesFault {
             ChangesFault::Record(fault) => fault.status(),
             ChangesFault::Line(fault) => fault.status(),
             ChangesFault::TapeFull => 6,
+        }
+    }
+}
+
+impl fmt::Display for ChangesFault {
+    fn fmt<W: fmt::Write>(&self, f: &mut fmt::Formatter<W>) -> fmt::Result {
+        match self {
+            ChangesFault::Record(fault) => fault.fmt(f),
+            ChangesFault::Line(fault) => fault.fmt(f),
+            ChangesFault::TapeFull => f.write_str("F4: the tape is full"),
         }
     }
 }

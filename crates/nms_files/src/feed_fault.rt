@@ -3,16 +3,15 @@ ghost use Rattle.std.specs.Prelude.{◌≡◌};
 ghost use Rattle.nms_files.specs.Faults.{code_of_feed, status_of_feed};
 
 use nms_lines::RecordFault;
+use std::fmt;
 use thiserror::Error;
 
 /// Why the file of a feed was not read. Nothing is left of it.
 #[derive(Clone, Copy, Debug, PartialEq, Eq, Error)]
 pub enum FeedFault {
     /// E1 or E4: the file could not be read, or memory ran out.
-    #[error("{0}")]
     Record(RecordFault),
     /// E3: the file has more bytes than a feed may have.
-    #[error("E3: the input is too long")]
     TooLong,
 }
 
@@ -34,6 +33,15 @@ impl FeedFault {
         match self {
             FeedFault::Record(fault) => fault.status(),
             FeedFault::TooLong => 6,
+        }
+    }
+}
+
+impl fmt::Display for FeedFault {
+    fn fmt<W: fmt::Write>(&self, f: &mut fmt::Formatter<W>) -> fmt::Result {
+        match self {
+            FeedFault::Record(fault) => fault.fmt(f),
+            FeedFault::TooLong => f.write_str("E3: the input is too long"),
         }
     }
 }

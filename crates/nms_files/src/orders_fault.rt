@@ -3,16 +3,15 @@ ghost use Rattle.std.specs.Prelude.{◌≡◌};
 ghost use Rattle.nms_files.specs.Faults.{code_of_orders, status_of_orders};
 
 use nms_lines::{LineFault, RecordFault};
+use std::fmt;
 use thiserror::Error;
 
 /// Why a file of orders is refused. Nothing is left of it.
 #[derive(Clone, Copy, Debug, PartialEq, Eq, Error)]
 pub enum OrdersFault {
     /// E1 or E4: the file could not be read, or memory ran out.
-    #[error("{0}")]
     Record(RecordFault),
     /// L1 to L10: the first line that is refused; every line before it was taken.
-    #[error("{0}")]
     Line(LineFault),
 }
 
@@ -34,6 +33,15 @@ impl OrdersFault {
         match self {
             OrdersFault::Record(fault) => fault.status(),
             OrdersFault::Line(fault) => fault.status(),
+        }
+    }
+}
+
+impl fmt::Display for OrdersFault {
+    fn fmt<W: fmt::Write>(&self, f: &mut fmt::Formatter<W>) -> fmt::Result {
+        match self {
+            OrdersFault::Record(fault) => fault.fmt(f),
+            OrdersFault::Line(fault) => fault.fmt(f),
         }
     }
 }

@@ -3,7 +3,7 @@ use nms_board::Row;
 
 /// The best bid and the best offer of a symbol (17 CFR 242.600, "national best bid and national best offer"), `None` if
 /// a side is empty.
-#[derive(Clone, Copy, PartialEq, Eq)]
+#[derive(Clone, Copy)]
 pub struct BestRows {
     /// The row that ranks first among the bids.
     pub bid: Option<Row>,

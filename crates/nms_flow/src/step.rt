@@ -2,7 +2,7 @@
 use nms_quote::{Change, Feed, Sym};
 
 /// A step of the machine, which is one event. This product's own rule.
-#[derive(Clone, Copy, PartialEq, Eq)]
+#[derive(Clone, Copy)]
 pub enum Step {
     /// Sends a change to the queue, on the feed that it belongs to.
     Send(Feed, Change),

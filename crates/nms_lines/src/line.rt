@@ -4,7 +4,7 @@ use nms_quote::{Change, Feed, Order, Sym};
 use nms_units::Price;
 
 /// The source of a record, which decides the kinds that it may have. This product's own rule.
-#[derive(Clone, Copy, Debug, PartialEq, Eq)]
+#[derive(Clone, Copy)]
 pub enum Reading {
     /// A script: every kind.
     Script {
@@ -23,7 +23,7 @@ pub enum Reading {
 }
 
 /// What a record says.
-#[derive(Clone, Copy, Debug, PartialEq, Eq)]
+#[derive(Clone, Copy, Debug)]
 pub enum Line {
     /// `Q`, `S` or `X`: a participant's change; `R`: a new round lot.
     Change(Change),

@@ -1,17 +1,15 @@
 //! Why a plan was not read or written: `specs/PlanFaults`.
+use std::fmt;
 use thiserror::Error;
 
 /// Why a plan was not read from text, or not written as text.
 #[derive(Clone, Copy, Debug, PartialEq, Eq, Error)]
 pub enum PlanTextFault {
     /// L11: the text is not exactly that of a plan with certificate.
-    #[error("L11: not the text of a plan")]
     BadPlanText,
     /// L12: out of memory.
-    #[error("L12: out of memory")]
     NoMemory,
     /// L13: the text could not be written. Some of it may have been written.
-    #[error("L13: a write failed")]
     WriteFault,
 }
 
@@ -39,5 +37,15 @@ impl PlanTextFault {
             PlanTextFault::NoMemory => 5,
             PlanTextFault::WriteFault => 1,
         }
+    }
+}
+
+impl fmt::Display for PlanTextFault {
+    fn fmt<W: fmt::Write>(&self, f: &mut fmt::Formatter<W>) -> fmt::Result {
+        f.write_str(match self {
+            PlanTextFault::BadPlanText => "L11: not the text of a plan",
+            PlanTextFault::NoMemory => "L12: out of memory",
+            PlanTextFault::WriteFault => "L13: a write failed",
+        })
     }
 }

@@ -2,16 +2,15 @@
 ghost use Rattle.std.specs.Prelude.{◌≡◌};
 ghost use Rattle.nms_lines.specs.RecordFaults.{code_of, status_of};
 
+use std::fmt;
 use thiserror::Error;
 
 /// Why a file or a stream was not read. Its reader gives nothing after that.
 #[derive(Clone, Copy, Debug, PartialEq, Eq, Error)]
 pub enum RecordFault {
     /// E1: the source could not be read.
-    #[error("E1: the input could not be read")]
     Failed,
     /// E4: out of memory.
-    #[error("E4: out of memory")]
     NoMemory,
 }
 
@@ -34,5 +33,14 @@ impl RecordFault {
             RecordFault::Failed => 1,
             RecordFault::NoMemory => 5,
         }
+    }
+}
+
+impl fmt::Display for RecordFault {
+    fn fmt<W: fmt::Write>(&self, f: &mut fmt::Formatter<W>) -> fmt::Result {
+        f.write_str(match self {
+            RecordFault::Failed => "E1: the input could not be read",
+            RecordFault::NoMemory => "E4: out of memory",
+        })
     }
 }

@@ -4,13 +4,13 @@ ghost use Rattle.nms_live.specs.Faults.{code_of, rank_of, status_of};
 
 use nms_lines::LineFault;
 use nms_quote::Feed;
+use std::fmt;
 use thiserror::Error;
 
 /// Why a live run gave nothing. All threads have ended, and nothing is left of it.
 #[derive(Clone, Copy, Debug, PartialEq, Eq, Error)]
 pub enum LiveFault {
     /// E5: a record of a feed was refused, the first one of that feed.
-    #[error("E5: {fault}")]
     Line {
         /// The feed.
         feed: Feed,
@@ -20,19 +20,14 @@ pub enum LiveFault {
         fault: LineFault,
     },
     /// E6: no tape or lane was opened, or a thread could not be started.
-    #[error("E6: the run could not be opened")]
     Open,
     /// E7: a change could not be appended: the tape was full, or memory ran out.
-    #[error("E7: a change was not appended")]
     Append,
     /// E8: a look gave no reading, or a desk could not be settled.
-    #[error("E8: a desk had no reading")]
     Desk,
     /// E9: a gate did not open in 1,000,000 turns.
-    #[error("E9: a gate did not open")]
     GateLimit,
     /// E10: out of memory.
-    #[error("E10: out of memory")]
     NoMemory,
 }
 
@@ -73,6 +68,19 @@ impl LiveFault {
             LiveFault::Desk => 10,
             LiveFault::GateLimit => 11,
             LiveFault::NoMemory => 12,
+        }
+    }
+}
+
+impl fmt::Display for LiveFault {
+    fn fmt<W: fmt::Write>(&self, f: &mut fmt::Formatter<W>) -> fmt::Result {
+        match self {
+            LiveFault::Line { fault, .. } => write!(f, "E5: {fault}"),
+            LiveFault::Open => f.write_str("E6: the run could not be opened"),
+            LiveFault::Append => f.write_str("E7: a change was not appended"),
+            LiveFault::Desk => f.write_str("E8: a desk had no reading"),
+            LiveFault::GateLimit => f.write_str("E9: a gate did not open"),
+            LiveFault::NoMemory => f.write_str("E10: out of memory"),
         }
     }
 }

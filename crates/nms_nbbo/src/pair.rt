@@ -6,7 +6,7 @@ use nms_board::Row;
 use nms_quote::Part;
 
 /// What the later quotation of a pair runs against (17 CFR 242.610(d) as adopted in 2005).
-#[derive(Clone, Copy, PartialEq, Eq)]
+#[derive(Clone, Copy)]
 pub enum Clause {
     /// The earlier quotation is protected.
     Protected,
@@ -17,7 +17,7 @@ pub enum Clause {
 }
 
 /// A bid and an offer of two participants that lock or cross each other.
-#[derive(Clone, Copy, PartialEq, Eq)]
+#[derive(Clone, Copy)]
 pub struct Pair {
     /// One participant's bid, at the offer's price or above.
     pub bid: Row,

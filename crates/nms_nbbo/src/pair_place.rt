@@ -7,7 +7,7 @@ use std::marker::Model;
 
 /// The place of a walk over a symbol's pairs, 0 to 1,024 (this product's own rule). A pair is at 32 times the bid's
 /// place on the roster plus the offer's; 1,024 is after the last.
-#[derive(Clone, Copy, PartialEq, Eq, PartialOrd, Ord)]
+#[derive(Clone, Copy, PartialEq, Eq, PartialOrd)]
 pub struct PairPlace {
     place: u16,
 }

@@ -2,7 +2,7 @@
 use crate::order::Order;
 
 /// An order and the desk that plans it.
-#[derive(Clone, Copy, PartialEq, Eq)]
+#[derive(Clone, Copy)]
 pub struct DeskOrder {
     /// The desk, below the setup's `desks()`.
     pub desk: u8,

@@ -6,7 +6,7 @@ use crate::MOST_FEEDS;
 
 /// The feed that a participant sends its changes on. A setup says how many there are, in order of letter
 /// (this product's own rule).
-#[derive(Clone, Copy, Debug, PartialEq, Eq, Hash)]
+#[derive(Clone, Copy, Debug, PartialEq, Eq)]
 pub enum Feed {
     /// The first. New round lots come on it, whatever the symbol.
     A,

@@ -3,7 +3,7 @@ use crate::change::Change;
 use crate::feed::Feed;
 
 /// A change with its mark: the feed that brought it.
-#[derive(Clone, Copy, Debug, PartialEq, Eq)]
+#[derive(Clone, Copy)]
 pub struct Marked {
     /// The feed that brought it.
     pub feed: Feed,

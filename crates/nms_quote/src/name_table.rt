@@ -134,13 +134,13 @@ impl<V: Copy> NameTable<V> {
     {
         let word = word_of(name);
         let place = self.len();
-        let Some(text) = text_of(*self.words.allocator(), name) else {
-            return Err(RosterFault::NoMemory);
-        };
         let Ok(()) = self.words.reserve(1) else {
             return Err(RosterFault::NoMemory);
         };
         let Ok(()) = self.entries.reserve(1) else {
+            return Err(RosterFault::NoMemory);
+        };
+        let Some(text) = text_of(*self.words.allocator(), name) else {
             return Err(RosterFault::NoMemory);
         };
         let Ok(_) = self.places.insert(word, place) else {

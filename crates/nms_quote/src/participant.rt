@@ -6,7 +6,7 @@ use crate::MOST_PARTICIPANTS;
 use std::marker::Model;
 
 /// A participant's place on the roster, 0 to 31, in order of adding.
-#[derive(Clone, Copy, Debug, PartialEq, Eq, PartialOrd, Ord, Hash)]
+#[derive(Clone, Copy, Debug, PartialEq, Eq, PartialOrd)]
 pub struct Part {
     place: u8,
 }

@@ -6,7 +6,7 @@ use nms_units::{Price, Shares};
 use std::marker::Model;
 
 /// The two sides of a market (17 CFR 242.600, "bid or offer").
-#[derive(Clone, Copy, Debug, Default, PartialEq, Eq)]
+#[derive(Clone, Copy, Default, PartialEq, Eq)]
 pub enum Side {
     /// The side of those who would buy: a higher price is better.
     #[default]

@@ -6,7 +6,7 @@ use crate::MOST_SYMBOLS;
 use std::marker::Model;
 
 /// A symbol's place on the roster, 0 to 999, in order of adding.
-#[derive(Clone, Copy, Debug, PartialEq, Eq, PartialOrd, Ord, Hash)]
+#[derive(Clone, Copy, Debug, PartialEq, Eq)]
 pub struct Sym {
     place: u16,
 }

@@ -5,7 +5,7 @@ use std::marker::Model;
 
 /// A price's rank for an order, the lower the better: for a buyer the price in 1/10,000 dollar, for a seller its
 /// negative.
-#[derive(Clone, Copy, PartialEq, Eq, PartialOrd, Ord)]
+#[derive(Clone, Copy, PartialEq, Eq, PartialOrd)]
 pub struct Rank {
     number: i64,
 }

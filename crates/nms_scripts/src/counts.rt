@@ -1,7 +1,7 @@
 //! The result of a script (specs/Script).
 
 /// The result of a script.
-#[derive(Clone, Copy, PartialEq, Eq)]
+#[derive(Clone, Copy)]
 pub struct Counts {
     /// How many records were read, at most 10,000,000.
     pub records: u64,

@@ -2,22 +2,19 @@
 ghost use Rattle.std.specs.Prelude.{◌≡◌};
 ghost use Rattle.nms_text.specs.Faults.{code_of_script, status_of_script};
 
+use std::fmt;
 use thiserror::Error;
 
 /// Why a script ended early. What was written before stands.
 #[derive(Clone, Copy, Debug, PartialEq, Eq, Error)]
 pub enum ScriptFault {
     /// E1: the reader failed. The answers to the records read so far were written.
-    #[error("E1: the input could not be read")]
     ReadFault,
     /// E2: the writer failed. A script wrote a first part of its answers, and nothing else; of a report something may be written.
-    #[error("E2: the output could not be written")]
     WriteFault,
     /// E3: there are more than 10,000,000 records. The answers to the first 10,000,000 were written.
-    #[error("E3: the input is too long")]
     TooLong,
     /// E4: out of memory. At most the answers to the records read so far were written.
-    #[error("E4: out of memory")]
     NoMemory,
 }
 
@@ -43,5 +40,16 @@ impl ScriptFault {
             ScriptFault::TooLong => 6,
             ScriptFault::NoMemory => 5,
         }
+    }
+}
+
+impl fmt::Display for ScriptFault {
+    fn fmt<W: fmt::Write>(&self, f: &mut fmt::Formatter<W>) -> fmt::Result {
+        f.write_str(match self {
+            ScriptFault::ReadFault => "E1: the input could not be read",
+            ScriptFault::WriteFault => "E2: the output could not be written",
+            ScriptFault::TooLong => "E3: the input is too long",
+            ScriptFault::NoMemory => "E4: out of memory",
+        })
     }
 }

@@ -2,16 +2,15 @@
 ghost use Rattle.std.specs.Prelude.{◌≡◌};
 ghost use Rattle.nms_text.specs.Faults.{code_of_text, status_of_text};
 
+use std::fmt;
 use thiserror::Error;
 
 /// Why a text was not written: that of a plan, or of a live run.
 #[derive(Clone, Copy, Debug, PartialEq, Eq, Error)]
 pub enum TextFault {
     /// L12: there was no memory for the text. Nothing was written.
-    #[error("L12: out of memory")]
     NoMemory,
     /// L13: the writer failed. A first part of the text was written, and nothing else.
-    #[error("L13: a write failed")]
     WriteFault,
 }
 
@@ -34,5 +33,14 @@ impl TextFault {
             TextFault::NoMemory => 5,
             TextFault::WriteFault => 1,
         }
+    }
+}
+
+impl fmt::Display for TextFault {
+    fn fmt<W: fmt::Write>(&self, f: &mut fmt::Formatter<W>) -> fmt::Result {
+        f.write_str(match self {
+            TextFault::NoMemory => "L12: out of memory",
+            TextFault::WriteFault => "L13: a write failed",
+        })
     }
 }

@@ -2,7 +2,7 @@
 use crate::desk::Desk;
 
 /// A desk was settled: all that it knew is of the publisher's own tape.
-#[derive(Clone, Copy, Debug, PartialEq, Eq)]
+#[derive(Clone, Copy, PartialEq, Eq)]
 pub struct Settled {
     /// The longest version that the desk knew: how many changes it has.
     pub version: u64,

@@ -1,7 +1,7 @@
 use crate::option_word::OptionWord;
 
 /// What the program can be asked to do, each a subcommand of the command line.
-#[derive(Clone, Copy, Debug, PartialEq, Eq)]
+#[derive(Clone, Copy, PartialEq, Eq)]
 pub enum Sub {
     /// Answers a script from standard input. It has no words of its own.
     Script,
