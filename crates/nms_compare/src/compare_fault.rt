@@ -7,34 +7,27 @@ use nms_codes::Code;
 use nms_import::ImportFault;
 use nms_show::ShowFault;
 use std::alloc::AllocError;
+use std::fmt;
 use thiserror::Error;
 
 /// Why a comparison ended early.
 #[derive(Clone, Copy, Debug, Drop, PartialEq, Eq, Error)]
 pub enum CompareFault {
     /// E1: the vendor's file could not be read.
-    #[error("E1: a file could not be read")]
     ReadFault,
     /// E2: the output could not be written.
-    #[error("E2: the output could not be written")]
     WriteFault,
     /// E3: more than 1,000,000,000,000 rows.
-    #[error("E3: there are more than 1,000,000,000,000 rows")]
     TooLong,
     /// E4: out of memory.
-    #[error("E4: out of memory")]
     NoMemory,
     /// B1: out of memory for the board.
-    #[error("B1: out of memory for the board")]
     Board,
     /// J1: the file of times does not have one line of 15 digits and a line feed for each change.
-    #[error("J1: the times are not those of the changes")]
     NotTheTimes,
     /// J2: a change is before an earlier one, in the order of the mapping.
-    #[error("J2: the changes are not in the order of the mapping")]
     ChangesFall,
     /// J3: a row is before an earlier one, in the order of the mapping.
-    #[error("J3: the rows are not in the order of the mapping")]
     RowsFall,
 }
 
@@ -85,5 +78,20 @@ impl From<ShowFault> for CompareFault {
             ShowFault::WriteFault => CompareFault::WriteFault,
             ShowFault::NoMemory => CompareFault::NoMemory,
         }
+    }
+}
+
+impl fmt::Display for CompareFault {
+    fn fmt<W: fmt::Write>(&self, f: &mut fmt::Formatter<W>) -> fmt::Result {
+        f.write_str(match self {
+            CompareFault::ReadFault => "E1: a file could not be read",
+            CompareFault::WriteFault => "E2: the output could not be written",
+            CompareFault::TooLong => "E3: there are more than 1,000,000,000,000 rows",
+            CompareFault::NoMemory => "E4: out of memory",
+            CompareFault::Board => "B1: out of memory for the board",
+            CompareFault::NotTheTimes => "J1: the times are not those of the changes",
+            CompareFault::ChangesFall => "J2: the changes are not in the order of the mapping",
+            CompareFault::RowsFall => "J3: the rows are not in the order of the mapping",
+        })
     }
 }

@@ -9,31 +9,25 @@ use nms_lines::PlanTextFault;
 use nms_show::ShowFault;
 use nms_stream::StreamFault;
 use nms_times::TimesFault;
+use std::fmt;
 use thiserror::Error;
 
 /// Why an answer was not written whole.
 #[derive(Clone, Copy, Debug, PartialEq, Eq, Error)]
 pub enum DrawingFault {
     /// The file of changes is no tape. Nothing was written.
-    #[error("{0}")]
     Changes(ChangesFault),
     /// B1: no board was made. Nothing was written.
-    #[error("{0}")]
     Board(BoardFault),
     /// A1: there are fewer changes than the version has. Nothing was written.
-    #[error("A1: the version has more changes than there are")]
     VersionBeyondTape,
     /// L11 or L12: the text is no plan, or memory ran out. Nothing was written.
-    #[error("{0}")]
     Plan(PlanTextFault),
     /// H3: the number of times is not that of the changes. Nothing was written.
-    #[error("{0}")]
     Times(TimesFault),
     /// E2: the writer failed. A first part of the answer was written.
-    #[error("E2: the output could not be written")]
     WriteFault,
     /// E4: out of memory. A first part of the answer was written, which may be none.
-    #[error("E4: out of memory")]
     NoMemory,
 }
 
@@ -92,5 +86,21 @@ impl From<TimesFault> for DrawingFault {
 
     fn from(fault: TimesFault) -> Self {
         DrawingFault::Times(fault)
+    }
+}
+
+impl fmt::Display for DrawingFault {
+    fn fmt<W: fmt::Write>(&self, f: &mut fmt::Formatter<W>) -> fmt::Result {
+        match self {
+            DrawingFault::Changes(fault) => fmt::Display::fmt(fault, f),
+            DrawingFault::Board(fault) => fmt::Display::fmt(fault, f),
+            DrawingFault::VersionBeyondTape => f.write_str(
+                "A1: the version has more changes than there are",
+            ),
+            DrawingFault::Plan(fault) => fmt::Display::fmt(fault, f),
+            DrawingFault::Times(fault) => fmt::Display::fmt(fault, f),
+            DrawingFault::WriteFault => f.write_str("E2: the output could not be written"),
+            DrawingFault::NoMemory => f.write_str("E4: out of memory"),
+        }
     }
 }

@@ -5,16 +5,15 @@ ghost use Rattle.nms_explain.specs.Faults.{code_of, status_of};
 use nms_codes::Code;
 use nms_lines::RecordFault;
 use nms_show::ShowFault;
+use std::fmt;
 use thiserror::Error;
 
 /// Why a file was not explained to its end. What was reported before stays.
 #[derive(Clone, Copy, Debug, PartialEq, Eq, Error)]
 pub enum ExplainFault {
     /// The file could not be read, or memory ran out: E1 or E4.
-    #[error("{0}")]
     Record(#[from] RecordFault),
     /// The answer could not be written, or memory ran out: E2 or E4.
-    #[error("{0}")]
     Show(#[from] ShowFault),
 }
 
@@ -26,6 +25,15 @@ impl ExplainFault {
         match self {
             ExplainFault::Record(fault) => Code::of_record(fault),
             ExplainFault::Show(fault) => Code::of_show(fault),
+        }
+    }
+}
+
+impl fmt::Display for ExplainFault {
+    fn fmt<W: fmt::Write>(&self, f: &mut fmt::Formatter<W>) -> fmt::Result {
+        match self {
+            ExplainFault::Record(fault) => fmt::Display::fmt(fault, f),
+            ExplainFault::Show(fault) => fmt::Display::fmt(fault, f),
         }
     }
 }

@@ -47,9 +47,9 @@ impl PlanFault {
 impl fmt::Display for PlanFault {
     fn fmt<W: fmt::Write>(&self, f: &mut fmt::Formatter<W>) -> fmt::Result {
         match self {
-            PlanFault::Changes(fault) => fault.fmt(f),
-            PlanFault::Board(fault) => fault.fmt(f),
-            PlanFault::Text(fault) => fault.fmt(f),
+            PlanFault::Changes(fault) => fmt::Display::fmt(fault, f),
+            PlanFault::Board(fault) => fmt::Display::fmt(fault, f),
+            PlanFault::Text(fault) => fmt::Display::fmt(fault, f),
         }
     }
 }

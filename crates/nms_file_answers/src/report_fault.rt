@@ -48,8 +48,8 @@ impl ReportFault {
 impl fmt::Display for ReportFault {
     fn fmt<W: fmt::Write>(&self, f: &mut fmt::Formatter<W>) -> fmt::Result {
         match self {
-            ReportFault::Changes(fault) => fault.fmt(f),
-            ReportFault::Board(fault) => fault.fmt(f),
+            ReportFault::Changes(fault) => fmt::Display::fmt(fault, f),
+            ReportFault::Board(fault) => fmt::Display::fmt(fault, f),
             ReportFault::WriteFault => f.write_str("E2: the output could not be written"),
             ReportFault::NoMemory => f.write_str("E4: out of memory"),
         }

@@ -44,8 +44,8 @@ impl ChangesFault {
 impl fmt::Display for ChangesFault {
     fn fmt<W: fmt::Write>(&self, f: &mut fmt::Formatter<W>) -> fmt::Result {
         match self {
-            ChangesFault::Record(fault) => fault.fmt(f),
-            ChangesFault::Line(fault) => fault.fmt(f),
+            ChangesFault::Record(fault) => fmt::Display::fmt(fault, f),
+            ChangesFault::Line(fault) => fmt::Display::fmt(fault, f),
             ChangesFault::TapeFull => f.write_str("F4: the tape is full"),
         }
     }

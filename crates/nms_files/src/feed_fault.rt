@@ -40,7 +40,7 @@ impl FeedFault {
 impl fmt::Display for FeedFault {
     fn fmt<W: fmt::Write>(&self, f: &mut fmt::Formatter<W>) -> fmt::Result {
         match self {
-            FeedFault::Record(fault) => fault.fmt(f),
+            FeedFault::Record(fault) => fmt::Display::fmt(fault, f),
             FeedFault::TooLong => f.write_str("E3: the input is too long"),
         }
     }

@@ -40,8 +40,8 @@ impl OrdersFault {
 impl fmt::Display for OrdersFault {
     fn fmt<W: fmt::Write>(&self, f: &mut fmt::Formatter<W>) -> fmt::Result {
         match self {
-            OrdersFault::Record(fault) => fault.fmt(f),
-            OrdersFault::Line(fault) => fault.fmt(f),
+            OrdersFault::Record(fault) => fmt::Display::fmt(fault, f),
+            OrdersFault::Line(fault) => fmt::Display::fmt(fault, f),
         }
     }
 }

@@ -2,37 +2,29 @@
 use crate::words::WordsFault;
 use nms_fees::SetupFault;
 use nms_serving::ServeFault;
+use std::fmt;
 use thiserror::Error;
 
 /// Why the program ends with a status other than 0 and 6.
 #[derive(Debug, Drop, Error)]
 pub(crate) enum ProgramFault {
     /// The words are no request.
-    #[error("{0}")]
     Words(WordsFault),
     /// A word is not UTF-8.
-    #[error("usage: a word of the call is no UTF-8")]
     NoText,
     /// The paths are not those of the setup's feeds.
-    #[error("usage: --feed has to name each feed of the setup, and no other")]
     WrongFeeds,
     /// There are more clients than desks.
-    #[error("usage: more clients than the setup has desks")]
     MoreClients,
     /// The file of the setup could not be read.
-    #[error("E1: the setup could not be read")]
     NoSetup,
     /// The setup is refused.
-    #[error("{0}")]
     Setup(SetupFault),
     /// One of the tape's files is not empty.
-    #[error("usage: there is something in the tape's file, or in FILE.published or FILE.1, already")]
     TapeThere,
     /// The tape of the setup has no room for epochs.
-    #[error("E6: tape_limit has no room for twice the most opening changes: 2 a participant and 1, for each symbol")]
     ShortTape,
     /// The run ended early, or did not begin.
-    #[error("{0}")]
     Serving(ServeFault),
 }
 
@@ -49,6 +41,30 @@ impl ProgramFault {
             ProgramFault::ShortTape => 3,
             ProgramFault::Setup(fault) => fault.status(),
             ProgramFault::Serving(fault) => fault.status(),
+        }
+    }
+}
+
+impl fmt::Display for ProgramFault {
+    fn fmt<W: fmt::Write>(&self, f: &mut fmt::Formatter<W>) -> fmt::Result {
+        match self {
+            ProgramFault::Words(fault) => fmt::Display::fmt(fault, f),
+            ProgramFault::NoText => f.write_str("usage: a word of the call is no UTF-8"),
+            ProgramFault::WrongFeeds => f.write_str(
+                "usage: --feed has to name each feed of the setup, and no other",
+            ),
+            ProgramFault::MoreClients => f.write_str(
+                "usage: more clients than the setup has desks",
+            ),
+            ProgramFault::NoSetup => f.write_str("E1: the setup could not be read"),
+            ProgramFault::Setup(fault) => fmt::Display::fmt(fault, f),
+            ProgramFault::TapeThere => f.write_str(
+                "usage: there is something in the tape's file, or in FILE.published or FILE.1, already",
+            ),
+            ProgramFault::ShortTape => f.write_str(
+                "E6: tape_limit has no room for twice the most opening changes: 2 a participant and 1, for each symbol",
+            ),
+            ProgramFault::Serving(fault) => fmt::Display::fmt(fault, f),
         }
     }
 }

@@ -1,13 +1,21 @@
 //! Why an answer was not printed.
+use std::fmt;
 use thiserror::Error;
 
 /// Why an answer was not printed. Earlier output remains.
 #[derive(Clone, Copy, Debug, PartialEq, Eq, Error)]
 pub enum ShowFault {
     /// E2: the writer failed. A first part of the answer was written.
-    #[error("E2: the output could not be written")]
     WriteFault,
     /// E4: out of memory. Nothing of the line was written.
-    #[error("E4: out of memory")]
     NoMemory,
+}
+
+impl fmt::Display for ShowFault {
+    fn fmt<W: fmt::Write>(&self, f: &mut fmt::Formatter<W>) -> fmt::Result {
+        f.write_str(match self {
+            ShowFault::WriteFault => "E2: the output could not be written",
+            ShowFault::NoMemory => "E4: out of memory",
+        })
+    }
 }

@@ -4,22 +4,19 @@ ghost use Rattle.nms_stream.specs.Faults.{code_of, status_of};
 
 use nms_board::BoardFault;
 use nms_files::ChangesFault;
+use std::fmt;
 use thiserror::Error;
 
 /// Why a stream was not written whole.
 #[derive(Clone, Copy, Debug, PartialEq, Eq, Error)]
 pub enum StreamFault {
     /// The file of changes is no tape. Nothing was written.
-    #[error("{0}")]
     Changes(ChangesFault),
     /// B1: no board was made. Nothing was written.
-    #[error("{0}")]
     Board(BoardFault),
     /// E2: the writer failed. A first part of the stream was written, and nothing else.
-    #[error("E2: the output could not be written")]
     WriteFault,
     /// E4: out of memory. A first part of the stream was written, possibly none, and nothing else.
-    #[error("E4: out of memory")]
     NoMemory,
 }
 
@@ -44,6 +41,17 @@ impl StreamFault {
             StreamFault::Changes(fault) => fault.status(),
             StreamFault::Board(BoardFault::NoMemory) | StreamFault::NoMemory => 5,
             StreamFault::WriteFault => 1,
+        }
+    }
+}
+
+impl fmt::Display for StreamFault {
+    fn fmt<W: fmt::Write>(&self, f: &mut fmt::Formatter<W>) -> fmt::Result {
+        match self {
+            StreamFault::Changes(fault) => fmt::Display::fmt(fault, f),
+            StreamFault::Board(fault) => fmt::Display::fmt(fault, f),
+            StreamFault::WriteFault => f.write_str("E2: the output could not be written"),
+            StreamFault::NoMemory => f.write_str("E4: out of memory"),
         }
     }
 }

@@ -3,6 +3,7 @@ ghost use Rattle.std.specs.Prelude.{◌≡◌};
 ghost use Rattle.nms_times.specs.Faults.{line_of};
 
 use std::alloc::AllocError;
+use std::fmt;
 use thiserror::Error;
 
 /// Why times were not read, or no version was found.
@@ -10,20 +11,15 @@ use thiserror::Error;
 pub enum TimesFault {
     /// H1: this line, from 1, is the first that is not 15 digits of a time of day and a line feed, or these with a
     /// comma and 15 digits between; or its length is not the first line's.
-    #[error("H1: a line is not the time of a change")]
     NotTime { line: u64 },
     /// H2: the time of this line, from 1, is the first before that of the line above it.
-    #[error("H2: a time is before the one above it")]
     TimesFall { line: u64 },
     /// H3: there are not as many lines as changes.
-    #[error("H3: there are not as many times as changes")]
     OtherLength,
     /// H4: this line, from 1, is the first of the symbols that is not a name and two versions, the first not above the
     /// last.
-    #[error("H4: a line is not a symbol with its first and last version")]
     NotSymbol { line: u64 },
     /// E4: out of memory.
-    #[error("E4: out of memory")]
     NoMemory,
 }
 
@@ -49,5 +45,19 @@ impl From<AllocError> for TimesFault {
 
     fn from(_error: AllocError) -> TimesFault {
         TimesFault::NoMemory
+    }
+}
+
+impl fmt::Display for TimesFault {
+    fn fmt<W: fmt::Write>(&self, f: &mut fmt::Formatter<W>) -> fmt::Result {
+        match self {
+            TimesFault::NotTime { .. } => f.write_str("H1: a line is not the time of a change"),
+            TimesFault::TimesFall { .. } => f.write_str("H2: a time is before the one above it"),
+            TimesFault::OtherLength => f.write_str("H3: there are not as many times as changes"),
+            TimesFault::NotSymbol { .. } => f.write_str(
+                "H4: a line is not a symbol with its first and last version",
+            ),
+            TimesFault::NoMemory => f.write_str("E4: out of memory"),
+        }
     }
 }

@@ -10,31 +10,25 @@ use nms_files::ChangesFault;
 use nms_lines::RecordFault;
 use nms_show::ShowFault;
 use nms_times::TimesFault;
+use std::fmt;
 use thiserror::Error;
 
 /// Why executions were not judged, or not to the end.
 #[derive(Clone, Copy, Debug, PartialEq, Eq, Error)]
 pub enum TradesFault {
     /// The file of changes is no tape. Nothing was written.
-    #[error("{0}")]
     Changes(ChangesFault),
     /// E1 or E4: the file of executions could not be read, or memory ran out for it. Nothing was written.
-    #[error("{0}")]
     Executions(RecordFault),
     /// H2 or H3: the times do not rise, or are not as many as the changes. Nothing was written.
-    #[error("{0}")]
     Times(TimesFault),
     /// H4: the file of symbols is none. Nothing was written.
-    #[error("{0}")]
     Symbols(TimesFault),
     /// B1: no memory for the board or for what is found. Nothing was written.
-    #[error("{0}")]
     Board(BoardFault),
     /// E3: there are more than 10,000,000 executions. Nothing was written.
-    #[error("E3: more than 10,000,000 executions")]
     TooLong,
     /// E2 or E4: the output could not be written, or memory ran out. A first part of it may have been written.
-    #[error("{0}")]
     Show(ShowFault),
 }
 
@@ -78,5 +72,19 @@ impl From<ShowFault> for TradesFault {
 impl From<BoardFault> for TradesFault {
     fn from(fault: BoardFault) -> Self {
         TradesFault::Board(fault)
+    }
+}
+
+impl fmt::Display for TradesFault {
+    fn fmt<W: fmt::Write>(&self, f: &mut fmt::Formatter<W>) -> fmt::Result {
+        match self {
+            TradesFault::Changes(fault) => fmt::Display::fmt(fault, f),
+            TradesFault::Executions(fault) => fmt::Display::fmt(fault, f),
+            TradesFault::Times(fault) => fmt::Display::fmt(fault, f),
+            TradesFault::Symbols(fault) => fmt::Display::fmt(fault, f),
+            TradesFault::Board(fault) => fmt::Display::fmt(fault, f),
+            TradesFault::TooLong => f.write_str("E3: more than 10,000,000 executions"),
+            TradesFault::Show(fault) => fmt::Display::fmt(fault, f),
+        }
     }
 }

@@ -8,26 +8,22 @@ use nms_files::ChangesFault;
 use nms_lines::PlanTextFault;
 use nms_show::ShowFault;
 use nms_times::TimesFault;
+use std::fmt;
 use thiserror::Error;
 
 /// Why plans were not judged, or not to the end.
 #[derive(Clone, Copy, Debug, PartialEq, Eq, Error)]
 pub enum VerdictFault {
     /// The file of changes is no tape. Nothing was written.
-    #[error("{0}")]
     Changes(ChangesFault),
     /// H3: the number of times is not that of the changes. Nothing was written.
-    #[error("{0}")]
     Times(TimesFault),
     /// B1: no memory for a board. What was written before stays.
-    #[error("{0}")]
     Board(BoardFault),
     /// L11 or L12: the text is no plan, or there was no memory to read it. Among many plans, one that can't be read is reported
     /// as such and is no fault.
-    #[error("{0}")]
     Plan(PlanTextFault),
     /// E2 or E4: the output could not be written, or memory ran out. A first part of it may have been written.
-    #[error("{0}")]
     Show(ShowFault),
 }
 
@@ -55,5 +51,17 @@ impl From<ShowFault> for VerdictFault {
 impl From<TimesFault> for VerdictFault {
     fn from(fault: TimesFault) -> Self {
         VerdictFault::Times(fault)
+    }
+}
+
+impl fmt::Display for VerdictFault {
+    fn fmt<W: fmt::Write>(&self, f: &mut fmt::Formatter<W>) -> fmt::Result {
+        match self {
+            VerdictFault::Changes(fault) => fmt::Display::fmt(fault, f),
+            VerdictFault::Times(fault) => fmt::Display::fmt(fault, f),
+            VerdictFault::Board(fault) => fmt::Display::fmt(fault, f),
+            VerdictFault::Plan(fault) => fmt::Display::fmt(fault, f),
+            VerdictFault::Show(fault) => fmt::Display::fmt(fault, f),
+        }
     }
 }

@@ -1,14 +1,13 @@
 use std::alloc::AllocError;
+use std::fmt;
 use thiserror::Error;
 
 /// Why the words of the command line are no request.
 #[derive(Debug, Drop, Error)]
 pub enum WordsFault {
     /// G1: the parser's text, of a fault or, if `help` holds, of the help or the version that was asked for.
-    #[error("{text}")]
     Parser { text: String, help: bool },
     /// G2: out of memory.
-    #[error("G2: out of memory")]
     NoMemory,
 }
 
@@ -35,5 +34,14 @@ impl From<AllocError> for WordsFault {
 
     fn from(_error: AllocError) -> WordsFault {
         WordsFault::NoMemory
+    }
+}
+
+impl fmt::Display for WordsFault {
+    fn fmt<W: fmt::Write>(&self, f: &mut fmt::Formatter<W>) -> fmt::Result {
+        match self {
+            WordsFault::Parser { text, .. } => f.write_str(text.as_str()),
+            WordsFault::NoMemory => f.write_str("G2: out of memory"),
+        }
     }
 }

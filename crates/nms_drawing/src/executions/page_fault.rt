@@ -5,16 +5,15 @@ ghost use Rattle.nms_drawing.specs.PageFaults.{code_of, status_of};
 use crate::drawing_fault::DrawingFault;
 use nms_codes::Code;
 use nms_trades::TradesFault;
+use std::fmt;
 use thiserror::Error;
 
 /// Why executions were not drawn, or their page not written.
 #[derive(Clone, Copy, Debug, PartialEq, Eq, Error)]
 pub enum PageFault {
     /// The day was not drawn.
-    #[error("{0}")]
     Drawing(DrawingFault),
     /// The executions were not judged.
-    #[error("{0}")]
     Trades(TradesFault),
 }
 
@@ -26,6 +25,15 @@ impl PageFault {
         match self {
             PageFault::Drawing(fault) => fault.code(),
             PageFault::Trades(fault) => fault.code(),
+        }
+    }
+}
+
+impl fmt::Display for PageFault {
+    fn fmt<W: fmt::Write>(&self, f: &mut fmt::Formatter<W>) -> fmt::Result {
+        match self {
+            PageFault::Drawing(fault) => fmt::Display::fmt(fault, f),
+            PageFault::Trades(fault) => fmt::Display::fmt(fault, f),
         }
     }
 }
