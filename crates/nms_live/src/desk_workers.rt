@@ -1,5 +1,5 @@
 //! The desks' workers: how they are started, and what they returned (specs/Crew).
-ghost use Rattle.std.specs.Prelude.{◌≡◌, ℕ, ◌<◌, ◌≤◌, ◌⊎◌, ◌++◌, ◌∷◌, [], length, slice_index_or, None, IfErr, IfOk, OnOk};
+ghost use Rattle.std.specs.Prelude.{◌≡◌, ℕ, ◌<◌, ◌≤◌, ◌⊎◌, ◌++◌, ◌∷◌, [], length, slice_index_or, None, IfErr, IfOk, IfSome};
 ghost use Rattle.std.specs.Vec.{vec_len, vec_capacity};
 ghost use Rattle.std.specs.declared.thread.PromisedHandle.{PromisedHandle};
 ghost use Rattle.nms_quote.specs.Roster.{sizes_of};
@@ -67,11 +67,15 @@ fn start_desks<'s, E, R: Threads + Wait + Sync, G: Gate>(
     }
     let mut number = 0u8;
     for desk in desks {
-        match start_desk(scope, means, given, number, desk, &mut handles) {
-            Ok(()) => {}
-            Err(fault) => {
+        match start_desk(scope, means, given, number, desk) {
+            Some(handle) => {
+                let Ok(()) = handles.push(handle) else {
+                    unreachable!()
+                };
+            }
+            None => {
                 join_started(means.rt, handles);
-                return Err(fault);
+                return Err(LiveFault::Open);
             }
         }
         number += 1;
@@ -79,20 +83,17 @@ fn start_desks<'s, E, R: Threads + Wait + Sync, G: Gate>(
     Ok(handles)
 }
 
-/// Starts the worker of a desk, and puts it after those that were started before.
-fn start_desk<'s, E, R: Threads + Wait + Sync, G: Gate>(
+/// Starts the worker of a desk, if it can be started.
+fn start_desk<'s, E, R: Wait + Sync, G: Gate>(
     scope: &'s Scope<'s, E>,
     means: &'s Means<'s, R, G>,
     given: &'s Given<'s>,
     number: u8,
     desk: Desk,
-    handles: &mut Vec<PromisedHandle<Desked, DeskJob>>,
-) -> Result<(), LiveFault>
+) -> Option<PromisedHandle<Desked, DeskJob>>
     requires place { number < given.now.setup.now.desks }
     requires sizes { desk.sizes ≡ sizes_of given.now.setup.now.roster }
-    ensures started { OnOk result ((handle : PromisedHandle Desked DeskJob) × (handles.new.items ≡ handles.old.items ++ handle ∷ [])
-        × WillBeDesked given.now.setup.now (own number (numbered given.now.orders.items)) desk handle) }
-    ensures fault { IfErr result IsNoLine }
+    ensures started { IfSome result (WillBeDesked given.now.setup.now (own number (numbered given.now.orders.items)) desk) }
 {
     let (rt, alloc, gate) = (means.rt, means.alloc, means.gate);
     let (setup, mine) = (given.setup, &given.by_desk[usize::from(number)]);
@@ -108,30 +109,9 @@ fn start_desk<'s, E, R: Threads + Wait + Sync, G: Gate>(
             ensures { IsDesked setup.entry.now mine.entry.now.orders.items desk result }
         { work(&Means { rt, alloc, gate }, setup, mine, number, desk) },
     ) else {
-        return Err(LiveFault::Open);
+        return None;
     };
-    match put_handle(means.rt, handles, handle) {
-        Ok(()) => Ok(()),
-        Err(fault) => Err(fault),
-    }
-}
-
-/// Adds the handle of a worker to the others. If there is no room for it, the worker is joined first.
-fn put_handle<R: Threads>(
-    rt: &R,
-    handles: &mut Vec<PromisedHandle<Desked, DeskJob>>,
-    handle: PromisedHandle<Desked, DeskJob>,
-) -> Result<(), LiveFault>
-    ensures put { OnOk result (handles.new.items ≡ handles.old.items ++ handle ∷ []) }
-    ensures fault { IfErr result IsNoLine }
-{
-    match handles.push(handle) {
-        Ok(()) => Ok(()),
-        Err(back) => {
-            let _worked = back.value.join(rt);
-            Err(LiveFault::NoMemory)
-        }
-    }
+    Some(handle)
 }
 
 /// Waits for the desks' workers that were started if not all could be. What they return is let go: a handle that is

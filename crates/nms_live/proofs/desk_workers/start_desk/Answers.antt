@@ -5,16 +5,15 @@ use Rattle.nms_live.specs.declared.desk_work.DeskJob.{DeskJob}
 use Rattle.nms_live.proofs.CrewFacts.{desked_by_job}
 use Rattle.nms_live.proofs.desk_workers.start_desk.Goals as goal
 
-pub returns-in-Ok-put_handle-clause-started : goal.returns-in-Ok-put_handle-clause-started
-returns-in-Ok-put_handle-clause-started g c =
+pub returns : goal.returns
+returns g c =
     let handle = c.in-Ok.handle in
     let kept = c.in-Ok.ensures.ok in
-    let orders = own c.args.number (numbered c.args.given.now.orders.items) in (
-      handle,
-      c.in-Ok-put_handle.ensures.put,
-      λ back keeps. desked_by_job c.args.given.now.setup.now orders c.args.desk handle.promise back
+    let orders = own c.args.number (numbered c.args.given.now.orders.items) in
+    record {
+      started = λ back keeps. desked_by_job c.args.given.now.setup.now orders c.args.desk handle.promise back
           (ap (λ (j : DeskJob). j.setup.value) kept ∙ c.of.ensures)
           (search (rules, ap (λ (j : DeskJob). j.mine.value.orders.items) kept, c.of-2.ensures))
           (ap (λ (j : DeskJob). j.desk.value) kept ∙ c.of-3.ensures)
-          keeps,
-    )
+          keeps;
+    }

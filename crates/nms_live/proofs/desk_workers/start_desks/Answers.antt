@@ -1,5 +1,5 @@
 -- `start_desks`: the turns of its loop, by `row_more` and `stands_at`.
-use Rattle.std.proofs.Common.{ℕ, ◌≡◌, ◌++◌, ◌∷◌, [], length, ap, sym, subst, ◌∙◌, append_assoc, length-append, arith}
+use Rattle.std.proofs.Common.{ℕ, ◌≡◌, ◌++◌, ◌∷◌, [], length, ap, sym, subst, ◌∙◌, append_assoc, length-append, arith, rules}
 use Rattle.std.specs.Prelude.{slice_index_or}
 use Rattle.std.specs.Vec.Iter.{into_iter_items}
 use Rattle.std.specs.declared.thread.PromisedHandle.{PromisedHandle}
@@ -15,9 +15,8 @@ pub loop-desk-preserved : goal.loop-desk-preserved
 loop-desk-preserved g c =
     let at = c.loop-desk in
     let desk = c.in-Some.desk in
-    let started = c.in-Ok.ensures.started in
-    let handle = started.0 in
-    let pushed = started.1 in
+    let handle = c.in-Some-start_desk.handle in
+    let pushed : c.push.new.self.items ≡ at.handles.items ++ handle ∷ [] = search rules in
     let rest = into_iter_items c.next.new.self in
     let steps : into_iter_items at.desk-iterator ≡ desk ∷ rest = c.in-Some.ensures.steps.0 in
     let parted : (at.yielded ++ desk ∷ []) ++ rest ≡ c.args.desks.items = append_assoc at.yielded (desk ∷ []) rest
@@ -27,6 +26,7 @@ loop-desk-preserved g c =
       parted = parted;
       count = omega (arith, at.invariant.count, length-append at.yielded (desk ∷ []));
       all = omega (arith, place, ap length pushed, length-append at.handles.items (handle ∷ []));
+      room = omega (arith, at.invariant.room, c.push.ensures.capacity);
       started = λ k d h below.
           let P : ℕ → PromisedHandle Desked DeskJob → Type 0 =
           λ j r. WillBeDesked c.args.given.now.setup.now (own j (numbered c.args.given.now.orders.items))
@@ -36,7 +36,7 @@ loop-desk-preserved g c =
           let here : P at.number handle =
           subst (λ (e : Knowing). WillBeDesked c.args.given.now.setup.now (own at.number (numbered c.args.given.now.orders.items)) e handle)
           (sym there)
-          started.2 in
+          c.in-Some-start_desk.ensures.started in
           let last : P (length at.handles.items) handle = rw place here in
           rw pushed (row_more P at.handles.items handle (λ j e lt. at.invariant.started j d e lt) last k h (rw (sym pushed) below));
     }
