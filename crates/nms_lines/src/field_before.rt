@@ -1,11 +1,11 @@
 //! Fields of a record written from the last to the first, each before the bytes already in a buffer (`later_fields` of
 //! `specs/Text`). A number gives its last digit first; the whole record is then appended at once.
-ghost use Rattle.std.specs.Prelude.{◌≡◌, ◌+◌, ◌<◌, ◌≤◌, ◌++◌, ◌∷◌, drop, length, IfSome};
+ghost use Rattle.std.specs.Prelude.{◌≡◌, ◌+◌, ◌<◌, ◌≤◌, ◌/◌, ◌++◌, ◌∷◌, drop, length};
 ghost use Rattle.std.specs.Fmt.{decimal};
 ghost use Rattle.nms_units.specs.Money.{amount_text, money_text, three_digits};
 ghost use Rattle.nms_units.specs.Price.{digit_at, price_text};
 
-use itoa::write_digits;
+use itoa::{Buffer, write_digits};
 use nms_units::{Money, Price};
 
 /// Writes a text so that it ends at a place. Returns where it starts.
@@ -28,7 +28,7 @@ pub fn text_before(buf: &mut [u8], end: usize, text: &str) -> usize
     ensures written { drop result buf.new ≡ 44 ∷ text.now ++ drop end buf.old }
 {
     let start = word_before(buf, end, text);
-    comma_before(buf, start)
+    byte_before(buf, start, b',')
 }
 
 /// Writes a comma and a number, which take 2 to 21 bytes, so that they end at a place. Returns where they start.
@@ -40,8 +40,20 @@ pub fn number_before(buf: &mut [u8], end: usize, number: u64) -> usize
     ensures before { result < end }
     ensures written { drop result buf.new ≡ 44 ∷ decimal number ++ drop end buf.old }
 {
-    let start = write_digits(number, buf, end);
-    comma_before(buf, start)
+    let start = digits_before(buf, end, number);
+    byte_before(buf, start, b',')
+}
+
+/// Writes a number's 1 to 20 digits so that they end at a place. Returns where they start.
+#[inline(always)]
+fn digits_before(buf: &mut [u8], end: usize, number: u64) -> usize
+    requires room { 20 ≤ end }
+    requires within { end ≤ length buf.old }
+    ensures start { end ≤ result + 20 }
+    ensures before { result ≤ end }
+    ensures written { drop result buf.new ≡ decimal number ++ drop end buf.old }
+{
+    write_digits(number, buf, end)
 }
 
 /// Writes a comma and a price, which take 7 to 13 bytes, so that they end at a place. Returns where they start.
@@ -75,41 +87,70 @@ fn decimals_before(buf: &mut [u8], end: usize, number: u64) -> usize
     end - 5
 }
 
-/// Writes a comma and an amount of money, which take 12 to 23 bytes, so that they end at a place. Returns where they
-/// start. `None` is more than 18 billion dollars, which 64 bits do not hold.
-pub fn money_before(buf: &mut [u8], end: usize, money: Money) -> Option<usize>
-    requires room { 32 ≤ end }
+/// Writes a comma and an amount of money, which take 12 to 42 bytes, so that they end at a place. Returns where they
+/// start.
+pub fn money_before(buf: &mut [u8], end: usize, money: Money) -> usize
+    requires room { 52 ≤ end }
     requires within { end ≤ length buf.old }
-    ensures start { IfSome result (λ start. end ≤ start + 32) }
-    ensures before { IfSome result (λ start. start < end) }
-    ensures written { IfSome result (λ start. drop start buf.new ≡ 44 ∷ money_text money ++ drop end buf.old) }
+    ensures start { end ≤ result + 52 }
+    ensures before { result < end }
+    ensures written { drop result buf.new ≡ 44 ∷ money_text money ++ drop end buf.old }
 {
     let number = money.get();
-    let Ok(amount) = u64::try_from(number.unsigned_abs()) else {
-        return None;
-    };
-    let start = amount_before(buf, end, amount);
+    let start = amount_before(buf, end, number.unsigned_abs());
     if number < 0 {
-        let start = minus_before(buf, start);
-        Some(comma_before(buf, start))
+        let start = byte_before(buf, start, b'-');
+        byte_before(buf, start, b',')
     } else {
-        Some(comma_before(buf, start))
+        byte_before(buf, start, b',')
     }
 }
 
-/// Writes nanodollars as dollars with nine decimals so that they end at a place. Returns where they start.
-fn amount_before(buf: &mut [u8], end: usize, amount: u64) -> usize
-    requires room { 30 ≤ end }
+/// Writes nanodollars as dollars with nine decimals so that they end at a place. Returns where they start. Amounts of up
+/// to 18 billion dollars, which 64 bits hold, are written without 128 bits.
+fn amount_before(buf: &mut [u8], end: usize, amount: u128) -> usize
+    requires room { 50 ≤ end }
     requires within { end ≤ length buf.old }
-    ensures start { end ≤ result + 30 }
+    ensures start { end ≤ result + 50 }
     ensures before { result < end }
     ensures written { drop result buf.new ≡ amount_text amount ++ drop end buf.old }
 {
-    let start = three_before(buf, end, amount);
-    let start = three_before(buf, start, amount / 1000);
-    let start = three_before(buf, start, amount / 1_000_000);
-    let start = point_before(buf, start);
-    write_digits(amount / 1_000_000_000, buf, start)
+    match u64::try_from(amount) {
+        Ok(amount) => {
+            let start = nine_before(buf, end, amount);
+            digits_before(buf, start, amount / 1_000_000_000)
+        }
+        Err(_) => wide_before(buf, end, amount),
+    }
+}
+
+/// Writes nanodollars of any number, as `amount_before` does.
+#[cold]
+#[inline(never)]
+fn wide_before(buf: &mut [u8], end: usize, amount: u128) -> usize
+    requires room { 50 ≤ end }
+    requires within { end ≤ length buf.old }
+    ensures start { end ≤ result + 50 }
+    ensures before { result < end }
+    ensures written { drop result buf.new ≡ amount_text amount ++ drop end buf.old }
+{
+    let start = nine_before(buf, end, (amount % 1_000_000_000) as u64);
+    let mut dollars = Buffer::new();
+    word_before(buf, start, dollars.format(amount / 1_000_000_000))
+}
+
+/// Writes a point and a number's last nine digits so that they end at a place. Returns where they start.
+fn nine_before(buf: &mut [u8], end: usize, number: u64) -> usize
+    requires room { 10 ≤ end }
+    requires within { end ≤ length buf.old }
+    ensures start { result + 10 ≡ end }
+    ensures written { drop result buf.new ≡ 46 ∷ three_digits (number / 1000000) ++ three_digits (number / 1000) ++ three_digits number
+        ++ drop end buf.old }
+{
+    let start = three_before(buf, end, number);
+    let start = three_before(buf, start, number / 1000);
+    let start = three_before(buf, start, number / 1_000_000);
+    byte_before(buf, start, b'.')
 }
 
 /// Writes a number's last three digits so that they end at a place. Returns where they start.
@@ -126,36 +167,14 @@ fn three_before(buf: &mut [u8], end: usize, number: u64) -> usize
     end - 3
 }
 
-/// Writes a minus before a place. Returns its place.
-fn minus_before(buf: &mut [u8], end: usize) -> usize
+/// Writes a byte before a place. Returns its place.
+fn byte_before(buf: &mut [u8], end: usize, byte: u8) -> usize
     requires room { 1 ≤ end }
     requires within { end ≤ length buf.old }
     ensures start { result + 1 ≡ end }
-    ensures written { drop result buf.new ≡ 45 ∷ drop end buf.old }
+    ensures written { drop result buf.new ≡ byte ∷ drop end buf.old }
 {
-    buf[end - 1] = b'-';
-    end - 1
-}
-
-/// Writes a point before a place. Returns its place.
-fn point_before(buf: &mut [u8], end: usize) -> usize
-    requires room { 1 ≤ end }
-    requires within { end ≤ length buf.old }
-    ensures start { result + 1 ≡ end }
-    ensures written { drop result buf.new ≡ 46 ∷ drop end buf.old }
-{
-    buf[end - 1] = b'.';
-    end - 1
-}
-
-/// Writes a comma before a place. Returns its place.
-fn comma_before(buf: &mut [u8], end: usize) -> usize
-    requires room { 1 ≤ end }
-    requires within { end ≤ length buf.old }
-    ensures start { result + 1 ≡ end }
-    ensures written { drop result buf.new ≡ 44 ∷ drop end buf.old }
-{
-    buf[end - 1] = b',';
+    buf[end - 1] = byte;
     end - 1
 }
 

@@ -7,7 +7,6 @@ ghost use Rattle.nms_units.specs.Price.{price_text};
 use crate::field_before::{money_before, number_before, price_before};
 use nms_units::{Money, Price};
 use std::alloc::AllocError;
-use std::io::Write;
 
 /// Appends a comma and a text.
 pub fn push_text(out: &mut Vec<u8>, text: &str) -> Result<(), AllocError>
@@ -36,23 +35,13 @@ pub fn push_price(out: &mut Vec<u8>, price: Price) -> Result<(), AllocError>
     out.extend_from_slice(&field[start..])
 }
 
-/// Appends a comma and an amount of money. Amounts of up to 18 billion dollars are written without 128 bits.
+/// Appends a comma and an amount of money.
 pub fn push_money(out: &mut Vec<u8>, money: Money) -> Result<(), AllocError>
     ensures { OnOk result (out.new.items ≡ out.old.items ++ 44 ∷ money_text money) }
 {
-    let mut field = [0; 32];
-    match money_before(&mut field, 32, money) {
-        Some(start) => out.extend_from_slice(&field[start..]),
-        None => push_wide(out, money),
-    }
-}
-
-/// Appends a comma and an amount of money of any size.
-fn push_wide(out: &mut Vec<u8>, money: Money) -> Result<(), AllocError>
-    ensures { OnOk result (out.new.items ≡ out.old.items ++ 44 ∷ money_text money) }
-{
-    out.push(b',')?;
-    write!(out, "{money}").map_err(|_| AllocError)
+    let mut field = [0; 56];
+    let start = money_before(&mut field, 56, money);
+    out.extend_from_slice(&field[start..])
 }
 
 /// Ends a record.

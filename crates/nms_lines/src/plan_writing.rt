@@ -1,5 +1,5 @@
 //! A plan and its certificate as text: `specs/PlanText`.
-ghost use Rattle.std.specs.Prelude.{◌≡◌, ◌≢◌, ◌+◌, ◌<◌, ◌≤◌, ◌++◌, ◌∷◌, [], All, codes, drop, length, map, IfOk, IfSome, OnOk, Err};
+ghost use Rattle.std.specs.Prelude.{◌≡◌, ◌≢◌, ◌+◌, ◌<◌, ◌≤◌, ◌++◌, ◌∷◌, [], All, codes, drop, length, map, IfOk, OnOk, Err};
 ghost use Rattle.std.specs.Fmt.{decimal};
 ghost use Rattle.std.specs.Io.KnownBytes.{Appends};
 ghost use Rattle.nms_units.specs.Money.{money_text};
@@ -11,7 +11,7 @@ ghost use Rattle.nms_lines.specs.Text.{later_fields, text_of};
 ghost use Rattle.nms_lines.specs.Written.{AppendsPart};
 
 use crate::field_before::{money_before, number_before, price_before, text_before, word_before};
-use crate::field_writing::{end_record, push_money, push_number, push_price, push_text};
+use crate::field_writing::end_record;
 use crate::plan_text_fault::PlanTextFault;
 use crate::text_writing::write_text;
 use nms_quote::{
@@ -93,37 +93,21 @@ fn push_plan(out: &mut Vec<u8>, roster: &Roster, plan: &Plan) -> Result<(), Allo
     ensures { OnOk result (out.new.items ≡ out.old.items
         ++ (codes "PLAN" ++ later_fields (plan_fields (symbol_text roster.now plan.now.order.sym) plan.now))) }
 {
-    let mut buf = [0; 144];
-    match plan_before(&mut buf, 144, name_of_sym(roster, plan.order.sym), plan) {
-        Some(start) => out.extend_from_slice(&buf[start..]),
-        None => push_wide_plan(out, roster, plan),
-    }
+    let mut buf = [0; 160];
+    let start = plan_before(&mut buf, 160, name_of_sym(roster, plan.order.sym), plan);
+    out.extend_from_slice(&buf[start..])
 }
 
-/// Writes the fields of a plan for the symbol of that name, at most 138 bytes, so that they end at a place. Returns
-/// where they start. `None` is a cost that 64 bits do not hold.
-fn plan_before(buf: &mut [u8], end: usize, name: &str, plan: &Plan) -> Option<usize>
-    requires room { 138 ≤ end }
-    requires within { end ≤ length buf.old }
-    requires name { length name.now ≤ 8 }
-    ensures within { IfSome result (λ start. start ≤ end) }
-    ensures written { IfSome result (λ start. drop start buf.new ≡ codes "PLAN" ++ later_fields (plan_fields name.now plan.now) ++ drop end buf.old) }
-{
-    let end = money_before(buf, end, plan.cost)?;
-    Some(terms_before(buf, end, name, plan))
-}
-
-/// Writes the fields of a plan up to its cost, which take at most 106 bytes, so that they end at a place. Returns where
-/// they start.
-fn terms_before(buf: &mut [u8], end: usize, name: &str, plan: &Plan) -> usize
-    requires room { 106 ≤ end }
+/// Writes the fields of a plan for the symbol of that name, at most 158 bytes, so that they end at a place. Returns
+/// where they start.
+fn plan_before(buf: &mut [u8], end: usize, name: &str, plan: &Plan) -> usize
+    requires room { 158 ≤ end }
     requires within { end ≤ length buf.old }
     requires name { length name.now ≤ 8 }
     ensures within { result ≤ end }
-    ensures written { drop result buf.new ≡ codes "PLAN"
-        ++ later_fields (decimal plan.now.version ∷ (terms_fields name.now plan.now.order ++ decimal plan.now.filled ∷ []))
-        ++ drop end buf.old }
+    ensures written { drop result buf.new ≡ codes "PLAN" ++ later_fields (plan_fields name.now plan.now) ++ drop end buf.old }
 {
+    let end = money_before(buf, end, plan.cost);
     let end = number_before(buf, end, u64::from(plan.filled));
     let end = order_before(buf, end, name, &plan.order);
     let end = number_before(buf, end, plan.version);
@@ -145,17 +129,6 @@ fn order_before(buf: &mut [u8], end: usize, name: &str, order: &Order) -> usize
     let end = number_before(buf, end, u64::from(order.shares.get()));
     let end = text_before(buf, end, name);
     text_before(buf, end, letter_of(order.side))
-}
-
-/// Appends the fields of a plan whose cost is of any size.
-fn push_wide_plan(out: &mut Vec<u8>, roster: &Roster, plan: &Plan) -> Result<(), AllocError>
-    ensures { OnOk result (out.new.items ≡ out.old.items
-        ++ (codes "PLAN" ++ later_fields (plan_fields (symbol_text roster.now plan.now.order.sym) plan.now))) }
-{
-    let mut buf = [0; 112];
-    let start = terms_before(&mut buf, 112, name_of_sym(roster, plan.order.sym), plan);
-    out.extend_from_slice(&buf[start..])?;
-    push_money(out, plan.cost)
 }
 
 /// Appends the participants that an order names, in a field of their own, if there are any.
@@ -234,66 +207,38 @@ fn append_cuts(out: &mut Vec<u8>, cuts: &[Cut]) -> Result<(), AllocError>
 fn append_cut(out: &mut Vec<u8>, cut: &Cut) -> Result<(), AllocError>
     ensures { OnOk result (out.new.items ≡ out.old.items ++ text_of (cut_record cut.now ∷ [])) }
 {
-    let mut buf = [0; 72];
-    buf[71] = b'\n';
-    match cut_before(&mut buf, 71, cut) {
-        Some(start) => out.extend_from_slice(&buf[start..]),
-        None => append_wide_cut(out, cut),
-    }
+    let mut buf = [0; 96];
+    buf[95] = b'\n';
+    let start = cut_before(&mut buf, 95, cut);
+    out.extend_from_slice(&buf[start..])
 }
 
-/// Writes the fields of a cut, which take at most 70 bytes, so that they end at a place. Returns where they start.
-/// `None` is a marginal that 64 bits do not hold.
-fn cut_before(buf: &mut [u8], end: usize, cut: &Cut) -> Option<usize>
-    requires room { 70 ≤ end }
+/// Writes the fields of a cut, which take at most 90 bytes, so that they end at a place. Returns where they start.
+fn cut_before(buf: &mut [u8], end: usize, cut: &Cut) -> usize
+    requires room { 90 ≤ end }
     requires within { end ≤ length buf.old }
-    ensures within { IfSome result (λ start. start ≤ end) }
-    ensures written { IfSome result (λ start. drop start buf.new ≡ codes "CUT" ++ later_fields (price_text cut.now.price ∷ kind_fields cut.now.kind) ++ drop end buf.old) }
+    ensures within { result ≤ end }
+    ensures written { drop result buf.new ≡ codes "CUT" ++ later_fields (price_text cut.now.price ∷ kind_fields cut.now.kind) ++ drop end buf.old }
 {
-    let end = kind_before(buf, end, cut.kind)?;
+    let end = kind_before(buf, end, cut.kind);
     let end = price_before(buf, end, cut.price);
-    Some(word_before(buf, end, "CUT"))
+    word_before(buf, end, "CUT")
 }
 
-/// Writes what a cut says, which takes at most 41 bytes, so that it ends at a place. Returns where it starts. `None` is
-/// a marginal that 64 bits do not hold.
-fn kind_before(buf: &mut [u8], end: usize, kind: CutKind) -> Option<usize>
-    requires room { 41 ≤ end }
+/// Writes what a cut says, which takes at most 61 bytes, so that it ends at a place. Returns where it starts.
+fn kind_before(buf: &mut [u8], end: usize, kind: CutKind) -> usize
+    requires room { 61 ≤ end }
     requires within { end ≤ length buf.old }
-    ensures start { IfSome result (λ start. end ≤ start + 41) }
-    ensures before { IfSome result (λ start. start ≤ end) }
-    ensures written { IfSome result (λ start. drop start buf.new ≡ later_fields (kind_fields kind) ++ drop end buf.old) }
+    ensures start { end ≤ result + 61 }
+    ensures before { result ≤ end }
+    ensures written { drop result buf.new ≡ later_fields (kind_fields kind) ++ drop end buf.old }
 {
     match kind {
-        CutKind::TooMuch => Some(word_before(buf, end, ",TOOMUCH,")),
-        CutKind::TooLittle => Some(word_before(buf, end, ",TOOLITTLE,")),
+        CutKind::TooMuch => word_before(buf, end, ",TOOMUCH,"),
+        CutKind::TooLittle => word_before(buf, end, ",TOOLITTLE,"),
         CutKind::Marginal(money) => {
-            let start = money_before(buf, end, money)?;
-            Some(text_before(buf, start, "MARGINAL"))
-        }
-    }
-}
-
-/// Appends the record of a cut with a marginal of any size.
-fn append_wide_cut(out: &mut Vec<u8>, cut: &Cut) -> Result<(), AllocError>
-    ensures { OnOk result (out.new.items ≡ out.old.items ++ text_of (cut_record cut.now ∷ [])) }
-{
-    out.extend_from_slice(b"CUT")?;
-    push_price(out, cut.price)?;
-    push_kind(out, cut.kind)?;
-    end_record(out)
-}
-
-/// Appends what a cut says, in two fields.
-fn push_kind(out: &mut Vec<u8>, kind: CutKind) -> Result<(), AllocError>
-    ensures { OnOk result (out.new.items ≡ out.old.items ++ later_fields (kind_fields kind)) }
-{
-    match kind {
-        CutKind::TooMuch => push_text(out, "TOOMUCH,"),
-        CutKind::TooLittle => push_text(out, "TOOLITTLE,"),
-        CutKind::Marginal(money) => {
-            push_text(out, "MARGINAL")?;
-            push_money(out, money)
+            let start = money_before(buf, end, money);
+            text_before(buf, start, "MARGINAL")
         }
     }
 }
