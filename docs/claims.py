@@ -141,15 +141,16 @@ def tree():
     return {it: Crate(it) for it in crates()}
 
 
-def codes_of(kind, seen=()):
-    """The codes that the comments of a fault's variants name, and those of the faults that the variants carry."""
+def codes_of(kind, seen=(), within=None):
+    """The codes that the comments of a fault's variants name, and those of the faults that the variants carry: of two faults of one
+    name, that of a crate on which the carrier stands."""
     found = set()
-    for text in (it.enums[kind] for it in tree().values() if kind in it.enums):
+    for crate, text in ((it.name, it.enums[kind]) for it in tree().values() if kind in it.enums and it.name in (within or tree())):
         named = " ".join(re.findall(r"///.*|^[^/]*#\[error.*", text, re.M))
         for letter, first, last in re.findall(r"\b([A-Z])(\d{1,2})(?: to [A-Z](\d+))?(?=[:,; ])", named):
             found.update(f"{letter}{at}" for at in range(int(first), int(last or first) + 1))
         for carried in set(re.findall(r"\b(\w+Fault)\b", text)) - {kind, *seen}:
-            found.update(codes_of(carried, (*seen, kind)))
+            found.update(codes_of(carried, (*seen, kind), {crate} | below(crate)))
     return sorted(found, key=lambda it: (it[0], int(it[1:])))
 
 

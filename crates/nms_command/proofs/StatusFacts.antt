@@ -11,6 +11,10 @@ use Rattle.nms_file_answers.specs.declared.report_fault.ReportFault.TheVariants 
 use Rattle.nms_files.specs.Faults as file_faults
 use Rattle.nms_files.specs.declared.changes_fault.ChangesFault.{ChangesFault}
 use Rattle.nms_files.specs.declared.changes_fault.ChangesFault.TheVariants as changes
+use Rattle.nms_files.specs.declared.feed_fault.FeedFault.{FeedFault}
+use Rattle.nms_files.specs.declared.feed_fault.FeedFault.TheVariants as feed
+use Rattle.nms_files.specs.declared.orders_fault.OrdersFault.{OrdersFault}
+use Rattle.nms_files.specs.declared.orders_fault.OrdersFault.TheVariants as orders
 use Rattle.nms_lines.specs.PlanFaults as plan_faults
 use Rattle.nms_lines.specs.RecordFaults as record_faults
 use Rattle.nms_lines.specs.declared.plan_text_fault.PlanTextFault.{PlanTextFault}
@@ -50,10 +54,10 @@ five = (omega arith, λ e. omega arith, λ e. omega arith)
 pub six : IsFaultStatus 6
 six = (omega arith, λ e. omega arith, λ e. omega arith)
 
-seven : IsFaultStatus 7
+pub seven : IsFaultStatus 7
 seven = (omega arith, λ e. omega arith, λ e. omega arith)
 
-pub record_status : (fault : RecordFault) → IsFaultStatus (record_faults.status_of fault)
+record_status : (fault : RecordFault) → IsFaultStatus (record_faults.status_of fault)
 record_status read.Failed = one
 record_status read.NoMemory = five
 
@@ -65,6 +69,14 @@ changes_status : (fault : ChangesFault) → IsFaultStatus (file_faults.status_of
 changes_status (changes.Record fault) = record_status fault
 changes_status (changes.Line line) = six
 changes_status changes.TapeFull = six
+
+orders_status : (fault : OrdersFault) → IsFaultStatus (file_faults.status_of_orders fault)
+orders_status (orders.Record fault) = record_status fault
+orders_status (orders.Line line) = six
+
+feed_status : (fault : FeedFault) → IsFaultStatus (file_faults.status_of_feed fault)
+feed_status (feed.Record fault) = record_status fault
+feed_status feed.TooLong = six
 
 report_status : (fault : ReportFault) → IsFaultStatus (answer_faults.status_of_report fault)
 report_status (report.Changes inner) = changes_status inner
@@ -114,6 +126,8 @@ fault_status (command.Changes fault) = changes_status fault
 fault_status (command.Plan fault) = plan_status fault
 fault_status (command.PlanText fault) = plan_text_status fault
 fault_status command.NoAudit = five
+fault_status (command.Feed fault) = feed_status fault
+fault_status (command.Orders fault) = orders_status fault
 
 -- the status of a request shows how it ended
 pub done_by : (ends : Ending) → status_of_ending ends ≡ 0 → ends ≡ ending.Done

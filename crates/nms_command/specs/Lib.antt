@@ -1,4 +1,6 @@
 pub mod Check
+pub mod LiveFiles
 pub mod Served
 pub mod Statuses
+pub mod Steps
 pub mod Unread

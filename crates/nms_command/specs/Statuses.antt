@@ -29,6 +29,8 @@ status_of (fault.Changes own) = file_faults.status_of_changes own
 status_of (fault.Plan own) = answer_faults.status_of_plan own
 status_of (fault.PlanText own) = plan_faults.status_of own
 status_of fault.NoAudit = 5
+status_of (fault.Feed own) = file_faults.status_of_feed own
+status_of (fault.Orders own) = file_faults.status_of_orders own
 
 -- the code that the line on standard error names
 abbrev pub code_of : CommandFault → List ℕ
@@ -42,3 +44,5 @@ code_of (fault.Changes own) = file_faults.code_of_changes own
 code_of (fault.Plan own) = answer_faults.code_of_plan own
 code_of (fault.PlanText own) = plan_faults.code_of own
 code_of fault.NoAudit = codes "A3"
+code_of (fault.Feed own) = file_faults.code_of_feed own
+code_of (fault.Orders own) = file_faults.code_of_orders own

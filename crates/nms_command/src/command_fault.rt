@@ -4,7 +4,7 @@ ghost use Rattle.nms_command.specs.Statuses.{code_of, status_of};
 
 use nms_fees::SetupFault;
 use nms_file_answers::{AuditFault, PlanFault, ReportFault};
-use nms_files::ChangesFault;
+use nms_files::{ChangesFault, FeedFault, OrdersFault};
 use nms_lines::PlanTextFault;
 use nms_text::ScriptFault;
 use nms_words::WordsFault;
@@ -32,6 +32,10 @@ pub enum CommandFault {
     PlanText(PlanTextFault),
     /// There was no memory for an audit.
     NoAudit,
+    /// A file of a feed was not read: it may have more than 1,000,000,000 bytes.
+    Feed(FeedFault),
+    /// A file of orders was refused.
+    Orders(OrdersFault),
 }
 
 impl CommandFault {
@@ -51,6 +55,8 @@ impl CommandFault {
             CommandFault::Plan(fault) => fault.status(),
             CommandFault::PlanText(fault) => fault.status(),
             CommandFault::NoAudit => 5,
+            CommandFault::Feed(fault) => fault.status(),
+            CommandFault::Orders(fault) => fault.status(),
         }
     }
 
@@ -69,6 +75,8 @@ impl CommandFault {
             CommandFault::Plan(fault) => fault.code(),
             CommandFault::PlanText(fault) => fault.code(),
             CommandFault::NoAudit => AuditFault::NoMemory.code(),
+            CommandFault::Feed(fault) => fault.code(),
+            CommandFault::Orders(fault) => fault.code(),
         }
     }
 }

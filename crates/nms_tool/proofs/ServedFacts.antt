@@ -1,48 +1,55 @@
--- A request that was served, from its setup to the exit status.
-use Rattle.std.proofs.Common.{ℕ, ◌≡◌, ◌∙◌, List, inl, inr, sym, subst, true}
-use Rattle.std.specs.Prelude.{Option, Some, Result, Ok, Err, IfOk, OnOk}
-use Rattle.std.specs.Io.KnownBytes.{Appends}
+-- What the words ask for was done, from what they came to before a live run to the exit status.
+use Rattle.std.proofs.Common.{ℕ, ◌≡◌, ◌∙◌, List, inl, inr, sym, subst}
+use Rattle.std.specs.Prelude.{Option, Result, Ok, Err, IfOk}
 use Rattle.nms_fees.specs.Settings.{Settings}
-use Rattle.nms_words.specs.CommandLine.{Asked, IsRefusal, asked_by, faults_in}
+use Rattle.nms_words.specs.CommandLine.{Asked}
 use Rattle.nms_words.specs.declared.subcommand.Sub.{Sub}
 use Rattle.nms_words.specs.declared.subcommand.Sub.TheVariants as sub
-use Rattle.nms_words.specs.declared.words_fault.WordsFault.{WordsFault}
-use Rattle.nms_tool.specs.Served.{AreServed, Does, IsServed, is_help, text_in}
-use Rattle.nms_command.specs.Served.{IsSetup, Serves}
+use Rattle.nms_tool.specs.Served.{AreServed, Does, Runs}
+use Rattle.nms_command.specs.Served.{Serves}
 use Rattle.nms_command.specs.Statuses.{status_of_ending}
+use Rattle.nms_command.specs.Steps.{AreMet, AsksRun, MeetsWords}
 use Rattle.nms_command.specs.declared.ending.Ending.{Ending}
 use Rattle.nms_command.specs.declared.ending.Ending.TheVariants as ending
+use Rattle.nms_command.specs.declared.live_input.LiveInput.{LiveInput}
+use Rattle.nms_command.specs.declared.step.Step.{Step}
+use Rattle.nms_command.specs.declared.step.Step.TheVariants as step
 use Rattle.nms_tool.specs.declared.tool_fault.ToolFault.{ToolFault}
 use Rattle.nms_command.proofs.Offered.{done_by, judged_by}
 
 -- a served request of any subcommand but `live` was done
-pub done_apart : {X : Type 0} (r : Result Ending X) (command : Sub) (settings : Settings) (asked : Asked)
-    (input old new : Option (List ℕ))
-    → IfOk r (Serves command settings asked input old new) → IfOk r (Does command settings asked input old new)
-done_apart (Ok ends) sub.Script settings asked input old new serves = serves
-done_apart (Ok ends) sub.Report settings asked input old new serves = serves
-done_apart (Ok ends) sub.Plan settings asked input old new serves = serves
-done_apart (Ok ends) sub.Check settings asked input old new serves = serves
-done_apart (Ok ends) sub.Live settings asked input old new serves = absurd serves
-done_apart (Err why) command settings asked input old new serves = tt
+done_apart : (command : Sub) (settings : Settings) (asked : Asked) (input old new : Option (List ℕ)) (ends : Ending)
+    → Serves command settings asked input old new ends → Does command settings asked input old new ends
+done_apart sub.Script settings asked input old new ends serves = serves
+done_apart sub.Report settings asked input old new ends serves = serves
+done_apart sub.Plan settings asked input old new ends serves = serves
+done_apart sub.Check settings asked input old new ends serves = serves
+done_apart sub.Live settings asked input old new ends serves = absurd serves
 
-pub under : (r : Result Ending ToolFault) (asked : Asked) (settings : Settings) (input old new : Option (List ℕ))
-    → IsSetup settings → IfOk r (Does asked.command settings asked input old new) → IfOk r (IsServed asked input old new)
-under (Ok ends) asked settings input old new setup serves = (settings, setup, serves)
-under (Err why) asked settings input old new setup serves = tt
+-- what ended before a live run was done
+pub ended_apart : (came : Step) (ends : Ending) (words : List (List ℕ)) (input old new : Option (List ℕ))
+    → came ≡ step.Ended ends → AreMet words input old new came → AreServed words input old new ends
+ended_apart came ends words input old new is met = apart (subst (AreMet words input old new) is met)
+  where
+    apart : AreMet words input old new (step.Ended ends) → AreServed words input old new ends
+    apart (inl asks) =
+        let asked = asks.0 in
+        let settings = asks.2.0 in
+        inl (asked, asks.1, (settings, asks.2.1, done_apart asked.command settings asked input old new ends asks.2.2))
+    apart (inr help) = inr help
 
-pub asked_for : (r : Result Ending ToolFault) (words : List (List ℕ)) (asked : Asked) (input old new : Option (List ℕ))
-    → asked_by words ≡ Some asked → IfOk r (IsServed asked input old new) → IfOk r (AreServed words input old new)
-asked_for (Ok ends) words asked input old new is served = inl (asked, is, served)
-asked_for (Err why) words asked input old new is served = tt
-
-pub help_shown : {X : Type 0} (r : Result Ending X) (words : List (List ℕ)) (why : WordsFault) (text : List ℕ)
-    (input old new : Option (List ℕ))
-    → is_help why ≡ true → IsRefusal (faults_in words) why → text ≡ text_in why → IfOk r (λ ends. ends ≡ ending.Done)
-    → OnOk r (Appends old new text) → IfOk r (AreServed words input old new)
-help_shown (Ok ends) words why text input old new help refused is done written =
-    inr (done, (why, help, refused, subst (Appends old new) is written))
-help_shown (Err fault) words why text input old new help refused is done written = tt
+-- a live run that was asked for and made was done
+pub ended_live : (r : Result Ending ToolFault) (came : Step) (words : List (List ℕ)) (settings : Settings) (given : LiveInput)
+    (input old read new : Option (List ℕ))
+    → came ≡ step.Live settings given → AreMet words input old read came
+    → IfOk r (λ ends. (ends ≡ ending.Done) × Runs settings read new) → IfOk r (AreServed words input old new)
+ended_live (Ok ends) came words settings given input old read new is met ran =
+    let asks : MeetsWords words input old read (step.Live settings given) = subst (AreMet words input old read) is met in
+    let asked = asks.0 in
+    let run : AsksRun asked settings given = asks.2.0 in
+    let does : Does sub.Live settings asked input old new ends = (ran.0, subst (λ from. Runs settings from new) asks.2.1 ran.1) in
+    inl (asked, asks.1, (settings, run.setup, subst (λ command. Does command settings asked input old new ends) (sym run.live) does))
+ended_live (Err why) came words settings given input old read new is met ran = tt
 
 pub ended_done : (ends : Ending) (status : ℕ) (words : List (List ℕ)) (input old new : Option (List ℕ))
     → status ≡ status_of_ending ends → AreServed words input old new ends → status ≡ 0 → AreServed words input old new ending.Done

@@ -1,28 +1,12 @@
 -- The exit status of a fault is never that of a request that was served.
-use Rattle.std.proofs.Common.{◌≡◌, ◌<◌, arith}
-use Rattle.nms_command.proofs.Offered.{IsFaultStatus, fault_status, five, record_status, six, text_status}
-use Rattle.nms_files.specs.Faults as file_faults
-use Rattle.nms_files.specs.declared.feed_fault.FeedFault.{FeedFault}
-use Rattle.nms_files.specs.declared.feed_fault.FeedFault.TheVariants as feed
-use Rattle.nms_files.specs.declared.orders_fault.OrdersFault.{OrdersFault}
-use Rattle.nms_files.specs.declared.orders_fault.OrdersFault.TheVariants as orders
+use Rattle.std.proofs.Common.{◌≡◌, ◌<◌}
+use Rattle.nms_command.proofs.Offered.{IsFaultStatus, fault_status, five, seven, six, text_status}
 use Rattle.nms_live.specs.Faults as live_faults
 use Rattle.nms_live.specs.declared.live_fault.LiveFault.{LiveFault}
 use Rattle.nms_live.specs.declared.live_fault.LiveFault.TheVariants as live
 use Rattle.nms_tool.specs.Statuses.{status_of}
 use Rattle.nms_tool.specs.declared.tool_fault.ToolFault.{ToolFault}
 use Rattle.nms_tool.specs.declared.tool_fault.ToolFault.TheVariants as tool
-
-seven : IsFaultStatus 7
-seven = (omega arith, λ e. omega arith, λ e. omega arith)
-
-orders_status : (fault : OrdersFault) → IsFaultStatus (file_faults.status_of_orders fault)
-orders_status (orders.Record fault) = record_status fault
-orders_status (orders.Line line) = six
-
-feed_status : (fault : FeedFault) → IsFaultStatus (file_faults.status_of_feed fault)
-feed_status (feed.Record fault) = record_status fault
-feed_status feed.TooLong = six
 
 live_status : (fault : LiveFault) → IsFaultStatus (live_faults.status_of fault)
 live_status (live.Line of number why) = six
@@ -34,8 +18,6 @@ live_status live.NoMemory = five
 
 tool_status : (fault : ToolFault) → IsFaultStatus (status_of fault)
 tool_status (tool.Command fault) = fault_status fault
-tool_status (tool.Feed fault) = feed_status fault
-tool_status (tool.Orders fault) = orders_status fault
 tool_status (tool.Live fault) = live_status fault
 tool_status (tool.LiveText fault) = text_status fault
 

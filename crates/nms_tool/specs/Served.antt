@@ -1,7 +1,6 @@
 -- What the words ask for was done: a request of any subcommand, or help. No contract says what a file holds, so these say that
 -- some bytes exist for which it is true. This product's own rule.
-use Rattle.std.specs.Prelude.{ℕ, ◌≡◌, ◌⊎◌, Bool, true, false, List, [], Option, Some, length}
-use Rattle.std.specs.String.{string_bytes}
+use Rattle.std.specs.Prelude.{ℕ, ◌≡◌, ◌⊎◌, List, Option, Some, length}
 use Rattle.std.specs.Io.KnownBytes.{Appends}
 use Rattle.nms_quote.specs.declared.desk_order.DeskOrder.{DeskOrder}
 use Rattle.nms_fees.specs.Settings.{Settings}
@@ -10,12 +9,11 @@ use Rattle.nms_files.specs.OrderFile.{AreFileOrders}
 use Rattle.nms_live.specs.Living.{IsLive}
 use Rattle.nms_live.specs.declared.live.Live.{Live}
 use Rattle.nms_text.specs.LiveText.{live_records}
-use Rattle.nms_words.specs.CommandLine.{Asked, IsRefusal, asked_by, faults_in}
+use Rattle.nms_words.specs.CommandLine.{Asked, asked_by}
 use Rattle.nms_words.specs.declared.subcommand.Sub.{Sub}
 use Rattle.nms_words.specs.declared.subcommand.Sub.TheVariants as sub
-use Rattle.nms_words.specs.declared.words_fault.WordsFault.{WordsFault}
-use Rattle.nms_words.specs.declared.words_fault.WordsFault.TheVariants as words_fault
 use Rattle.nms_command.specs.Served.{IsSetup, Serves}
+use Rattle.nms_command.specs.Steps.{ShowsHelp}
 use Rattle.nms_command.specs.declared.ending.Ending.{Ending}
 use Rattle.nms_command.specs.declared.ending.Ending.TheVariants as ending
 
@@ -45,21 +43,6 @@ Does sub.Live settings asked input old new ends = (ends ≡ ending.Done) × Runs
 -- the request was served under some setup
 abbrev pub IsServed : Asked → Option (List ℕ) → Option (List ℕ) → Option (List ℕ) → Ending → Type 0
 IsServed asked input old new ends = (settings : Settings) × IsSetup settings × Does asked.command settings asked input old new ends
-
--- whether a refusal of the words is the help, or the version, that they ask for
-abbrev pub is_help : WordsFault → Bool
-is_help (words_fault.Parser text help) = help
-is_help words_fault.NoMemory = false
-
--- the parser's text
-abbrev pub text_in : WordsFault → List ℕ
-text_in (words_fault.Parser text help) = string_bytes text
-text_in words_fault.NoMemory = []
-
--- the words ask for help, or for the version, and the parser's text of it was written, and nothing else
-abbrev pub ShowsHelp : List (List ℕ) → Option (List ℕ) → Option (List ℕ) → Type 0
-ShowsHelp words old new =
-    (why : WordsFault) × (is_help why ≡ true) × IsRefusal (faults_in words) why × Appends old new (text_in why)
 
 -- what the words ask for was done: the request that they are, or help was shown
 abbrev pub AreServed : List (List ℕ) → Option (List ℕ) → Option (List ℕ) → Option (List ℕ) → Ending → Type 0

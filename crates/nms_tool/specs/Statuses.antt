@@ -5,7 +5,6 @@ use Rattle.std.specs.Prelude.{ℕ, ◌≡◌, ◌++◌, ◌∷◌, List, [], Opt
 use Rattle.std.specs.String.{string_bytes}
 use Rattle.nms_command.specs.Statuses as command_faults
 use Rattle.nms_command.specs.declared.command_fault.CommandFault.TheVariants as command
-use Rattle.nms_files.specs.Faults as file_faults
 use Rattle.nms_lines.specs.Written.{AppendsPart}
 use Rattle.nms_live.specs.Faults as live_faults
 use Rattle.nms_text.specs.Faults as text_faults
@@ -15,16 +14,12 @@ use Rattle.nms_tool.specs.declared.tool_fault.ToolFault.TheVariants as tool
 
 abbrev pub status_of : ToolFault → ℕ
 status_of (tool.Command fault) = command_faults.status_of fault
-status_of (tool.Feed fault) = file_faults.status_of_feed fault
-status_of (tool.Orders fault) = file_faults.status_of_orders fault
 status_of (tool.Live fault) = live_faults.status_of fault
 status_of (tool.LiveText fault) = text_faults.status_of_text fault
 
 -- the code that the line on standard error names
 abbrev pub code_of : ToolFault → List ℕ
 code_of (tool.Command fault) = command_faults.code_of fault
-code_of (tool.Feed fault) = file_faults.code_of_feed fault
-code_of (tool.Orders fault) = file_faults.code_of_orders fault
 code_of (tool.Live fault) = live_faults.code_of fault
 code_of (tool.LiveText fault) = text_faults.code_of_text fault
 

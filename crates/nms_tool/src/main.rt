@@ -5,15 +5,14 @@ mod living;
 mod program;
 mod tool_fault;
 
-use nms_command::{CommandFault, WordsFault};
+use nms_command::{CommandFault, WordsFault, lend_words, own_words};
 pub use program::{run_tool, tell_fault};
-use std::alloc::Global;
-use std::io::{ErrorKind, Write};
+use std::io;
+use std::io::Write;
 use std::process::ExitCode;
 use std::rt::{Env, Files};
 use std::sync::Wait;
 use std::thread::Threads;
-use std::{env, io};
 pub use tool_fault::ToolFault;
 
 /// Bytes of the stack that are taken at the start.
@@ -45,9 +44,9 @@ where
 {
     let own = own_words(rt)?;
     if take_stack(own.len()) > 1 {
-        return Err(no_memory());
+        return Err(ToolFault::Command(CommandFault::Words(WordsFault::NoMemory)));
     }
-    let words = words_of(rt.alloc(), &own)?;
+    let words = lend_words(rt.alloc(), &own)?;
     Ok(answer(rt, &words, errors))
 }
 
@@ -57,30 +56,4 @@ where
     T: AllocGlobal + Files + Input + Print + Threads + Wait + Sync,
 {
     run_tool(rt, words, rt.reader(), &mut io::writer(rt), errors)
-}
-
-/// Words as they are lent.
-fn words_of<'a>(alloc: Global, own: &'a [String]) -> Result<Vec<&'a str>, ToolFault> {
-    let mut words = Vec::new(alloc);
-    for word in own {
-        words.push(word.as_str()).map_err(|_| no_memory())?;
-    }
-    Ok(words)
-}
-
-/// The words after the program's name. A word that is not UTF-8 names nothing.
-fn own_words<T: AllocGlobal + Env>(rt: &T) -> Result<Vec<String>, ToolFault> {
-    let all = env::args(rt).map_err(|error| match error.kind() {
-        ErrorKind::OutOfMemory => no_memory(),
-        _ => ToolFault::Command(CommandFault::Usage),
-    })?;
-    let mut words = Vec::new(rt.alloc());
-    for word in all.skip(1) {
-        words.push(word).map_err(|_| no_memory())?;
-    }
-    Ok(words)
-}
-
-fn no_memory() -> ToolFault {
-    ToolFault::Command(CommandFault::Words(WordsFault::NoMemory))
 }

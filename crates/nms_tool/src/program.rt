@@ -1,19 +1,13 @@
 //! The program's use of its words, its streams and its files (specs/Served).
 ghost use Rattle.std.specs.Prelude.{◌≡◌, ◌≢◌, ◌⊎◌, ◌<◌, IfOk, OnErr, OnOk, map};
 ghost use Rattle.std.specs.Io.KnownBytes.{Appends};
-ghost use Rattle.nms_words.specs.CommandLine.{shown};
 ghost use Rattle.nms_lines.specs.Written.{AppendsPart};
-ghost use Rattle.nms_command.specs.Served.{Serves};
-ghost use Rattle.nms_tool.specs.Served.{AreServed, Does, IsServed};
+ghost use Rattle.nms_tool.specs.Served.{AreServed};
 ghost use Rattle.nms_tool.specs.Statuses.{TellsFault, fault_text, status_of};
 
 use crate::living::serve_live;
 use crate::tool_fault::ToolFault;
-use nms_command::{
-    CommandFault, Ending, Request, Sub, WordsFault, read_words, serve, setup_of, show_help,
-    write_line, write_whole,
-};
-use nms_fees::Setup;
+use nms_command::{CommandFault, Ending, Step, WordsFault, serve_words, write_line, write_whole};
 use std::io;
 use std::io::{Read, Write};
 use std::rt::Files;
@@ -40,7 +34,7 @@ where
     ensures done { result ≡ 0 → AreServed (map (λ word. word.now) words.entry.now) (R.remaining input) (W.contents answers.old) (W.contents answers.new) Ending.Done }
     ensures not_confirmed { result ≡ 4 → AreServed (map (λ word. word.now) words.entry.now) (R.remaining input) (W.contents answers.old) (W.contents answers.new) Ending.NotConfirmed }
 {
-    match serve_words(rt, words, &mut input, answers) {
+    match serve(rt, words, &mut input, answers) {
         Ok(ending) => ending.status(),
         Err(fault) => tell_fault(&fault, errors),
     }
@@ -69,8 +63,8 @@ fn write_fault<E: Write>(fault: &ToolFault, errors: &mut E) -> io::Result<()>
     }
 }
 
-/// Serves the request that the words are, or shows the help that they ask for.
-fn serve_words<T, R: Read, W: Write>(
+/// Does what the words ask for: all but a live run is done by `serve_words`.
+fn serve<T, R: Read, W: Write>(
     rt: &T,
     words: &[&str],
     input: &mut R,
@@ -80,66 +74,9 @@ where
     T: Files + AllocGlobal + Threads + Wait + Sync,
     ensures { IfOk result (AreServed (map (λ word. word.now) words.entry.now) (R.remaining input.old) (W.contents answers.old) (W.contents answers.new)) }
 {
-    match read_words(rt.alloc(), words) {
-        Ok(request) => serve_request(rt, &request, input, answers),
-        Err(WordsFault::Parser { text, help: true }) => tell_help(answers, text.as_str()),
-        Err(fault) => Err(ToolFault::Command(CommandFault::Words(fault))),
+    match serve_words(rt, words, input, answers) {
+        Ok(Step::Ended(ending)) => Ok(ending),
+        Ok(Step::Live { setup, input }) => serve_live(rt, &setup, input, answers),
+        Err(fault) => Err(ToolFault::Command(fault)),
     }
-}
-
-/// Serves a request under the setup that it names.
-fn serve_request<T, R: Read, W: Write>(
-    rt: &T,
-    request: &Request,
-    input: &mut R,
-    answers: &mut W,
-) -> Result<Ending, ToolFault>
-where
-    T: Files + AllocGlobal + Threads + Wait + Sync,
-    ensures { IfOk result (IsServed (shown request.now) (R.remaining input.old) (W.contents answers.old) (W.contents answers.new)) }
-{
-    let setup = setup_of(rt, request)?;
-    serve_under(rt, &setup, request, input, answers)
-}
-
-/// Serves a request under a setup.
-fn serve_under<T, R: Read, W: Write>(
-    rt: &T,
-    setup: &Setup,
-    request: &Request,
-    input: &mut R,
-    answers: &mut W,
-) -> Result<Ending, ToolFault>
-where
-    T: Files + AllocGlobal + Threads + Wait + Sync,
-    ensures { IfOk result (Does request.now.command setup.now (shown request.now) (R.remaining input.old) (W.contents answers.old) (W.contents answers.new)) }
-{
-    match request.command {
-        Sub::Live => serve_live(rt, setup, &request.words, answers),
-        Sub::Script | Sub::Report | Sub::Plan | Sub::Check => {
-            serve_apart(rt, setup, request, input, answers)
-        }
-    }
-}
-
-/// Serves a request of any subcommand but `live`.
-fn serve_apart<T: Files + AllocGlobal, R: Read, W: Write>(
-    rt: &T,
-    setup: &Setup,
-    request: &Request,
-    input: &mut R,
-    answers: &mut W,
-) -> Result<Ending, ToolFault>
-    requires apart { request.now.command ≢ Sub.Live }
-    ensures { IfOk result (Serves request.now.command setup.now (shown request.now) (R.remaining input.old) (W.contents answers.old) (W.contents answers.new)) }
-{
-    Ok(serve(rt, setup, request, input, answers)?)
-}
-
-/// Shows the help, or the version.
-fn tell_help<W: Write>(answers: &mut W, help: &str) -> Result<Ending, ToolFault>
-    ensures done { IfOk result (λ ends. ends ≡ Ending.Done) }
-    ensures written { OnOk result (Appends (W.contents answers.old) (W.contents answers.new) help.now) }
-{
-    Ok(show_help(answers, help)?)
 }

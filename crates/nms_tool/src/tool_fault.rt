@@ -3,19 +3,14 @@ ghost use Rattle.std.specs.Prelude.{◌≡◌};
 ghost use Rattle.nms_tool.specs.Statuses.{code_of, status_of};
 
 use nms_command::CommandFault;
-use nms_files::{FeedFault, OrdersFault};
 use nms_live::LiveFault;
 use nms_text::TextFault;
 
 /// Why the program ends with a status other than 0.
 #[derive(Drop)]
 pub enum ToolFault {
-    /// The words, the setup, or a subcommand other than `live` failed.
+    /// The words, the setup, a file of a live run, or a subcommand other than `live` failed.
     Command(CommandFault),
-    /// A file of a feed was not read: it may have more than 1,000,000,000 bytes.
-    Feed(FeedFault),
-    /// A file of orders was refused.
-    Orders(OrdersFault),
     /// A live run gave nothing.
     Live(LiveFault),
     /// The result of a live run was not written.
@@ -41,8 +36,6 @@ impl ToolFault {
     {
         match self {
             ToolFault::Command(fault) => fault.status(),
-            ToolFault::Feed(fault) => fault.status(),
-            ToolFault::Orders(fault) => fault.status(),
             ToolFault::Live(fault) => fault.status(),
             ToolFault::LiveText(fault) => fault.status(),
         }
@@ -54,8 +47,6 @@ impl ToolFault {
     {
         match self {
             ToolFault::Command(fault) => fault.code(),
-            ToolFault::Feed(fault) => fault.code(),
-            ToolFault::Orders(fault) => fault.code(),
             ToolFault::Live(fault) => fault.code(),
             ToolFault::LiveText(fault) => fault.code(),
         }

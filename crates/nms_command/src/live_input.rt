@@ -1,0 +1,92 @@
+//! What a live run is given: the files that the words of `live` name.
+ghost use Rattle.std.specs.Prelude.{◌≡◌, ◌<◌, All, IfOk, length};
+ghost use Rattle.nms_command.specs.LiveFiles.{AreOrdersOfSome};
+
+use crate::command_fault::CommandFault;
+use crate::files::open_file;
+use nms_fees::Setup;
+use nms_files::{read_orders, read_within};
+use nms_quote::DeskOrder;
+use nms_text::ScriptFault;
+use std::io::Read;
+use std::rt::Files;
+
+/// The most bytes of a feed. This product's own rule.
+const MOST_FEED_BYTES: u64 = 1_000_000_000;
+
+/// What a live run is given.
+#[derive(Drop)]
+pub struct LiveInput {
+    /// The bytes of each feed's file, in order of letter.
+    pub feeds: Vec<Vec<u8>>,
+    /// The orders of the file of orders, in order.
+    pub orders: Vec<DeskOrder>,
+}
+
+/// Reads the files of a live run: the file of orders, and one file for each feed of the setup. Other numbers of files are
+/// refused as `usage`.
+///
+/// All files are read before a line of one is judged.
+pub fn read_live_input<T: Files + AllocGlobal>(
+    rt: &T,
+    setup: &Setup,
+    words: &[String],
+) -> Result<LiveInput, CommandFault>
+    ensures feeds { IfOk result (λ input. length input.feeds.items ≡ setup.now.feeds) }
+    ensures orders { IfOk result (λ input. AreOrdersOfSome setup.now input.orders.items) }
+    ensures desks { IfOk result (λ input. All (λ order. order.desk < setup.now.desks) input.orders.items) }
+{
+    let Some((orders, feeds)) = words.split_first() else {
+        return Err(CommandFault::Usage);
+    };
+    if feeds.len() != usize::from(setup.feeds()) {
+        return Err(CommandFault::Usage);
+    }
+    let orders = open_file(rt, orders.as_str())?;
+    let feeds = read_feeds(rt, feeds)?;
+    with_orders(rt, setup, feeds, orders)
+}
+
+/// The feeds with the orders of a file.
+fn with_orders<T: AllocGlobal, R: Read + Drop>(
+    rt: &T,
+    setup: &Setup,
+    feeds: Vec<Vec<u8>>,
+    orders: R,
+) -> Result<LiveInput, CommandFault>
+    ensures feeds { IfOk result (λ input. input.feeds ≡ feeds) }
+    ensures orders { IfOk result (λ input. AreOrdersOfSome setup.now input.orders.items) }
+    ensures desks { IfOk result (λ input. All (λ order. order.desk < setup.now.desks) input.orders.items) }
+{
+    match read_orders(rt.alloc(), setup, orders) {
+        Ok(orders) => Ok(LiveInput { feeds, orders }),
+        Err(fault) => Err(CommandFault::Orders(fault)),
+    }
+}
+
+/// The bytes of each feed's file.
+fn read_feeds<T: Files + AllocGlobal>(
+    rt: &T,
+    paths: &[String],
+) -> Result<Vec<Vec<u8>>, CommandFault>
+    ensures { IfOk result (λ feeds. length feeds.items ≡ length paths.now) }
+{
+    let mut feeds = Vec::new(rt.alloc());
+    for path in paths {
+        let bytes = read_feed(rt, path.as_str())?;
+        match feeds.push(bytes) {
+            Ok(()) => {}
+            Err(_) => return Err(CommandFault::Script(ScriptFault::NoMemory)),
+        }
+    }
+    Ok(feeds)
+}
+
+/// The bytes of a feed's file, if there are not too many.
+fn read_feed<T: Files + AllocGlobal>(rt: &T, path: &str) -> Result<Vec<u8>, CommandFault> {
+    let file = open_file(rt, path)?;
+    match read_within(rt.alloc(), file, MOST_FEED_BYTES) {
+        Ok(bytes) => Ok(bytes),
+        Err(fault) => Err(CommandFault::Feed(fault)),
+    }
+}

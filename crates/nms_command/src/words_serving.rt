@@ -1,0 +1,68 @@
+//! The words of the command line, served up to a live run (specs/Steps).
+ghost use Rattle.std.specs.Prelude.{IfOk, map};
+ghost use Rattle.nms_words.specs.CommandLine.{shown};
+ghost use Rattle.nms_command.specs.Served.{IsSetup};
+ghost use Rattle.nms_command.specs.Steps.{AreMet, Meets};
+
+use crate::command_fault::CommandFault;
+use crate::live_input::read_live_input;
+use crate::serving::{serve, setup_of, show_help};
+use crate::step::Step;
+use nms_fees::Setup;
+use nms_words::{Request, Sub, WordsFault, read_words};
+use std::io::{Read, Write};
+use std::rt::Files;
+
+/// Does what the words ask for, with the script on `input`, or shows the help that they ask for. Of a live run it only reads the
+/// setup and the files, and gives them.
+pub fn serve_words<T: Files + AllocGlobal, R: Read, W: Write>(
+    rt: &T,
+    words: &[&str],
+    input: &mut R,
+    answers: &mut W,
+) -> Result<Step, CommandFault>
+    ensures met { IfOk result (AreMet (map (λ word. word.now) words.entry.now) (R.remaining input.old) (W.contents answers.old) (W.contents answers.new)) }
+{
+    match read_words(rt.alloc(), words) {
+        Ok(request) => serve_request(rt, &request, input, answers),
+        Err(WordsFault::Parser { text, help: true }) => {
+            Ok(Step::Ended(show_help(answers, text.as_str())?))
+        }
+        Err(fault) => Err(CommandFault::Words(fault)),
+    }
+}
+
+/// Serves a request under the setup that it names, up to a live run.
+fn serve_request<T: Files + AllocGlobal, R: Read, W: Write>(
+    rt: &T,
+    request: &Request,
+    input: &mut R,
+    answers: &mut W,
+) -> Result<Step, CommandFault>
+    ensures { IfOk result (Meets (shown request.now) (R.remaining input.old) (W.contents answers.old) (W.contents answers.new)) }
+{
+    let setup = setup_of(rt, request)?;
+    serve_under(rt, setup, request, input, answers)
+}
+
+/// Serves a request under a setup, up to a live run.
+fn serve_under<T: Files + AllocGlobal, R: Read, W: Write>(
+    rt: &T,
+    setup: Setup,
+    request: &Request,
+    input: &mut R,
+    answers: &mut W,
+) -> Result<Step, CommandFault>
+    requires said { IsSetup setup }
+    ensures { IfOk result (Meets (shown request.now) (R.remaining input.old) (W.contents answers.old) (W.contents answers.new)) }
+{
+    match request.command {
+        Sub::Live => {
+            let input = read_live_input(rt, &setup, &request.words)?;
+            Ok(Step::Live { setup, input })
+        }
+        Sub::Script | Sub::Report | Sub::Plan | Sub::Check => {
+            Ok(Step::Ended(serve(rt, &setup, request, input, answers)?))
+        }
+    }
+}

@@ -1,0 +1,17 @@
+-- `serve`: all that it promises, by `ended_apart` and `ended_live`.
+use Rattle.std.proofs.Common.{Bor, List, ℕ, map}
+use Rattle.nms_tool.proofs.ServedFacts.{ended_apart, ended_live}
+use Rattle.nms_tool.proofs.program.serve.Goals as goal
+
+pub returns-in-Ok-Ended : goal.returns-in-Ok-Ended
+returns-in-Ok-Ended g c =
+    ended_apart c.in-Ok-Ended.field-0 c.in-Ok-Ended.ending (map {A = Bor (List ℕ)} {B = List ℕ} (λ word. word.now) c.args.words.now)
+    (g.R.Read.remaining c.args.input.now)
+    (g.W.Write.contents c.args.answers.now) (g.W.Write.contents c.serve_words.new.answers) c.in-Ok-Ended.field-0-is c.in-Ok-Ended.ensures.met
+
+pub returns-in-Ok-Live : goal.returns-in-Ok-Live
+returns-in-Ok-Live g c =
+    ended_live c.serve_live.result c.in-Ok-Live.field-0 (map {A = Bor (List ℕ)} {B = List ℕ} (λ word. word.now) c.args.words.now) c.in-Ok-Live.setup
+    c.in-Ok-Live.input (g.R.Read.remaining c.args.input.now)
+    (g.W.Write.contents c.args.answers.now) (g.W.Write.contents c.serve_words.new.answers) (g.W.Write.contents c.serve_live.new.answers)
+    c.in-Ok-Live.field-0-is c.in-Ok-Live.ensures.met c.serve_live.ensures
