@@ -1,6 +1,6 @@
 -- What was written of a report or of a plan if the writer failed.
-use Rattle.std.proofs.Common.{ℕ, ◌≡◌, ◌∙◌, ◌++◌, List, [], Option, Some, ap, subst}
-use Rattle.std.specs.Io.KnownBytes.{Appends, append_known}
+use Rattle.std.proofs.Common.{ℕ, ◌≡◌, List, Option, subst}
+use Rattle.std.specs.Io.KnownBytes.{append_known}
 use Rattle.nms_quote.specs.Roster.{Listing, sizes_of}
 use Rattle.nms_quote.specs.Tape.{Tape}
 use Rattle.nms_quote.specs.Terms.{Terms}
@@ -21,15 +21,11 @@ use Rattle.nms_files.specs.ChangeFile.{IsFileTape}
 use Rattle.nms_file_answers.specs.ReportFile.{ReportsFile}
 use Rattle.nms_file_answers.specs.PlanFile.{PlansOn}
 
--- a first part of the report, which was made next to an empty text
-pub report_cut : (settings : Settings) (bytes old new : Option (List ℕ)) (sym : ℕ) (tape : Tape) (seen : Seen) (roster : Listing)
-    (empty made shown : List ℕ) → IsFileTape settings bytes tape
-    → seen ≡ view_of (sizes_of settings.roster) tape sym → roster ≡ settings.roster
-    → (text : List ℕ) × IsReport roster seen text × Appends (Some empty) (Some made) text
-    → empty ≡ [] → shown ≡ made → AppendsPart old new shown → WritesPart (ReportsFile settings bytes sym old) old new
-report_cut settings bytes old new sym tape seen roster empty made shown file is_seen same_roster told none all cut =
-    let text = told.0 in
-    let is_text : shown ≡ text = all ∙ told.2 ∙ ap (λ (t : List ℕ). t ++ text) none in
+-- a first part of the report
+pub report_cut : (settings : Settings) (bytes old new : Option (List ℕ)) (sym : ℕ) (seen : Seen) (roster : Listing)
+    → (tape : Tape) × IsFileTape settings bytes tape × (seen ≡ view_of (sizes_of settings.roster) tape sym) → roster ≡ settings.roster
+    → (text : List ℕ) × IsReport roster seen text × AppendsPart old new text → WritesPart (ReportsFile settings bytes sym old) old new
+report_cut settings bytes old new sym seen roster (tape, file, is_seen) same_roster (text, report, cut) =
     record {
       text = text;
       whole = append_known old text;
@@ -38,11 +34,11 @@ report_cut settings bytes old new sym tape seen roster empty made shown file is_
         file = file;
         text = text;
         report = subst (λ (r : Listing). IsReport r (view_of (sizes_of settings.roster) tape sym) text) same_roster
-            (subst (λ (s : Seen). IsReport roster s text) is_seen told.1);
+            (subst (λ (s : Seen). IsReport roster s text) is_seen report);
         written = appended old text;
       };
       meant = appended old text;
-      cut = subst (AppendsPart old new) is_text cut;
+      cut = cut;
     }
 
 -- a first part of a plan and its certificate

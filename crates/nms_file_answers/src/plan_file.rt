@@ -6,11 +6,10 @@ ghost use Rattle.nms_lines.specs.Named.{AreBelow};
 ghost use Rattle.nms_lines.specs.Written.{WritesPart};
 ghost use Rattle.nms_file_answers.specs.PlanFile.{IsPlanFault, PlansFile, PlansOn};
 
-use crate::changes_view::view_after;
+use crate::changes_view::{ViewFault, view_of_file};
 use crate::plan_fault::PlanFault;
 use nms_board::View;
 use nms_fees::Setup;
-use nms_files::read_changes;
 use nms_lines::{PlanTextFault, write_plan};
 use nms_quote::Order;
 use nms_sweep::plan;
@@ -38,13 +37,10 @@ pub fn plan_changes<R: Read + Drop, W: Write>(
     ensures cut { IfErr result (λ fault. fault ≡ PlanFault.Text TextFault.WriteFault → WritesPart (PlansFile setup.now (R.remaining source) order.now (W.contents writer.old)) (W.contents writer.old) (W.contents writer.new)) }
     ensures unwritten { IfErr result (λ fault. fault ≢ PlanFault.Text TextFault.WriteFault → W.contents writer.new ≡ W.contents writer.old) }
 {
-    let changes = match read_changes(alloc, setup, source) {
-        Ok(changes) => changes,
-        Err(fault) => return Err(PlanFault::Changes(fault)),
-    };
-    match view_after(alloc, setup.roster(), &changes, order.sym) {
+    match view_of_file(alloc, setup, source, order.sym) {
         Ok(view) => plan_view(alloc, setup, &view, order, writer),
-        Err(fault) => Err(PlanFault::Board(fault)),
+        Err(ViewFault::Changes(fault)) => Err(PlanFault::Changes(fault)),
+        Err(ViewFault::Board(fault)) => Err(PlanFault::Board(fault)),
     }
 }
 

@@ -1,5 +1,5 @@
 -- `audit`: clause `found`.
-use Rattle.std.proofs.Common.{◌≡◌, ◌∙◌, ap, sym, List, rules}
+use Rattle.std.proofs.Common.{◌≡◌, ◌∙◌, ap, sym, rules}
 use Rattle.nms_quote.specs.Roster.{Listing, sizes_of}
 use Rattle.nms_quote.specs.Tape.{version}
 use Rattle.nms_quote.specs.declared.plan.Plan.{Plan}

@@ -1,22 +1,16 @@
--- `report_changes`: clause `cut`, by `report_cut`.
-use Rattle.std.proofs.Common.{rules, ◌∙◌, ℕ, List, Some, ap}
-use Rattle.std.specs.Io.KnownBytes.{Appends}
-use Rattle.nms_quote.specs.Roster.{Listing, sizes_of}
-use Rattle.nms_quote.specs.declared.change.Change.{Change}
-use Rattle.nms_board.specs.View.{view_of}
-use Rattle.nms_text.specs.Report.{IsReport}
+-- `report_changes`: clauses `refused` and `cut`, by `report_cut`.
+use Rattle.std.proofs.lemmas.Result.{IfErr-weaker}
 use Rattle.nms_file_answers.proofs.PartFacts.{report_cut}
 use Rattle.nms_file_answers.proofs.report_file.report_changes.Goals as goal
 
--- src/report_file.rt: the writer failed within the report
-pub returns-clause-cut : goal.returns-clause-cut
-returns-clause-cut g c _ =
-    let told : (text : List ℕ) × IsReport c.roster-2.result.now c.in-Ok-view_after.view text
-    × Appends (Some c.new-text.result.items) (Some c.report.new.writer.items) text = search rules in
-    report_cut c.args.setup.now (g.R.Read.remaining c.args.source) _ _ c.args.sym c.in-Ok.changes.items c.in-Ok-view_after.view
-    c.roster-2.result.now
-    c.new-text.result.items c.report.new.writer.items c.deref-2.result.now c.in-Ok.ensures.tape
-    (c.in-Ok-view_after.ensures.shown
-    ∙ (ap (λ (changes : List Change). view_of (sizes_of c.roster.result.now) changes c.args.sym) c.deref.ensures.value
-    ∙ ap (λ (r : Listing). view_of (sizes_of r) c.in-Ok.changes.items c.args.sym) c.roster.ensures))
-    c.roster-2.ensures told c.new-text.ensures.items c.deref-2.ensures.value c.in-Err-tell.ensures.part
+-- src/report_file.rt: a view is not refused for the file, whatever that holds
+pub returns-in-Ok-clause-refused : goal.returns-in-Ok-clause-refused
+returns-in-Ok-clause-refused g c = c.report_view.ensures.refused c.args.setup.now (g.R.Read.remaining c.args.source)
+
+-- the writer failed within the report
+pub returns-in-Ok-clause-cut : goal.returns-in-Ok-clause-cut
+returns-in-Ok-clause-cut g c =
+    IfErr-weaker c.report_view.result _ _
+    (λ fault part is. report_cut c.args.setup.now (g.R.Read.remaining c.args.source) _ _ c.args.sym c.in-Ok.view c.roster.result.now
+    c.in-Ok.ensures.shown c.roster.ensures (part is))
+    c.report_view.ensures.cut
