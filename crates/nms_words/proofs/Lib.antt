@@ -1,10 +1,13 @@
 pub mod AcceptedWords
+pub mod Chains
 pub mod Counted
 pub mod Leaves
 pub mod NamedSubs
 pub mod Options
+pub mod OwnGiven
 pub mod OwnRows
 pub mod OwnValues
 pub mod PlainCalls
+pub mod Turns
 pub mod WalkSteps
 pub mod WordsFacts

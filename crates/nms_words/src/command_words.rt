@@ -2,13 +2,15 @@
 ghost use Rattle.std.specs.Prelude.{◌≡◌, map, true, is_some, option_map, Some, IfOk, IfErr, OnOk, MatchResult, vec_len, [], ◌∷◌, ◌++◌};
 ghost use Rattle.std.specs.String.{string_bytes};
 ghost use Rattle.clap.specs.Words.{first_of, found_of, kind_of, rows_of, subcommand_rows_of, takes};
-ghost use Rattle.nms_words.specs.CommandLine.{AreCounted, Asked, IsRefusal, asked_by, asked_of, asks_for_help, faults_in, firsts_of, given_of, is_flagged, own_in, script_alone, shown, tool};
+ghost use Rattle.nms_words.specs.CommandLine.{AreCounted, Asked, IsRefusal, asked_by, asked_in, asked_of, asks_for_help, faults_in, is_flagged, script_alone, shown, tool};
 ghost use Rattle.nms_words.specs.PlainCall.{IsPlainCall};
+ghost use Rattle.nms_words.specs.WordTable.{own_value};
+ghost use Rattle.std.specs.List.{filter_map};
 
 use crate::command_line::tool_command;
 use crate::request::Request;
 use crate::shown::Shown;
-use crate::subcommand::{MoreWord, OwnWord, Sub};
+use crate::subcommand::{Sub, Word, WordKind};
 use crate::words_fault::WordsFault;
 use clap::error::ErrorKind;
 use clap::{ArgMatches, Error};
@@ -102,87 +104,54 @@ fn request_in(alloc: Global, matches: &ArgMatches<'_>) -> Result<Request, AllocE
             self_help: None,
         });
     };
-    match request_of(alloc, name, inner)? {
-        Some(request) => Ok(request),
+    match Sub::named(name) {
+        Some(command) => request_of(alloc, command, inner),
         None => unreachable!(),
     }
 }
 
-// The request that a subcommand's matches hold, if they have each of its own words.
-fn request_of(
-    alloc: Global,
-    name: &str,
-    matches: &ArgMatches<'_>,
-) -> Result<Option<Request>, AllocError>
-    ensures { IfOk result (λ request. option_map shown request ≡ asked_of (Some (name.now, rows_of (found_of matches.now)))) }
+// The request that a subcommand's matches hold, which have each of the words that it needs.
+fn request_of(alloc: Global, command: Sub, matches: &ArgMatches<'_>) -> Result<Request, AllocError>
+    requires { is_some (asked_in (rows_of (found_of matches.now)) command) ≡ true }
+    ensures { IfOk result (λ request. Some (shown request) ≡ asked_in (rows_of (found_of matches.now)) command) }
 {
-    let Some(command) = Sub::named(name) else {
-        return Ok(None);
-    };
-    let Some(words) = words_of(alloc, command, matches)? else {
-        return Ok(None);
-    };
+    let words = own_values(alloc, command.words(), matches)?;
     let setup = value_text(alloc, matches, "setup")?;
     let self_help = value_text(alloc, matches, "self-help")?;
-    Ok(Some(Request {
+    Ok(Request {
         command,
         words,
         setup,
         manual: is_flagged(matches),
         self_help,
-    }))
+    })
 }
 
-// The subcommand's own words, if it has each that it needs.
-fn words_of(
+// The values of the words that are no options, of each that has one.
+fn own_values(
     alloc: Global,
-    command: Sub,
+    words: &[Word],
     matches: &ArgMatches<'_>,
-) -> Result<Option<Vec<String>>, AllocError>
-    ensures { IfOk result (λ words. option_map (λ found. map string_bytes found.items) words ≡ own_in (rows_of (found_of matches.now)) command) }
+) -> Result<Vec<String>, AllocError>
+    ensures { IfOk result (λ values. map string_bytes values.items ≡ filter_map (own_value (rows_of (found_of matches.now))) words.now) }
 {
-    let Some(mut words) = own_words(alloc, command.own_words(), matches)? else {
-        return Ok(None);
-    };
-    add_more(alloc, &mut words, command.more_words(), matches)?;
-    Ok(Some(words))
-}
-
-// The values of the words, if each has one.
-fn own_words(
-    alloc: Global,
-    own: &[OwnWord],
-    matches: &ArgMatches<'_>,
-) -> Result<Option<Vec<String>>, AllocError>
-    ensures { IfOk result (λ words. option_map (λ found. map string_bytes found.items) words
-        ≡ firsts_of (rows_of (found_of matches.now)) (map (λ word. word.name.now) own.now)) }
-{
-    let mut words = Vec::new(alloc);
-    for word in own {
-        let Some(value) = first_value(matches, word.name) else {
-            return Ok(None);
-        };
-        words.push(String::from_str(alloc, value)?)?;
-    }
-    Ok(Some(words))
-}
-
-// Adds the values of the words that have one.
-fn add_more(
-    alloc: Global,
-    words: &mut Vec<String>,
-    more: &[MoreWord],
-    matches: &ArgMatches<'_>,
-) -> Result<(), AllocError>
-    ensures { OnOk result (map string_bytes words.new.items
-        ≡ map string_bytes words.old.items ++ given_of (rows_of (found_of matches.now)) (map (λ word. word.name.now) more.now)) }
-{
-    for word in more {
-        if let Some(value) = first_value(matches, word.name) {
-            words.push(String::from_str(alloc, value)?)?;
+    let mut values = Vec::new(alloc);
+    for word in words {
+        if let Some(value) = own_value(matches, word) {
+            values.push(String::from_str(alloc, value)?)?;
         }
     }
-    Ok(())
+    Ok(values)
+}
+
+// The first value of a word that is no option.
+fn own_value<'a>(matches: &ArgMatches<'a>, word: &Word) -> Option<&'a str>
+    ensures { option_map (λ value. value.now) result ≡ own_value (rows_of (found_of matches.now)) word.now }
+{
+    match word.kind {
+        WordKind::Needed | WordKind::Further => first_value(matches, word.name),
+        WordKind::Option(_) => None,
+    }
 }
 
 // The text of an option's value, if it has one.

@@ -17,122 +17,147 @@ pub enum Sub {
     Live,
 }
 
-/// A word of a subcommand's own that it needs, with its explanation in the help.
+/// A word that the parser takes of a subcommand, with its explanation in the help.
 #[derive(Clone, Copy)]
-pub(crate) struct OwnWord {
+pub(crate) struct Word {
     pub(crate) name: &'static str,
     pub(crate) help: &'static str,
+    pub(crate) kind: WordKind,
 }
 
-/// A word that may stand after those, with its explanation in the help.
+/// Where a word stands.
 #[derive(Clone, Copy)]
-pub(crate) struct MoreWord {
-    pub(crate) name: &'static str,
-    pub(crate) help: &'static str,
+pub(crate) enum WordKind {
+    /// A word of the subcommand's own that it needs.
+    Needed,
+    /// A word that may stand after those.
+    Further,
+    /// An option.
+    Option(OptionWord),
 }
 
-static NO_WORDS: [OwnWord; 0] = [];
+const CHANGES: Word = Word {
+    name: "CHANGES",
+    help: "The file of the quotation changes",
+    kind: WordKind::Needed,
+};
 
-static NO_MORE: [MoreWord; 0] = [];
+const SETUP: Word = Word {
+    name: "setup",
+    help: "The file of the setup, in place of the built-in one",
+    kind: WordKind::Option(OptionWord::Setup),
+};
 
-static REPORT_WORDS: [OwnWord; 2] = [
-    OwnWord {
-        name: "CHANGES",
-        help: "The file of the quotation changes",
-    },
-    OwnWord {
+static SCRIPT_WORDS: [Word; 1] = [SETUP];
+
+static REPORT_WORDS: [Word; 3] = [
+    CHANGES,
+    Word {
         name: "SYM",
         help: "The symbol that the report is on",
+        kind: WordKind::Needed,
     },
+    SETUP,
 ];
 
-static PLAN_WORDS: [OwnWord; 5] = [
-    OwnWord {
-        name: "CHANGES",
-        help: "The file of the quotation changes",
-    },
-    OwnWord {
+static PLAN_WORDS: [Word; 8] = [
+    CHANGES,
+    Word {
         name: "SIDE",
         help: "B to buy, S to sell",
+        kind: WordKind::Needed,
     },
-    OwnWord {
+    Word {
         name: "SYM",
         help: "The symbol to trade",
+        kind: WordKind::Needed,
     },
-    OwnWord {
+    Word {
         name: "SHARES",
         help: "How many shares, at least 1",
+        kind: WordKind::Needed,
     },
-    OwnWord {
+    Word {
         name: "LIMIT",
         help: "The worst price",
+        kind: WordKind::Needed,
+    },
+    SETUP,
+    Word {
+        name: "manual",
+        help: "Also trades with manual quotations",
+        kind: WordKind::Option(OptionWord::Manual),
+    },
+    Word {
+        name: "self-help",
+        help: "The participants, joined by +, against which self-help is declared",
+        kind: WordKind::Option(OptionWord::SelfHelp),
     },
 ];
 
-static CHECK_WORDS: [OwnWord; 2] = [
-    OwnWord {
-        name: "CHANGES",
-        help: "The file of the quotation changes",
-    },
-    OwnWord {
+static CHECK_WORDS: [Word; 3] = [
+    CHANGES,
+    Word {
         name: "PLANFILE",
         help: "The file of the plan and its certificate",
+        kind: WordKind::Needed,
     },
+    SETUP,
 ];
 
-static LIVE_WORDS: [OwnWord; 2] = [
-    OwnWord {
+static LIVE_WORDS: [Word; 10] = [
+    Word {
         name: "ORDERS",
         help: "The file of the orders, each for a desk",
+        kind: WordKind::Needed,
     },
-    OwnWord {
+    Word {
         name: "FEED_A",
         help: "The file of the changes of feed A",
+        kind: WordKind::Needed,
     },
-];
-
-static MORE_FEEDS: [MoreWord; 7] = [
-    MoreWord {
+    Word {
         name: "FEED_B",
         help: "The file of the changes of feed B, where the setup has it",
+        kind: WordKind::Further,
     },
-    MoreWord {
+    Word {
         name: "FEED_C",
         help: "The file of the changes of feed C, where the setup has it",
+        kind: WordKind::Further,
     },
-    MoreWord {
+    Word {
         name: "FEED_D",
         help: "The file of the changes of feed D, where the setup has it",
+        kind: WordKind::Further,
     },
-    MoreWord {
+    Word {
         name: "FEED_E",
         help: "The file of the changes of feed E, where the setup has it",
+        kind: WordKind::Further,
     },
-    MoreWord {
+    Word {
         name: "FEED_F",
         help: "The file of the changes of feed F, where the setup has it",
+        kind: WordKind::Further,
     },
-    MoreWord {
+    Word {
         name: "FEED_G",
         help: "The file of the changes of feed G, where the setup has it",
+        kind: WordKind::Further,
     },
-    MoreWord {
+    Word {
         name: "FEED_H",
         help: "The file of the changes of feed H, where the setup has it",
+        kind: WordKind::Further,
     },
-];
-
-static SETUP_ALONE: [OptionWord; 1] = [OptionWord::Setup];
-
-static PLAN_OPTIONS: [OptionWord; 3] = [
-    OptionWord::Setup,
-    OptionWord::Manual,
-    OptionWord::SelfHelp,
+    SETUP,
 ];
 
 impl Sub {
-    ghost use Rattle.std.specs.Prelude.{◌≡◌, map};
-    ghost use Rattle.nms_words.specs.CommandLine.{more_names, name_of, options_of, own_names, sub_named};
+    ghost use Rattle.std.specs.Prelude.{◌≡◌, ◌++◌, map};
+    ghost use Rattle.nms_words.specs.CommandLine.{more_names, name_of, own_names, sub_named};
+    ghost use Rattle.nms_words.specs.WordTable.{own_of, rule_for, rules_of_sub};
 
     /// Every subcommand.
     pub(crate) const ALL: [Self; 5] = [
@@ -168,36 +193,18 @@ impl Sub {
         }
     }
 
-    /// The words of its own that it needs, in order.
-    pub(crate) fn own_words(self) -> &'static [OwnWord]
-        ensures { map (λ word. word.name.now) result.now ≡ own_names self }
+    /// The words that the parser takes of it: those that it needs, in order, those that may stand after them, in order,
+    /// each of which needs all before it, and its options, each at most once and in any order.
+    pub(crate) fn words(self) -> &'static [Word]
+        ensures rules { map rule_for result.now ≡ rules_of_sub self }
+        ensures own { own_of result.now ≡ own_names self ++ more_names self }
     {
         match self {
-            Sub::Script => NO_WORDS.as_slice(),
+            Sub::Script => SCRIPT_WORDS.as_slice(),
             Sub::Report => REPORT_WORDS.as_slice(),
             Sub::Plan => PLAN_WORDS.as_slice(),
             Sub::Check => CHECK_WORDS.as_slice(),
             Sub::Live => LIVE_WORDS.as_slice(),
-        }
-    }
-
-    /// The words that may stand after those, in order: each needs all before it.
-    pub(crate) fn more_words(self) -> &'static [MoreWord]
-        ensures { map (λ word. word.name.now) result.now ≡ more_names self }
-    {
-        match self {
-            Sub::Live => MORE_FEEDS.as_slice(),
-            Sub::Script | Sub::Report | Sub::Plan | Sub::Check => NO_MORE.as_slice(),
-        }
-    }
-
-    /// The options that it takes, each at most once, in any order.
-    pub(crate) fn options(self) -> &'static [OptionWord]
-        ensures { result.now ≡ options_of self }
-    {
-        match self {
-            Sub::Plan => PLAN_OPTIONS.as_slice(),
-            Sub::Script | Sub::Report | Sub::Check | Sub::Live => SETUP_ALONE.as_slice(),
         }
     }
 

@@ -1,25 +1,38 @@
--- `sub_command`: clause `app`: each list of words stands after the ones before it.
-use Rattle.std.proofs.Common.{rules, ◌≡◌, ◌∙◌, List, map, fold, ap, sym}
-use Rattle.std.proofs.lemmas.Simd.{map-map}
+-- `sub_command`: all that it promises, by `args_added` and `args_local`.
+use Rattle.std.proofs.Common.{rules, ◌≡◌, ◌∙◌, List, false, fold, map, ap, refl}
 use Rattle.std.proofs.lemmas.Result.{IfOk-weaker}
-use Rattle.clap.specs.Words.{App, Rule, app_of, new_app, new_rule, with_rule}
-use Rattle.nms_words.specs.CommandLine.{name_of, option_rule, own_rule, with_own, with_words}
-use Rattle.nms_words.specs.declared.subcommand.MoreWord.{MoreWord}
-use Rattle.nms_words.specs.declared.subcommand.OwnWord.{OwnWord}
+use Rattle.clap.specs.Words.{App, Rule, app_of, new_app, rule_of, with_rule}
+use Rattle.clap.specs.declared.builder.command.Command.TheViews.{out-Command as fields_of}
+use Rattle.nms_words.specs.CommandLine.{app_of_sub, name_of}
+use Rattle.nms_words.specs.WordTable.{rules_of_sub}
+use Rattle.nms_words.specs.declared.subcommand.Sub.{Sub}
+use Rattle.nms_words.specs.declared.subcommand.Sub.TheVariants.{Script, Report, Plan, Check, Live}
+use Rattle.nms_words.proofs.Chains.{args_added, args_local}
 use Rattle.nms_words.proofs.command_line.sub_command.Goals as goal
 
--- a command with more words, if both are as they should be
-behind : (app was : App) (met due : List Rule) → met ≡ due → app ≡ was → fold with_rule app met ≡ fold with_rule was due
-behind app was met due rules first = ap (λ (rs : List Rule). fold with_rule app rs) rules ∙ ap (λ (a : App). fold with_rule a due) first
+-- the words of each subcommand stand one after the other
+ruled : (sub : Sub) → fold with_rule (new_app (name_of sub)) (rules_of_sub sub) ≡ app_of_sub sub
+ruled Script = refl
+ruled Report = refl
+ruled Plan = refl
+ruled Check = refl
+ruled Live = refl
 
-pub returns-clause-app : goal.returns-clause-app
-returns-clause-app c =
+pub returns : goal.returns
+returns c =
     let sub = c.args.sub in
-    let bare : app_of c.about-command.result ≡ new_app (name_of sub) = search rules in
-    let own = sym (map-map own_rule (λ (word : OwnWord). word.name.now) c.own_words.result.now) ∙ ap (map own_rule) c.own_words.ensures in
-    let more = sym (map-map new_rule (λ (word : MoreWord). word.name.now) c.more_words.result.now)
-    ∙ ap (map new_rule) c.more_words.ensures in
-    let needed : app_of c.in_ok-command.command ≡ with_own sub = c.in_ok-command.ensures.app ∙ behind _ _ _ _ own bare in
-    let worded : app_of c.in_ok-command-2.command ≡ with_words sub = c.in_ok-command-2.ensures.app ∙ behind _ _ _ _ more needed in
-    IfOk-weaker c.with_words-3.result _ _ (λ command app. app ∙ behind _ _ _ _ (ap (map option_rule) c.options.ensures) worded)
-    c.with_words-3.ensures.app
+    let start = c.about.result in
+    let bare : app_of start ≡ new_app (name_of sub) = search rules in
+    let none : (fields_of start).has_globals ≡ false = search rules in
+    let met : map rule_of c.in_ok-args.args.items ≡ rules_of_sub sub = c.in_ok-args.ensures.rules ∙ c.words.ensures.rules in
+    record {
+      app = IfOk-weaker c.args-2.result _ _
+          (λ command added. args_added start command c.in_ok-args.args.items added c.in_ok-args.ensures.local
+          ∙ ap (λ (rs : List Rule). fold with_rule (app_of start) rs) met
+          ∙ ap (λ (app : App). fold with_rule app (rules_of_sub sub)) bare
+          ∙ ruled sub)
+          c.args-2.ensures;
+      local = IfOk-weaker c.args-2.result _ _
+          (λ command added. args_local start command c.in_ok-args.args.items added c.in_ok-args.ensures.local none)
+          c.args-2.ensures;
+    }

@@ -1,11 +1,13 @@
 -- `request_in`: all that it promises and that a line is never reached.
-use Rattle.std.proofs.Common.{◌≡◌, ◌∙◌, true, false, List, Option, Some, None, is_some, option_map, refl, sym, ap}
+use Rattle.std.proofs.Common.{◌≡◌, ◌∙◌, true, false, List, Option, Some, None, is_some, option_and_then, option_map, refl, sym, ap}
+use Rattle.std.proofs.lemmas.Result.{IfOk-weaker}
 use Rattle.std.specs.Box.{box_value}
 use Rattle.clap.specs.Matches.{found_of, subcommand_name_of}
 use Rattle.clap.specs.Words.{Row, Text, rows_of, subcommand_rows_of}
 use Rattle.clap.specs.declared.parser.matches.ArgMatches.{ArgMatches}
 use Rattle.clap.specs.declared.parser.matches.ArgMatches.TheViews.{out-ArgMatches, out-SubCommand}
-use Rattle.nms_words.specs.CommandLine.{asked_of, shown}
+use Rattle.nms_words.specs.CommandLine.{asked_in, asked_of, sub_named}
+use Rattle.nms_words.specs.declared.subcommand.Sub.{Sub}
 use Rattle.nms_words.proofs.command_words.request_in.Goals as goal
 
 -- what has these two parts is their pair
@@ -22,16 +24,32 @@ met : (m : ArgMatches) (name : Text) (rows : List Row) → Some name ≡ subcomm
 met m name rows = paired (λ b. (out-SubCommand (box_value b)).name.now) (λ b. rows_of (found_of (out-SubCommand (box_value b)).matches))
     (out-ArgMatches m).subcommand name rows
 
+-- what they ask is what the subcommand of that name asks
+asks : (m : ArgMatches) (name : Text) (rows : List Row) (sub : Option Sub) → subcommand_rows_of m ≡ Some (name, rows) → sub ≡ sub_named name
+    → asked_of (subcommand_rows_of m) ≡ option_and_then (asked_in rows) sub
+asks m name rows sub is named = ap asked_of is ∙ ap (option_and_then (asked_in rows)) (sym named)
+
 pub unreachable-requires : goal.unreachable-requires
 unreachable-requires c =
-    let rows = met c.args.matches.now c.in-Some.name.now (rows_of (found_of c.in-Some.inner.now)) c.in-Some.ensures.name
-    c.in-Some.ensures.rows in
-    let none = ap (option_map shown) (sym c.in-None.is) ∙ c.in_ok-request.ensures ∙ ap asked_of (sym rows) in
-    let no : false ≡ true = ap is_some none ∙ c.requires in
+    let rows = rows_of (found_of c.in-Some.inner.now) in
+    let is = met c.args.matches.now c.in-Some.name.now rows c.in-Some.ensures.name c.in-Some.ensures.rows in
+    let none = asks c.args.matches.now c.in-Some.name.now rows c.named.result is c.named.ensures
+    ∙ ap (option_and_then (asked_in rows)) c.in-None.is in
+    let no : false ≡ true = ap is_some (sym none) ∙ c.requires in
     cc
+
+pub request_of-requires : goal.request_of-requires
+request_of-requires c =
+    let rows = rows_of (found_of c.in-Some.inner.now) in
+    let is = met c.args.matches.now c.in-Some.name.now rows c.in-Some.ensures.name c.in-Some.ensures.rows in
+    let some = asks c.args.matches.now c.in-Some.name.now rows c.named.result is c.named.ensures
+    ∙ ap (option_and_then (asked_in rows)) c.in-Some-named.is in
+    ap is_some (sym some) ∙ c.requires
 
 pub returns : goal.returns
 returns c =
-    let rows = met c.args.matches.now c.in-Some.name.now (rows_of (found_of c.in-Some.inner.now)) c.in-Some.ensures.name
-    c.in-Some.ensures.rows in
-    ap asked_of rows ∙ sym c.in_ok-request.ensures ∙ ap (option_map shown) c.in-Some-2.is
+    let rows = rows_of (found_of c.in-Some.inner.now) in
+    let is = met c.args.matches.now c.in-Some.name.now rows c.in-Some.ensures.name c.in-Some.ensures.rows in
+    let some = asks c.args.matches.now c.in-Some.name.now rows c.named.result is c.named.ensures
+    ∙ ap (option_and_then (asked_in rows)) c.in-Some-named.is in
+    IfOk-weaker c.request_of.result _ _ (λ request asked. some ∙ sym asked) c.request_of.ensures
