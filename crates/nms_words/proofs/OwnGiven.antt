@@ -39,11 +39,12 @@ mapped f (Some x) some = refl
 asked_given : (rows : List Row) (sub : Sub) → is_some (asked_in rows sub) ≡ true
     → asked_in rows sub ≡ Some (asked_with rows sub (given_of rows (own_names sub ++ more_names sub)))
 asked_given rows sub some =
+    let value : Text → Option Text = λ id. first_of id rows in
     let more = given_of rows (more_names sub) in
     let needed = mapped (λ (own : List Text). own ++ more) (firsts_of rows (own_names sub)) (mapped (asked_with rows sub) _ some) in
     ap (λ (firsts : Option (List Text)). option_map (asked_with rows sub) (option_map (λ own. own ++ more) firsts))
     (firsts_given rows (own_names sub) needed)
-    ∙ ap (λ (own : List Text). Some (asked_with rows sub own)) (sym (filter_map-append (λ (id : Text). first_of id rows) (own_names sub) (more_names sub)))
+    ∙ ap (λ (own : List Text). Some (asked_with rows sub own)) (sym (filter_map-append value (own_names sub) (more_names sub)))
 
 -- what is read of each word is what the subcommand asks
 pub request_given : (rows : List Row) (sub : Sub) (words : List Word) (asked : Asked) → is_some (asked_in rows sub) ≡ true
