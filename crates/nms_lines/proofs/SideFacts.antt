@@ -3,7 +3,6 @@ use Rattle.std.proofs.Common.{◌≡◌, ◌==◌, ◌&&◌, ℕ, Bool, true, fa
 use Rattle.std.proofs.Common.{true≢false, arith, is_some, List, [], ◌∷◌, if◌then◌else◌}
 use Rattle.std.proofs.lemmas.Bool.Decides.{nat_tests}
 use Rattle.nms_units.specs.Price.{above_zero}
-use Rattle.nms_units.specs.Shares.{or_bad_shares}
 use Rattle.nms_units.specs.declared.unit_fault.UnitFault.{UnitFault}
 use Rattle.nms_units.specs.declared.unit_fault.UnitFault.TheVariants as fault
 use Rattle.nms_units.specs.Price.{price_number}
@@ -28,12 +27,10 @@ fault_test : (is_none : Bool) (number : ℕ) (why : UnitFault) → tested is_non
 fault_test true number why is = refl
 fault_test false number why is = cc
 
--- no price is unfit beside no shares
-pub unfit_alone : (number shares : Option ℕ) (why other : UnitFault) → above_zero number ≡ Err why → or_bad_shares shares ≡ Err other
-    → is_unfit number shares ≡ true
-unfit_alone None shares why other is are = refl
-unfit_alone (Some n) None why other is are = ap (λ (zero : Bool). zero && true) (fault_test (n == 0) n why is)
-unfit_alone (Some n) (Some count) why other is are = cc
+-- a price of zero is unfit unless the shares are 0
+pub unfit_zero : (number shares : Option ℕ) → above_zero number ≡ Err fault.ZeroPrice → is_unfit number shares ≡ not (is_zero shares)
+unfit_zero None shares is = cc
+unfit_zero (Some n) shares is = ap (λ (zero : Bool). zero && not (is_zero shares)) (fault_test (n == 0) n fault.ZeroPrice is)
 
 priced : (none no_shares : Bool) (n m : ℕ)
     → is_some (content_from (if none then None else Some n) (if no_shares then None else Some m)) ≡ true → none ≡ false

@@ -77,14 +77,9 @@ fn decimals_before(buf: &mut [u8], end: usize, number: u64) -> usize
     ensures start { result + 5 ≡ end }
     ensures written { drop result buf.new ≡ 46 ∷ digit_at 1000 number ∷ digit_at 100 number ∷ digit_at 10 number ∷ digit_at 1 number ∷ drop end buf.old }
 {
-    let decimals = (number % 10_000) as u32;
-    let (front, back) = (decimals / 100, decimals % 100);
-    buf[end - 1] = digit(back % 10);
-    buf[end - 2] = digit(back / 10);
-    buf[end - 3] = digit(front % 10);
-    buf[end - 4] = digit(front / 10);
-    buf[end - 5] = b'.';
-    end - 5
+    let start = three_before(buf, end, number);
+    let start = byte_before(buf, start, digit((number / 1000 % 10) as u32));
+    byte_before(buf, start, b'.')
 }
 
 /// Writes a comma and an amount of money, which take 12 to 42 bytes, so that they end at a place. Returns where they

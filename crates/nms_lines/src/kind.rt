@@ -1,5 +1,5 @@
 //! The kind of a record, and the kinds that its source brings: `specs/Layout` and `specs/Sources`.
-ghost use Rattle.std.specs.Prelude.{◌≡◌, IfSome, true};
+ghost use Rattle.std.specs.Prelude.{◌≡◌, ◌∷◌, [], IfSome, true};
 ghost use Rattle.csv.specs.Records.{fields_of};
 ghost use Rattle.nms_lines.specs.Layout.{is_count, kind_named};
 ghost use Rattle.nms_lines.specs.Sources.{brings, is_change_kind, kind_in};
@@ -24,17 +24,27 @@ pub fn kind_named(text: &[u8]) -> Option<Kind>
     ensures { result ≡ kind_named text.now }
 {
     match text {
-        b"Q" => Some(Kind::Quote),
-        b"S" => Some(Kind::State),
-        b"X" => Some(Kind::Withdraw),
-        b"R" => Some(Kind::Lot),
-        b"T" => Some(Kind::TakeOne),
-        b"F" => Some(Kind::TakeAll),
-        b"P" => Some(Kind::Publish),
-        b"L" => Some(Kind::Tell),
-        b"N" => Some(Kind::Best),
-        b"E" => Some(Kind::Through),
-        b"O" => Some(Kind::Sweep),
+        [letter] => kind_of_letter(*letter),
+        _ => None,
+    }
+}
+
+/// The kind that a letter names.
+fn kind_of_letter(letter: u8) -> Option<Kind>
+    ensures { result ≡ kind_named (letter ∷ []) }
+{
+    match letter {
+        b'Q' => Some(Kind::Quote),
+        b'S' => Some(Kind::State),
+        b'X' => Some(Kind::Withdraw),
+        b'R' => Some(Kind::Lot),
+        b'T' => Some(Kind::TakeOne),
+        b'F' => Some(Kind::TakeAll),
+        b'P' => Some(Kind::Publish),
+        b'L' => Some(Kind::Tell),
+        b'N' => Some(Kind::Best),
+        b'E' => Some(Kind::Through),
+        b'O' => Some(Kind::Sweep),
         _ => None,
     }
 }

@@ -1,13 +1,13 @@
 //! The two sides of a quotation: `specs/Sides`.
-ghost use Rattle.std.specs.Prelude.{◌≡◌, ℕ, List};
-ghost use Rattle.nms_units.specs.Price.{price_number, price_reading};
-ghost use Rattle.nms_units.specs.Shares.{shares_reading};
+ghost use Rattle.std.specs.Prelude.{◌≡◌};
+ghost use Rattle.nms_units.specs.Price.{price_number};
 ghost use Rattle.csv.specs.Records.{fields_of};
-ghost use Rattle.nms_lines.specs.Numbers.{shares_number};
+ghost use Rattle.nms_lines.specs.Numbers.{is_zero, shares_number};
 ghost use Rattle.nms_lines.specs.Sides.{sides_in, is_unfit, is_bad_price, is_bad_shares, is_half, side_content, side_word};
 
 use crate::field::field;
 use crate::line_fault::LineFault;
+use crate::number::{price_of, some_shares_of};
 use csv::ByteRecord;
 use nms_quote::{Side, SideQuote};
 use nms_units::{Price, Shares, UnitFault};
@@ -54,17 +54,16 @@ fn other_sides_in(row: &ByteRecord) -> Result<(Option<SideQuote>, Option<SideQuo
 fn quote_in(price_text: &[u8], shares_text: &[u8]) -> Option<SideQuote>
     ensures { result ≡ side_content price_text.now shares_text.now }
 {
-    match (Price::parse(price_text), Shares::parse(shares_text)) {
-        (Ok(price), Ok(shares)) => SideQuote::new(price, shares),
-        _ => None,
-    }
+    let price = price_of(price_text)?;
+    let shares = some_shares_of(shares_text)?;
+    SideQuote::new(price, shares)
 }
 
 /// Whether a price that is there is not of the form, or is zero beside shares that do not read as 0.
 pub fn is_bad_price(price_text: &[u8], shares_text: &[u8]) -> bool
     ensures { result ≡ is_bad_price price_text.now shares_text.now }
 {
-    !price_text.is_empty() && is_unfit(Price::parse(price_text), Shares::parse(shares_text))
+    !price_text.is_empty() && is_unfit(price_text, shares_text)
 }
 
 /// Whether shares that are there are not of the form.
@@ -82,14 +81,23 @@ fn is_half(price_text: &[u8], shares_text: &[u8]) -> bool
 }
 
 /// Whether there is no price, or zero beside shares that do not read as 0.
-fn is_unfit(price: Result<Price, UnitFault>, shares: Result<Shares, UnitFault>) -> bool
-    ensures { (p s : List ℕ) → price ≡ price_reading p → shares ≡ shares_reading s
-        → result ≡ is_unfit (price_number p) (shares_number s) }
+fn is_unfit(price_text: &[u8], shares_text: &[u8]) -> bool
+    ensures { result ≡ is_unfit (price_number price_text.now) (shares_number shares_text.now) }
 {
-    match (price, shares) {
-        (Ok(_), _) => false,
-        (Err(UnitFault::ZeroPrice), Ok(shares)) => shares.get() != 0,
-        _ => true,
+    match Price::parse(price_text) {
+        Ok(_) => false,
+        Err(UnitFault::ZeroPrice) => !is_zero(shares_text),
+        Err(UnitFault::BadPrice | UnitFault::BadShares | UnitFault::BadMoney) => true,
+    }
+}
+
+/// Whether shares read as 0.
+fn is_zero(text: &[u8]) -> bool
+    ensures { result ≡ is_zero (shares_number text.now) }
+{
+    match Shares::parse(text) {
+        Ok(shares) => shares.get() == 0,
+        Err(_) => false,
     }
 }
 

@@ -1,15 +1,18 @@
--- `is_unfit`: all that it promises, by `fit_with_price` and `unfit_alone`.
-use Rattle.std.proofs.Common.{◌∙◌, sym}
-use Rattle.nms_units.specs.Price.{price_number}
+-- `is_unfit`: what a price and a zero say, by `fit_with_price` and `unfit_zero`.
+use Rattle.std.proofs.Common.{◌≡◌, ◌∙◌, Err, ap, sym}
+use Rattle.nms_units.specs.Price.{price_number, price_reading}
+use Rattle.nms_units.specs.declared.unit_fault.UnitFault.{UnitFault}
+use Rattle.nms_units.specs.declared.unit_fault.UnitFault.TheVariants as fault
 use Rattle.nms_lines.specs.Numbers.{shares_number}
-use Rattle.nms_lines.proofs.SideFacts.{fit_with_price, unfit_alone}
+use Rattle.nms_lines.proofs.SideFacts.{fit_with_price, unfit_zero}
 use Rattle.nms_lines.proofs.side.is_unfit.Goals as goal
 
-pub returns-in-Ok-default : goal.returns-in-Ok-default
-returns-in-Ok-default c = λ p s price shares.
-    sym (fit_with_price (price_number p) (shares_number s) c.in-Ok-default.field-0-0 (sym price ∙ c.in-Ok-default.is-0))
+pub returns-in-Ok : goal.returns-in-Ok
+returns-in-Ok c =
+    sym (fit_with_price (price_number c.args.price_text.now) (shares_number c.args.shares_text.now) c.in-Ok.field-0 (sym c.parse.ensures ∙ c.in-Ok.is))
 
-pub returns-in_default : goal.returns-in_default
-returns-in_default c = λ p s price shares.
-    sym (unfit_alone (price_number p) (shares_number s) c.in_default.field-0-0 c.in_default.field-0-1 (sym price ∙ c.in_default.is-0)
-    (sym shares ∙ c.in_default.is-1))
+pub returns-in-Err-ZeroPrice : goal.returns-in-Err-ZeroPrice
+returns-in-Err-ZeroPrice c =
+    let zero : price_reading c.args.price_text.now ≡ Err fault.ZeroPrice =
+    sym c.parse.ensures ∙ c.in-Err-ZeroPrice.is ∙ ap (λ (why : UnitFault). Err why) c.in-Err-ZeroPrice.field-0-is in
+    rw c.is_zero.ensures (sym (unfit_zero (price_number c.args.price_text.now) (shares_number c.args.shares_text.now) zero))
