@@ -9,7 +9,9 @@ use Rattle.nms_lines.proofs.side.is_unfit.Goals as goal
 
 pub returns-in-Ok : goal.returns-in-Ok
 returns-in-Ok c =
-    sym (fit_with_price (price_number c.args.price_text.now) (shares_number c.args.shares_text.now) c.in-Ok.field-0 (sym c.parse.ensures ∙ c.in-Ok.is))
+    let price = price_number c.args.price_text.now in
+    let shares = shares_number c.args.shares_text.now in
+    sym (fit_with_price price shares c.in-Ok.field-0 (sym c.parse.ensures ∙ c.in-Ok.is))
 
 pub returns-in-Err-ZeroPrice : goal.returns-in-Err-ZeroPrice
 returns-in-Err-ZeroPrice c =
