@@ -1,11 +1,12 @@
 -- The subcommands as the parser has them, and what a call of one must satisfy.
-use Rattle.std.proofs.Common.{◌≡◌, Bool, true, false, List, [], ◌∷◌, Some, find, fold, refl, unwrap_or, codes}
+use Rattle.std.proofs.Common.{◌≡◌, ◌∙◌, Bool, true, false, List, [], ◌∷◌, Option, Some, ap, find, fold, option_map, refl, unwrap_or, codes}
+use Rattle.std.specs.Option.{option_map_or}
 use Rattle.std.specs.List.{list_all, list_any}
 use Rattle.std.specs.Str.{bytes_eq}
 use Rattle.std.proofs.lemmas.Bool.{and_parts}
-use Rattle.clap.specs.Simple.{entered, filled}
+use Rattle.clap.specs.Simple.{entered, filled, label_of}
 use Rattle.clap.specs.Takes.{entered_passes, level_passes}
-use Rattle.clap.specs.Walk.{finished, nothing_held, rows_after}
+use Rattle.clap.specs.Walk.{answers_to, finished, nothing_held, rows_after}
 use Rattle.clap.specs.Words.{Row, Shape, Text, built}
 use Rattle.nms_words.specs.CommandLine.{asked_in, bare, manual_rule, name_of, options_of, self_help_rule, setup_rule, sub_named, tool}
 use Rattle.nms_words.specs.PlainCall.{Choice, chosen, is_same_option, option_of}
@@ -19,21 +20,30 @@ use Rattle.nms_words.specs.declared.subcommand.Sub.TheVariants.{Script, Report, 
 abbrev pub leaf : Sub → Shape
 leaf sub = unwrap_or (find (λ s. bytes_eq s.name (name_of sub)) (built tool).subs) above
 
+-- the parser finds a subcommand by its name
+found : (sub : Sub) → find (λ s. answers_to (name_of sub) (label_of s)) (built tool).subs ≡ Some (leaf sub)
+found Script = refl
+found Report = refl
+found Plan = refl
+found Check = refl
+found Live = refl
+
 pub level_of : (sub : Sub) (rest : List Text) → entered_passes (built tool) (Some (name_of sub, rest))
     ≡ level_passes (leaf sub) [] nothing_held rest false
-level_of Script rest = refl
-level_of Report rest = refl
-level_of Plan rest = refl
-level_of Check rest = refl
-level_of Live rest = refl
+level_of sub rest = ap (λ (met : Option Shape). option_map_or (λ s. level_passes s [] nothing_held rest false) met true) (found sub)
+
+leaf_name : (sub : Sub) → (leaf sub).name ≡ name_of sub
+leaf_name Script = refl
+leaf_name Report = refl
+leaf_name Plan = refl
+leaf_name Check = refl
+leaf_name Live = refl
 
 pub rows_of_level : (sub : Sub) (rest : List Text) → entered (built tool) (Some (name_of sub, rest))
     ≡ Some (name_of sub, rows_after (leaf sub).rules [] rest)
-rows_of_level Script rest = refl
-rows_of_level Report rest = refl
-rows_of_level Plan rest = refl
-rows_of_level Check rest = refl
-rows_of_level Live rest = refl
+rows_of_level sub rest =
+    ap (option_map (λ (s : Shape). (s.name, rows_after s.rules [] rest))) (found sub)
+    ∙ ap (λ (name : Text). Some (name, rows_after (leaf sub).rules [] rest)) (leaf_name sub)
 
 pub named : (sub : Sub) → sub_named (name_of sub) ≡ Some sub
 named Script = refl

@@ -72,10 +72,11 @@ fn fault_of(alloc: Global, words: &[&str], error: &Error) -> WordsFault
 fn text_of(alloc: Global, words: &[&str], error: &Error) -> Result<String, AllocError> {
     let text = format!(in alloc; "{error}")?;
     let shown = Shown(text.as_str());
-    if words.first().is_some_and(|word| is_setup_option(*word)) {
-        return format!(in alloc; "{shown}{SETUP_TIP}");
-    }
-    format!(in alloc; "{shown}")
+    let tip = match words.first() {
+        Some(word) if is_setup_option(word) => SETUP_TIP,
+        Some(_) | None => "",
+    };
+    format!(in alloc; "{shown}{tip}")
 }
 
 // Whether the word is `--setup` or `--setup=FILE`.
