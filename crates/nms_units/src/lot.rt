@@ -10,7 +10,7 @@ use std::fmt;
 use std::marker::Model;
 
 /// A round lot: 1 to `MOST_LOT` (1,000) shares (17 CFR 242.600, "round lot").
-#[derive(Clone, Copy, PartialEq, Eq)]
+#[derive(Clone, Copy, PartialEq, Eq, PartialOrd, Ord)]
 pub struct Lot {
     shares: u16,
     /// 2^64 - 1 divided by the shares: a size is rounded down to whole lots by it, with no division.

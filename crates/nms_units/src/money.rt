@@ -9,7 +9,7 @@ use std::fmt;
 use std::marker::Model;
 
 /// An amount of money in whole nanodollars (10^-9 dollar); negative money is received.
-#[derive(Clone, Copy, Debug, PartialEq, Eq, PartialOrd)]
+#[derive(Clone, Copy, Debug, PartialEq, Eq, PartialOrd, Ord)]
 pub struct Money {
     nanodollars: i128,
 }

@@ -13,7 +13,7 @@ use std::marker::Model;
 ///
 /// The minimum increments of 17 CFR 242.612 are left out: any price in range is one (this product's own
 /// rule).
-#[derive(Clone, Copy, Debug, PartialEq, Eq, PartialOrd)]
+#[derive(Clone, Copy, Debug, PartialEq, Eq, PartialOrd, Ord)]
 pub struct Price {
     ten_thousandths: u64,
 }

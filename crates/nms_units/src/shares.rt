@@ -9,7 +9,7 @@ use crate::unit_fault::UnitFault;
 use std::marker::Model;
 
 /// A number of shares, 0 to `MOST_SHARES`, 999,999,999 (this product's own rule).
-#[derive(Clone, Copy, Debug, PartialEq, Eq)]
+#[derive(Clone, Copy, Debug, PartialEq, Eq, PartialOrd, Ord)]
 pub struct Shares {
     count: u32,
 }
