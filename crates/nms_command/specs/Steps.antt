@@ -1,6 +1,6 @@
 -- What the words of the command line came to, before a live run: a request of any other subcommand was done, help was shown, or
 -- what a live run is given was read. This product's own rule.
-use Rattle.std.specs.Prelude.{ℕ, ◌≡◌, ◌<◌, ◌⊎◌, All, Bool, true, false, List, [], Option, Some, length}
+use Rattle.std.specs.Prelude.{ℕ, ◌≡◌, ◌<◌, ◌≤◌, ◌+◌, ◌⊎◌, All, Bool, true, false, List, [], Option, Some, length}
 use Rattle.std.specs.String.{string_bytes}
 use Rattle.std.specs.Io.KnownBytes.{Appends}
 use Rattle.nms_fees.specs.Settings.{Settings}
@@ -8,7 +8,7 @@ use Rattle.nms_words.specs.CommandLine.{Asked, IsRefusal, asked_by, faults_in}
 use Rattle.nms_words.specs.declared.subcommand.Sub.TheVariants as sub
 use Rattle.nms_words.specs.declared.words_fault.WordsFault.{WordsFault}
 use Rattle.nms_words.specs.declared.words_fault.WordsFault.TheVariants as words_fault
-use Rattle.nms_command.specs.LiveFiles.{AreOrdersOfSome}
+use Rattle.nms_command.specs.LiveFiles.{AreOrdersOfSome, most_feed_bytes}
 use Rattle.nms_command.specs.Served.{IsSetup, Serves}
 use Rattle.nms_command.specs.declared.ending.Ending.TheVariants as ending
 use Rattle.nms_command.specs.declared.live_input.LiveInput.{LiveInput}
@@ -30,12 +30,14 @@ abbrev pub ShowsHelp : List (List ℕ) → Option (List ℕ) → Option (List �
 ShowsHelp words old new =
     (why : WordsFault) × (is_help why ≡ true) × IsRefusal (faults_in words) why × Appends old new (text_in why)
 
--- a live run is asked for, and this is what it is given: a setup, a text for each feed, and the orders of some file, each of
--- them for one of the desks
+-- a live run is asked for, and this is what it is given: a setup, a text of at most 1,000,000,000 bytes for each feed, and the
+-- orders of some file, each of them for one of the desks. The words name that many files
 pub record AsksRun (asked : Asked) (settings : Settings) (input : LiveInput) : Type 0 where
   pub live : asked.command ≡ sub.Live
   pub setup : IsSetup settings
+  pub files : length asked.own ≡ 1 + settings.feeds
   pub feeds : length input.feeds.items ≡ settings.feeds
+  pub within : All (λ feed. length feed.items ≤ most_feed_bytes) input.feeds.items
   pub orders : AreOrdersOfSome settings input.orders.items
   pub desks : All (λ order. order.desk < settings.desks) input.orders.items
 

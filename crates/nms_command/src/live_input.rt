@@ -1,6 +1,7 @@
 //! What a live run is given: the files that the words of `live` name.
-ghost use Rattle.std.specs.Prelude.{◌≡◌, ◌<◌, All, IfOk, length};
-ghost use Rattle.nms_command.specs.LiveFiles.{AreOrdersOfSome};
+ghost use Rattle.std.specs.Prelude.{◌≡◌, ◌<◌, ◌≤◌, ◌+◌, ℕ, All, IfErr, IfOk, length};
+ghost use Rattle.nms_fees.specs.Settings.{Settings};
+ghost use Rattle.nms_command.specs.LiveFiles.{AreOrdersOfSome, IsNotGiven, most_feed_bytes};
 
 use crate::command_fault::CommandFault;
 use crate::files::open_file;
@@ -26,15 +27,18 @@ pub struct LiveInput {
 /// Reads the files of a live run: the file of orders, and one file for each feed of the setup. Other numbers of files are
 /// refused as `usage`.
 ///
-/// All files are read before a line of one is judged.
+/// The feeds are read before a line of an order is judged.
 pub fn read_live_input<T: Files + AllocGlobal>(
     rt: &T,
     setup: &Setup,
     words: &[String],
 ) -> Result<LiveInput, CommandFault>
+    ensures files { IfOk result (λ _. length words.now ≡ 1 + setup.now.feeds) }
     ensures feeds { IfOk result (λ input. length input.feeds.items ≡ setup.now.feeds) }
+    ensures within { IfOk result (λ input. All (λ feed. length feed.items ≤ most_feed_bytes) input.feeds.items) }
     ensures orders { IfOk result (λ input. AreOrdersOfSome setup.now input.orders.items) }
     ensures desks { IfOk result (λ input. All (λ order. order.desk < setup.now.desks) input.orders.items) }
+    ensures refused { IfErr result (IsNotGiven setup.now (length words.now)) }
 {
     let Some((orders, feeds)) = words.split_first() else {
         return Err(CommandFault::Usage);
@@ -57,6 +61,7 @@ fn with_orders<T: AllocGlobal, R: Read + Drop>(
     ensures feeds { IfOk result (λ input. input.feeds ≡ feeds) }
     ensures orders { IfOk result (λ input. AreOrdersOfSome setup.now input.orders.items) }
     ensures desks { IfOk result (λ input. All (λ order. order.desk < setup.now.desks) input.orders.items) }
+    ensures refused { (files : ℕ) → IfErr result (IsNotGiven setup.now files) }
 {
     match read_orders(rt.alloc(), setup, orders) {
         Ok(orders) => Ok(LiveInput { feeds, orders }),
@@ -69,7 +74,9 @@ fn read_feeds<T: Files + AllocGlobal>(
     rt: &T,
     paths: &[String],
 ) -> Result<Vec<Vec<u8>>, CommandFault>
-    ensures { IfOk result (λ feeds. length feeds.items ≡ length paths.now) }
+    ensures feeds { IfOk result (λ feeds. length feeds.items ≡ length paths.now) }
+    ensures within { IfOk result (λ feeds. All (λ feed. length feed.items ≤ most_feed_bytes) feeds.items) }
+    ensures refused { (settings : Settings) (files : ℕ) → IfErr result (IsNotGiven settings files) }
 {
     let mut feeds = Vec::new(rt.alloc());
     for path in paths {
@@ -83,7 +90,10 @@ fn read_feeds<T: Files + AllocGlobal>(
 }
 
 /// The bytes of a feed's file, if there are not too many.
-fn read_feed<T: Files + AllocGlobal>(rt: &T, path: &str) -> Result<Vec<u8>, CommandFault> {
+fn read_feed<T: Files + AllocGlobal>(rt: &T, path: &str) -> Result<Vec<u8>, CommandFault>
+    ensures within { IfOk result (λ feed. length feed.items ≤ most_feed_bytes) }
+    ensures refused { (settings : Settings) (files : ℕ) → IfErr result (IsNotGiven settings files) }
+{
     let file = open_file(rt, path)?;
     match read_within(rt.alloc(), file, MOST_FEED_BYTES) {
         Ok(bytes) => Ok(bytes),

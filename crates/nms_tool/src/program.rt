@@ -59,7 +59,9 @@ fn write_fault<E: Write>(fault: &ToolFault, errors: &mut E) -> io::Result<()>
         ToolFault::Command(CommandFault::Words(WordsFault::Parser { text, .. })) => {
             write_whole(errors, text.as_str())
         }
-        _ => write_line(errors, "nms_tool: ", fault.code()),
+        ToolFault::Command(_) | ToolFault::Live(_) | ToolFault::LiveText(_) => {
+            write_line(errors, "nms_tool: ", fault.code())
+        }
     }
 }
 
