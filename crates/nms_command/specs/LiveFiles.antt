@@ -1,5 +1,5 @@
--- The files of a live run, and why they were not read. No contract says what a file holds, so this says that some bytes exist
--- for which it is true. This product's own rule.
+-- The files of a live run, and why they were not read. No contract says what a file holds, so these say that some bytes exist
+-- for which they are true. This product's own rule.
 use Rattle.std.specs.Prelude.{ℕ, ⊤, ◌≡◌, ◌≢◌, ◌+◌, List, Option}
 use Rattle.nms_quote.specs.declared.desk_order.DeskOrder.{DeskOrder}
 use Rattle.nms_fees.specs.Settings.{Settings}
@@ -16,8 +16,8 @@ AreOrdersOfSome settings orders = (bytes : Option (List ℕ)) × AreFileOrders s
 abbrev pub most_feed_bytes : ℕ
 most_feed_bytes = 1000000000
 
--- why what a live run needs was not read, when the words name so many: they are not the file of orders and one file for each
--- feed; a line of the orders is refused; or a file, or memory, failed
+-- why the input of a live run was not read, if the words name this many files: it is not the file of orders and one file for
+-- each feed; or a line of the orders is refused; or a file could not be read, or is too long; or memory ran out
 abbrev pub IsNotGiven : Settings → ℕ → CommandFault → Type 0
 IsNotGiven settings files fault.Usage = files ≢ 1 + settings.feeds
 IsNotGiven settings files (fault.Orders why) = (bytes : Option (List ℕ)) × IsOrdersFault settings bytes why
