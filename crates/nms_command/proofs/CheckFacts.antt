@@ -1,6 +1,6 @@
 -- What the ending of `check` says about the finding that was reported.
 use Rattle.std.proofs.Common.{ℕ, ◌≡◌, ◌++◌, ◌∷◌, [], List, refl}
-use Rattle.std.specs.Prelude.{Option, Result, Ok, Err, IfOk, OnOk, codes}
+use Rattle.std.specs.Prelude.{Option, Result, Ok, Err, IfErr, IfOk, OnOk, codes}
 use Rattle.nms_quote.specs.Tape.{Tape}
 use Rattle.nms_quote.specs.declared.certificate.Cut.{Cut}
 use Rattle.nms_quote.specs.declared.plan.Plan.{Plan}
@@ -13,6 +13,8 @@ use Rattle.nms_rules.specs.declared.breach_kind.Breach.{Breach}
 use Rattle.nms_file_answers.specs.Audit.{IsBest, IsFinding}
 use Rattle.nms_files.specs.ChangeFile.{IsFileTape}
 use Rattle.nms_file_answers.specs.declared.audit_fault.AuditFault.TheVariants as fault
+use Rattle.nms_command.specs.Failed.{CutsShort}
+use Rattle.nms_command.proofs.FailedFacts.{cuts_more}
 use Rattle.nms_command.specs.Check.{Finding, Judges, JudgesFiles, JudgesOnFile, JudgesText, Says, Tells, doubt_record}
 use Rattle.nms_command.specs.declared.ending.Ending.{Ending}
 use Rattle.nms_command.specs.declared.ending.Ending.TheVariants as ending
@@ -26,14 +28,30 @@ best_of (Err fault.VersionBeyondTape) Best old new ends best told is = absurd (c
 best_of (Err (fault.Doubt why)) Best old new ends best told is = absurd (cc (told.0, is))
 best_of (Err fault.NoMemory) Best old new ends best told is = absurd told
 
+-- a judgement whose line was written
+told_by : (settings : Settings) (tape : Tape) (plan : Plan) (cuts : List Cut) (finding : Finding) (old new : Option (List ℕ)) (ends : Ending)
+    → IsFinding settings tape plan cuts finding → OnOk finding (IsBest settings tape plan) → Tells finding old new ends
+    → Judges settings tape plan cuts old new ends
+told_by settings tape plan cuts finding old new ends found best told =
+    record { finding = finding; found = found; told = told; best = best_of finding (IsBest settings tape plan) old new ends best told }
+
 -- a finding that was reported
 pub judged : (r : Result Ending CommandFault) (settings : Settings) (tape : Tape) (plan : Plan) (cuts : List Cut) (finding : Finding)
     (old new : Option (List ℕ))
     → IsFinding settings tape plan cuts finding → OnOk finding (IsBest settings tape plan) → IfOk r (Tells finding old new)
     → IfOk r (Judges settings tape plan cuts old new)
 judged (Ok ends) settings tape plan cuts finding old new found best told =
-    record { finding = finding; found = found; told = told; best = best_of finding (IsBest settings tape plan) old new ends best told }
+    told_by settings tape plan cuts finding old new ends found best told
 judged (Err why) settings tape plan cuts finding old new found best told = tt
+
+-- the same of a line that was cut short
+pub judged_cut : (r : Result Ending CommandFault) (settings : Settings) (tape : Tape) (plan : Plan) (cuts : List Cut) (finding : Finding)
+    (old new : Option (List ℕ))
+    → IsFinding settings tape plan cuts finding → OnOk finding (IsBest settings tape plan) → IfErr r (CutsShort (Tells finding old) old new)
+    → IfErr r (CutsShort (Judges settings tape plan cuts old) old new)
+judged_cut r settings tape plan cuts finding old new found best cut =
+    cuts_more r (Tells finding old) (Judges settings tape plan cuts old) old new
+    (λ whole ends told. told_by settings tape plan cuts finding old whole ends found best told) cut
 
 -- a doubt that is no breach is reported by its own code
 pub other_line : (why : Doubt) → ((breach : Breach) → why ≡ doubt.Breach breach → ⊥)

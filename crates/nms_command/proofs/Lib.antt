@@ -1,4 +1,5 @@
 mod CheckFacts
+mod FailedFacts
 pub mod Offered
 mod PartFacts
 pub mod StatusFacts

@@ -1,4 +1,5 @@
 pub mod Check
+pub mod Failed
 pub mod LiveFiles
 pub mod Served
 pub mod Statuses

@@ -1,20 +1,24 @@
 -- What a request of any subcommand but `live` wrote when it was served, and how it ended. No contract says what a file holds,
 -- so these say that some bytes exist for which it is true. This product's own rule.
-use Rattle.std.specs.Prelude.{ℕ, ◌≡◌, List, Option, Some, Ok}
+use Rattle.std.specs.Prelude.{ℕ, ⊤, ◌≡◌, ◌≢◌, List, Option, Some, Ok, Err}
 use Rattle.nms_quote.specs.Roster.{place_in}
 use Rattle.nms_quote.specs.Terms.{Terms}
 use Rattle.nms_fees.specs.Settings.{Settings}
 use Rattle.nms_fees.specs.Setup.{reading}
+use Rattle.nms_fees.specs.declared.setup_fault.SetupFault.TheVariants as setup_fault
 use Rattle.nms_lines.specs.Layout.{field}
 use Rattle.nms_scripts.specs.Script.{Answers}
 use Rattle.nms_scripts.specs.declared.counts.Counts.{Counts}
 use Rattle.nms_file_answers.specs.ReportFile.{ReportsFile}
 use Rattle.nms_files.specs.OrderWords.{order_asked}
 use Rattle.nms_file_answers.specs.PlanFile.{PlansFile}
+use Rattle.nms_text.specs.declared.script_fault.ScriptFault.TheVariants as script_fault
 use Rattle.nms_words.specs.CommandLine.{Asked}
 use Rattle.nms_words.specs.declared.subcommand.Sub.{Sub}
 use Rattle.nms_words.specs.declared.subcommand.Sub.TheVariants as sub
 use Rattle.nms_command.specs.Check.{JudgesFiles}
+use Rattle.nms_command.specs.declared.command_fault.CommandFault.{CommandFault}
+use Rattle.nms_command.specs.declared.command_fault.CommandFault.TheVariants as fault
 use Rattle.nms_command.specs.declared.ending.Ending.{Ending}
 use Rattle.nms_command.specs.declared.ending.Ending.TheVariants as ending
 
@@ -49,3 +53,10 @@ Serves sub.Live settings asked input old new ends = ⊥
 -- some text says the setup
 abbrev pub IsSetup : Settings → Type 0
 IsSetup settings = (text : List ℕ) × (reading text ≡ Ok settings)
+
+-- why there is no setup: a text is refused, or is no UTF-8 and so no TOML; or its file could not be read; or memory ran out
+abbrev pub IsNoSetup : CommandFault → Type 0
+IsNoSetup (fault.Setup why) = why ≢ setup_fault.NoMemory → why ≢ setup_fault.NotToml → (text : List ℕ) × (reading text ≡ Err why)
+IsNoSetup fault.Unreadable = ⊤
+IsNoSetup (fault.Script why) = why ≡ script_fault.NoMemory
+IsNoSetup _ = ⊥

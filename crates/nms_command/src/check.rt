@@ -1,10 +1,11 @@
 //! The subcommand `check`: whether a plan is confirmed on the changes of a file (specs/Check).
-ghost use Rattle.std.specs.Prelude.{◌≡◌, ◌<◌, ◌≤◌, ◌++◌, ◌∷◌, [], All, IfOk, length, true};
+ghost use Rattle.std.specs.Prelude.{◌≡◌, ◌<◌, ◌≤◌, ◌++◌, ◌∷◌, [], All, IfErr, IfOk, length, true};
 ghost use Rattle.std.specs.Io.KnownBytes.{Appends};
 ghost use Rattle.nms_quote.specs.Roster.{holds, sizes_of};
 ghost use Rattle.nms_quote.specs.declared.TheConstants.{MOST_CHANGES};
 ghost use Rattle.nms_lines.specs.Text.{record_text};
 ghost use Rattle.nms_command.specs.Check.{Judges, JudgesFiles, JudgesOnFile, JudgesText, Tells, doubt_record};
+ghost use Rattle.nms_command.specs.Failed.{CutsShort};
 
 use crate::command_fault::CommandFault;
 use crate::ending::Ending;
@@ -28,7 +29,8 @@ pub(crate) fn serve_check<T: Files + AllocGlobal, W: Write>(
     words: &[String],
     answers: &mut W,
 ) -> Result<Ending, CommandFault>
-    ensures { IfOk result (JudgesFiles setup.now (W.contents answers.old) (W.contents answers.new)) }
+    ensures served { IfOk result (JudgesFiles setup.now (W.contents answers.old) (W.contents answers.new)) }
+    ensures cut { IfErr result (CutsShort (JudgesFiles setup.now (W.contents answers.old)) (W.contents answers.old) (W.contents answers.new)) }
 {
     let [changes, plan] = words else {
         return Err(CommandFault::Usage);
@@ -47,7 +49,8 @@ fn check_text<R: Read + Drop, W: Write>(
     text: &[u8],
     answers: &mut W,
 ) -> Result<Ending, CommandFault>
-    ensures { IfOk result (JudgesOnFile setup.now (R.remaining source) text.now (W.contents answers.old) (W.contents answers.new)) }
+    ensures served { IfOk result (JudgesOnFile setup.now (R.remaining source) text.now (W.contents answers.old) (W.contents answers.new)) }
+    ensures cut { IfErr result (CutsShort (JudgesOnFile setup.now (R.remaining source) text.now (W.contents answers.old)) (W.contents answers.old) (W.contents answers.new)) }
 {
     match read_changes(alloc, setup, source) {
         Ok(changes) => judge(alloc, setup, &changes, text, answers),
@@ -65,7 +68,8 @@ fn judge<W: Write>(
 ) -> Result<Ending, CommandFault>
     requires held { All (λ change. holds (sizes_of setup.now.roster) change ≡ true) changes.now }
     requires few { length changes.now ≤ MOST_CHANGES }
-    ensures { IfOk result (JudgesText setup.now changes.now text.now (W.contents answers.old) (W.contents answers.new)) }
+    ensures judged { IfOk result (JudgesText setup.now changes.now text.now (W.contents answers.old) (W.contents answers.new)) }
+    ensures cut { IfErr result (CutsShort (JudgesText setup.now changes.now text.now (W.contents answers.old)) (W.contents answers.old) (W.contents answers.new)) }
 {
     match read_plan(alloc, text, setup.roster()) {
         Ok((plan, certificate)) => {
@@ -87,7 +91,8 @@ fn judge_plan<W: Write>(
     requires sym { plan.now.order.sym < length setup.now.roster.syms }
     requires held { All (λ change. holds (sizes_of setup.now.roster) change ≡ true) changes.now }
     requires few { length changes.now ≤ MOST_CHANGES }
-    ensures { IfOk result (Judges setup.now changes.now plan.now certificate.now.items (W.contents answers.old) (W.contents answers.new)) }
+    ensures judged { IfOk result (Judges setup.now changes.now plan.now certificate.now.items (W.contents answers.old) (W.contents answers.new)) }
+    ensures cut { IfErr result (CutsShort (Judges setup.now changes.now plan.now certificate.now.items (W.contents answers.old)) (W.contents answers.old) (W.contents answers.new)) }
 {
     let finding = audit(alloc, setup, changes, plan, certificate);
     tell_finding(answers, finding)
@@ -98,7 +103,8 @@ fn tell_finding<W: Write>(
     answers: &mut W,
     finding: Result<(), AuditFault>,
 ) -> Result<Ending, CommandFault>
-    ensures { IfOk result (Tells finding (W.contents answers.old) (W.contents answers.new)) }
+    ensures told { IfOk result (Tells finding (W.contents answers.old) (W.contents answers.new)) }
+    ensures cut { IfErr result (CutsShort (Tells finding (W.contents answers.old)) (W.contents answers.old) (W.contents answers.new)) }
 {
     match finding {
         Ok(()) => tell_line(answers, "CONFIRMED", "", Ending::Done),
@@ -112,7 +118,8 @@ fn tell_finding<W: Write>(
 
 /// Reports the code of a doubt; for a breach its own code follows.
 fn tell_doubt<W: Write>(answers: &mut W, doubt: Doubt) -> Result<Ending, CommandFault>
-    ensures { IfOk result (λ ends. (ends ≡ Ending.NotConfirmed) × Appends (W.contents answers.old) (W.contents answers.new) (record_text (doubt_record doubt))) }
+    ensures told { IfOk result (λ ends. (ends ≡ Ending.NotConfirmed) × Appends (W.contents answers.old) (W.contents answers.new) (record_text (doubt_record doubt))) }
+    ensures cut { IfErr result (CutsShort (λ whole ends. (ends ≡ Ending.NotConfirmed) × Appends (W.contents answers.old) whole (record_text (doubt_record doubt))) (W.contents answers.old) (W.contents answers.new)) }
 {
     match doubt {
         Doubt::Breach(breach) => {
@@ -129,7 +136,8 @@ fn tell_line<W: Write>(
     code: &str,
     ending: Ending,
 ) -> Result<Ending, CommandFault>
-    ensures { IfOk result (λ ends. (ends ≡ ending) × Appends (W.contents answers.old) (W.contents answers.new) (head.now ++ (code.now ++ 10 ∷ []))) }
+    ensures told { IfOk result (λ ends. (ends ≡ ending) × Appends (W.contents answers.old) (W.contents answers.new) (head.now ++ (code.now ++ 10 ∷ []))) }
+    ensures cut { IfErr result (CutsShort (λ whole ends. (ends ≡ ending) × Appends (W.contents answers.old) whole (head.now ++ (code.now ++ 10 ∷ []))) (W.contents answers.old) (W.contents answers.new)) }
 {
     match write_line(answers, head, code) {
         Ok(()) => Ok(ending),

@@ -1,5 +1,5 @@
 //! What a live run is given: the files that the words of `live` name.
-ghost use Rattle.std.specs.Prelude.{◌≡◌, ◌<◌, ◌≤◌, ◌+◌, ℕ, All, IfErr, IfOk, length};
+ghost use Rattle.std.specs.Prelude.{◌≡◌, ◌≢◌, ◌<◌, ◌≤◌, ◌+◌, ℕ, All, Err, IfErr, IfOk, length};
 ghost use Rattle.nms_fees.specs.Settings.{Settings};
 ghost use Rattle.nms_command.specs.LiveFiles.{AreOrdersOfSome, IsNotGiven, most_feed_bytes};
 
@@ -34,6 +34,7 @@ pub fn read_live_input<T: Files + AllocGlobal>(
     words: &[String],
 ) -> Result<LiveInput, CommandFault>
     ensures files { IfOk result (λ _. length words.now ≡ 1 + setup.now.feeds) }
+    ensures counted { length words.now ≢ 1 + setup.now.feeds → result ≡ Err CommandFault.Usage }
     ensures feeds { IfOk result (λ input. length input.feeds.items ≡ setup.now.feeds) }
     ensures within { IfOk result (λ input. All (λ feed. length feed.items ≤ most_feed_bytes) input.feeds.items) }
     ensures orders { IfOk result (λ input. AreOrdersOfSome setup.now input.orders.items) }

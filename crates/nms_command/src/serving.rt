@@ -1,9 +1,10 @@
 //! The service of a request of any subcommand but `live` (specs/Served).
-ghost use Rattle.std.specs.Prelude.{◌≡◌, ◌≢◌, IfOk, OnOk, map};
+ghost use Rattle.std.specs.Prelude.{◌≡◌, ◌≢◌, IfErr, IfOk, OnOk, map};
 ghost use Rattle.std.specs.Io.KnownBytes.{Appends};
 ghost use Rattle.std.specs.String.{string_bytes};
 ghost use Rattle.nms_words.specs.CommandLine.{shown};
-ghost use Rattle.nms_command.specs.Served.{IsSetup, Reports, Scripts, Serves};
+ghost use Rattle.nms_command.specs.Failed.{CutsShort, Stops, StopsScript};
+ghost use Rattle.nms_command.specs.Served.{IsNoSetup, IsSetup, Reports, Scripts, Serves};
 
 use crate::check::serve_check;
 use crate::command_fault::CommandFault;
@@ -22,6 +23,9 @@ use std::rt::Files;
 use std::str;
 
 /// Serves a request of any subcommand but `live` under a setup, with the script on `input`.
+///
+/// If it fails, the first records of a script were answered. Of any other request nothing was written or, if the writer failed, a
+/// first part of the answer.
 pub fn serve<T: Files + AllocGlobal, R: Read, W: Write>(
     rt: &T,
     setup: &Setup,
@@ -31,6 +35,7 @@ pub fn serve<T: Files + AllocGlobal, R: Read, W: Write>(
 ) -> Result<Ending, CommandFault>
     requires apart { request.now.command ≢ Sub.Live }
     ensures served { IfOk result (Serves request.now.command setup.now (shown request.now) (R.remaining input.old) (W.contents answers.old) (W.contents answers.new)) }
+    ensures left { IfErr result (Stops request.now.command setup.now (shown request.now) (R.remaining input.old) (W.contents answers.old) (W.contents answers.new)) }
 {
     match request.command {
         Sub::Script => serve_script(rt, setup, input, answers),
@@ -41,10 +46,11 @@ pub fn serve<T: Files + AllocGlobal, R: Read, W: Write>(
     }
 }
 
-/// Answers with the help, or with the version.
+/// Answers with the help, or with the version. If the writer fails, a first part was written.
 pub fn show_help<W: Write>(answers: &mut W, help: &str) -> Result<Ending, CommandFault>
     ensures done { IfOk result (λ ends. ends ≡ Ending.Done) }
     ensures written { OnOk result (Appends (W.contents answers.old) (W.contents answers.new) help.now) }
+    ensures cut { IfErr result (CutsShort (λ whole ends. (ends ≡ Ending.Done) × Appends (W.contents answers.old) whole help.now) (W.contents answers.old) (W.contents answers.new)) }
 {
     match write_whole(answers, help) {
         Ok(()) => Ok(Ending::Done),
@@ -53,8 +59,11 @@ pub fn show_help<W: Write>(answers: &mut W, help: &str) -> Result<Ending, Comman
 }
 
 /// The setup of the file that the request names, or the built-in one if it names none.
+///
+/// The fault is that of the setup's text, or E1 or E4 if the file can't be read.
 pub fn setup_of<T: Files + AllocGlobal>(rt: &T, request: &Request) -> Result<Setup, CommandFault>
     ensures said { IfOk result (λ setup. IsSetup setup) }
+    ensures refused { IfErr result IsNoSetup }
 {
     let Some(file) = &request.setup else {
         return read_text(rt.alloc(), SETUP_K);
@@ -68,7 +77,8 @@ pub fn setup_of<T: Files + AllocGlobal>(rt: &T, request: &Request) -> Result<Set
 
 /// The setup given by a text.
 fn read_text(alloc: Global, text: &str) -> Result<Setup, CommandFault>
-    ensures { IfOk result (λ setup. IsSetup setup) }
+    ensures said { IfOk result (λ setup. IsSetup setup) }
+    ensures refused { IfErr result IsNoSetup }
 {
     match read_setup(alloc, text) {
         Ok(setup) => Ok(setup),
@@ -83,7 +93,8 @@ fn serve_script<T: AllocGlobal, R: Read, W: Write>(
     input: &mut R,
     answers: &mut W,
 ) -> Result<Ending, CommandFault>
-    ensures { IfOk result (λ ends. (ends ≡ Ending.Done) × Scripts setup.now (R.remaining input.old) (W.contents answers.old) (W.contents answers.new)) }
+    ensures served { IfOk result (λ ends. (ends ≡ Ending.Done) × Scripts setup.now (R.remaining input.old) (W.contents answers.old) (W.contents answers.new)) }
+    ensures left { IfErr result (StopsScript setup.now (R.remaining input.old) (W.contents answers.old) (W.contents answers.new)) }
 {
     match run_script(rt.alloc(), setup, input, answers) {
         Ok(_) => Ok(Ending::Done),
@@ -98,7 +109,8 @@ fn serve_report<T: Files + AllocGlobal, W: Write>(
     words: &[String],
     answers: &mut W,
 ) -> Result<Ending, CommandFault>
-    ensures { IfOk result (λ ends. (ends ≡ Ending.Done) × Reports setup.now (map string_bytes words.now) (W.contents answers.old) (W.contents answers.new)) }
+    ensures served { IfOk result (λ ends. (ends ≡ Ending.Done) × Reports setup.now (map string_bytes words.now) (W.contents answers.old) (W.contents answers.new)) }
+    ensures cut { IfErr result (CutsShort (λ whole ends. (ends ≡ Ending.Done) × Reports setup.now (map string_bytes words.now) (W.contents answers.old) whole) (W.contents answers.old) (W.contents answers.new)) }
 {
     let [changes, symbol] = words else {
         return Err(CommandFault::Usage);

@@ -1,6 +1,7 @@
 //! The words of the command line, served up to a live run (specs/Steps).
-ghost use Rattle.std.specs.Prelude.{IfOk, map};
+ghost use Rattle.std.specs.Prelude.{◌≢◌, IfErr, IfOk, map};
 ghost use Rattle.nms_words.specs.CommandLine.{shown};
+ghost use Rattle.nms_command.specs.Failed.{AreStopped, IsStopped};
 ghost use Rattle.nms_command.specs.Served.{IsSetup};
 ghost use Rattle.nms_command.specs.Steps.{AreMet, Meets};
 
@@ -15,6 +16,9 @@ use std::rt::Files;
 
 /// Does what the words ask for, with the script on `input`, or shows the help that they ask for. Of a live run it only reads the
 /// setup and the files, and gives them.
+///
+/// If it fails, the first records of a script were answered. Of anything else nothing was written or, if the writer failed, a
+/// first part.
 pub fn serve_words<T: Files + AllocGlobal, R: Read, W: Write>(
     rt: &T,
     words: &[&str],
@@ -22,6 +26,7 @@ pub fn serve_words<T: Files + AllocGlobal, R: Read, W: Write>(
     answers: &mut W,
 ) -> Result<Step, CommandFault>
     ensures met { IfOk result (AreMet (map (λ word. word.now) words.entry.now) (R.remaining input.old) (W.contents answers.old) (W.contents answers.new)) }
+    ensures left { IfErr result (AreStopped (map (λ word. word.now) words.entry.now) (R.remaining input.old) (W.contents answers.old) (W.contents answers.new)) }
 {
     match read_words(rt.alloc(), words) {
         Ok(request) => serve_request(rt, &request, input, answers),
@@ -39,7 +44,8 @@ fn serve_request<T: Files + AllocGlobal, R: Read, W: Write>(
     input: &mut R,
     answers: &mut W,
 ) -> Result<Step, CommandFault>
-    ensures { IfOk result (Meets (shown request.now) (R.remaining input.old) (W.contents answers.old) (W.contents answers.new)) }
+    ensures met { IfOk result (Meets (shown request.now) (R.remaining input.old) (W.contents answers.old) (W.contents answers.new)) }
+    ensures left { IfErr result (IsStopped (shown request.now) (R.remaining input.old) (W.contents answers.old) (W.contents answers.new)) }
 {
     let setup = setup_of(rt, request)?;
     serve_under(rt, setup, request, input, answers)
@@ -54,7 +60,8 @@ fn serve_under<T: Files + AllocGlobal, R: Read, W: Write>(
     answers: &mut W,
 ) -> Result<Step, CommandFault>
     requires said { IsSetup setup }
-    ensures { IfOk result (Meets (shown request.now) (R.remaining input.old) (W.contents answers.old) (W.contents answers.new)) }
+    ensures met { IfOk result (Meets (shown request.now) (R.remaining input.old) (W.contents answers.old) (W.contents answers.new)) }
+    ensures left { IfErr result (IsStopped (shown request.now) (R.remaining input.old) (W.contents answers.old) (W.contents answers.new)) }
 {
     match request.command {
         Sub::Live => {
@@ -62,7 +69,26 @@ fn serve_under<T: Files + AllocGlobal, R: Read, W: Write>(
             Ok(Step::Live { setup, input })
         }
         Sub::Script | Sub::Report | Sub::Plan | Sub::Check => {
-            Ok(Step::Ended(serve(rt, &setup, request, input, answers)?))
+            serve_whole(rt, &setup, request, input, answers)
         }
+    }
+}
+
+/// Serves a request of any subcommand but `live` under a setup.
+fn serve_whole<T: Files + AllocGlobal, R: Read, W: Write>(
+    rt: &T,
+    setup: &Setup,
+    request: &Request,
+    input: &mut R,
+    answers: &mut W,
+) -> Result<Step, CommandFault>
+    requires apart { request.now.command ≢ Sub.Live }
+    requires said { IsSetup setup.now }
+    ensures met { IfOk result (Meets (shown request.now) (R.remaining input.old) (W.contents answers.old) (W.contents answers.new)) }
+    ensures left { IfErr result (IsStopped (shown request.now) (R.remaining input.old) (W.contents answers.old) (W.contents answers.new)) }
+{
+    match serve(rt, setup, request, input, answers) {
+        Ok(ending) => Ok(Step::Ended(ending)),
+        Err(fault) => Err(fault),
     }
 }

@@ -1,6 +1,7 @@
 //! The subcommand `live`: the feeds, the tape and the desks at once, each in a thread of its own.
-ghost use Rattle.std.specs.Prelude.{◌≡◌, ◌<◌, All, IfOk, length};
+ghost use Rattle.std.specs.Prelude.{◌≡◌, ◌<◌, All, IfErr, IfOk, length};
 ghost use Rattle.nms_command.specs.LiveFiles.{AreOrdersOfSome};
+ghost use Rattle.nms_tool.specs.Failed.{StopsRun};
 ghost use Rattle.nms_tool.specs.Served.{Runs, WritesRun};
 
 use crate::tool_fault::ToolFault;
@@ -23,7 +24,8 @@ pub(crate) fn serve_live<T: AllocGlobal + Threads + Wait + Sync, W: Write>(
     requires feeds { length input.feeds.items ≡ setup.now.feeds }
     requires orders { AreOrdersOfSome setup.now input.orders.items }
     requires desks { All (λ order. order.desk < setup.now.desks) input.orders.items }
-    ensures { IfOk result (λ ends. (ends ≡ Ending.Done) × Runs setup.now (W.contents answers.old) (W.contents answers.new)) }
+    ensures done { IfOk result (λ ends. (ends ≡ Ending.Done) × Runs setup.now (W.contents answers.old) (W.contents answers.new)) }
+    ensures left { IfErr result (StopsRun (Runs setup.now (W.contents answers.old)) (W.contents answers.old) (W.contents answers.new)) }
 {
     let LiveInput { feeds, orders } = input;
     match run_live(rt, rt.alloc(), setup, feeds, orders, &OpenGate) {
@@ -39,7 +41,8 @@ fn tell_run<W: Write>(
     live: &Live,
     answers: &mut W,
 ) -> Result<Ending, ToolFault>
-    ensures { IfOk result (λ ends. (ends ≡ Ending.Done) × WritesRun setup.now live.now (W.contents answers.old) (W.contents answers.new)) }
+    ensures done { IfOk result (λ ends. (ends ≡ Ending.Done) × WritesRun setup.now live.now (W.contents answers.old) (W.contents answers.new)) }
+    ensures left { IfErr result (StopsRun (WritesRun setup.now live.now (W.contents answers.old)) (W.contents answers.old) (W.contents answers.new)) }
 {
     let taken = live.tape.len() as u64;
     match write_live(alloc, setup.roster(), taken, &live.closing, answers) {

@@ -1,9 +1,10 @@
 //! The program's use of its words, its streams and its files (specs/Served).
-ghost use Rattle.std.specs.Prelude.{◌≡◌, ◌≢◌, ◌⊎◌, ◌<◌, IfOk, OnErr, OnOk, map};
+ghost use Rattle.std.specs.Prelude.{◌≡◌, ◌≢◌, ◌⊎◌, ◌<◌, IfErr, IfOk, OnErr, OnOk, map};
 ghost use Rattle.std.specs.Io.KnownBytes.{Appends};
 ghost use Rattle.nms_lines.specs.Written.{AppendsPart};
+ghost use Rattle.nms_tool.specs.Failed.{Fails, Stops};
 ghost use Rattle.nms_tool.specs.Served.{AreServed};
-ghost use Rattle.nms_tool.specs.Statuses.{TellsFault, fault_text, status_of};
+ghost use Rattle.nms_tool.specs.Statuses.{fault_text, status_of};
 
 use crate::living::serve_live;
 use crate::tool_fault::ToolFault;
@@ -18,7 +19,8 @@ use std::thread::Threads;
 ///
 /// Answers and help go to `answers`; the text of a parser's fault, or one line `nms_tool: CODE`, to `errors`. Status 0 says
 /// that the words' request was done; for a plan, that it is confirmed. Status 4 says that a plan was judged and is not
-/// confirmed.
+/// confirmed. Any other says that it failed. Then `answers` got the answers to a script's first records; of any other request
+/// nothing or, if the writer failed, a first part.
 pub fn run_tool<T, R: Read + Drop, W: Write, E: Write>(
     rt: &T,
     words: &[&str],
@@ -29,7 +31,7 @@ pub fn run_tool<T, R: Read + Drop, W: Write, E: Write>(
 where
     T: Files + AllocGlobal + Threads + Wait + Sync,
     ensures known { result < 8 }
-    ensures told { result ≢ 0 → result ≢ 4 → TellsFault result (E.contents errors.old) (E.contents errors.new) }
+    ensures told { result ≢ 0 → result ≢ 4 → Fails (map (λ word. word.now) words.entry.now) (R.remaining input) (W.contents answers.old) (W.contents answers.new) (E.contents errors.old) (E.contents errors.new) result }
     ensures quiet { (result ≡ 0) ⊎ (result ≡ 4) → E.contents errors.new ≡ E.contents errors.old }
     ensures done { result ≡ 0 → AreServed (map (λ word. word.now) words.entry.now) (R.remaining input) (W.contents answers.old) (W.contents answers.new) Ending.Done }
     ensures not_confirmed { result ≡ 4 → AreServed (map (λ word. word.now) words.entry.now) (R.remaining input) (W.contents answers.old) (W.contents answers.new) Ending.NotConfirmed }
@@ -74,7 +76,8 @@ fn serve<T, R: Read, W: Write>(
 ) -> Result<Ending, ToolFault>
 where
     T: Files + AllocGlobal + Threads + Wait + Sync,
-    ensures { IfOk result (AreServed (map (λ word. word.now) words.entry.now) (R.remaining input.old) (W.contents answers.old) (W.contents answers.new)) }
+    ensures done { IfOk result (AreServed (map (λ word. word.now) words.entry.now) (R.remaining input.old) (W.contents answers.old) (W.contents answers.new)) }
+    ensures left { IfErr result (Stops (map (λ word. word.now) words.entry.now) (R.remaining input.old) (W.contents answers.old) (W.contents answers.new)) }
 {
     match serve_words(rt, words, input, answers) {
         Ok(Step::Ended(ending)) => Ok(ending),
