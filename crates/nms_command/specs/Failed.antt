@@ -26,12 +26,12 @@ is_write_fault (fault.Report report_fault.WriteFault) = true
 is_write_fault (fault.Plan (plan_fault.Text text_fault.WriteFault)) = true
 is_write_fault _ = false
 
--- a first part of the whole writing was written if the writer failed, and nothing if anything else did
+-- if the writer failed, a first part of the whole was written; if anything else failed, nothing was
 abbrev pub LeavesPart : (Option (List ℕ) → Type 0) → Option (List ℕ) → Option (List ℕ) → Bool → Type 0
 LeavesPart Whole old new true = WritesPart Whole old new
 LeavesPart Whole old new false = new ≡ old
 
--- that is what was written of an answer, however its request would have ended
+-- what was written of an answer when its request failed, whichever ending it would have had
 abbrev pub CutsShort : (Option (List ℕ) → Ending → Type 0) → Option (List ℕ) → Option (List ℕ) → CommandFault → Type 0
 CutsShort Answers old new why = LeavesPart (λ whole. (ends : Ending) × Answers whole ends) old new (is_write_fault why)
 
