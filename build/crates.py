@@ -58,11 +58,16 @@ def below(crates, name):
     return found
 
 
+def processors():
+    return len(os.sched_getaffinity(0))
+
+
 def lanes():
-    """How many crates are proved at once: one for each processor, as far as memory goes."""
+    """How many crates are proved at once: three for each four processors, as far as memory goes. One for each took as long by
+    the clock, since the longest chain decides, and no less of processor (docs/GATE.md)."""
     with open("/proc/meminfo", encoding="ascii") as file:
         free = 1024 * int(re.search(r"MemAvailable:\s+(\d+)", file.read())[1])
-    return max(1, min(len(os.sched_getaffinity(0)), int(free // LANE_BYTES)))
+    return max(1, min((3 * processors() + 3) // 4, int(free // LANE_BYTES)))
 
 
 class Plan:
@@ -82,8 +87,9 @@ class Plan:
         return self.times.get(name, (60.0, 1, 100))[1]
 
     def granted(self, name, idle, at_once):
-        """The jobs that a crate gets when that many of `at_once` processors are idle: those that pay for it. Of more than two
-        processors one may be shared for a while, since a long crate with a job fewer would be late by more than that costs."""
+        """The jobs that a crate gets when that many of `at_once` places are free: those that pay for it. If there are more than
+        two places, a job more than that may run for a while, since a long crate with a job fewer would be late by more than that
+        costs."""
         shared = 1 if at_once > 2 else 0
         return max(1, min(self.jobs(name), idle + shared))
 
@@ -105,7 +111,7 @@ class Plan:
         return sorted(found, key=self.chain, reverse=True)
 
     def minutes(self, at_once, scale=1.0):
-        """How long the build takes with `at_once` crates at a time, if each takes `scale` times the seconds of build/times."""
+        """How long the build takes with `at_once` jobs at a time, if each crate takes `scale` times the seconds of build/times."""
         left, done, running, now = [*self.all], set(), [], 0.0
         while left or running:
             for name in self.ready(left, done):
@@ -122,7 +128,7 @@ class Plan:
 
     def expects(self, at_once, scale=1.0):
         """What a build takes, in words."""
-        many = "one processor" if at_once == 1 else f"{at_once} processors"
+        many = "one processor" if processors() == 1 else f"{processors()} processors"
         return f"about {self.minutes(at_once, scale):.0f} minutes on {many} ({scale * self.processor() / 60:.0f} minutes of processor)"
 
 

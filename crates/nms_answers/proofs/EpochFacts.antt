@@ -1,16 +1,15 @@
 -- How a client goes from epoch to epoch.
-use Rattle.std.proofs.Common.{ℕ, ◌≡◌, ◌+◌, ◌<◌, ◌⊎◌, inl, inr, ◌++◌, List, [], ◌∷◌, Option, Some, None, refl, ap, sym, subst, ◌∙◌, arith}
-use Rattle.std.specs.Prelude.{is_none, Bool}
+use Rattle.std.proofs.Common.{ℕ, ◌≡◌, ◌+◌, inl, inr, ◌++◌, List, [], ◌∷◌, Option, Some, None, refl, ap, sym, subst, ◌∙◌, arith}
+use Rattle.std.specs.Prelude.{Bool}
 use Rattle.std.proofs.lemmas.List.Concat.{flat_map-append}
-use Rattle.nms_quote.specs.Roster.{Sizes}
 use Rattle.nms_quote.specs.Tape.{Tape}
 use Rattle.nms_fees.specs.Settings.{Settings}
 use Rattle.nms_lines.specs.Layout.{Record}
 use Rattle.nms_lines.specs.Text.{record_text, text_of}
 use Rattle.nms_versions.specs.Taped.{Knowing}
-use Rattle.nms_answers.specs.Epochs.{AnsweredFrom, AnsweredIn, AnswersOn, GoesOver, KeepsEpochs, epoch_line}
+use Rattle.nms_answers.specs.Epochs.{AnsweredIn, AnswersOn, GoesOver, KeepsEpochs, epoch_line}
 use Rattle.nms_answers.specs.Laws.{EpochsNeverFall, ServesAsAnswers}
-use Rattle.nms_answers.specs.Requests.{Answered, AnswersRequest, Sees}
+use Rattle.nms_answers.specs.Requests.{Answered, Sees}
 use Rattle.nms_answers.specs.Streams.{AnswersFrom, ServesFrom}
 use Rattle.nms_answers.specs.Told.{KeepsKnown}
 use Rattle.nms_answers.specs.declared.epoch_desk.EpochDesk.{EpochDesk}
@@ -38,35 +37,9 @@ stays_over first old new (inl same) epoch kept =
     )
 stays_over first old new (inr rises) epoch kept = inr (omega (arith, epoch, rises))
 
--- a client that stayed or went over, and then did nothing
-pub over_keeps : (first old : EpochDesk) → GoesOver first old → KeepsEpochs first old
-over_keeps first old over = stays_over first old old over refl (keeps_itself old.desk old.desk refl)
-
--- one that stayed or went over, and then went over
-pub over_again : (first old now new : EpochDesk) → GoesOver first old → now.epoch ≡ old.epoch → now.epoch < new.epoch
-    → GoesOver first new
-over_again first old now new (inl same) epoch rises = inr (omega (arith, epoch, rises, ap (λ (d : EpochDesk). d.epoch) same))
-over_again first old now new (inr over) epoch rises = inr (omega (arith, epoch, rises, over))
-
 sees_keeps : (old new : Knowing) (look : Option Tape) → Sees old new look → KeepsKnown old new
 sees_keeps old new None same = keeps_itself old new same
 sees_keeps old new (Some version) looks = keeps_looking old new version looks
-
--- a request was answered in an epoch that the client stayed in or went over to
-pub answered_over : (settings : Settings) (number : ℕ) (fields : Record) (first old new : EpochDesk) (text : List ℕ) (refused : Bool)
-    → GoesOver first old → new.epoch ≡ old.epoch → AnsweredIn settings number fields first.epoch old new text refused
-    → AnsweredFrom settings number fields first new text refused
-answered_over settings number fields first old new text refused over epoch answered =
-    let shown = epoch_line first.epoch old.epoch ++ answered.1 in
-    let line : shown ≡ epoch_line first.epoch new.epoch ++ answered.1 =
-    ap (λ (k : ℕ). epoch_line first.epoch k ++ answered.1) (sym epoch) in (
-      answered.0,
-      answered.1,
-      shown,
-      (old, over, answered.2, epoch, answered.3, line),
-      answered.4,
-      answered.5,
-    )
 
 -- a request was answered after the epoch's line
 pub answered_in : (settings : Settings) (number : ℕ) (fields : Record) (first : ℕ) (old new : EpochDesk) (line text : List ℕ)

@@ -17,7 +17,6 @@ use std::alloc::AllocError;
 /// after `EPOCH,k` if the client went over to epoch k for it. A desk whose epoch ends meanwhile goes over as well.
 ///
 /// `NoReading` if the desk had no reading and there was no later epoch; `NoMemory` as in `answer_request`.
-#[tactic(auto, using(crate::proofs::EpochFacts::answered_over, crate::proofs::EpochFacts::stays_over, crate::proofs::EpochFacts::over_keeps, crate::proofs::EpochFacts::over_again))]
 pub fn answer_latest<L: LaterDesks>(
     desk: &mut EpochDesk,
     later: &L,

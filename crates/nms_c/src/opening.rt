@@ -2,7 +2,8 @@
 ghost use Rattle.std.specs.Prelude.{◌≡◌, ◌≢◌, ◌⊎◌, IfErr, IfOk};
 ghost use Rattle.nms_fees.specs.declared.setup_fault.SetupFault.{SetupFault as Fault};
 ghost use Rattle.nms_calls.specs.Codes.{setup_code};
-ghost use Rattle.nms_calls.specs.Opened.{IsNew, IsRefused};
+ghost use Rattle.nms_fees.specs.Setup.{IsRefused};
+ghost use Rattle.nms_calls.specs.Opened.{IsNew};
 ghost use Rattle.nms_calls.specs.SetupPlaces.{IsPlaceOf};
 ghost use Rattle.nms_c.specs.Behind.{Behind};
 ghost use Rattle.nms_c.specs.Held.{open_mark};

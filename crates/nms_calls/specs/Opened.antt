@@ -1,7 +1,6 @@
 -- What an open handle holds, and what a call answers there. This product's own rule.
 use Rattle.std.specs.Prelude.{◌≡◌, ◌⊎◌, ◌+◌, fold, ◌++◌, ◌∷◌, [], ℕ, IfOk, Bool, nat_lt, length, List, Option, Some, None, Result, Ok}
 use Rattle.std.specs.Prelude.{Err, if◌then◌else◌}
-use Rattle.std.specs.Str.{IsUtf8}
 use Rattle.nms_quote.specs.Roster.{Sizes, sizes_of}
 use Rattle.nms_quote.specs.Tape.{Tape}
 use Rattle.nms_quote.specs.Terms.{Terms}
@@ -12,8 +11,6 @@ use Rattle.nms_cert.specs.Doubts.{doubt_of}
 use Rattle.nms_cert.specs.declared.doubt.Doubt.{Doubt}
 use Rattle.nms_fees.specs.Settings.{Settings}
 use Rattle.nms_fees.specs.Setup.{reading}
-use Rattle.nms_fees.specs.declared.setup_fault.SetupFault.{SetupFault}
-use Rattle.nms_fees.specs.declared.setup_fault.SetupFault.TheVariants as setup
 use Rattle.nms_sweep.specs.Planned.{Planned}
 use Rattle.nms_calls.specs.ChangeSaid.{change_said}
 use Rattle.nms_calls.specs.OrderSaid.{order_said}
@@ -34,10 +31,6 @@ pub record Opened : Type 0 where
 -- the board is of the settings' roster
 abbrev pub IsOfRoster : Opened → Type 0
 IsOfRoster opened = opened.board.sizes ≡ sizes_of opened.settings.roster
-
--- why a text is no setup: its fault of least number; a text that is not UTF-8 is no TOML document
-abbrev pub IsRefused : List ℕ → SetupFault → Type 0
-IsRefused text fault = (reading text ≡ Err fault) ⊎ ((fault ≡ setup.NotToml) × (¬ (IsUtf8 text)))
 
 -- a board with nothing on it, of the setup that a text is
 pub record IsNew (text : List ℕ) (opened : Opened) : Type 0 where

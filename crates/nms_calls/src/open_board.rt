@@ -21,7 +21,7 @@ use crate::plan_writing::put_plan;
 use crate::row_numbers::{NmsBest, NmsRow, market_number};
 use nms_board::Boards;
 use nms_cert::confirm;
-use nms_fees::{Setup, SetupFault, read_setup};
+use nms_fees::{Setup, SetupFault, read_setup_bytes};
 use nms_lines::ByteRecord;
 use nms_nbbo::{best_on, market_between};
 use nms_quote::{Change, Side, SideQuote};
@@ -29,7 +29,6 @@ use nms_sweep::{Planner, an_accepted_plan_is_within_bounds};
 use nms_units::Lot;
 use std::alloc::Global;
 use std::marker::Model;
-use std::str;
 
 /// A board with its setup, and all the room that its calls need: none of them takes memory.
 #[derive(Drop)]
@@ -54,7 +53,8 @@ impl Model for OpenBoard {
 }
 
 impl OpenBoard {
-    ghost use Rattle.nms_calls.specs.Opened.{Grew, IsNew, IsRefused, apply_fault, apply_left, confirm_fault, doubt_written, finding, left_on, order_fault, room_fault, sizes_on, sym_fault};
+    ghost use Rattle.nms_fees.specs.Setup.{IsRefused};
+    ghost use Rattle.nms_calls.specs.Opened.{Grew, IsNew, apply_fault, apply_left, confirm_fault, doubt_written, finding, left_on, order_fault, room_fault, sizes_on, sym_fault};
 
     /// Opens an empty board from the text of a setup. A text that is not UTF-8 is no TOML document. `NoMemory` may replace any
     /// other answer.
@@ -62,10 +62,7 @@ impl OpenBoard {
         ensures new { IfOk result (IsNew text.now) }
         ensures refused { IfErr result (λ fault. fault ≢ SetupFault.NoMemory → IsRefused text.now fault) }
     {
-        let Ok(text) = str::from_utf8(text) else {
-            return Err(SetupFault::NotToml);
-        };
-        let setup = read_setup(alloc, text)?;
+        let setup = read_setup_bytes(alloc, text)?;
         let Ok(board) = Boards::new(alloc, setup.roster()) else {
             return Err(SetupFault::NoMemory);
         };

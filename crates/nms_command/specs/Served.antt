@@ -4,7 +4,7 @@ use Rattle.std.specs.Prelude.{ℕ, ⊤, ◌≡◌, ◌≢◌, List, Option, Some
 use Rattle.nms_quote.specs.Roster.{place_in}
 use Rattle.nms_quote.specs.Terms.{Terms}
 use Rattle.nms_fees.specs.Settings.{Settings}
-use Rattle.nms_fees.specs.Setup.{reading}
+use Rattle.nms_fees.specs.Setup.{IsRefused, reading}
 use Rattle.nms_fees.specs.declared.setup_fault.SetupFault.TheVariants as setup_fault
 use Rattle.nms_lines.specs.Layout.{field}
 use Rattle.nms_scripts.specs.Script.{Answers}
@@ -54,9 +54,14 @@ Serves sub.Live settings asked input old new ends = ⊥
 abbrev pub IsSetup : Settings → Type 0
 IsSetup settings = (text : List ℕ) × (reading text ≡ Ok settings)
 
--- why there is no setup: a text is refused, or is no UTF-8 and so no TOML; or its file could not be read; or memory ran out
+-- the bytes of a file give no setup, or memory ran out
+abbrev pub Refuses : List ℕ → CommandFault → Type 0
+Refuses bytes (fault.Setup why) = why ≢ setup_fault.NoMemory → IsRefused bytes why
+Refuses bytes _ = ⊥
+
+-- why there is no setup: some bytes give none; or their file could not be read; or memory ran out
 abbrev pub IsNoSetup : CommandFault → Type 0
-IsNoSetup (fault.Setup why) = why ≢ setup_fault.NoMemory → why ≢ setup_fault.NotToml → (text : List ℕ) × (reading text ≡ Err why)
+IsNoSetup (fault.Setup why) = (bytes : List ℕ) × Refuses bytes (fault.Setup why)
 IsNoSetup fault.Unreadable = ⊤
 IsNoSetup (fault.Script why) = why ≡ script_fault.NoMemory
 IsNoSetup _ = ⊥

@@ -1,10 +1,11 @@
 //! The service of a request of any subcommand but `live` (specs/Served).
-ghost use Rattle.std.specs.Prelude.{◌≡◌, ◌≢◌, IfErr, IfOk, OnOk, map};
+ghost use Rattle.std.specs.Prelude.{◌≡◌, ◌≢◌, IfErr, IfOk, Ok, OnOk, map};
 ghost use Rattle.std.specs.Io.KnownBytes.{Appends};
 ghost use Rattle.std.specs.String.{string_bytes};
 ghost use Rattle.nms_words.specs.CommandLine.{shown};
 ghost use Rattle.nms_command.specs.Failed.{CutsShort, Stops, StopsScript};
-ghost use Rattle.nms_command.specs.Served.{IsNoSetup, IsSetup, Reports, Scripts, Serves};
+ghost use Rattle.nms_fees.specs.Setup.{reading};
+ghost use Rattle.nms_command.specs.Served.{IsNoSetup, IsSetup, Refuses, Reports, Scripts, Serves};
 
 use crate::check::serve_check;
 use crate::command_fault::CommandFault;
@@ -12,7 +13,7 @@ use crate::ending::Ending;
 use crate::files::{open_file, read_file};
 use crate::line::write_whole;
 use crate::planning::serve_plan;
-use nms_fees::{SETUP_K, Setup, SetupFault, read_setup};
+use nms_fees::{SETUP_K, Setup, read_setup_bytes};
 use nms_file_answers::report_changes;
 use nms_scripts::run_script;
 use nms_text::ScriptFault;
@@ -20,7 +21,6 @@ use nms_words::{Request, Sub};
 use std::alloc::Global;
 use std::io::{Read, Write};
 use std::rt::Files;
-use std::str;
 
 /// Serves a request of any subcommand but `live` under a setup, with the script on `input`.
 ///
@@ -50,6 +50,7 @@ pub fn serve<T: Files + AllocGlobal, R: Read, W: Write>(
 pub fn show_help<W: Write>(answers: &mut W, help: &str) -> Result<Ending, CommandFault>
     ensures done { IfOk result (λ ends. ends ≡ Ending.Done) }
     ensures written { OnOk result (Appends (W.contents answers.old) (W.contents answers.new) help.now) }
+    ensures refused { IfErr result (λ fault. fault ≡ CommandFault.Script ScriptFault.WriteFault) }
     ensures cut { IfErr result (CutsShort (λ whole ends. (ends ≡ Ending.Done) × Appends (W.contents answers.old) whole help.now) (W.contents answers.old) (W.contents answers.new)) }
 {
     match write_whole(answers, help) {
@@ -66,21 +67,18 @@ pub fn setup_of<T: Files + AllocGlobal>(rt: &T, request: &Request) -> Result<Set
     ensures refused { IfErr result IsNoSetup }
 {
     let Some(file) = &request.setup else {
-        return read_text(rt.alloc(), SETUP_K);
+        return setup_in(rt.alloc(), SETUP_K.as_bytes());
     };
     let bytes = read_file(rt, file.as_str())?;
-    match str::from_utf8(&bytes) {
-        Ok(text) => read_text(rt.alloc(), text),
-        Err(_) => Err(CommandFault::Setup(SetupFault::NotToml)),
-    }
+    setup_in(rt.alloc(), &bytes)
 }
 
-/// The setup given by a text.
-fn read_text(alloc: Global, text: &str) -> Result<Setup, CommandFault>
-    ensures said { IfOk result (λ setup. IsSetup setup) }
-    ensures refused { IfErr result IsNoSetup }
+/// The setup that the bytes of a file give.
+fn setup_in(alloc: Global, bytes: &[u8]) -> Result<Setup, CommandFault>
+    ensures read { IfOk result (λ setup. reading bytes.now ≡ Ok setup) }
+    ensures refused { IfErr result (Refuses bytes.now) }
 {
-    match read_setup(alloc, text) {
+    match read_setup_bytes(alloc, bytes) {
         Ok(setup) => Ok(setup),
         Err(fault) => Err(CommandFault::Setup(fault)),
     }

@@ -69,13 +69,13 @@ fn serve_under<T: Files + AllocGlobal, R: Read, W: Write>(
             Ok(Step::Live { setup, input })
         }
         Sub::Script | Sub::Report | Sub::Plan | Sub::Check => {
-            serve_whole(rt, &setup, request, input, answers)
+            serve_to_end(rt, &setup, request, input, answers)
         }
     }
 }
 
 /// Serves a request of any subcommand but `live` under a setup.
-fn serve_whole<T: Files + AllocGlobal, R: Read, W: Write>(
+fn serve_to_end<T: Files + AllocGlobal, R: Read, W: Write>(
     rt: &T,
     setup: &Setup,
     request: &Request,

@@ -1,6 +1,7 @@
 -- What the text of a setup reads as. This product's own rule.
-use Rattle.std.specs.Prelude.{codes, ℕ, ℤ, pos, List, [], map, Result, Ok, Err, option_and_then, unwrap_or, unsigned_abs}
+use Rattle.std.specs.Prelude.{◌≡◌, ◌⊎◌, codes, ℕ, ℤ, pos, List, [], map, Result, Ok, Err, option_and_then, unwrap_or, unsigned_abs}
 use Rattle.std.specs.Option.{option_map_or}
+use Rattle.std.specs.Str.{IsUtf8}
 use Rattle.toml.specs.Data.{Data, Members, no_members, get_member, as_str, as_integer, as_table}
 use Rattle.toml.specs.Parse.{parse_document}
 use Rattle.nms_quote.specs.Roster.{Name}
@@ -68,3 +69,7 @@ document_reading document = option_map_or (λ found. Err found) (document_fault 
 -- the setup that a text is, or why it is refused
 abbrev pub reading : Name → Result Settings SetupFault
 reading text = option_map_or document_reading (parse_document text) (Err fault.NotToml)
+
+-- why the bytes of a file are no setup: the fault of the text that they are; bytes that are not UTF-8 are no TOML document
+abbrev pub IsRefused : List ℕ → SetupFault → Type 0
+IsRefused bytes why = (reading bytes ≡ Err why) ⊎ ((why ≡ fault.NotToml) × (¬ (IsUtf8 bytes)))

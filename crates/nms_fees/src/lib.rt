@@ -22,7 +22,7 @@ pub use nms_fee_book::{Caps, FeeBook, FeeSchedule, MOST_FEE, MOST_RATE};
 pub use setup::Setup;
 pub use setup_fault::SetupFault;
 pub use setup_k::SETUP_K;
-pub use setup_reading::read_setup;
+pub use setup_reading::{read_setup, read_setup_bytes};
 pub use toml_table::{is_participant_key, is_symbol_key, is_top_key, rows_at, rows_in, value_at};
 
 /// The fewest changes that a setup's queue may hold.

@@ -2,11 +2,11 @@
 use crate::fault::{About, Fault};
 use crate::words::Request;
 use nms_codes::Code;
-use nms_fees::{SETUP_K, Setup, read_setup};
+use nms_fees::{SETUP_K, Setup, read_setup_bytes};
 use std::alloc::Global;
+use std::fs;
 use std::os::unix::fs::MetadataExt;
 use std::rt::Files;
-use std::{fs, str};
 
 /// The subcommand's own word at a place, from 0. The parser makes sure that the needed ones are there.
 pub(crate) fn word_at<'a>(request: &Request<'a>, place: usize) -> &'a str {
@@ -88,16 +88,16 @@ pub(crate) fn setup_of<T: Files + AllocGlobal>(
     request: &Request<'_>,
 ) -> Result<Setup, Fault> {
     let Some(file) = request.setup else {
-        return read_text(rt.alloc(), SETUP_K);
+        return setup_in(rt.alloc(), SETUP_K.as_bytes());
     };
     let bytes = read_file(rt, file, About::Setup)?;
-    match str::from_utf8(&bytes) {
-        Ok(text) => read_text(rt.alloc(), text),
-        Err(_) => Err(Fault::of(Code::C1, About::Setup)),
-    }
+    setup_in(rt.alloc(), &bytes)
 }
 
-/// The setup given by a text.
-fn read_text(alloc: Global, text: &str) -> Result<Setup, Fault> {
-    read_setup(alloc, text).map_err(|fault| Fault::of(Code::of_setup(fault), About::Setup))
+/// The setup that the bytes of a file give.
+fn setup_in(alloc: Global, bytes: &[u8]) -> Result<Setup, Fault> {
+    match read_setup_bytes(alloc, bytes) {
+        Ok(setup) => Ok(setup),
+        Err(fault) => Err(Fault::of(Code::of_setup(fault), About::Setup)),
+    }
 }

@@ -47,9 +47,10 @@ fn write_tip<E: Write>(
     let Some(kind) = kind_of(fault, request) else {
         return Ok(());
     };
-    let setup = match fault.about {
-        About::Setup => None,
-        _ => request.setup,
+    let setup = if matches!(fault.about, About::Setup) {
+        None
+    } else {
+        request.setup
     };
     let (option, setup) = match setup {
         Some(setup) => (" --setup ", setup),

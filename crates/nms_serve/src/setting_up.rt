@@ -1,16 +1,16 @@
 //! The setup that a request names.
 use crate::program_fault::ProgramFault;
 use crate::words::Request;
-use nms_fees::{SETUP_K, Setup, SetupFault, read_setup};
+use nms_fees::{SETUP_K, Setup, read_setup_bytes};
 use nms_serving::ServeFault;
 use std::alloc::Global;
+use std::fs;
 use std::io::ErrorKind;
-use std::{fs, str};
 
 /// The setup of the file that a request names, or the built-in one if it names none.
 pub(crate) fn read_setup_of(host: &HostRuntime, request: &Request) -> Result<Setup, ProgramFault> {
     let Some(file) = &request.setup else {
-        return read_text(host.alloc(), SETUP_K);
+        return setup_in(host.alloc(), SETUP_K.as_bytes());
     };
     let bytes = match fs::read(host, file.as_str()) {
         Ok(bytes) => bytes,
@@ -19,15 +19,12 @@ pub(crate) fn read_setup_of(host: &HostRuntime, request: &Request) -> Result<Set
         }
         Err(_) => return Err(ProgramFault::NoSetup),
     };
-    match str::from_utf8(&bytes) {
-        Ok(text) => read_text(host.alloc(), text),
-        Err(_) => Err(ProgramFault::Setup(SetupFault::NotToml)),
-    }
+    setup_in(host.alloc(), &bytes)
 }
 
-/// The setup given by a text.
-fn read_text(alloc: Global, text: &str) -> Result<Setup, ProgramFault> {
-    match read_setup(alloc, text) {
+/// The setup that the bytes of a file give.
+fn setup_in(alloc: Global, bytes: &[u8]) -> Result<Setup, ProgramFault> {
+    match read_setup_bytes(alloc, bytes) {
         Ok(setup) => Ok(setup),
         Err(fault) => Err(ProgramFault::Setup(fault)),
     }

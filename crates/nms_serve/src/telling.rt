@@ -7,9 +7,10 @@ use std::io::Write;
 
 /// Reports a fault on standard error, and gives its exit status. If standard error does not take it, the status stays.
 pub(crate) fn tell_fault(host: &HostRuntime, fault: &ProgramFault) -> u8 {
-    let _ = match fault {
-        ProgramFault::Words(WordsFault::Parser { text, .. }) => eprint!(host; "{text}"),
-        _ => eprintln!(host; "nms_serve: {fault}"),
+    let _ = if let ProgramFault::Words(WordsFault::Parser { text, .. }) = fault {
+        eprint!(host; "{text}")
+    } else {
+        eprintln!(host; "nms_serve: {fault}")
     };
     fault.status()
 }

@@ -60,7 +60,7 @@ fn array_of(table: SetupTable) -> SetupArray
 {
     match table {
         SetupTable::Symbol(_) => SetupArray::Symbol,
-        _ => SetupArray::Participant,
+        SetupTable::Top | SetupTable::Participant(_) => SetupArray::Participant,
     }
 }
 

@@ -86,27 +86,26 @@ impl Cutting {
         requires room { LEAST_LIMIT ≤ lent.now.tape_limit }
         ensures filled { IfOk result (λ cutting. cutting ≡ record { changes = 0; opened = 0; limit = lent.now.tape_limit; symbols = 0 }) }
     {
-        let limit = lent.tape_limit();
-        let bare = bare_roster(alloc, lent.roster())?;
-        let next = bare_roster(alloc, lent.roster())?;
-        let own = bare_roster(alloc, lent.roster())?;
-        let board = new_board(alloc, &own)?;
-        Ok(Cutting {
-            alloc,
-            limit,
-            begun: Begun::new(alloc),
-            bare,
-            own,
-            next,
-            board,
-            listed: Vec::new(alloc),
-            count: 0,
-            opened: 0,
-            time: 0,
-            number: 0,
-            splits: false,
-            scratch: Vec::new(alloc),
-        })
+        let (bare, next) = bare_rosters(alloc, lent.roster())?;
+        match bare_board(alloc, lent.roster()) {
+            Ok((own, board)) => Ok(Cutting {
+                alloc,
+                limit: lent.tape_limit(),
+                begun: Begun::new(alloc),
+                bare,
+                own,
+                next,
+                board,
+                listed: Vec::new(alloc),
+                count: 0,
+                opened: 0,
+                time: 0,
+                number: 0,
+                splits: false,
+                scratch: Vec::new(alloc),
+            }),
+            Err(fault) => Err(fault),
+        }
     }
 
     /// The symbols of the shard, in order.
@@ -266,6 +265,26 @@ impl Cutting {
     /// The row that made the last change, and its time.
     pub(crate) fn last_change(&self) -> (u64, u64) {
         (self.number, self.time)
+    }
+}
+
+/// Two rosters without a symbol.
+fn bare_rosters(alloc: Global, lent: &Roster) -> Result<(Roster, Roster), ImportFault> {
+    let one = bare_roster(alloc, lent)?;
+    match bare_roster(alloc, lent) {
+        Ok(other) => Ok((one, other)),
+        Err(fault) => Err(fault),
+    }
+}
+
+/// A roster without a symbol, and its board.
+fn bare_board(alloc: Global, lent: &Roster) -> Result<(Roster, Boards), ImportFault>
+    ensures { IfOk result (λ made. made.1.sizes ≡ sizes_of made.0) }
+{
+    let own = bare_roster(alloc, lent)?;
+    match new_board(alloc, &own) {
+        Ok(board) => Ok((own, board)),
+        Err(fault) => Err(fault),
     }
 }
 

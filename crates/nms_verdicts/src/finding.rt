@@ -146,7 +146,13 @@ fn of_breach<'a>(place: &BreachPlace, roster: &'a Roster, order: &Order) -> Find
             Item::of_money(*found),
             Item::of_money(*expected),
         ),
-        other => of_leg_breach(other, roster, order),
+        BreachPlace::NoSuchQuotation(_)
+        | BreachPlace::PriceDiffers(_)
+        | BreachPlace::ZeroLeg(_)
+        | BreachPlace::OverSize(_)
+        | BreachPlace::BeyondLimit { .. }
+        | BreachPlace::Repeated { .. }
+        | BreachPlace::TradedThrough { .. } => of_leg_breach(place, roster, order),
     }
 }
 
@@ -204,7 +210,11 @@ fn of_leg_breach<'a>(place: &BreachPlace, roster: &'a Roster, order: &Order) -> 
             let expected = first_price(passed.as_slice());
             of_leg(roster, worst, "", leg_price(worst), expected)
         }
-        _ => of_plan("", Item::Absent, Item::Absent),
+        BreachPlace::OtherVersion { .. }
+        | BreachPlace::OtherOrder { .. }
+        | BreachPlace::OverAsked { .. }
+        | BreachPlace::FilledWrong { .. }
+        | BreachPlace::CostWrong { .. } => of_plan("", Item::Absent, Item::Absent),
     }
 }
 

@@ -220,11 +220,13 @@ fn tell_passed<W: Write>(
 
 /// The quotations that a plan trades through.
 fn passed_in(verdict: &Verdict) -> &[PassedOver] {
-    match verdict {
-        Verdict::Doubted {
-            place: DoubtPlace::Breach(BreachPlace::TradedThrough { passed, .. }),
-            ..
-        } => passed.as_slice(),
-        _ => &[],
+    if let Verdict::Doubted {
+        place: DoubtPlace::Breach(BreachPlace::TradedThrough { passed, .. }),
+        ..
+    } = verdict
+    {
+        passed.as_slice()
+    } else {
+        &[]
     }
 }

@@ -31,9 +31,10 @@ pub(crate) fn expected_at(
 
 /// What a number counts, if its key does not say.
 fn unit_of(key: KnownKey) -> &'static str {
-    match key {
-        KnownKey::Lot => "shares of a round lot, ",
-        _ => "",
+    if key == KnownKey::Lot {
+        "shares of a round lot, "
+    } else {
+        ""
     }
 }
 
@@ -45,9 +46,10 @@ fn charge_expected(
     most: u32,
     cap: u32,
 ) -> Result<String, AllocError> {
-    let unit = match key {
-        KnownKey::Rate => "hundred-thousandths of the price",
-        _ => "nanodollars a share",
+    let unit = if key == KnownKey::Rate {
+        "hundred-thousandths of the price"
+    } else {
+        "nanodollars a share"
     };
     let adopted = match caps {
         Caps::Of2005 => "as adopted in 2005",

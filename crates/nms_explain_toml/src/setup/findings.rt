@@ -177,7 +177,13 @@ fn found_at<'a>(at_key: Option<Marked<'a>>, fault: SetupFault, value: &'a Value)
 fn counted_at(fault: SetupFault, value: &Value) -> Option<usize> {
     match fault {
         SetupFault::OutOfRange | SetupFault::TooMany => Some(value.as_array()?.len()),
-        _ => None,
+        SetupFault::NotToml
+        | SetupFault::Missing
+        | SetupFault::UnknownKey
+        | SetupFault::BadName
+        | SetupFault::WrongType
+        | SetupFault::OverCap
+        | SetupFault::NoMemory => None,
     }
 }
 
@@ -339,7 +345,9 @@ fn marked_table(text: &[u8], table: SetupTable) -> Marked<'_> {
 fn members_of(document: &Table, table: SetupTable) -> Option<&Table> {
     match table {
         SetupTable::Top => Some(document),
-        _ => element_of(document, table)?.as_table(),
+        SetupTable::Participant(_) | SetupTable::Symbol(_) => {
+            element_of(document, table)?.as_table()
+        }
     }
 }
 

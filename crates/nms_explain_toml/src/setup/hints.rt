@@ -60,7 +60,12 @@ pub(crate) fn value_hint(finding: &Finding, value: &Value) -> &'static str {
     match finding.fault {
         SetupFault::WrongType => kind_hint(key, value),
         SetupFault::BadName | SetupFault::OutOfRange => letters_hint(value),
-        _ => "",
+        SetupFault::NotToml
+        | SetupFault::Missing
+        | SetupFault::UnknownKey
+        | SetupFault::OverCap
+        | SetupFault::TooMany
+        | SetupFault::NoMemory => "",
     }
 }
 

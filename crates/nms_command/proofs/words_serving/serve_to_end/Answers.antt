@@ -1,8 +1,8 @@
--- `serve_whole`: clause `left`, by `stopped_by`.
+-- `serve_to_end`: clause `left`, by `stopped_by`.
 use Rattle.std.proofs.Common.{refl}
 use Rattle.nms_words.specs.CommandLine.{shown}
 use Rattle.nms_command.proofs.FailedFacts.{stopped_by}
-use Rattle.nms_command.proofs.words_serving.serve_whole.Goals as goal
+use Rattle.nms_command.proofs.words_serving.serve_to_end.Goals as goal
 
 pub returns-in-Err-clause-left : goal.returns-in-Err-clause-left
 returns-in-Err-clause-left g c =
