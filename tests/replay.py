@@ -9,6 +9,7 @@ A run is right if the tape is a merge of the feeds' accepted records, each answe
 versions fall, and the answers are byte for byte what TOOL answers to the script that is built of the tape, the published
 lengths and the requests. Each run that is not is printed with its seed. The last line is `N passed, M failed`.
 """
+import contextlib
 import os
 import random
 import re
@@ -622,8 +623,8 @@ def epoch_borders(program, tool):
                 border = version == 10
                 epoch, version = (epoch + 1, 2) if border else (epoch, version + 1)
                 # Both sides stand with one receipt: one opening change, then this change.
-                lines = b""
-                for _ in range(1000):
+                lines, until = b"", time.monotonic() + 20
+                while time.monotonic() < until:
                     answer = asked(b"N,0,ABC\n")
                     lines += answer
                     if b",ABC,%d," % version in answer:
@@ -812,10 +813,13 @@ def held_requests(program, tool):
             check(f"{it.what}: its version has the other feed's change", version is not None and version > place, (version, place))
     with Failing(program, tool, "held requests, and a fault") as it:
         feed = it.room.write("a", GOOD + b"?\n")
-        started = it.room.start(*it.words(feed, it.room.fifo("b"), "--wait", "--strict"), stdin=subprocess.PIPE)
-        started.stdin.write(b"N,0,ABC\n")
-        started.stdin.flush()
+        # The run may end before anything could be written to it, so the request is in the pipe before it starts.
+        reader, writer = os.pipe()
+        os.write(writer, b"N,0,ABC\n")
+        started = it.room.start(*it.words(feed, it.room.fifo("b"), "--wait", "--strict"), stdin=reader)
+        os.close(reader)
         it.ends(started, 6, "E5: A:2: L1")
+        os.close(writer)
 
 
 def silent_feeds(program, tool):
@@ -897,7 +901,7 @@ def kept_feeds(program, tool):
                 sent += 1 + turn % 3
                 if turn % 4:
                     check(f"{it.what}: turn {turn} is read", seen(started, sent))
-            # Where this is not waited for, the former FIFO still has what was sent.
+            # If this is not waited for, the former FIFO still has what was sent.
             os.remove(fifo)
             time.sleep(0.02 * (turn % 2))
             it.room.fifo("a")
@@ -961,8 +965,11 @@ def written_first(program, tool):
                     pass
                 feed.write(OTHER)
                 check(f"{it.what}: it is not published", not seen(started, 2, 0.3))
-                while not seen(started, 2, 0.05):
-                    os.read(end, 1 << 20)
+                until = time.monotonic() + 20
+                while not (published := seen(started, 2, 0.05)) and time.monotonic() < until:
+                    with contextlib.suppress(BlockingIOError):
+                        os.read(end, 1 << 20)
+                check(f"{it.what}: it is published once it can be written", published)
             started.stdin.close()
             Heard(started).ends(it.what, 0)
             os.close(end)
