@@ -10,7 +10,7 @@ use Rattle.nms_board.specs.Shown.{seen_on}
 use Rattle.nms_cert.specs.Doubts.{doubt_of}
 use Rattle.nms_cert.specs.declared.doubt.Doubt.{Doubt}
 use Rattle.nms_fees.specs.Settings.{Settings}
-use Rattle.nms_fees.specs.Setup.{reading}
+use Rattle.nms_fees.specs.Setup.{IsSetupOf}
 use Rattle.nms_sweep.specs.Planned.{Planned}
 use Rattle.nms_calls.specs.ChangeSaid.{change_said}
 use Rattle.nms_calls.specs.OrderSaid.{order_said}
@@ -34,7 +34,7 @@ IsOfRoster opened = opened.board.sizes ≡ sizes_of opened.settings.roster
 
 -- a board with nothing on it, of the setup that a text is
 pub record IsNew (text : List ℕ) (opened : Opened) : Type 0 where
-  pub setup : reading text ≡ Ok opened.settings
+  pub setup : IsSetupOf text opened.settings
   pub board : opened.board ≡ opening (sizes_of opened.settings.roster)
   pub stands : StandsFor opened.board []
 

@@ -4,7 +4,7 @@ use Rattle.std.specs.Prelude.{ℕ, ⊤, ◌≡◌, ◌≢◌, List, Option, Some
 use Rattle.nms_quote.specs.Roster.{place_in}
 use Rattle.nms_quote.specs.Terms.{Terms}
 use Rattle.nms_fees.specs.Settings.{Settings}
-use Rattle.nms_fees.specs.Setup.{IsRefused, reading}
+use Rattle.nms_fees.specs.Setup.{IsRefused, IsSetupOf}
 use Rattle.nms_fees.specs.declared.setup_fault.SetupFault.TheVariants as setup_fault
 use Rattle.nms_lines.specs.Layout.{field}
 use Rattle.nms_scripts.specs.Script.{Answers}
@@ -50,9 +50,9 @@ Serves sub.Plan settings asked input old new ends = (ends ≡ ending.Done) × Pl
 Serves sub.Check settings asked input old new ends = JudgesFiles settings old new ends
 Serves sub.Live settings asked input old new ends = ⊥
 
--- some text says the setup
+-- some bytes say the setup
 abbrev pub IsSetup : Settings → Type 0
-IsSetup settings = (text : List ℕ) × (reading text ≡ Ok settings)
+IsSetup settings = (bytes : List ℕ) × IsSetupOf bytes settings
 
 -- the bytes of a file give no setup, or memory ran out
 abbrev pub Refuses : List ℕ → CommandFault → Type 0

@@ -4,7 +4,7 @@ ghost use Rattle.std.specs.Io.KnownBytes.{Appends};
 ghost use Rattle.std.specs.String.{string_bytes};
 ghost use Rattle.nms_words.specs.CommandLine.{shown};
 ghost use Rattle.nms_command.specs.Failed.{CutsShort, Stops, StopsScript};
-ghost use Rattle.nms_fees.specs.Setup.{reading};
+ghost use Rattle.nms_fees.specs.Setup.{IsSetupOf};
 ghost use Rattle.nms_command.specs.Served.{IsNoSetup, IsSetup, Refuses, Reports, Scripts, Serves};
 
 use crate::check::serve_check;
@@ -75,7 +75,7 @@ pub fn setup_of<T: Files + AllocGlobal>(rt: &T, request: &Request) -> Result<Set
 
 /// The setup that the bytes of a file give.
 fn setup_in(alloc: Global, bytes: &[u8]) -> Result<Setup, CommandFault>
-    ensures read { IfOk result (λ setup. reading bytes.now ≡ Ok setup) }
+    ensures read { IfOk result (λ setup. IsSetupOf bytes.now setup) }
     ensures refused { IfErr result (Refuses bytes.now) }
 {
     match read_setup_bytes(alloc, bytes) {

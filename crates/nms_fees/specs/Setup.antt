@@ -70,6 +70,10 @@ document_reading document = option_map_or (λ found. Err found) (document_fault 
 abbrev pub reading : Name → Result Settings SetupFault
 reading text = option_map_or document_reading (parse_document text) (Err fault.NotToml)
 
+-- the bytes of a file are a text that says a setup
+abbrev pub IsSetupOf : List ℕ → Settings → Type 0
+IsSetupOf bytes settings = IsUtf8 bytes × (reading bytes ≡ Ok settings)
+
 -- why the bytes of a file are no setup: the fault of the text that they are; bytes that are not UTF-8 are no TOML document
 abbrev pub IsRefused : List ℕ → SetupFault → Type 0
-IsRefused bytes why = (reading bytes ≡ Err why) ⊎ ((why ≡ fault.NotToml) × (¬ (IsUtf8 bytes)))
+IsRefused bytes why = (IsUtf8 bytes × (reading bytes ≡ Err why)) ⊎ ((why ≡ fault.NotToml) × (¬ (IsUtf8 bytes)))

@@ -51,8 +51,15 @@ impl SetupFault {
         ensures { result ≡ status_of self }
     {
         match self {
+            SetupFault::NotToml
+            | SetupFault::Missing
+            | SetupFault::UnknownKey
+            | SetupFault::BadName
+            | SetupFault::WrongType
+            | SetupFault::OutOfRange
+            | SetupFault::OverCap
+            | SetupFault::TooMany => 3,
             SetupFault::NoMemory => 5,
-            _ => 3,
         }
     }
 

@@ -5,7 +5,7 @@ ghost use Rattle.nms_quote.specs.Roster.{part_refusal, sym_refusal};
 ghost use Rattle.nms_fees.specs.declared.section.Section.TheVariants as section;
 ghost use Rattle.nms_fee_book.specs.Fees.{AreCapped};
 ghost use Rattle.nms_fees.specs.Places.{rows_fault, document_fault, IsSound, AreSound};
-ghost use Rattle.nms_fees.specs.Setup.{IsRefused, text_at, number_at, table_of, participant_of, schedule_of, symbol_of, settings_of, reading};
+ghost use Rattle.nms_fees.specs.Setup.{IsRefused, IsSetupOf, text_at, number_at, table_of, participant_of, schedule_of, symbol_of, settings_of, reading};
 
 use crate::check::document_fault;
 use crate::choices::{Choices, choices_in};
@@ -49,7 +49,7 @@ pub fn read_setup(alloc: Global, text: &str) -> Result<Setup, SetupFault>
 ///
 /// The error is as of `read_setup`.
 pub fn read_setup_bytes(alloc: Global, bytes: &[u8]) -> Result<Setup, SetupFault>
-    ensures read { IfOk result (λ setup. reading bytes.now ≡ Ok setup) }
+    ensures read { IfOk result (λ setup. IsSetupOf bytes.now setup) }
     ensures refused { IfErr result (λ fault. fault ≢ SetupFault.NoMemory → IsRefused bytes.now fault) }
 {
     match str::from_utf8(bytes) {

@@ -121,7 +121,15 @@ pub(crate) fn write_item<W: Write>(
     match item {
         Item::Strong(_) if form.has_colours() => write_coloured(answers, b"\x1b[1m", item),
         Item::Alarm(_) if form.has_colours() => write_coloured(answers, b"\x1b[31m", item),
-        _ => write_plain(answers, item),
+        Item::Text(_)
+        | Item::Strong(_)
+        | Item::Alarm(_)
+        | Item::Bytes(_)
+        | Item::Number(_)
+        | Item::Price(_)
+        | Item::Money(_)
+        | Item::Flag(_)
+        | Item::Absent => write_plain(answers, item),
     }
 }
 

@@ -9,5 +9,5 @@ write_coloured-requires g c = record { colour = bold nothing }
 pub write_coloured-requires-in-Alarm : goal.write_coloured-requires-in-Alarm
 write_coloured-requires-in-Alarm g c = record { colour = red nothing }
 
-pub returns-in_default : goal.returns-in_default
-returns-in_default g c = λ own. safe_text c.write_plain.result _ _ (c.write_plain.ensures own)
+pub returns-in-Text : goal.returns-in-Text
+returns-in-Text g c = λ own. safe_text c.write_plain.result _ _ (c.write_plain.ensures own)
