@@ -193,22 +193,22 @@ is_one_sided (meaning.ManualSide side) = true
 
 -- both sides, as far as there is a quotation
 abbrev pub change_of : Columns → Meanings → Record → (part sym : ℕ) → Option QState → Result Change Cause
-change_of columns mapping row part sym None = Ok (change.Quote part sym Automated None None)
-change_of columns mapping row part sym (Some state) = do
-  bid ← side_of mapping Bid (column_text columns.bid row) (column_text columns.bid_size row)
-  offer ← side_of mapping Offer (column_text columns.offer row) (column_text columns.offer_size row)
+change_of columns mapping line part sym None = Ok (change.Quote part sym Automated None None)
+change_of columns mapping line part sym (Some state) = do
+  bid ← side_of mapping Bid (column_text columns.bid line) (column_text columns.bid_size line)
+  offer ← side_of mapping Offer (column_text columns.offer line) (column_text columns.offer_size line)
   Ok (change.Quote part sym state bid offer)
 
 -- a row: a change with its time, or the first cause why it is none
 abbrev pub entry_of : Columns → Meanings → Listing → Record → Result Entry Cause
-entry_of columns mapping roster row = do
-  inside ← stop_if (is_listed mapping.ends.items (field row 0)) cause.Trailer
-  whole ← stop_if (nat_lt (length row) columns.width) cause.TooFewColumns
-  wanted ← stop_if (is_listed mapping.skips.items (column_text columns.skip row)) cause.Listed
-  time ← time_of mapping (column_text columns.time row)
-  part ← participant_of mapping roster (column_text columns.participant row)
-  sym ← or_stop (symbol_in mapping roster (column_text columns.symbol row)) (no_symbol mapping)
-  means ← meaning_of mapping (column_text columns.source row) (column_text columns.condition row)
+entry_of columns mapping roster line = do
+  inside ← stop_if (is_listed mapping.ends.items (field line 0)) cause.Trailer
+  whole ← stop_if (nat_lt (length line) columns.width) cause.TooFewColumns
+  wanted ← stop_if (is_listed mapping.skips.items (column_text columns.skip line)) cause.Listed
+  time ← time_of mapping (column_text columns.time line)
+  part ← participant_of mapping roster (column_text columns.participant line)
+  sym ← or_stop (symbol_in mapping roster (column_text columns.symbol line)) (no_symbol mapping)
+  means ← meaning_of mapping (column_text columns.source line) (column_text columns.condition line)
   state ← state_of mapping means
-  said ← change_of columns mapping row part sym state
+  said ← change_of columns mapping line part sym state
   Ok (record { time = time; change = said; one_sided = is_one_sided means })

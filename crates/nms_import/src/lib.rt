@@ -14,6 +14,7 @@ mod map_table;
 mod mapping;
 mod mapping_reading;
 mod meanings;
+mod meanings_reading;
 mod noting;
 mod number;
 mod row;
@@ -33,11 +34,9 @@ pub use laws::worked_examples;
 pub use map_fault::{MapFault, both};
 pub use map_table::{MapTable, keep};
 pub use mapping::{FileForm, Mapping, Order, Source, place_of, places_of};
-pub use mapping_reading::{
-    document_of, file_of, form_of, mapping_of, names_of, no_others, read_mapping, skips_of,
-    symbols_of, unit_of,
-};
+pub use mapping_reading::{document_of, file_of, form_of, mapping_of, no_others, read_mapping};
 pub use meanings::{Half, Meaning, Meanings, PriceUnit, Renamed, Replaced, Said, TimeForm, Word};
+pub use meanings_reading::{names_of, skips_of, symbols_of, unit_of};
 pub use noting::Notes;
 pub use row::{entry_with, read_row, symbol_in};
 pub use rows::{next_row, open_rows};

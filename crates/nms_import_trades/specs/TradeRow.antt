@@ -162,17 +162,17 @@ is_claimed condition unexplained it = claims_it condition it || is_exempt it.fla
 
 -- a row: an execution, or the first cause why it is none
 abbrev pub trade_of : TradeColumns → TradeMeanings → Listing → Record → Result Trade TradeCause
-trade_of columns mapping roster row = do
-  inside ← stop_if (is_listed mapping.common.ends.items (field row 0)) cause.Trailer
-  whole ← stop_if (nat_lt (length row) columns.width) cause.TooFewColumns
-  wanted ← stop_if (is_listed mapping.common.skips.items (column_text columns.skip row)) cause.Listed
-  named ← stop_if (not (has_name columns.id row)) cause.BadName
-  time ← or_stop (clock_of mapping.common.time_form mapping.common.zone (column_text columns.time row)) cause.BadTime
-  part ← venue_of mapping roster (column_text columns.participant row)
-  sym ← or_stop (symbol_in mapping.common roster (column_text columns.symbol row)) (no_symbol mapping.common)
-  price ← or_stop (millionths_of mapping.common.price_unit (column_text columns.price row)) cause.BadPrice
-  shares ← or_stop (above_zero (shares_number (column_text columns.shares row))) cause.BadShares
-  dealt ← deal_of mapping (column_text columns.side row)
-  known ← stop_if (not (list_all (is_known mapping) (column_text columns.condition row))) cause.UnknownCondition
-  marked ← mark_of mapping (column_text columns.exempt row)
+trade_of columns mapping roster line = do
+  inside ← stop_if (is_listed mapping.common.ends.items (field line 0)) cause.Trailer
+  whole ← stop_if (nat_lt (length line) columns.width) cause.TooFewColumns
+  wanted ← stop_if (is_listed mapping.common.skips.items (column_text columns.skip line)) cause.Listed
+  named ← stop_if (not (has_name columns.id line)) cause.BadName
+  time ← or_stop (clock_of mapping.common.time_form mapping.common.zone (column_text columns.time line)) cause.BadTime
+  part ← venue_of mapping roster (column_text columns.participant line)
+  sym ← or_stop (symbol_in mapping.common roster (column_text columns.symbol line)) (no_symbol mapping.common)
+  price ← or_stop (millionths_of mapping.common.price_unit (column_text columns.price line)) cause.BadPrice
+  shares ← or_stop (above_zero (shares_number (column_text columns.shares line))) cause.BadShares
+  dealt ← deal_of mapping (column_text columns.side line)
+  known ← stop_if (not (list_all (is_known mapping) (column_text columns.condition line))) cause.UnknownCondition
+  marked ← mark_of mapping (column_text columns.exempt line)
   Ok (record { time = time; part = part; sym = sym; millionths = price; shares = shares; deal = dealt; marked = marked })

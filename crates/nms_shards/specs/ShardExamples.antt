@@ -38,15 +38,15 @@ part = bid 1 0 99900 80 ∷ bid 0 0 99900 80 ∷ []
 abbrev pub withdrawn : Tape
 withdrawn = change.Withdraw 0 ∷ []
 
--- a row without the number of its receipt
-abbrev pub row : (part price size : ℕ) → Row
-row part price size = record { part = part; price = price; size = size; receipt = 0; protected = true }
+-- a row as it is shown, without the number of its receipt
+abbrev pub shown : (part price size : ℕ) → Row
+shown part price size = record { part = part; price = price; size = size; receipt = 0; protected = true }
 
 pub record ExamplesHold : Type 0 where
   pub the_shard_says_the_same : of_symbol 1 day ≡ of_symbol 0 part
   pub a_withdrawal_is_of_both : of_symbol 1 (day ++ withdrawn) ≡ of_symbol 0 (part ++ withdrawn)
   pub the_first_symbol_is_another : of_symbol 0 day ≡ bid 0 0 250000 300 ∷ []
-  pub the_earlier_bid_ranks_first : shows two day 1 Bid ≡ row 1 99900 80 ∷ row 0 99900 80 ∷ []
-  pub so_it_does_in_the_shard : shows one part 0 Bid ≡ row 1 99900 80 ∷ row 0 99900 80 ∷ []
-  pub one_bid_is_left : shows two (day ++ withdrawn) 1 Bid ≡ row 1 99900 80 ∷ []
+  pub the_earlier_bid_ranks_first : shows two day 1 Bid ≡ shown 1 99900 80 ∷ shown 0 99900 80 ∷ []
+  pub so_it_does_in_the_shard : shows one part 0 Bid ≡ shown 1 99900 80 ∷ shown 0 99900 80 ∷ []
+  pub one_bid_is_left : shows two (day ++ withdrawn) 1 Bid ≡ shown 1 99900 80 ∷ []
   pub no_offer_is_shown : shows one part 0 Offer ≡ []

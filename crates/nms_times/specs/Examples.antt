@@ -12,7 +12,7 @@ four = 93000000000000 ∷ 93000000000001 ∷ 93000000000001 ∷ 160000000000000 
 abbrev pub four_lines : List ℕ
 four_lines = flat_map (λ t. time_text t ++ 10 ∷ []) four
 
--- 09:30:00, and row 7 of the source
+-- 09:30:00, and the seventh row of the source
 abbrev pub with_row : List ℕ
 with_row = time_text 93000000000000 ++ 44 ∷ time_text 7 ++ 10 ∷ []
 

@@ -1,5 +1,5 @@
 -- `meanings_of`: the shares of a unit are those that `size_of` read, and a fault is that of one of the tables.
-use Rattle.nms_import.proofs.mapping_reading.meanings_of.Goals as goal
+use Rattle.nms_import.proofs.meanings_reading.meanings_of.Goals as goal
 
 pub returns-in-Ok-clause-unit : goal.returns-in-Ok-clause-unit
 returns-in-Ok-clause-unit c =
