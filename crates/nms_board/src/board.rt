@@ -28,7 +28,6 @@ use std::marker::Model;
 
 /// What every participant quotes in every symbol of a roster after the changes applied so far.
 /// The cells are made once; the changes themselves are not kept.
-#[derive(Drop)]
 pub struct Boards {
     parts: u8,
     /// The round lot that each symbol opened with.
@@ -42,6 +41,21 @@ pub struct Boards {
     /// The best rows of each symbol, by place, so that a look at them reads no cell.
     bests: Vec<SymbolBest>,
     applied: u64,
+}
+
+/// Of its own, so that a function that holds one has one call at each exit, and not one for each part (docs/GATE.md).
+impl Drop for Boards {
+    fn drop(self) {
+        let Boards {
+            parts: _,
+            opening: _,
+            lots: _,
+            cells: _,
+            ranks: _,
+            bests: _,
+            applied: _,
+        } = self;
+    }
 }
 
 impl Model for Boards {

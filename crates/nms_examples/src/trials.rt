@@ -1,5 +1,6 @@
-//! Cases that the text of an example can't hold: streams that fail in mid-run or count, and limits. If a call gives a wrong
+//! Cases that the text of an example can't hold: streams that fail in mid-run or count, limits, and cutoffs. If a call gives a wrong
 //! answer, its trial fails and prints the answer on standard error.
+mod cutoffs;
 mod limits;
 mod live_streams;
 mod plan_streams;
@@ -39,6 +40,7 @@ pub(crate) fn give_trials<T: AllocGlobal + Eprint>(
         "readers" => try_readers(rt, setup),
         "rosters" => try_rosters(rt),
         "limits" => try_limits(),
+        "cutoffs" => { cutoffs::a_protected_row_is_swept_with_its_fee_at_the_next_price(rt, setup) }
         _ => Err(Fail::new("no such trials")),
     };
     let passed = came_to.is_ok();

@@ -34,7 +34,6 @@ pub enum Order {
 }
 
 /// What a mapping says of a column.
-#[derive(Drop)]
 pub enum Source {
     /// Its place, from 0.
     Place(u16),
@@ -44,8 +43,18 @@ pub enum Source {
     Fixed(Vec<u8>),
 }
 
+/// Of its own, so that a function that holds one has one call at each exit, and not one for each part (docs/GATE.md).
+impl Drop for Source {
+    fn drop(self) {
+        match self {
+            Source::Place(_) => (),
+            Source::Named(_) => (),
+            Source::Fixed(_) => (),
+        }
+    }
+}
+
 /// What a mapping says of the columns.
-#[derive(Drop)]
 pub struct Sources {
     pub(crate) time: Source,
     pub(crate) participant: Source,
@@ -59,8 +68,25 @@ pub struct Sources {
     pub(crate) skip: Source,
 }
 
+/// Of its own, so that a function that holds one has one call at each exit, and not one for each part (docs/GATE.md).
+impl Drop for Sources {
+    fn drop(self) {
+        let Sources {
+            time: _,
+            participant: _,
+            symbol: _,
+            bid: _,
+            bid_size: _,
+            offer: _,
+            offer_size: _,
+            source: _,
+            condition: _,
+            skip: _,
+        } = self;
+    }
+}
+
 /// A mapping.
-#[derive(Drop)]
 pub struct Mapping {
     /// How a file is laid out.
     pub file: FileForm,
@@ -69,6 +95,18 @@ pub struct Mapping {
     /// What the texts mean.
     pub meanings: Meanings,
     pub(crate) sources: Sources,
+}
+
+/// Of its own, so that a function that holds one has one call at each exit, and not one for each part (docs/GATE.md).
+impl Drop for Mapping {
+    fn drop(self) {
+        let Mapping {
+            file: _,
+            order: _,
+            meanings: _,
+            sources: _,
+        } = self;
+    }
 }
 
 /// What is expected of a column's name.

@@ -82,7 +82,6 @@ pub struct Said {
 }
 
 /// What the texts of a file mean.
-#[derive(Drop)]
 pub struct Meanings {
     /// How a time is written.
     pub time_form: TimeForm,
@@ -110,4 +109,25 @@ pub struct Meanings {
     pub ends: Vec<Word>,
     /// The words by which a row is skipped.
     pub skips: Vec<Word>,
+}
+
+/// Of its own, so that a function that holds one has one call at each exit, and not one for each part (docs/GATE.md).
+impl Drop for Meanings {
+    fn drop(self) {
+        let Meanings {
+            time_form: _,
+            zone: _,
+            price_unit: _,
+            no_price: _,
+            size_unit: _,
+            names: _,
+            same: _,
+            replaced: _,
+            skips_symbols: _,
+            said: _,
+            half: _,
+            ends: _,
+            skips: _,
+        } = self;
+    }
 }

@@ -8,7 +8,6 @@ use nms_import::Column;
 use nms_trades::is_name;
 
 /// The columns that a mapping reads, in one file.
-#[derive(Drop)]
 pub struct TradeColumns {
     /// How many columns a row needs: one more than the greatest place.
     pub width: usize,
@@ -32,6 +31,25 @@ pub struct TradeColumns {
     pub exempt: Column,
     /// The text by which a row is skipped.
     pub skip: Column,
+}
+
+/// Of its own, so that a function that holds one has one call at each exit, and not one for each part (docs/GATE.md).
+impl Drop for TradeColumns {
+    fn drop(self) {
+        let TradeColumns {
+            width: _,
+            id: _,
+            time: _,
+            participant: _,
+            symbol: _,
+            price: _,
+            shares: _,
+            side: _,
+            condition: _,
+            exempt: _,
+            skip: _,
+        } = self;
+    }
 }
 
 /// Whether a row has a name of an execution.

@@ -16,10 +16,16 @@ use std::marker::Model;
 
 /// Participants with their feeds and symbols with their round lots, each name once. An entry's place is the number of
 /// entries before it. The lots are those of the opening.
-#[derive(Drop)]
 pub struct Roster {
     parts: NameTable<Feed>,
     syms: NameTable<Lot>,
+}
+
+/// Of its own, so that a function that holds one has one call at each exit, and not one for each part (docs/GATE.md).
+impl Drop for Roster {
+    fn drop(self) {
+        let Roster { parts: _, syms: _ } = self;
+    }
 }
 
 impl Model for Roster {

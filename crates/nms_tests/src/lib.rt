@@ -1,14 +1,12 @@
 //! The tests of the crates below that take threads, or calls that no program makes: the lane, published versions, live runs,
-//! the cutoffs of an order, the rank order of a board, and its opening changes. Other facts that no clause states are tested
-//! in `nms_examples`, and the program's answers to a call in `examples/` and `tests/`.
+//! the rank order of a board, and its opening changes. Other facts that no clause states are tested in `nms_examples`, and the
+//! program's answers to a call in `examples/` and `tests/`.
 //!
 //! They stand here because the gate proves a crate once more for its own tests.
 #![tactic(auto)]
 
 #[cfg(test)]
 mod chance;
-#[cfg(test)]
-mod cutoffs;
 #[cfg(test)]
 mod feed;
 #[cfg(test)]

@@ -18,7 +18,6 @@ use nms_quote::Sym;
 use std::marker::Model;
 
 /// Looks at what is published, and never at a version older than one that it saw or was told of.
-#[derive(Drop)]
 pub struct Desk {
     /// A look takes it out and puts it back.
     pub(crate) reader: Option<PairReader>,
@@ -26,6 +25,18 @@ pub struct Desk {
     /// The longest version that it knows, and how many changes that has.
     pub(crate) newest: Token,
     pub(crate) longest: u64,
+}
+
+/// Of its own, so that a function that holds one has one call at each exit, and not one for each part (docs/GATE.md).
+impl Drop for Desk {
+    fn drop(self) {
+        let Desk {
+            reader: _,
+            memory: _,
+            newest: _,
+            longest: _,
+        } = self;
+    }
 }
 
 impl Model for Desk {

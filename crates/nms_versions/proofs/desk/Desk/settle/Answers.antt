@@ -9,7 +9,7 @@ use Rattle.nms_versions.proofs.BatchLemmas.{all_begin, all_published, prefix_sho
 use Rattle.nms_versions.proofs.desk.Desk.settle.Goals as goal
 
 -- what the desk knows begins the receipt's version
-begins : (c : goal.After-drop-self-inside-4) → IsPrefix c.self.inside.newest.log c.receipt.inside.seen.log
+begins : (c : goal.After-drop-self) → IsPrefix c.self.inside.newest.log c.receipt.inside.seen.log
 begins c =
     let knew : IsPrefix c.self.inside.newest.log c.learn.new.self.log =
     subst (λ (l : Batches). IsPrefix l c.learn.new.self.log) (ap (λ s. s.log) c.again-both.ensures) c.learn.ensures.2 in
