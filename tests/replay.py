@@ -472,7 +472,7 @@ class Failing:
     def words(self, feed_a, feed_b="/dev/null", *more):
         return ["--setup", self.setup, "--tape", self.tape, "--feed", f"A={feed_a}", "--feed", f"B={feed_b}", *more]
 
-    def ends(self, started, status, said, most=20):
+    def ends(self, started, status, said, most=MOST):
         """Whether a run ends with this status, and its last line on standard error is as it has to be."""
         got, _, errors = end_of(self.what, started, most)
         last = errors.rstrip("\n").split("\n")[-1]
@@ -713,7 +713,7 @@ def ask(started, line):
     return started.stdout.readline()
 
 
-def seen(started, version, most=10):
+def seen(started, version, most=60):
     """Whether a client sees a version in time."""
     end = time.monotonic() + most
     while time.monotonic() < end:
@@ -734,14 +734,14 @@ class Heard(threading.Thread):
         for line in self.started.stderr:
             self.lines.append(line.decode().removeprefix("nms_serve: ").rstrip("\n"))
 
-    def has(self, line, times=1, most=10):
+    def has(self, line, times=1, most=60):
         """Whether a line came so often, in time."""
         end = time.monotonic() + most
         while self.lines.count(line) < times and time.monotonic() < end:
             time.sleep(0.005)
         return self.lines.count(line) == times
 
-    def ends(self, what, status, most=20):
+    def ends(self, what, status, most=MOST):
         """Whether the run ends with this status."""
         try:
             got = self.started.wait(most)
@@ -832,7 +832,7 @@ def silent_feeds(program, tool):
             feed.write(GOOD)
             check(f"{it.what}: one that nothing opens", heard.has("feed B: silent for 1 s"), heard.lines)
             check(f"{it.what}: one that says no more", heard.has("feed A: silent for 1 s"), heard.lines)
-            check(f"{it.what}: in time", 0.9 < time.monotonic() - began < 6, time.monotonic() - began)
+            check(f"{it.what}: not before", time.monotonic() - began > 0.9, time.monotonic() - began)
             time.sleep(1.3)
             check(f"{it.what}: once", len(heard.lines) == 2, heard.lines)
             feed.write(b"?\n")
@@ -888,7 +888,7 @@ def kept_feeds(program, tool):
                 feed.write(GOOD)
         check(f"{it.what}: writers that come and go", seen(started, 202))
         started.stdin.close()
-        heard.ends(it.what, 6, 5)
+        heard.ends(it.what, 6)
         check(f"{it.what}: its summary", "feed A: 203 records, 1 refused" in heard.lines, heard.lines)
         it.tape_is(b"".join(stood(line) for line in [GOOD, OTHER] + [GOOD] * 200))
     with Failing(program, tool, "a kept feed that is removed and made again") as it:
@@ -909,7 +909,7 @@ def kept_feeds(program, tool):
         time.sleep(0.1)
         check(f"{it.what}: the last is waited for", started.poll() is None)
         started.stdin.close()
-        heard.ends(it.what, 0, 5)
+        heard.ends(it.what, 0)
         check(f"{it.what}: its summary", f"feed A: {sent} records, 0 refused" in heard.lines, heard.lines)
     with Failing(program, tool, "a kept feed with a writer, when the clients end") as it:
         fifo = it.room.fifo("a")
@@ -922,13 +922,13 @@ def kept_feeds(program, tool):
             time.sleep(0.2)
             check(f"{it.what}: the run goes on", started.poll() is None)
             feed.write(OTHER)
-        heard.ends(it.what, 0, 5)
+        heard.ends(it.what, 0)
         it.tape_is(stood(GOOD) + stood(OTHER))
     with Failing(program, tool, "a kept feed that is a file") as it:
         started = it.room.start(*it.words(it.room.write("a", GOOD), "/dev/null", "--keep", "--wait"), stdin=subprocess.PIPE)
         check(f"{it.what}: it is read once", seen(started, 1) and not seen(started, 2, 0.2))
         started.stdin.close()
-        Heard(started).ends(it.what, 0, 5)
+        Heard(started).ends(it.what, 0)
     for what, text, status, said in (
         ("a half line of a kept feed, strict", GOOD + OTHER[:-9], 6, "E5: A:2: L1"),
         ("a kept feed that waits, and a next tape that is not empty", (GOOD + OTHER) * 20, 1, "E2: there is something in the tape of the next epoch already"),
@@ -992,7 +992,7 @@ def torn_feeds(program, tool):
             check(f"{it.what}: a line after one too long", seen(started, 3))
             feed.write(b"Q,N,ABC,A,9.99,3")
         started.stdin.close()
-        got = started.wait(20), started.stderr.read().decode()
+        got = started.wait(MOST), started.stderr.read().decode()
         wanted = "nms_serve: A:2: L1\nnms_serve: A:4: L1\nnms_serve: A:6: L1\nnms_serve: feed A: 6 records, 3 refused\n"
         check(it.what, got[0] == 6 and got[1].startswith(wanted), got)
     with Failing(program, tool, "/dev/zero as a feed") as it:
