@@ -57,18 +57,23 @@ impl<'a> Door<'a> {
     }
 
     /// Opens the FIFO to read it, and waits for no writer: it has one during this call, and none afterwards. The second opening
-    /// goes by the first. So both are of one FIFO, though the path may name another by then.
+    /// goes by the first. So both are of one FIFO, though the path may name another by then. `None` if the path names nothing
+    /// by now.
     pub(crate) fn open_anew(
         &self,
         files: &HostRuntime,
         alloc: Global,
         run: &Run<'_>,
-    ) -> io::Result<File> {
-        let writer = self.open(files, run, OpenOptions::new().read(true).write(true))?;
+    ) -> io::Result<Option<File>> {
+        let writer = match self.open(files, run, OpenOptions::new().read(true).write(true)) {
+            Ok(writer) => writer,
+            Err(error) if error.kind() == ErrorKind::NotFound => return Ok(None),
+            Err(error) => return Err(error),
+        };
         let Ok(path) = format!(in alloc; "/proc/self/fd/{}", writer.as_raw_fd()) else {
             return Err(io::Error::from(ErrorKind::OutOfMemory));
         };
-        Door::new(path.as_str()).open_to_read(files, run)
+        Ok(Some(Door::new(path.as_str()).open_to_read(files, run)?))
     }
 
     /// Whether there is another FIFO now than the one that was opened: the old one was removed, and one was made again.
@@ -79,15 +84,10 @@ impl<'a> Door<'a> {
         now.file_type().is_fifo() && (now.ino() != then.ino() || now.dev() != then.dev())
     }
 
-    /// Whether there is a FIFO, or a pipe without a name.
-    pub(crate) fn is_fifo(&self, host: &HostRuntime) -> bool {
-        is_fifo(host, self.path)
-    }
-
     /// Wakes the thread of the run that waits here at a FIFO, if one does. Another thread does that, and the process ends
     /// without waiting for it. It opens both ends of the FIFO, and writes a line feed or reads what is in it.
     pub(crate) fn wake<R: Threads>(&self, rt: &R, host: &HostRuntime, alloc: Global, side: Side) {
-        if !self.is_fifo(host) {
+        if !is_fifo(host, self.path) {
             return;
         }
         let Ok(path) = String::from_str(alloc, self.path) else {
@@ -101,6 +101,14 @@ impl<'a> Door<'a> {
 /// Whether there is a FIFO at a path, or a pipe without a name.
 fn is_fifo(host: &HostRuntime, path: &str) -> bool {
     match fs::metadata(host, path) {
+        Ok(found) => found.file_type().is_fifo(),
+        Err(_) => false,
+    }
+}
+
+/// Whether an open file is a FIFO, or a pipe without a name. Its path may name another file by now, or none.
+pub(crate) fn is_open_fifo(opened: &File) -> bool {
+    match opened.metadata() {
         Ok(found) => found.file_type().is_fifo(),
         Err(_) => false,
     }

@@ -2,7 +2,7 @@
 ghost use Rattle.std.specs.Prelude.{◌≡◌, []};
 ghost use Rattle.nms_feeds.specs.Streams.{IsCounted};
 
-use crate::door::Door;
+use crate::door::{Door, is_open_fifo};
 use crate::guarded::Guarded;
 use crate::run::Run;
 use crate::serve_fault::ServeFault;
@@ -63,7 +63,7 @@ fn read_feed<R: Wait>(
     let Ok(mut file) = door.open_to_read(means.host, run) else {
         return Err(ServeFault::NotOpened(Stream::Feed(feed)));
     };
-    let is_kept = run.ways.keep && door.is_fifo(means.host);
+    let is_kept = run.ways.keep && is_open_fifo(&file);
     let watcher = Watcher::new(means.host, run);
     for _ in 0..u64::MAX {
         // The clients are checked before the stream: changes written before they ended are still read.
@@ -73,11 +73,15 @@ fn read_feed<R: Wait>(
             return Ok(());
         }
         if door.is_renewed(means.host, &file) {
-            let Ok(again) = door.open_anew(means.host, means.alloc, run) else {
-                return Err(ServeFault::NotOpened(Stream::Feed(feed)));
-            };
-            file = again;
-            continue;
+            match door.open_anew(means.host, means.alloc, run) {
+                Ok(Some(again)) => {
+                    file = again;
+                    continue;
+                }
+                // It was removed once more.
+                Ok(None) => {}
+                Err(_) => return Err(ServeFault::NotOpened(Stream::Feed(feed))),
+            }
         }
         thread::sleep(means.host, Duration::from_millis(REST));
     }
