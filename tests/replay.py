@@ -871,6 +871,17 @@ def time_of(pid):
     return (int(fields[11]) + int(fields[12])) / os.sysconf("SC_CLK_TCK")
 
 
+def opened(fifo, most=60):
+    """The end for writing of a FIFO, once the run has the other; None if it has not in time."""
+    end = time.monotonic() + most
+    while time.monotonic() < end:
+        # Opening fails as long as nothing reads it.
+        with contextlib.suppress(OSError):
+            return open(os.open(fifo, os.O_WRONLY | os.O_NONBLOCK), "wb", buffering=0)
+        time.sleep(0.002)
+    return None
+
+
 def kept_feeds(program, tool):
     """With --keep a FIFO waits for its next writer, until its writer has left and all clients have ended."""
     with Failing(program, tool, "a kept feed") as it:
@@ -896,7 +907,10 @@ def kept_feeds(program, tool):
         started = it.room.start(*it.words(fifo, "/dev/null", "--keep"), stdin=subprocess.PIPE)
         heard, sent = Heard(started), 0
         for turn in range(20):
-            with open(fifo, "wb", buffering=0) as feed:
+            feed = opened(fifo)
+            if not check(f"{it.what}: turn {turn} is opened", feed is not None, heard.lines):
+                break
+            with feed:
                 feed.write(GOOD + OTHER * (turn % 3))
                 sent += 1 + turn % 3
                 if turn % 4:
@@ -911,6 +925,21 @@ def kept_feeds(program, tool):
         started.stdin.close()
         heard.ends(it.what, 0)
         check(f"{it.what}: its summary", f"feed A: {sent} records, 0 refused" in heard.lines, heard.lines)
+    for turn in range(20):
+        with Failing(program, tool, f"a kept feed that is removed as it is opened, turn {turn}") as it:
+            fifo = it.room.fifo("a")
+            started = it.room.start(*it.words(fifo, "/dev/null", "--keep"), stdin=subprocess.PIPE)
+            heard = Heard(started)
+            with open(fifo, "wb", buffering=0) as feed:
+                os.remove(fifo)
+                feed.write(GOOD)
+            it.room.fifo("a")
+            if check(f"{it.what}: the next one is opened", feed := opened(fifo), heard.lines):
+                with feed:
+                    feed.write(OTHER)
+                    check(f"{it.what}: it is read", seen(started, 2))
+            started.stdin.close()
+            heard.ends(it.what, 0)
     with Failing(program, tool, "a kept feed with a writer, when the clients end") as it:
         fifo = it.room.fifo("a")
         started = it.room.start(*it.words(fifo, "/dev/null", "--keep"), stdin=subprocess.PIPE)
