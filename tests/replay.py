@@ -832,7 +832,7 @@ def silent_feeds(program, tool):
             feed.write(GOOD)
             check(f"{it.what}: one that nothing opens", heard.has("feed B: silent for 1 s"), heard.lines)
             check(f"{it.what}: one that says no more", heard.has("feed A: silent for 1 s"), heard.lines)
-            check(f"{it.what}: not before", time.monotonic() - began > 0.9, time.monotonic() - began)
+            check(f"{it.what}: in time", 0.9 < time.monotonic() - began < 6, time.monotonic() - began)
             time.sleep(1.3)
             check(f"{it.what}: once", len(heard.lines) == 2, heard.lines)
             feed.write(b"?\n")
@@ -872,7 +872,7 @@ def time_of(pid):
 
 
 def opened(fifo, most=60):
-    """The end for writing of a FIFO, once the run has the other; None if it has not in time."""
+    """Opens a FIFO to write to it, once the run reads it; None if the run does not in time."""
     end = time.monotonic() + most
     while time.monotonic() < end:
         # Opening fails as long as nothing reads it.
