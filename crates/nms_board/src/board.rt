@@ -43,7 +43,7 @@ pub struct Boards {
     applied: u64,
 }
 
-/// Of its own, so that a function that holds one has one call at each exit, and not one for each part (docs/GATE.md).
+/// A `Drop` of its own: a function that holds one then has one call at each exit, and not one for each part (docs/GATE.md).
 impl Drop for Boards {
     fn drop(self) {
         let Boards {

@@ -41,7 +41,7 @@ pub struct Columns {
     pub skip: Column,
 }
 
-/// Of its own, so that a function that holds one has one call at each exit, and not one for each part (docs/GATE.md).
+/// A `Drop` of its own: a function that holds one then has one call at each exit, and not one for each part (docs/GATE.md).
 impl Drop for Columns {
     fn drop(self) {
         let Columns {

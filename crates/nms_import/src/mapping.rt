@@ -43,7 +43,7 @@ pub enum Source {
     Fixed(Vec<u8>),
 }
 
-/// Of its own, so that a function that holds one has one call at each exit, and not one for each part (docs/GATE.md).
+/// A `Drop` of its own: a function that holds one then has one call at each exit, and not one for each part (docs/GATE.md).
 impl Drop for Source {
     fn drop(self) {
         match self {
@@ -68,7 +68,7 @@ pub struct Sources {
     pub(crate) skip: Source,
 }
 
-/// Of its own, so that a function that holds one has one call at each exit, and not one for each part (docs/GATE.md).
+/// A `Drop` of its own: a function that holds one then has one call at each exit, and not one for each part (docs/GATE.md).
 impl Drop for Sources {
     fn drop(self) {
         let Sources {
@@ -97,7 +97,7 @@ pub struct Mapping {
     pub(crate) sources: Sources,
 }
 
-/// Of its own, so that a function that holds one has one call at each exit, and not one for each part (docs/GATE.md).
+/// A `Drop` of its own: a function that holds one then has one call at each exit, and not one for each part (docs/GATE.md).
 impl Drop for Mapping {
     fn drop(self) {
         let Mapping {

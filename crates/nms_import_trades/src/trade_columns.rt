@@ -33,7 +33,7 @@ pub struct TradeColumns {
     pub skip: Column,
 }
 
-/// Of its own, so that a function that holds one has one call at each exit, and not one for each part (docs/GATE.md).
+/// A `Drop` of its own: a function that holds one then has one call at each exit, and not one for each part (docs/GATE.md).
 impl Drop for TradeColumns {
     fn drop(self) {
         let TradeColumns {

@@ -40,15 +40,15 @@ best_from_first_best side rows place row h is =
     }
 
 -- the row at the first place is the best
-pub first_is_best : (side : Side) (rows : List Row) (best : Option Row) → best ≡ ranked_at side rows 0
-    → MatchOption best (length rows ≤ 0) (λ row. 0 < length rows) → IsBestOf side rows best
+pub first_is_best : (side : Side) (held : List Row) (best : Option Row) → best ≡ ranked_at side held 0
+    → MatchOption best (length held ≤ 0) (λ row. 0 < length held) → IsBestOf side held best
 first_is_best side [] None first there = refl
-first_is_best side (row ∷ rows) None first there = absurd (omega (arith, there))
-first_is_best side rows (Some row) first there =
-    let (among, passed) = found (λ one. eqb (rank_among side rows one) 0) rows row (sym first) in
+first_is_best side (row ∷ held) None first there = absurd (omega (arith, there))
+first_is_best side held (Some row) first there =
+    let (among, passed) = found (λ one. eqb (rank_among side held one) 0) held row (sym first) in
     record {
       among = among;
-      highest = none_counted (λ other. ranks_above side other row) rows (eqb-true (rank_among side rows row) 0 passed);
+      highest = none_counted (λ other. ranks_above side other row) held (eqb-true (rank_among side held row) 0 passed);
     }
 
 -- two rows of which neither ranks above the other rank alike

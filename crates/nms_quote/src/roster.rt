@@ -21,7 +21,7 @@ pub struct Roster {
     syms: NameTable<Lot>,
 }
 
-/// Of its own, so that a function that holds one has one call at each exit, and not one for each part (docs/GATE.md).
+/// A `Drop` of its own: a function that holds one then has one call at each exit, and not one for each part (docs/GATE.md).
 impl Drop for Roster {
     fn drop(self) {
         let Roster { parts: _, syms: _ } = self;

@@ -357,15 +357,15 @@ gives_none rows start left still rest =
 
 -- ---- where the walk begins
 
-no-sums : (rows : List Usable) → AreByPrice rows → Ordered Price rows → IsSweptNext rows 0 (pos 0) rows
+no-sums : (held : List Usable) → AreByPrice held → Ordered Price held → IsSweptNext held 0 (pos 0) held
 no-sums [] are ordered = tt
 no-sums (row ∷ later) are ordered = let none = first-sums row later ordered.0 in (sym none.0, sym none.1)
 
-pub begins : (rows : List Usable) (passed : Passed) → AreByPrice rows → passed.rows ≡ 0 → passed.shown ≡ 0 → passed.protected ≡ 0
-    → passed.cost ≡ pos 0 → IsPassed rows passed
+pub begins : (held : List Usable) (passed : Passed) → AreByPrice held → passed.rows ≡ 0 → passed.shown ≡ 0 → passed.protected ≡ 0
+    → passed.cost ≡ pos 0 → IsPassed held passed
 unfolding total amount
-begins rows passed are count none few free =
-    let nothing : take passed.rows rows ≡ [] = ap (λ n. take n rows) count in
+begins held passed are count none few free =
+    let nothing : take passed.rows held ≡ [] = ap (λ n. take n held) count in
     record {
       by_price = are;
       within = omega (arith, count);
@@ -378,10 +378,10 @@ begins rows passed are count none few free =
         low = omega (arith, ints, free);
         high = omega (arith, ints, free);
       });
-      next = subst (λ n. IsSweptNext rows passed.protected passed.cost (drop n rows)) (sym count)
-          (subst (λ n. IsSweptNext rows n passed.cost rows) (sym few)
-          (subst (λ z. IsSweptNext rows 0 z rows) (sym free)
-          (no-sums rows are (ordered_from Price rows (in_order_from Price rows are.ordered)))));
+      next = subst (λ n. IsSweptNext held passed.protected passed.cost (drop n held)) (sym count)
+          (subst (λ n. IsSweptNext held n passed.cost held) (sym few)
+          (subst (λ z. IsSweptNext held 0 z held) (sym free)
+          (no-sums held are (ordered_from Price held (in_order_from Price held are.ordered)))));
     }
 
 -- over no rows

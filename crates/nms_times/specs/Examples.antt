@@ -13,8 +13,8 @@ abbrev pub four_lines : List ℕ
 four_lines = flat_map (λ t. time_text t ++ 10 ∷ []) four
 
 -- 09:30:00, and the seventh row of the source
-abbrev pub with_row : List ℕ
-with_row = time_text 93000000000000 ++ 44 ∷ time_text 7 ++ 10 ∷ []
+abbrev pub numbered : List ℕ
+numbered = time_text 93000000000000 ++ 44 ∷ time_text 7 ++ 10 ∷ []
 
 -- the digits 093000, 240000 and 096000
 abbrev pub half_past_nine : List ℕ
@@ -44,6 +44,6 @@ pub record ExamplesHold : Type 0 where
   pub no_day_has_24_hours : time_reading midnight_late ≡ None
   pub no_hour_has_60_minutes : time_reading sixty_minutes ≡ None
   pub a_line_has_its_time : time_at four_lines 3 ≡ Some 160000000000000
-  pub a_row_may_follow : time_at with_row 0 ≡ Some 93000000000000
-  pub it_is_read : row_of with_row 1 ≡ Some 7
+  pub a_row_may_follow : time_at numbered 0 ≡ Some 93000000000000
+  pub it_is_read : row_of numbered 1 ≡ Some 7
   pub a_return_before_the_line_feed_is_wrong : time_at (time_text 93000000000000 ++ 13 ∷ 10 ∷ []) 0 ≡ None
