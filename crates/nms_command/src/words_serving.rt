@@ -64,10 +64,10 @@ fn serve_under<T: Files + AllocGlobal, R: Read, W: Write>(
     ensures left { IfErr result (IsStopped (shown request.now) (R.remaining input.old) (W.contents answers.old) (W.contents answers.new)) }
 {
     match request.command {
-        Sub::Live => {
-            let input = read_live_input(rt, &setup, &request.words)?;
-            Ok(Step::Live { setup, input })
-        }
+        Sub::Live => match read_live_input(rt, &setup, &request.words) {
+            Ok(input) => Ok(Step::Live { setup, input }),
+            Err(fault) => Err(fault),
+        },
         Sub::Script | Sub::Report | Sub::Plan | Sub::Check => {
             serve_to_end(rt, &setup, request, input, answers)
         }
