@@ -116,7 +116,10 @@ fn serve_report<T: Files + AllocGlobal, W: Write>(
     let Some(sym) = setup.roster().find_sym(symbol.as_bytes()) else {
         return Err(CommandFault::Usage);
     };
-    let file = open_file(rt, changes.as_str())?;
+    let file = match open_file(rt, changes.as_str()) {
+        Ok(file) => file,
+        Err(fault) => return Err(fault),
+    };
     match report_changes(rt.alloc(), setup, file, sym, answers) {
         Ok(()) => Ok(Ending::Done),
         Err(fault) => Err(CommandFault::Report(fault)),
