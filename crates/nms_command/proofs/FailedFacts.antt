@@ -71,6 +71,11 @@ unread_other : (why : CommandFault) → IsUnread why → is_write_fault why ≡ 
 unread_other why (inl is) = subst (λ fault. is_write_fault fault ≡ false) (sym is) refl
 unread_other why (inr is) = subst (λ fault. is_write_fault fault ≡ false) (sym is) refl
 
+-- nor is a live run's input given without it
+pub unread_given : (settings : Settings) (files : ℕ) (why : CommandFault) → IsUnread why → IsNotGiven settings files why
+unread_given settings files why (inl is) = subst (IsNotGiven settings files) (sym is) tt
+unread_given settings files why (inr is) = subst (IsNotGiven settings files) (sym is) refl
+
 -- a file that was not read
 pub unread_cut : (why : CommandFault) (P : Option (List ℕ) → Ending → Type 0) (old new : Option (List ℕ)) → IsUnread why → new ≡ old
     → CutsShort P old new why

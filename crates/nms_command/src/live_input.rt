@@ -47,8 +47,14 @@ pub fn read_live_input<T: Files + AllocGlobal>(
     if feeds.len() != usize::from(setup.feeds()) {
         return Err(CommandFault::Usage);
     }
-    let orders = open_file(rt, orders.as_str())?;
-    let feeds = read_feeds(rt, feeds)?;
+    let orders = match open_file(rt, orders.as_str()) {
+        Ok(orders) => orders,
+        Err(fault) => return Err(fault),
+    };
+    let feeds = match read_feeds(rt, feeds) {
+        Ok(feeds) => feeds,
+        Err(fault) => return Err(fault),
+    };
     with_orders(rt, setup, feeds, orders)
 }
 
@@ -81,7 +87,10 @@ fn read_feeds<T: Files + AllocGlobal>(
 {
     let mut feeds = Vec::new(rt.alloc());
     for path in paths {
-        let bytes = read_feed(rt, path.as_str())?;
+        let bytes = match read_feed(rt, path.as_str()) {
+            Ok(bytes) => bytes,
+            Err(fault) => return Err(fault),
+        };
         match feeds.push(bytes) {
             Ok(()) => {}
             Err(_) => return Err(CommandFault::Script(ScriptFault::NoMemory)),
@@ -95,7 +104,10 @@ fn read_feed<T: Files + AllocGlobal>(rt: &T, path: &str) -> Result<Vec<u8>, Comm
     ensures within { IfOk result (λ feed. length feed.items ≤ most_feed_bytes) }
     ensures refused { (settings : Settings) (files : ℕ) → IfErr result (IsNotGiven settings files) }
 {
-    let file = open_file(rt, path)?;
+    let file = match open_file(rt, path) {
+        Ok(file) => file,
+        Err(fault) => return Err(fault),
+    };
     match read_within(rt.alloc(), file, MOST_FEED_BYTES) {
         Ok(bytes) => Ok(bytes),
         Err(fault) => Err(CommandFault::Feed(fault)),

@@ -32,7 +32,10 @@ pub(crate) fn serve_plan<T: Files + AllocGlobal, W: Write>(
     let Some(changes) = request.words.first() else {
         return Err(CommandFault::Usage);
     };
-    let file = open_file(rt, changes.as_str())?;
+    let file = match open_file(rt, changes.as_str()) {
+        Ok(file) => file,
+        Err(fault) => return Err(fault),
+    };
     match plan_changes(rt.alloc(), setup, file, &order, answers) {
         Ok(()) => Ok(Ending::Done),
         Err(fault) => Err(CommandFault::Plan(fault)),

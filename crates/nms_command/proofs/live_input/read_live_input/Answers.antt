@@ -1,11 +1,33 @@
--- `read_live_input`: why a file was not read is why the whole was not.
-use Rattle.std.proofs.Common.{rules, ◌≡◌, Err, length}
+-- `read_live_input`: the words are as many as the files, and why a file was not read is why the whole was not.
+use Rattle.std.proofs.Common.{arith, ◌≡◌, ◌+◌, length}
+use Rattle.std.proofs.lemmas.Result.{IfOk-weaker}
+use Rattle.nms_command.proofs.FailedFacts.{unread_given}
 use Rattle.nms_command.proofs.live_input.read_live_input.Goals as goal
 
-pub returns-in_err-feeds-clause-refused : goal.returns-in_err-feeds-clause-refused
-returns-in_err-feeds-clause-refused g c =
-    let is_fault : c.from_residual-in_err-feeds.result ≡ Err c.in_err-feeds.field-0.0 = search rules in
-    rw is_fault (c.in_err-feeds.ensures.refused c.args.setup.now (length c.args.words.now))
+pub returns-in-Err-clause-counted : goal.returns-in-Err-clause-counted
+returns-in-Err-clause-counted g c other =
+    absurd (other (omega (arith, c.in-Some.ensures.cases.1, c.if-feeds-from.false, c.from.ensures, c.feeds.ensures.value)))
+
+pub returns-in-Err-clause-refused : goal.returns-in-Err-clause-refused
+returns-in-Err-clause-refused g c =
+    unread_given c.args.setup.now (length c.args.words.now) c.in-Err.fault c.in-Err.ensures.refused
+
+pub returns-in-Err-read_feeds-clause-counted : goal.returns-in-Err-read_feeds-clause-counted
+returns-in-Err-read_feeds-clause-counted g c other =
+    absurd (other (omega (arith, c.in-Some.ensures.cases.1, c.if-feeds-from.false, c.from.ensures, c.feeds.ensures.value)))
+
+pub returns-in-Err-read_feeds-clause-refused : goal.returns-in-Err-read_feeds-clause-refused
+returns-in-Err-read_feeds-clause-refused g c = c.in-Err-read_feeds.ensures.refused c.args.setup.now (length c.args.words.now)
+
+pub returns-clause-files : goal.returns-clause-files
+returns-clause-files g c =
+    let as_many : length c.args.words.now ≡ 1 + c.args.setup.now.feeds =
+    omega (arith, c.in-Some.ensures.cases.1, c.if-feeds-from.false, c.from.ensures, c.feeds.ensures.value) in
+    IfOk-weaker c.with_orders.result _ _ (λ _ _. as_many) c.with_orders.ensures.orders
+
+pub returns-clause-counted : goal.returns-clause-counted
+returns-clause-counted g c other =
+    absurd (other (omega (arith, c.in-Some.ensures.cases.1, c.if-feeds-from.false, c.from.ensures, c.feeds.ensures.value)))
 
 pub returns-clause-refused : goal.returns-clause-refused
 returns-clause-refused g c = c.with_orders.ensures.refused (length c.args.words.now)
