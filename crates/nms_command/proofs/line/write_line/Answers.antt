@@ -1,6 +1,7 @@
 -- `write_line`: clause `part`, by `part_more`, `whole_kept`, `at_failure`, `longer`, `same_all` and
 -- `same_part`.
-use Rattle.std.proofs.Common.{◌++◌, ◌∷◌, [], ℕ, List, Option}
+use Rattle.std.proofs.Common.{arith, ◌++◌, ◌∷◌, [], ℕ, List, Option}
+use Rattle.std.proofs.lemmas.Grind.{common_steps}
 use Rattle.std.specs.Io.KnownBytes.{Appends}
 use Rattle.nms_lines.specs.Written.{AppendsPart}
 use Rattle.nms_lines.proofs.Offered.{part_more, whole_kept}
@@ -57,3 +58,6 @@ returns-clause-part g c =
     at_failure c.flush.result
     (part_more old one four c.args.head.now (c.args.code.now ++ 10 ∷ []) head
     (part_more one two four c.args.code.now (10 ∷ []) code (whole_kept two three four (10 ∷ []) end c.flush.ensures.bytes)))
+
+pub returns-clause-written : goal.returns-clause-written
+returns-clause-written g c = grind (arith, common_steps)
