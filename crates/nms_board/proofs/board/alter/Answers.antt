@@ -1,5 +1,6 @@
 -- Of `alter`: what it asks of `settle` and `follow`, and its clauses, by `altered_is`, `ranks_altered` and `bests_altered`.
 use Rattle.std.proofs.Common.{◌≡◌, ℕ, ◌+◌, ◌*◌, Option, get_or, refl, sym, ap, subst, ◌∙◌, arith}
+use Rattle.std.proofs.lemmas.Grind.{common_steps}
 use Rattle.std.proofs.lemmas.Option.{slice_get-get_or}
 use Rattle.nms_quote.specs.Roster.{Sizes}
 use Rattle.nms_board.specs.Cells.{altered, place_of}
@@ -138,3 +139,17 @@ returns-clause-bests c =
     (altered c.args.number c.args.change.now)) c.requires.ranks.symbols c.requires.bests
     (λ side. subst (λ (g : ℕ → Option Row). best_on side c.follow.new.self ≡ first_row g (order_on side c.settle.new.self)) (known.is side)
     (c.follow.ensures side)))
+
+-- ---- goals that `grind` closes; the search that is tried before it takes longer
+
+pub symbol_cells-shown-requires : goal.symbol_cells-shown-requires
+symbol_cells-shown-requires c = grind (arith, common_steps)
+
+pub settle-requires-clause-parts : goal.settle-requires-clause-parts
+settle-requires-clause-parts c = grind (arith, common_steps)
+
+pub settle-requires-clause-part : goal.settle-requires-clause-part
+settle-requires-clause-part c = grind (arith, common_steps)
+
+pub follow-requires-clause-parts : goal.follow-requires-clause-parts
+follow-requires-clause-parts c = grind (arith, common_steps)

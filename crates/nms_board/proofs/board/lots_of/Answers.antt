@@ -17,3 +17,14 @@ loop-place-preserved c =
     (rw (slice_get-map (λ entry. entry.1) syms c.loop-place.place, ← place) c.lot_of.ensures) in
     let more = take_more lots c.loop-place.place 0 (omega (arith, length-map syms (λ entry. entry.1))) in
     rw (c.in_ok-push.ensures.items, c.loop-place.invariant, more, next) refl
+
+-- ---- goals that `grind` closes; the search that is tried before it takes longer
+
+pub returns-clause-within : goal.returns-clause-within
+returns-clause-within c = grind (arith, common_steps)
+
+pub returns-clause-lots : goal.returns-clause-lots
+returns-clause-lots c = grind (arith, common_steps)
+
+pub lot_of-requires : goal.lot_of-requires
+lot_of-requires c = grind (arith, common_steps)

@@ -1,6 +1,7 @@
 -- `set_lot`: clauses `ranks` and `bests` and the calls of `rank_anew` and `of`, by `ranks_relotted`, `bests_relotted` and
 -- `shown_in`.
 use Rattle.std.proofs.Common.{◌≡◌, ℕ, Option, length, sym, ap, subst, ◌∙◌, ◌+◌, ◌*◌, arith}
+use Rattle.std.proofs.lemmas.Grind.{common_steps}
 use Rattle.std.proofs.lemmas.List.Edits.{length-between}
 use Rattle.nms_quote.specs.Roster.{Sizes}
 use Rattle.nms_board.specs.Bests.{best_on, first_row}
@@ -40,3 +41,11 @@ returns-clause-bests c =
     (sym (shown_in sizes c.args.cells.now c.args.sym c.args.lot c.symbol_cells-shown.result.now side c.requires.sym
     c.symbol_cells-shown.ensures))
     (c.of.ensures side))
+
+-- ---- goals that `grind` closes; the search that is tried before it takes longer
+
+pub of-requires : goal.of-requires
+of-requires c = grind (arith, common_steps)
+
+pub rank_anew-requires-clause-parts : goal.rank_anew-requires-clause-parts
+rank_anew-requires-clause-parts c = grind (arith, common_steps)

@@ -1,5 +1,6 @@
 -- Of `withdraw_from`: the invariant of its loop, by `change_cell_stays` if nothing is quoted, and what it asks of `alter`.
 use Rattle.std.proofs.Common.{◌+◌, ◌*◌, sym, ◌∙◌, ap, length, arith}
+use Rattle.std.proofs.lemmas.Grind.{common_steps}
 use Rattle.nms_quote.specs.Roster.{Sizes}
 use Rattle.nms_board.specs.Cells.{place_of, withdrawn}
 use Rattle.nms_board.proofs.BoardLemmas.{change_cell_stays, length-withdraw_from, withdraw_from_more, withdraw_from_none}
@@ -52,3 +53,11 @@ loop-sym-preserved c = elim c.if-has_quote.branch [
     bests = rw (w.cells-is, w.ranks-is, w.bests-is) c.loop-sym.invariant.bests;
   }
 ]
+
+-- ---- goals that `grind` closes; the search that is tried before it takes longer
+
+pub alter-requires-clause-room : goal.alter-requires-clause-room
+alter-requires-clause-room c = grind (arith, common_steps)
+
+pub alter-requires-clause-sym : goal.alter-requires-clause-sym
+alter-requires-clause-sym c = grind (arith, common_steps)

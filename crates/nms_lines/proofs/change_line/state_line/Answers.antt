@@ -1,5 +1,6 @@
 -- `state_line`: what it reads is a line of the roster from its source; a feed brings its own by `sent_by`.
-use Rattle.std.proofs.Common.{◌≡◌, false, rules}
+use Rattle.std.proofs.Common.{arith, ◌≡◌, false, rules}
+use Rattle.std.proofs.lemmas.Grind.{common_steps}
 use Rattle.nms_quote.specs.Roster.{feed_of_change}
 use Rattle.nms_quote.specs.declared.change.Change.{Change}
 use Rattle.nms_quote.specs.declared.change.Change.TheVariants as change
@@ -16,3 +17,11 @@ returns-clause-of c = λ brought.
       brought = brought;
       sent = sent_by c.args.roster.now c.args.from state own;
     }
+
+-- ---- goals that `grind` closes; the search that is tried before it takes longer
+
+pub returns-clause-line : goal.returns-clause-line
+returns-clause-line c = grind (arith, common_steps)
+
+pub returns-then-is_foreign-clause-line : goal.returns-then-is_foreign-clause-line
+returns-then-is_foreign-clause-line c = grind (arith, common_steps)

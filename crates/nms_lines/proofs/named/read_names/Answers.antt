@@ -1,5 +1,6 @@
 -- `read_names`: the set, by what the names so far say; if a name is not on the roster, all of them say nothing.
-use Rattle.std.proofs.Common.{rules, tests, of_calls, ◌≡◌, ◌==◌, ◌∙◌, length, sym, ap}
+use Rattle.std.proofs.Common.{arith, rules, tests, of_calls, ◌≡◌, ◌==◌, ◌∙◌, length, sym, ap}
+use Rattle.std.proofs.lemmas.Grind.{common_steps}
 use Rattle.std.specs.Prelude.{None, Some}
 use Rattle.std.proofs.lemmas.Iterator.Consumers.{YieldsList-end, YieldsList-so_far, YieldsList-turn}
 use Rattle.std.proofs.lemmas.Iterator.Splits.{YieldsList-from_slice_split}
@@ -47,3 +48,11 @@ returns-clause-set c =
     (λ x r q k. search (rules, tests)))
     c.loop-name.yielded _ c.loop-name.yielded_by _ _ c.in-None.is c.next.ensures.steps in
     sym c.loop-name.invariant.read ∙ ap (λ names. with_named c.args.roster.now names nobody) end.0
+
+-- ---- goals that `grind` closes; the search that is tried before it takes longer
+
+pub returns-clause-there : goal.returns-clause-there
+returns-clause-there c = grind (arith, common_steps)
+
+pub returns-in_err-part-clause-there : goal.returns-in_err-part-clause-there
+returns-in_err-part-clause-there c = grind (arith, common_steps)

@@ -1,5 +1,6 @@
 -- `need_end`: clauses `refused` and `read`.
 use Rattle.std.proofs.Common.{Bool, Ok, ap, arith}
+use Rattle.std.proofs.lemmas.Grind.{common_steps}
 use Rattle.nms_lines.proofs.plan_reading.need_end.Goals as goal
 
 pub returns-in-Ok-true-clause-refused : goal.returns-in-Ok-true-clause-refused
@@ -10,3 +11,11 @@ returns-in-Ok-true-clause-refused g c = λ left was bad.
 pub returns-in-Ok-false-clause-read : goal.returns-in-Ok-false-clause-read
 returns-in-Ok-false-clause-read g c =
     λ left was ok. c.in-Ok-false.ensures.none left was (ap (λ (found : Bool). Ok found) c.in-Ok-false.field-0-test)
+
+-- ---- goals that `grind` closes; the search that is tried before it takes longer
+
+pub returns-in-Err-Failed-clause-refused : goal.returns-in-Err-Failed-clause-refused
+returns-in-Err-Failed-clause-refused g c = grind (arith, common_steps)
+
+pub returns-in-Ok-false-clause-refused : goal.returns-in-Ok-false-clause-refused
+returns-in-Ok-false-clause-refused g c = grind (arith, common_steps)

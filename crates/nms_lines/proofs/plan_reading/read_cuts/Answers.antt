@@ -1,6 +1,7 @@
 -- `read_cuts`: clauses `refused` and `read` and the turns of its loop, by `cuts_bad`, `cuts_behind`,
 -- `cuts_end`, `cuts_many`, `cuts_more`, `cuts_out` and `cuts_over`.
 use Rattle.std.proofs.Common.{rules, arith, ◌≡◌, ◌≤◌, ◌++◌, ◌∷◌, ◌∙◌, [], Some, Err, refl, sym, length}
+use Rattle.std.proofs.lemmas.Grind.{common_steps}
 use Rattle.std.proofs.lemmas.List.{length-append}
 use Rattle.csv.specs.Records.{fields_of}
 use Rattle.nms_lines.specs.PlanReading.{cut_in}
@@ -63,3 +64,17 @@ returns-clause-refused g c = λ left was bad.
     let here = c.loop.invariant.1 left was in
     cuts_over (fields_of c.args.row.now ∷ left) c.loop.cuts.items (fields_of c.loop.row ∷ here.0) here.1
     (omega (arith, c.loop.invariant.0, c.loop-test.false))
+
+-- ---- goals that `grind` closes; the search that is tried before it takes longer
+
+pub returns-then-is_end-clause-refused : goal.returns-then-is_end-clause-refused
+returns-then-is_end-clause-refused g c = grind (arith, common_steps)
+
+pub loop-init : goal.loop-init
+loop-init g c = grind (arith, common_steps)
+
+pub returns-then-is_err-clause-faults : goal.returns-then-is_err-clause-faults
+returns-then-is_err-clause-faults g c = grind (arith, common_steps)
+
+pub returns-then-is_end-clause-faults : goal.returns-then-is_end-clause-faults
+returns-then-is_end-clause-faults g c = grind (arith, common_steps)

@@ -1,5 +1,6 @@
 -- `read_head`: clauses `refused` and `read`, by `if_ok_or`, `no_head` and `head_same`.
-use Rattle.std.proofs.Common.{rules, ◌≡◌, ◌∙◌, List, ◌∷◌, refl, sym, Err, None, Some}
+use Rattle.std.proofs.Common.{arith, rules, ◌≡◌, ◌∙◌, List, ◌∷◌, refl, sym, Err, None, Some}
+use Rattle.std.proofs.lemmas.Grind.{common_steps}
 use Rattle.nms_lines.specs.Layout.{Record}
 use Rattle.nms_lines.specs.Left.{AreLeft}
 use Rattle.nms_lines.proofs.PlanFacts.{if_ok_or, no_head}
@@ -33,3 +34,11 @@ returns-clause-refused g c = λ left was bad.
     let none : head_by_order c.args.roster.now (fields_of c.need_row.new.row) ≡ None = search rules in
     no_head c.args.roster.now left (fields_of c.need_row.new.row) next.0 next.1
     (sym (head_same c.args.roster.now (fields_of c.need_row.new.row)) ∙ none)
+
+-- ---- goals that `grind` closes; the search that is tried before it takes longer
+
+pub returns-clause-there : goal.returns-clause-there
+returns-clause-there g c = grind (arith, common_steps)
+
+pub returns-clause-named : goal.returns-clause-named
+returns-clause-named g c = grind (arith, common_steps)

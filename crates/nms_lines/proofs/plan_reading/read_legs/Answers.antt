@@ -1,6 +1,7 @@
 -- `read_legs`: clauses `refused` and `read` and the turns of its loop, by `legs_end`, `legs_many`, `legs_more`,
 -- `legs_out` and `legs_over`.
 use Rattle.std.proofs.Common.{rules, arith, ◌≡◌, ◌<◌, ◌≤◌, ◌++◌, ◌∷◌, ◌∙◌, [], Err, refl, sym, inl, inr, length}
+use Rattle.std.proofs.lemmas.Grind.{common_steps}
 use Rattle.std.proofs.lemmas.List.{length-append}
 use Rattle.std.proofs.lemmas.List.Elements.{All-nil, All-push}
 use Rattle.nms_quote.specs.Roster.{Listing}
@@ -64,3 +65,17 @@ pub returns-clause-refused : goal.returns-clause-refused
 returns-clause-refused g c = λ left was bad.
     let here = c.loop.invariant.read left was in
     inr (legs_over c.args.roster.now left here.0 c.loop.legs.items here.1 (omega (arith, c.loop.invariant.counted, c.loop-test.false)))
+
+-- ---- goals that `grind` closes; the search that is tried before it takes longer
+
+pub returns-in_default-clause-faults : goal.returns-in_default-clause-faults
+returns-in_default-clause-faults g c = grind (arith, common_steps)
+
+pub returns-then-is_err-clause-faults : goal.returns-then-is_err-clause-faults
+returns-then-is_err-clause-faults g c = grind (arith, common_steps)
+
+pub returns-in_default-clause-refused : goal.returns-in_default-clause-refused
+returns-in_default-clause-refused g c = grind (arith, common_steps)
+
+pub returns-in_default-clause-there : goal.returns-in_default-clause-there
+returns-in_default-clause-there g c = grind (arith, common_steps)

@@ -1,5 +1,6 @@
 -- `read_records`: clauses `refused` and `read`, by `no_cuts`, `no_legs` and `plan_found`.
-use Rattle.std.proofs.Common.{rules, ◌≡◌, ◌≤◌, Err, length}
+use Rattle.std.proofs.Common.{arith, rules, ◌≡◌, ◌≤◌, Err, length}
+use Rattle.std.proofs.lemmas.Grind.{common_steps}
 use Rattle.csv.specs.Records.{fields_of}
 use Rattle.nms_lines.specs.declared.plan_text_fault.PlanTextFault.TheVariants as fault
 use Rattle.nms_lines.proofs.PlanFacts.{no_cuts, no_legs, plan_found}
@@ -34,3 +35,20 @@ returns-clause-read g c = λ left was.
     let view = c.head.view_is in
     rw view (plan_found c.args.roster.now left head.1 legs.0 head.0 (fields_of c.read_legs.new.row) c.in_ok-head.head
     c.in_ok-legs.legs.items c.in_ok-certificate.certificate.items head.2 head.3 legs.1 legs.2 cuts within most)
+
+-- ---- goals that `grind` closes; the search that is tried before it takes longer
+
+pub returns-clause-faults : goal.returns-clause-faults
+returns-clause-faults g c = grind (arith, common_steps)
+
+pub returns-clause-sym : goal.returns-clause-sym
+returns-clause-sym g c = grind (arith, common_steps)
+
+pub returns-clause-self_help : goal.returns-clause-self_help
+returns-clause-self_help g c = grind (arith, common_steps)
+
+pub returns-clause-refused : goal.returns-clause-refused
+returns-clause-refused g c = grind (arith, common_steps)
+
+pub returns-clause-parts : goal.returns-clause-parts
+returns-clause-parts g c = grind (arith, common_steps)

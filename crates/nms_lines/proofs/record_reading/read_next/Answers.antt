@@ -1,6 +1,7 @@
 -- `read_next`: clauses `found`, `more` and `none`, by `left_more`, `left_none`, `begins_read` and
 -- `stands_more`.
-use Rattle.std.proofs.Common.{◌≡◌, ◌++◌, ◌∷◌, [], true, false, ◌∙◌, inl}
+use Rattle.std.proofs.Common.{arith, ◌≡◌, ◌++◌, ◌∷◌, [], true, false, ◌∙◌, inl}
+use Rattle.std.proofs.lemmas.Grind.{common_steps}
 use Rattle.csv.specs.Records.{fields_of}
 use Rattle.nms_lines.proofs.LeftFacts.{left_more, left_none}
 use Rattle.nms_lines.proofs.ReadFacts.{begins_read, stands_more}
@@ -35,3 +36,20 @@ returns-in-Ok-clause-none g c = λ left was found.
     let read = rw is_found at (c.in-Ok.ensures.reads was.plain was.ready) in
     left_none {R = g.row.R.Denot} g.R.Read.remaining c.args.reader.now c.read_byte_record.new.self left
     (fields_of c.read_byte_record.new.row) was read
+
+-- ---- goals that `grind` closes; the search that is tried before it takes longer
+
+pub returns-in-Ok-clause-end : goal.returns-in-Ok-clause-end
+returns-in-Ok-clause-end g c = grind (arith, common_steps)
+
+pub returns-in-Err-clause-more : goal.returns-in-Err-clause-more
+returns-in-Err-clause-more g c = grind (arith, common_steps)
+
+pub returns-in-Err-clause-found : goal.returns-in-Err-clause-found
+returns-in-Err-clause-found g c = grind (arith, common_steps)
+
+pub returns-in-Err-clause-stopped : goal.returns-in-Err-clause-stopped
+returns-in-Err-clause-stopped g c = grind (arith, common_steps)
+
+pub returns-in-Err-clause-end : goal.returns-in-Err-clause-end
+returns-in-Err-clause-end g c = grind (arith, common_steps)

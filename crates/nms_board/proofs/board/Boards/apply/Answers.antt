@@ -141,3 +141,32 @@ invariant_of-self-in-Lot-1 c = (
 pub returns-in-Lot-clause-stands : goal.returns-in-Lot-clause-stands
 returns-in-Lot-clause-stands c = λ tape stands. subst (λ board. StandsFor board (tape ++ c.args.change
     ∷ [])) (sym (returns-in-Lot-clause-after c)) (stands_after c.args.self.now tape c.args.change stands c.requires)
+
+-- ---- goals that `grind` closes; the search that is tried before it takes longer
+
+pub set_lot-requires-clause-parts : goal.set_lot-requires-clause-parts
+set_lot-requires-clause-parts c = grind (arith, common_steps)
+
+pub set_lot-requires-clause-ranks : goal.set_lot-requires-clause-ranks
+set_lot-requires-clause-ranks c = grind (arith, common_steps)
+
+pub withdraw_from-requires-clause-part : goal.withdraw_from-requires-clause-part
+withdraw_from-requires-clause-part c = grind (arith, common_steps)
+
+pub withdraw_from-requires-clause-ranks : goal.withdraw_from-requires-clause-ranks
+withdraw_from-requires-clause-ranks c = grind (arith, common_steps)
+
+pub alter-requires-clause-ranks : goal.alter-requires-clause-ranks
+alter-requires-clause-ranks c = grind (arith, common_steps)
+
+pub set_lot-requires-clause-sym : goal.set_lot-requires-clause-sym
+set_lot-requires-clause-sym c = grind (arith, common_steps)
+
+pub alter-requires-clause-sym : goal.alter-requires-clause-sym
+alter-requires-clause-sym c = grind (arith, common_steps)
+
+pub alter-requires-clause-part : goal.alter-requires-clause-part
+alter-requires-clause-part c = grind (arith, common_steps)
+
+pub alter-requires-clause-parts : goal.alter-requires-clause-parts
+alter-requires-clause-parts c = grind (arith, common_steps)

@@ -78,3 +78,8 @@ returns-clause-offers c =
     walk_all c.args.self.now c.args.sym c.args.lot c.loop-cell.place c.symbol_cells-cell-items.result.now Offer c.loop-cell.offers.items
     walk (omega (arith, c.loop-cell.invariant.place, c.loop-cell-test.false))
     (omega (arith, c.loop-cell.invariant.place, c.loop-cell.auto.cell-index-end)) c.loop-cell.invariant.offers
+
+-- ---- goals that `grind` closes; the search that is tried before it takes longer
+
+pub overflow_add-place : goal.overflow_add-place
+overflow_add-place c = grind (arith, common_steps)

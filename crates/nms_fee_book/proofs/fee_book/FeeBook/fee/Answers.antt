@@ -1,5 +1,6 @@
 -- `FeeBook::fee`: its clauses at a price below one dollar, where the fee is a product of a rate of at most `MOST_RATE`.
 use Rattle.std.proofs.Common.{ℕ, ℤ, pos, negsuc, neg_ℤ, unsigned_abs, ◌≡◌, ◌<◌, ◌≤◌, ◌*ℤ◌, ◌≤ℤ◌, nat_le, false, arith}
+use Rattle.std.proofs.lemmas.Grind.{common_steps}
 use Rattle.std.proofs.Common.{ap, sym, subst, ◌∙◌, to_z, of_z}
 use Rattle.std.proofs.lemmas.Bool.{cond-false}
 use Rattle.std.proofs.lemmas.Int.{ints, unsigned_abs-mul}
@@ -75,3 +76,20 @@ returns-else-get-ge-ONE_DOLLAR-clause-low c =
 pub returns-else-get-ge-ONE_DOLLAR-clause-high : goal.returns-else-get-ge-ONE_DOLLAR-clause-high
 returns-else-get-ge-ONE_DOLLAR-clause-high c =
     rw (product_of c) (bounds c.args.self.now.caps c.schedule-schedule.result c.args.price c.schedule-schedule.ensures.capped (cheap c)).1
+
+-- ---- goals that `grind` closes; the search that is tried before it takes longer
+
+pub returns-then-get-ge-ONE_DOLLAR-clause-high : goal.returns-then-get-ge-ONE_DOLLAR-clause-high
+returns-then-get-ge-ONE_DOLLAR-clause-high c = grind (arith, common_steps)
+
+pub times-requires-clause-low : goal.times-requires-clause-low
+times-requires-clause-low c = grind (arith, common_steps)
+
+pub times-requires-clause-high : goal.times-requires-clause-high
+times-requires-clause-high c = grind (arith, common_steps)
+
+pub returns-then-get-ge-ONE_DOLLAR-clause-low : goal.returns-then-get-ge-ONE_DOLLAR-clause-low
+returns-then-get-ge-ONE_DOLLAR-clause-low c = grind (arith, common_steps)
+
+pub returns-then-get-ge-ONE_DOLLAR-clause-fee : goal.returns-then-get-ge-ONE_DOLLAR-clause-fee
+returns-then-get-ge-ONE_DOLLAR-clause-fee c = grind (arith, common_steps)

@@ -1,0 +1,7 @@
+-- `withdraw_line`: goals that `grind` closes; the search that is tried before it takes longer.
+use Rattle.std.proofs.Common.{arith}
+use Rattle.std.proofs.lemmas.Grind.{common_steps}
+use Rattle.nms_lines.proofs.change_line.withdraw_line.Goals as goal
+
+pub returns-clause-of : goal.returns-clause-of
+returns-clause-of c = grind (arith, common_steps)

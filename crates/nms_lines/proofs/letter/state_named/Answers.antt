@@ -1,0 +1,13 @@
+-- `state_named`: goals that `grind` closes; the search that is tried before it takes longer.
+use Rattle.std.proofs.Common.{arith}
+use Rattle.std.proofs.lemmas.Grind.{common_steps}
+use Rattle.nms_lines.proofs.letter.state_named.Goals as goal
+
+pub returns-in-M : goal.returns-in-M
+returns-in-M c = grind (arith, common_steps)
+
+pub returns-in-A : goal.returns-in-A
+returns-in-A c = grind (arith, common_steps)
+
+pub returns-in-H : goal.returns-in-H
+returns-in-H c = grind (arith, common_steps)

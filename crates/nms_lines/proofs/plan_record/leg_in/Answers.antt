@@ -1,0 +1,10 @@
+-- `leg_in`: goals that `grind` closes; the search that is tried before it takes longer.
+use Rattle.std.proofs.Common.{arith}
+use Rattle.std.proofs.lemmas.Grind.{common_steps}
+use Rattle.nms_lines.proofs.plan_record.leg_in.Goals as goal
+
+pub returns-in-Some-Some-Some-clause-leg : goal.returns-in-Some-Some-Some-clause-leg
+returns-in-Some-Some-Some-clause-leg c = grind (arith, common_steps)
+
+pub returns-in-Some-Some-Some-clause-there : goal.returns-in-Some-Some-Some-clause-there
+returns-in-Some-Some-Some-clause-there c = grind (arith, common_steps)

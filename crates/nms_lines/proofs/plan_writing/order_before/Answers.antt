@@ -1,0 +1,13 @@
+-- `order_before`: goals that `grind` closes; the search that is tried before it takes longer.
+use Rattle.std.proofs.Common.{arith}
+use Rattle.std.proofs.lemmas.Grind.{common_steps}
+use Rattle.nms_lines.proofs.plan_writing.order_before.Goals as goal
+
+pub returns-clause-written : goal.returns-clause-written
+returns-clause-written c = grind (arith, common_steps)
+
+pub returns-clause-room : goal.returns-clause-room
+returns-clause-room c = grind (arith, common_steps)
+
+pub returns-clause-within : goal.returns-clause-within
+returns-clause-within c = grind (arith, common_steps)
