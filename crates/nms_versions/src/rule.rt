@@ -74,7 +74,8 @@ pub(crate) fn publish_pair<M: Outcome<Sealed, Known>, R: Wait>(
     rt: &R,
     writer: PairWriter,
 ) -> PairWriter
-    requires rule { (next : Sealed) → next ≡ fold absorbed writer.desk.shown.value (drop writer.behind writer.log.items) → TurnsAt Kept writer.desk.place.id writer.desk.place.me.0.client writer.desk.shown.value next M.then }
+    requires rule { (next : Sealed) → next ≡ fold absorbed writer.desk.shown.value (drop writer.behind writer.log.items)
+        → TurnsAt Kept writer.desk.place.id writer.desk.place.me.0.client writer.desk.shown.value next M.then }
     ensures idle { drop result.behind result.log.items ≡ [] }
     ensures shown { result.desk.shown.value ≡ fold absorbed writer.desk.shown.value (drop writer.behind writer.log.items) }
     ensures outcome { M.then writer.desk.place.me.0.client writer.desk.shown.value result.desk.shown.value result.desk.place.me.0.client }
