@@ -127,6 +127,19 @@ follows sealed waiting history tape pending published limit batch sound taped bo
   );
 }
 
+-- a tape that was just opened
+pub taped_new : (history : Chronicle) (limit : ℕ) (sizes : Sizes) → history.published ≡ [] → limit ≤ MOST_CHANGES
+    → IsTaped history [] [] 0 limit sizes
+taped_new history limit sizes empty most = record {
+  tape_is = rw empty refl;
+  counted = rw empty refl;
+  none_empty = rw empty tt;
+  is_open = λ some. absurd (omega arith);
+  held = All-nil _;
+  within = omega arith;
+  most = most;
+}
+
 -- a change more is pending
 pub taped_push : (history new : Chronicle) (tape pending : List Change) (published limit : ℕ) (sizes : Sizes) (change : Change)
     → IsTaped history tape pending published limit sizes

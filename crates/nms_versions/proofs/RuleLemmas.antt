@@ -1,15 +1,18 @@
 -- Each step over the pair of boards keeps its rule.
-use Rattle.std.proofs.Common.{ℕ, ◌≡◌, [], ◌++◌, refl, ap, sym, ◌∙◌, subst, set, length, fold, arith, Some, ⊎_elim, ◌≢◌}
+use Rattle.std.proofs.Common.{ℕ, ◌≡◌, [], ◌∷◌, ◌++◌, refl, ap, sym, ◌∙◌, subst, set, length, fold, arith, Ok, Err, Result, Some, ⊎_elim, ◌≢◌}
 use Rattle.std.proofs.lemmas.Option.{none-some, same_Some}
 use mathlib.Core.Option.{some}
 use lib.ListN.{get_elem?}
 use Rattle.crossbeam_utils.specs.Register.{Admits, Forks, Merges, Turns, TurnsAt}
 use Rattle.atomic_table.proofs.Lists.{at_set, at_snoc, set_again}
-use Rattle.nms_board.specs.Cells.{StandsFor}
+use Rattle.std.specs.Result.{IfOk}
+use Rattle.logbook.specs.Pages.{Book}
+use Rattle.nms_quote.specs.Roster.{Sizes}
+use Rattle.nms_board.specs.Cells.{Board, StandsFor}
 use Rattle.nms_versions.specs.Fresh.{items_of}
 use Rattle.nms_versions.specs.Published.{changes}
 use Rattle.nms_versions.specs.Publishing.{Follows}
-use Rattle.nms_versions.specs.Rule.{IsOf, Kept, Names, absorbed, after_taken, unnamed}
+use Rattle.nms_versions.specs.Rule.{IsNamed, IsOf, Kept, Names, absorbed, after_taken, sizes_known, sizes_shown, unnamed}
 use Rattle.std.specs.declared.snapshot.Snapshot.{Snapshot}
 use Rattle.nms_versions.specs.declared.batch.Batch.{Batch}
 use Rattle.nms_versions.specs.declared.known.Known.{Known}
@@ -73,6 +76,31 @@ names seat known sealed next batch nothing seen is views kept at =
       (shot, refl, ap (λ (z : Sealed). z.seen.book) (sym same), ap (λ (z : Sealed). z.boards.sizes) (sym same)),
     )
 
+-- where the pair shows what it showed, what is read of that stays
+pub shown_as : {W E X : Type 0} (result : Result W E) (shown : W → Sealed) (read : Sealed → X) (before : Sealed) (x : X)
+    → read before ≡ x → IfOk result (λ w. shown w ≡ before) → IfOk result (λ w. read (shown w) ≡ x)
+shown_as (Ok w) shown read before x is same = ap read same ∙ is
+shown_as (Err fault) shown read before x is same = tt
+
+-- where the pair shows what it showed, and names its opening, the opening is that of what it shows
+pub named_by : {W E : Type 0} (result : Result W E) (shown : W → Sealed) (known : W → Known) (before : Sealed) (book : Book)
+    → before.seen.book ≡ book → IfOk result (λ w. shown w ≡ before) → IfOk result (λ w. Names unnamed before (shown w) (known w))
+    → IfOk result (λ w. IsNamed (known w) book)
+named_by (Ok w) shown known before book of_book same (named, is_named, book_is, sizes) = record {
+  named = named;
+  is_named = is_named;
+  book_is = book_is ∙ ap (λ (z : Sealed). z.seen.book) same ∙ of_book;
+}
+named_by (Err fault) shown known before book of_book same names = tt
+
+-- so the sizes that are known are those of what it shows
+pub sizes_by : {W E : Type 0} (result : Result W E) (shown : W → Sealed) (known : W → Known) (before : Sealed) (sizes : Sizes)
+    → before.boards.sizes ≡ sizes → IfOk result (λ w. shown w ≡ before) → IfOk result (λ w. Names unnamed before (shown w) (known w))
+    → IfOk result (λ w. sizes_known (known w) ≡ sizes)
+sizes_by (Ok w) shown known before sizes of_sizes same (named, is_named, book, sizes_are) =
+    ap sizes_shown is_named ∙ sizes_are ∙ ap (λ (z : Sealed). z.boards.sizes) same ∙ of_sizes
+sizes_by (Err fault) shown known before sizes of_sizes same names = tt
+
 -- a new reader knows nothing
 pub admits : Admits Kept unnamed
 admits shown views kept = record {
@@ -80,6 +108,13 @@ admits shown views kept = record {
   each = λ seat known at. ⊎_elim (λ old. kept.each seat known old) (λ new. subst (IsOf shown) new (knows_nothing shown))
       (at_snoc views unnamed known seat at);
 }
+
+-- an empty board with an empty history keeps the rule while nothing is known
+pub kept_first : (sealed : Sealed) → StandsFor sealed.boards [] → sealed.seen.log ≡ [] → Kept sealed (unnamed ∷ [])
+kept_first sealed stands empty = admits sealed [] (record {
+  stands = rw empty stands;
+  each = λ seat known at. absurd (cc);
+})
 
 -- the writer passes on what it knows
 pub tells : (seat : ℕ) (known : Known) → Forks Kept seat known known known

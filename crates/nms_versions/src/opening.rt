@@ -12,7 +12,7 @@ use crate::history::{History, Token};
 use crate::memory::Memory;
 use crate::open_fault::OpenFault;
 use crate::publisher::Publisher;
-use crate::rule::{Learning, Naming, PairWriter, Telling};
+use crate::rule::{Learning, Naming, PairWriter, Telling, publish_pair};
 use crate::sealed::Sealed;
 use left_right::writer::Writer;
 use nms_board::Boards;
@@ -109,8 +109,7 @@ fn name_opening<R: Wait>(rt: &R, writer: PairWriter, empty: Batch) -> Result<Pai
         writer.take(rt);
         return Err(OpenFault::NoMemory);
     }
-    let (writer, _shown) = writer.publish_as::<Naming, R>(rt);
-    Ok(writer)
+    Ok(publish_pair::<Naming, R>(rt, writer))
 }
 
 /// The desks, in order of number.

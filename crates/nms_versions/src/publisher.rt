@@ -13,7 +13,7 @@ use crate::batch::Batch;
 use crate::fresh::Fresh;
 use crate::history::History;
 use crate::receipt::Receipt;
-use crate::rule::{PairWriter, Showing};
+use crate::rule::{PairWriter, Showing, publish_pair};
 use core::mem::replace_with;
 use nms_quote::{Change, SideQuote};
 use nms_units::Lot;
@@ -183,7 +183,6 @@ fn show<R: Wait>(rt: &R, writer: &mut PairWriter, batch: Batch)
 }
 
 /// As `show`, but the writer is returned.
-#[tactic(auto, using(crate::proofs::PublishLemmas::sizes_taken))]
 fn publish_batch<R: Wait>(writer: PairWriter, with: (&R, Batch)) -> (PairWriter, ())
     requires idle { drop writer.behind writer.log.items ≡ [] }
     requires follows { Follows writer.desk.shown.value with.1 }
@@ -194,8 +193,7 @@ fn publish_batch<R: Wait>(writer: PairWriter, with: (&R, Batch)) -> (PairWriter,
     let (rt, batch) = with;
     let mut writer = writer;
     give(rt, &mut writer, batch);
-    let (writer, _published) = writer.publish_as::<Showing, R>(rt);
-    (writer, ())
+    (publish_pair::<Showing, R>(rt, writer), ())
 }
 
 /// Gives a batch to the pair. The pair has room for it since the opening; else it would wait for memory.

@@ -1,8 +1,10 @@
 //! The rule of the pair of boards (specs/Rule), and what each step over it shows.
-ghost use Rattle.std.specs.Prelude.{◌≡◌};
+ghost use Rattle.std.specs.Prelude.{◌≡◌, [], drop, fold};
+ghost use Rattle.crossbeam_utils.specs.Register.{TurnsAt};
 ghost use Rattle.nms_board.specs.Cells.{StandsFor};
 ghost use Rattle.nms_versions.specs.Published.{changes};
-ghost use Rattle.nms_versions.specs.Rule.{IsOf, Kept, Names, unnamed};
+ghost use Rattle.nms_versions.specs.Rule.{IsOf, Kept, Names, absorbed, unnamed};
+ghost use Rattle.nms_versions.specs.declared.sealed.Sealed.{Sealed};
 
 use crate::batch::Batch;
 use crate::known::Known;
@@ -11,6 +13,7 @@ use atomic_table::{Join, Split};
 use crossbeam_utils::rule::{Outcome, Protocol};
 use left_right::reader::Reader;
 use left_right::writer::Writer;
+use std::sync::Wait;
 
 /// The writer's end of the pair.
 pub type PairWriter = Writer<Sealed, Batch, Known, Faithful>;
@@ -64,4 +67,19 @@ impl Join<Known> for Learning {
     ghost both = { λ known told. told };
 
     ghost spent = { unnamed };
+}
+
+/// The writer shows the board that has all that was given.
+pub(crate) fn publish_pair<M: Outcome<Sealed, Known>, R: Wait>(
+    rt: &R,
+    writer: PairWriter,
+) -> PairWriter
+    requires rule { (next : Sealed) → next ≡ fold absorbed writer.desk.shown.value (drop writer.behind writer.log.items)
+        → TurnsAt Kept writer.desk.place.id writer.desk.place.me.0.client writer.desk.shown.value next M.then }
+    ensures idle { drop result.behind result.log.items ≡ [] }
+    ensures shown { result.desk.shown.value ≡ fold absorbed writer.desk.shown.value (drop writer.behind writer.log.items) }
+    ensures outcome { M.then writer.desk.place.me.0.client writer.desk.shown.value result.desk.shown.value result.desk.place.me.0.client }
+{
+    let (writer, _published) = writer.publish_as::<M, R>(rt);
+    writer
 }
