@@ -20,14 +20,5 @@ returns-clause-of c = λ brought.
 
 -- ---- goals that `grind` closes; the search that is tried before it takes longer
 
-pub returns-in_err-bid-clause-line : goal.returns-in_err-bid-clause-line
-returns-in_err-bid-clause-line c = grind (arith, common_steps)
-
-pub returns-clause-line : goal.returns-clause-line
-returns-clause-line c = grind (arith, common_steps)
-
-pub returns-then-is_foreign-clause-line : goal.returns-then-is_foreign-clause-line
-returns-then-is_foreign-clause-line c = grind (arith, common_steps)
-
 pub feed_of-requires : goal.feed_of-requires
 feed_of-requires c = grind (arith, common_steps)

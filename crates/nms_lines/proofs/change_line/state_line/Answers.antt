@@ -22,6 +22,3 @@ returns-clause-of c = λ brought.
 
 pub returns-clause-line : goal.returns-clause-line
 returns-clause-line c = grind (arith, common_steps)
-
-pub returns-then-is_foreign-clause-line : goal.returns-then-is_foreign-clause-line
-returns-then-is_foreign-clause-line c = grind (arith, common_steps)

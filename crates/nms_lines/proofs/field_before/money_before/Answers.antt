@@ -3,8 +3,5 @@ use Rattle.std.proofs.Common.{arith}
 use Rattle.std.proofs.lemmas.Grind.{common_steps}
 use Rattle.nms_lines.proofs.field_before.money_before.Goals as goal
 
-pub returns-then-number-lt0-clause-written : goal.returns-then-number-lt0-clause-written
-returns-then-number-lt0-clause-written c = grind (arith, common_steps)
-
 pub returns-else-number-lt0-clause-written : goal.returns-else-number-lt0-clause-written
 returns-else-number-lt0-clause-written c = grind (arith, common_steps)

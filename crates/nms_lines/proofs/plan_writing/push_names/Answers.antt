@@ -1,6 +1,5 @@
 -- `push_names`: one name more by `written_more` if the set has the place, none by `members_out` if it has not.
-use Rattle.std.proofs.Common.{arith, rules, ◌≡◌, ◌++◌, ◌+◌, true, false, sym}
-use Rattle.std.proofs.lemmas.Grind.{common_steps}
+use Rattle.std.proofs.Common.{rules, ◌≡◌, ◌++◌, ◌+◌, true, false, sym}
 use Rattle.std.proofs.lemmas.List.{append-nil}
 use Rattle.nms_quote.specs.Members.{has_part}
 use Rattle.nms_quote.specs.Roster.{part_text}
@@ -35,11 +34,3 @@ loop-place-preserved c = elim c.if-has.branch [
         next = rw (w.between-is, same) c.loop-place.invariant.next;
       }
 ]
-
--- ---- goals that `grind` closes; the search that is tried before it takes longer
-
-pub returns : goal.returns
-returns c = grind (arith, common_steps)
-
-pub unwrap-part-requires : goal.unwrap-part-requires
-unwrap-part-requires c = grind (arith, common_steps)

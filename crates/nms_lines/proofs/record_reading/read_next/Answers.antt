@@ -48,8 +48,5 @@ returns-in-Err-clause-more g c = grind (arith, common_steps)
 pub returns-in-Err-clause-found : goal.returns-in-Err-clause-found
 returns-in-Err-clause-found g c = grind (arith, common_steps)
 
-pub returns-in-Err-clause-stopped : goal.returns-in-Err-clause-stopped
-returns-in-Err-clause-stopped g c = grind (arith, common_steps)
-
 pub returns-in-Err-clause-end : goal.returns-in-Err-clause-end
 returns-in-Err-clause-end g c = grind (arith, common_steps)

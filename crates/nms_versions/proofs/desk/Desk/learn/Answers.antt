@@ -1,5 +1,6 @@
 -- `Desk::learn`: the invariant of what it leaves, by `prefix_shorter`, `remembers_longer` and `remembers_shorter`.
 use Rattle.std.proofs.Common.{◌≤◌, IfSome, length, ap, sym, subst, ◌∙◌, arith}
+use Rattle.std.proofs.lemmas.Grind.{common_steps}
 use mathlib.Core.List.{IsPrefix}
 use Rattle.logbook.specs.Pages.{Book}
 use Rattle.nms_versions.specs.Published.{Batches, changes}
@@ -32,3 +33,11 @@ invariant_of-self-2 c =
       rw (c.with.ensures, c.again.ensures) (remembers_longer _ _ _ _ _ c.self.invariant.2 begins c.receipt.invariant
           (omega (arith, c.if-version-self.false))),
     )
+
+-- ---- goals that `grind` closes; the search that is tried before it takes longer
+
+pub returns : goal.returns
+returns c = grind (arith, common_steps)
+
+pub returns-then-version-self : goal.returns-then-version-self
+returns-then-version-self c = grind (arith, common_steps)

@@ -1,6 +1,7 @@
 -- `Desk::look`: clause `shown`, the call of `enter_as` and the invariant of what it leaves, by `all_begin`,
 -- `prefix_shorter`, `remembers_longer` and `reads`.
 use Rattle.std.proofs.Common.{◌≡◌, ◌∷◌, length, map, ap, sym, subst, ◌∙◌, refl, arith, Option, Some, IfSome, option_and_then}
+use Rattle.std.proofs.lemmas.Grind.{common_steps}
 use mathlib.Core.List.{IsPrefix}
 use Rattle.logbook.specs.Pages.{Book}
 use Rattle.nms_quote.specs.Tape.{Tape}
@@ -100,3 +101,20 @@ returns-clause-shown c =
       subst (λ (k : Knowing). AllBegin version k.known) before (all_begin _ _ _ c.self.invariant.2.begin (begins c)),
       now ∙ ap (λ (k : Knowing). record { opening = k.opening; sizes = k.sizes; known = version ∷ k.known }) before,
     )
+
+-- ---- goals that `grind` closes; the search that is tried before it takes longer
+
+pub learn-requires : goal.learn-requires
+learn-requires c = grind (arith, common_steps)
+
+pub returns-in-Err-clause-unchanged : goal.returns-in-Err-clause-unchanged
+returns-in-Err-clause-unchanged c = grind (arith, common_steps)
+
+pub returns-then-version-self-clause-unchanged : goal.returns-then-version-self-clause-unchanged
+returns-then-version-self-clause-unchanged c = grind (arith, common_steps)
+
+pub invariant_of-self : goal.invariant_of-self
+invariant_of-self c = grind (arith, common_steps)
+
+pub invariant_of-self-then-version-self : goal.invariant_of-self-then-version-self
+invariant_of-self-then-version-self c = grind (arith, common_steps)

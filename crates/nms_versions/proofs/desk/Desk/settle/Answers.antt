@@ -1,5 +1,6 @@
 -- `Desk::settle`: clauses `begins` and `published`, by `all_begin`, `all_published` and `prefix_shorter`.
 use Rattle.std.proofs.Common.{length, ap, subst, arith}
+use Rattle.std.proofs.lemmas.Grind.{common_steps}
 use Rattle.std.specs.List.{AllByRecursion, Contains}
 use mathlib.Core.List.{IsPrefix}
 use Rattle.nms_quote.specs.Tape.{Tape}
@@ -27,3 +28,8 @@ returns-clause-published c =
     subst (λ (both : Receipted × Knowing). AllByRecursion (λ (version : Tape). Contains (publications both.0.published) (length version))
     both.1.known) (λ i. (c.receipt.view_is i, c.self.view_is i))
     (all_published _ _ _ c.self.invariant.2.begin (begins c))
+
+-- ---- goals that `grind` closes; the search that is tried before it takes longer
+
+pub returns-clause-settled : goal.returns-clause-settled
+returns-clause-settled c = grind (arith, common_steps)

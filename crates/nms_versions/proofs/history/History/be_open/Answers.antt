@@ -1,5 +1,6 @@
 -- `History::be_open`: the call of `compare_exchange`, by `opens_moves`.
-use Rattle.std.proofs.Common.{ap, sym, ◌∙◌}
+use Rattle.std.proofs.Common.{arith, ap, sym, ◌∙◌}
+use Rattle.std.proofs.lemmas.Grind.{common_steps}
 use Rattle.nms_versions.proofs.HistoryLemmas.{opens_moves}
 use Rattle.nms_versions.proofs.history.History.be_open.Goals as goal
 
@@ -16,3 +17,14 @@ compare_exchange-found-requires c =
       rw (ap (λ w. w.key) h, ap (λ s. s.log) seen, pen.1, offer.3)
           (opens_moves c.self.inside.seen.log c.self.inside.batches (sym c.self.invariant.1)),
     )
+
+-- ---- goals that `grind` closes; the search that is tried before it takes longer
+
+pub tracked-word-requires : goal.tracked-word-requires
+tracked-word-requires c = grind (arith, common_steps)
+
+pub overflow_add-batches : goal.overflow_add-batches
+overflow_add-batches c = grind (arith, common_steps)
+
+pub invariant_of-self : goal.invariant_of-self
+invariant_of-self c = grind (arith, common_steps)

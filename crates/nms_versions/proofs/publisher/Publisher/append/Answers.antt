@@ -1,5 +1,6 @@
 -- `Publisher::append`: the call of `be_open` and the invariant of what it leaves, by `batch_room` and `taped_push`.
 use Rattle.std.proofs.Common.{◌≡◌, ◌<◌, ◌++◌, ◌∷◌, [], true, length, List, ap, sym, ◌∙◌, arith, rules}
+use Rattle.std.proofs.lemmas.Grind.{common_steps}
 use Rattle.nms_quote.specs.Roster.{holds}
 use Rattle.nms_quote.specs.declared.change.Change.{Change}
 use Rattle.nms_versions.specs.History.{Chronicle}
@@ -31,3 +32,26 @@ invariant_of-self-2 c =
       },
       rw (tape, fresh) (taped_push _ _ _ _ _ _ _ _ c.self.invariant.1 opened held room),
     )
+
+-- ---- goals that `grind` closes; the search that is tried before it takes longer
+
+pub returns-clause-full : goal.returns-clause-full
+returns-clause-full c = grind (arith, common_steps)
+
+pub returns-clause-added : goal.returns-clause-added
+returns-clause-added c = grind (arith, common_steps)
+
+pub invariant_of-self : goal.invariant_of-self
+invariant_of-self c = grind (arith, common_steps)
+
+pub returns-then-not-push-clause-full : goal.returns-then-not-push-clause-full
+returns-then-not-push-clause-full c = grind (arith, common_steps)
+
+pub put-requires : goal.put-requires
+put-requires c = grind (arith, common_steps)
+
+pub invariant_of-self-then-not-be_open : goal.invariant_of-self-then-not-be_open
+invariant_of-self-then-not-be_open c = grind (arith, common_steps)
+
+pub invariant_of-self-then-not-push : goal.invariant_of-self-then-not-push
+invariant_of-self-then-not-push c = grind (arith, common_steps)

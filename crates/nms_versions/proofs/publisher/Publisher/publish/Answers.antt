@@ -2,6 +2,7 @@
 -- the invariant of what it leaves, by `batch_room`, `changes-push`, `committed_some`, `follows`, `no_items`,
 -- `publications_push` and `taped_close`.
 use Rattle.std.proofs.Common.{◌≡◌, ◌<◌, ◌↔◌, ◌⊎◌, ◌++◌, ◌∷◌, [], false, length, List, ap, sym, subst, ◌∙◌, arith, rules}
+use Rattle.std.proofs.lemmas.Grind.{common_steps}
 use Rattle.std.specs.List.{Contains}
 use Rattle.nms_quote.specs.declared.change.Change.{Change}
 use Rattle.nms_versions.specs.History.{Chronicle}
@@ -74,3 +75,14 @@ returns-clause-publications g c n =
     ⊎ (n ≡ length (tape_of t))) c.self.view_is
     (subst (λ (b : Batches). Contains (publications b) n ↔ Contains (publications log) n ⊎ (n ≡ length (changes log ++ pending))) now
     (publications_push log pending n))
+
+-- ---- goals that `grind` closes; the search that is tried before it takes longer
+
+pub returns-clause-published : goal.returns-clause-published
+returns-clause-published g c = grind (arith, common_steps)
+
+pub close-requires-clause-some : goal.close-requires-clause-some
+close-requires-clause-some g c = grind (arith, common_steps)
+
+pub returns-then-is_empty-clause-whole : goal.returns-then-is_empty-clause-whole
+returns-then-is_empty-clause-whole g c = grind (arith, common_steps)

@@ -1,0 +1,7 @@
+-- `is_empty`: goals that `grind` closes; the search that is tried before it takes longer.
+use Rattle.std.proofs.Common.{arith}
+use Rattle.std.proofs.lemmas.Grind.{common_steps}
+use Rattle.nms_versions.proofs.fresh.Fresh.is_empty.Goals as goal
+
+pub returns-in-Some : goal.returns-in-Some
+returns-in-Some c = grind (arith, common_steps)

@@ -1,0 +1,7 @@
+-- `push`: goals that `grind` closes; the search that is tried before it takes longer.
+use Rattle.std.proofs.Common.{arith}
+use Rattle.std.proofs.lemmas.Grind.{common_steps}
+use Rattle.nms_versions.proofs.fresh.Fresh.push.Goals as goal
+
+pub returns : goal.returns
+returns c = grind (arith, common_steps)
