@@ -122,3 +122,7 @@ some_not_none (Some x) some none = absurd (cc)
 pub first_known : (fault first : Option LiveFault) → fault ≡ first → IfSome fault (λ why. (first ≡ Some why) ⊎ IsNoLine why)
 first_known None first is = tt
 first_known (Some why) first is = inl (sym is)
+
+-- no test says both
+pub not_both : {Y : Type 0} {b : Bool} → b ≡ true → b ≡ false → Y
+not_both on off = absurd (cc)

@@ -1,5 +1,5 @@
 -- `close_desks`: the turns of its loop, by `row_more`.
-use Rattle.std.proofs.Common.{ℕ, ◌≡◌, ◌++◌, ◌∷◌, [], None, length, refl, ap, sym, subst, ◌∙◌, append_assoc, length-append, arith, rules}
+use Rattle.std.proofs.Common.{ℕ, ◌≡◌, ◌++◌, ◌∷◌, [], None, length, refl, ap, sym, subst, ◌∙◌, append_assoc, length-append, arith}
 use Rattle.std.specs.Vec.Iter.{into_iter_items}
 use Rattle.nms_versions.specs.Taped.{tape_of}
 use Rattle.nms_live.specs.Answering.{IsClosed}
@@ -18,7 +18,7 @@ loop-desked-preserved g c =
     let rest = into_iter_items c.next.new.self in
     let keeper = c.args.keeper.now in
     let steps : into_iter_items at.desked-iterator ≡ desk ∷ rest = c.in-Some.ensures.steps.0 in
-    let pushed : c.push.new.self.items ≡ at.rows.items ++ row ∷ [] = search rules in
+    let pushed : c.push.new.self.items ≡ at.rows.items ++ row ∷ [] = c.in-Ok-push.ensures.items in
     let place : length at.rows.items ≡ at.number = at.invariant.all in
     let P : ℕ → DeskRow → Type 0 = λ j r. IsClosed c.args.given.now.setup.now j c.args.given.now.orders.items (tape_of keeper.taped)
     keeper.listed r in

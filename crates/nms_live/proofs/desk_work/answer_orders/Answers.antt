@@ -1,6 +1,6 @@
 -- `answer_orders`: clause `knows`, a step on the way and the turns of its loop, by `take_more` and
 -- `so_far_more`.
-use Rattle.std.proofs.Common.{◌≡◌, ◌++◌, ◌∷◌, [], List, refl, take, ap, sym, ◌∙◌, rules}
+use Rattle.std.proofs.Common.{◌≡◌, ◌++◌, ◌∷◌, [], List, refl, take, ap, sym, ◌∙◌}
 use Rattle.std.proofs.lemmas.List.{take_all}
 use Rattle.nms_quote.specs.Tape.{Tape}
 use Rattle.nms_versions.specs.Taped.{Knowing}
@@ -20,7 +20,7 @@ loop-place-preserved g c =
     let place = c.loop-place.place in
     let orders = c.args.orders.now in
     let best = c.in-Ok.ensures.best in
-    let pushed : c.push_back.new.self.items ≡ c.loop-place.answers.items ++ c.in-Ok.answer ∷ [] = search rules in
+    let pushed : c.push_back.new.self.items ≡ c.loop-place.answers.items ++ c.in-Ok.answer ∷ [] = c.in-Ok-push_back.ensures.items in
     record {
       opening = c.answer_one.ensures.same.0 ∙ c.loop-place.invariant.opening;
       sizes = c.answer_one.ensures.same.1 ∙ c.loop-place.invariant.sizes;

@@ -17,7 +17,7 @@ loop-desk-preserved g c =
     let at = c.loop-desk in
     let desk = c.in-Some.desk in
     let handle = c.in-Some-start_desk.handle in
-    let pushed : c.push.new.self.items ≡ at.handles.items ++ handle ∷ [] = search rules in
+    let pushed : c.push.new.self.items ≡ at.handles.items ++ handle ∷ [] = c.in-Ok.ensures.items in
     let rest = into_iter_items c.next.new.self in
     let steps : into_iter_items at.desk-iterator ≡ desk ∷ rest = c.in-Some.ensures.steps.0 in
     let parted : (at.yielded ++ desk ∷ []) ++ rest ≡ c.args.desks.items = append_assoc at.yielded (desk ∷ []) rest
@@ -59,7 +59,7 @@ start_desk-requires-clause-place g c = λ loans lives.
     let at = c.loop-desk in
     let inv = at.invariant in
     rw (sym c.requires.all) (place_below c.args.desks.items at.yielded c.in-Some.desk (into_iter_items at.desk-iterator)
-        (into_iter_items c.next.new.self) at.number inv.parted c.in-Some.ensures.steps.0 inv.count)
+    (into_iter_items c.next.new.self) at.number inv.parted c.in-Some.ensures.steps.0 inv.count)
 
 pub start_desk-requires-clause-sizes : goal.start_desk-requires-clause-sizes
 start_desk-requires-clause-sizes g c = λ loans lives.

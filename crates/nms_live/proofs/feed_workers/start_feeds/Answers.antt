@@ -1,9 +1,10 @@
 -- `start_feeds`: its loop with one sender more, started or not, by `gone` and `zip_more`.
-use Rattle.std.proofs.Common.{◌≡◌, ◌≤◌, ◌++◌, ◌∷◌, [], ℕ, List, length, ap, sym, subst, ◌∙◌, append_assoc, length-append, arith, rules}
+use Rattle.std.proofs.Common.{◌≡◌, ◌≤◌, ◌++◌, ◌∷◌, [], ℕ, List, length, refl, ap, sym, subst, ◌∙◌, append_assoc, length-append, arith}
 use Rattle.std.specs.List.{AllByRecursion, AllZip}
 use Rattle.std.specs.Vec.Iter.{into_iter_items}
 use Rattle.nms_feed.specs.Lane.{Sending}
 use Rattle.nms_live.specs.Crew.{IsFresh, WillBeFed, texts_of}
+use Rattle.nms_live.proofs.FaultFacts.{not_both}
 use Rattle.nms_live.proofs.FedFacts.{zip_more}
 use Rattle.nms_live.proofs.PlaceFacts.{all_are}
 use Rattle.nms_live.proofs.feed_workers.start_feeds.Goals as goal
@@ -26,7 +27,7 @@ loop-sender-preserved-in-Ok-1 g c =
     let inv = at.invariant in
     let handle = c.in-Some-start_feed.handle in
     let more = gone at.yielded _ _ _ c.in-Some.sender _ c.in-Some.ensures.steps.0 inv.parted inv.fresh inv.few in
-    let pushed : c.push.new.self.items ≡ at.handles.items ++ handle ∷ [] = search rules in
+    let pushed : c.push.new.self.items ≡ at.handles.items ++ handle ∷ [] = c.in-Ok.ensures.items in
     record {
       parted = more.0;
       fresh = more.1;
@@ -46,7 +47,7 @@ pub loop-sender-preserved : goal.loop-sender-preserved
 loop-sender-preserved g c =
     let inv = c.loop-sender.invariant in
     let more = gone c.loop-sender.yielded _ _ _ c.in-Some.sender _ c.in-Some.ensures.steps.0 inv.parted inv.fresh inv.few in
-    record { parted = more.0; fresh = more.1; few = more.2; room = inv.room; started = λ is. absurd (cc) }
+    record { parted = more.0; fresh = more.1; few = more.2; room = inv.room; started = λ is. not_both is refl }
 
 pub loop-sender-preserved-then-not-all_started : goal.loop-sender-preserved-then-not-all_started
 loop-sender-preserved-then-not-all_started g c =
@@ -57,7 +58,7 @@ loop-sender-preserved-then-not-all_started g c =
       fresh = more.1;
       few = more.2;
       room = inv.room;
-      started = λ is. absurd (cc (is, c.if-not-all_started.true));
+      started = λ is. not_both is c.if-not-all_started.true;
     }
 
 pub loop-sender-init : goal.loop-sender-init
