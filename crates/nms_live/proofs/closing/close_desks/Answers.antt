@@ -1,4 +1,4 @@
--- `close_desks`: the turns of its loop, by `row_more`.
+-- `close_desks`: its loop (the turns by `row_more`), what it calls and its returns.
 use Rattle.std.proofs.Common.{ℕ, ◌≡◌, ◌++◌, ◌∷◌, [], None, length, refl, ap, sym, subst, ◌∙◌, append_assoc, length-append, arith}
 use Rattle.std.specs.Vec.Iter.{into_iter_items}
 use Rattle.nms_versions.specs.Taped.{tape_of}

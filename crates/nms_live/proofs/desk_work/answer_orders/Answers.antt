@@ -1,5 +1,4 @@
--- `answer_orders`: clause `knows`, a step on the way and the turns of its loop, by `take_more` and
--- `so_far_more`.
+-- `answer_orders`: its loop (the turns by `take_more` and `so_far_more`), what it calls and its returns.
 use Rattle.std.proofs.Common.{◌≡◌, ◌++◌, ◌∷◌, [], List, refl, take, ap, sym, ◌∙◌}
 use Rattle.std.proofs.lemmas.List.{take_all}
 use Rattle.nms_quote.specs.Tape.{Tape}

@@ -1,4 +1,4 @@
--- `start_desks`: the turns of its loop, by `row_more` and `stands_at`.
+-- `start_desks`: its loop (the turns by `row_more` and `stands_at`), what it calls and its last return.
 use Rattle.std.proofs.Common.{ℕ, ◌≡◌, ◌++◌, ◌∷◌, [], length, refl, ap, sym, subst, ◌∙◌, append_assoc, length-append, arith, rules}
 use Rattle.std.specs.Prelude.{slice_index_or}
 use Rattle.std.specs.Vec.Iter.{into_iter_items}

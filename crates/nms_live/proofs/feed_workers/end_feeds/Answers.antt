@@ -1,4 +1,4 @@
--- `end_feeds`, `merged`: what the senders sent is what the workers returned, by `sent_back`.
+-- `end_feeds`: the first fault is what it returns; what the senders sent is what the workers returned, by `sent_back`.
 use Rattle.std.proofs.Common.{◌≡◌, ap, sym, subst, ◌∙◌}
 use Rattle.nms_quote.specs.Merge.{own_of}
 use Rattle.nms_feed.specs.Lane.{AreSendersOf}

@@ -1,4 +1,4 @@
--- `start_feeds`: its loop with one sender more, started or not, by `gone` and `zip_more`.
+-- `start_feeds`: its loop with one sender more, started or not, by `gone` and `zip_more`, what it calls and its return.
 use Rattle.std.proofs.Common.{◌≡◌, ◌≤◌, ◌++◌, ◌∷◌, [], ℕ, List, length, refl, ap, sym, subst, ◌∙◌, append_assoc, length-append, arith}
 use Rattle.std.specs.List.{AllByRecursion, AllZip}
 use Rattle.std.specs.Vec.Iter.{into_iter_items}

@@ -1,4 +1,5 @@
--- `run_over`: the desks and the ends of the lane are as `run_in_threads` requires, by `ready_for`, `count_of_all` and `fresh_ends`.
+-- `run_over`: the desks and the ends of the lane are as `run_in_threads` requires, by `ready_for`, `count_of_all` and `fresh_ends`;
+-- what else it calls follows from how the tape was opened.
 use Rattle.std.proofs.Common.{ap, ◌∙◌, sym}
 use Rattle.nms_versions.specs.Taped.{Taped, tape_of}
 use Rattle.nms_live.specs.Keeping.{Keeping}

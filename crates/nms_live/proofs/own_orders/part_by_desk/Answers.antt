@@ -1,4 +1,4 @@
--- `part_by_desk`: the turns of its loop, by `numbered_more` and `own_more`.
+-- `part_by_desk`: its loop (the turns by `numbered_more` and `own_more`), what it calls and its last return.
 use Rattle.std.proofs.Common.{◌+◌, ◌<◌, List, take, sym, subst, ◌∙◌, rules}
 use Rattle.std.proofs.lemmas.List.{take_all}
 use Rattle.nms_quote.specs.declared.desk_order.DeskOrder.{DeskOrder}

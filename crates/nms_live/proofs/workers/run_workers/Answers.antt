@@ -1,4 +1,4 @@
--- `run_workers`: clause `done` and the call of `fault_among`, by `back_all`.
+-- `run_workers`: clause `done` and the call of `fault_among`, by `back_all`; what else it calls has what it was given.
 use Rattle.std.proofs.Common.{ℕ, ◌≡◌, ◌<◌, None, List, length, sym, ◌∙◌, subst}
 use Rattle.std.specs.Prelude.{slice_index_or}
 use Rattle.nms_versions.specs.Pages.{Book}

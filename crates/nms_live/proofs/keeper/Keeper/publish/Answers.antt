@@ -1,4 +1,4 @@
--- `Keeper::publish`: the invariant of what it leaves, by `kept_more` and `kept_with`.
+-- `Keeper::publish`: the invariant of what it leaves, by `kept_more` and `kept_with`, and its early returns, which leave the tape.
 use Rattle.std.proofs.Common.{ℕ, ◌++◌, ◌∷◌, [], List, Some, length, refl, ap, sym, ◌∙◌, arith}
 use Rattle.nms_versions.specs.Taped.{tape_of}
 use Rattle.nms_live.specs.declared.live_fault.LiveFault.TheVariants as fault
