@@ -1,5 +1,5 @@
 -- `join_desks`: clause `kept` and the turns of its loop, by `row_more` and `stands_at`.
-use Rattle.std.proofs.Common.{ℕ, ◌≡◌, ◌++◌, ◌∷◌, [], length, ap, sym, subst, ◌∙◌, append_assoc, length-append, arith}
+use Rattle.std.proofs.Common.{ℕ, ◌≡◌, ◌++◌, ◌∷◌, [], length, ap, sym, subst, ◌∙◌, append_assoc, length-append, arith, rules}
 use Rattle.std.specs.Prelude.{slice_index_or}
 use Rattle.std.specs.Vec.Iter.{into_iter_items}
 use Rattle.std.specs.declared.thread.PromisedHandle.{PromisedHandle}
@@ -19,7 +19,7 @@ loop-handle-preserved g c =
     let steps : into_iter_items at.handle-iterator ≡ handle ∷ rest = c.in-Some.ensures.steps.0 in
     let parted : (at.yielded ++ handle ∷ []) ++ rest ≡ handles = append_assoc at.yielded (handle ∷ []) rest
     ∙ rw (sym steps) at.invariant.parted in
-    let pushed : c.push.new.self.items ≡ at.back.items ++ back ∷ [] = c.in-Ok.ensures.items in
+    let pushed : c.push.new.self.items ≡ at.back.items ++ back ∷ [] = search rules in
     let P : ℕ → Desked → Type 0 = λ j r. (h : PromisedHandle Desked DeskJob) → KeepsJob (slice_index_or handles j h).promise r in
     let here : P (length at.back.items) back = λ h.
     let there : slice_index_or handles (length at.back.items) h ≡ handle =

@@ -1,5 +1,5 @@
 -- `join_feeds`: its loop with one worker more, by `zip_more`.
-use Rattle.std.proofs.Common.{◌≡◌, ◌++◌, ◌∷◌, [], length, ap, sym, ◌∙◌, append_assoc, length-append, arith}
+use Rattle.std.proofs.Common.{◌≡◌, ◌++◌, ◌∷◌, [], length, ap, sym, ◌∙◌, append_assoc, length-append, arith, rules}
 use Rattle.std.specs.Vec.Iter.{into_iter_items}
 use Rattle.nms_live.specs.Crew.{HasKept}
 use Rattle.nms_live.proofs.FedFacts.{zip_more}
@@ -12,7 +12,7 @@ loop-handle-preserved g c =
     let back = c.join.result in
     let rest = into_iter_items c.next.new.self in
     let steps : into_iter_items at.handle-iterator ≡ handle ∷ rest = c.in-Some.ensures.steps.0 in
-    let pushed : c.push.new.self.items ≡ at.back.items ++ back ∷ [] = c.in-Ok.ensures.items in
+    let pushed : c.push.new.self.items ≡ at.back.items ++ back ∷ [] = search rules in
     record {
       parted = append_assoc at.yielded (handle ∷ []) rest ∙ rw (sym steps) at.invariant.parted;
       all = omega (
