@@ -1,7 +1,7 @@
 -- Why a run gives nothing, made of what its workers stopped with.
 use Rattle.std.proofs.Common.{ℕ, ◌≡◌, ◌+◌, ◌++◌, ◌∷◌, ◌⊎◌, Bool, true, false, List, [], length, Option, Some, None, Err, IfSome, inl, inr}
 use Rattle.std.proofs.Common.{refl, sym, ◌∙◌, subst, if◌then◌else◌}
-use Rattle.std.specs.Prelude.{nat_lt}
+use Rattle.std.specs.Prelude.{is_some, nat_lt}
 use Rattle.nms_quote.specs.Roster.{Listing}
 use Rattle.nms_quote.specs.declared.change.Change.{Change}
 use Rattle.nms_quote.specs.declared.feed.Feed.{Feed}
@@ -108,3 +108,21 @@ fault_of_all roster texts fed stop first result of_feed of_taker (inl is) (inl s
 fault_of_all roster texts fed stop first result of_feed of_taker (inr is) (inl same) =
     rw (same, is) (no_line_if_any roster texts stop of_taker)
 fault_of_all roster texts fed stop first result of_feed of_taker either (inr fine) = no_line_if_any roster texts result fine
+
+-- a fault is not none
+pub not_some : {X Y : Type 0} {x : X} → Some x ≡ None → Y
+not_some is = absurd (cc)
+
+-- what is some is not none
+pub some_not_none : {X Y : Type 0} (o : Option X) → is_some o ≡ true → o ≡ None → Y
+some_not_none None some none = absurd (cc)
+some_not_none (Some x) some none = absurd (cc)
+
+-- a fault that is the first one is the first one or no line
+pub first_known : (fault first : Option LiveFault) → fault ≡ first → IfSome fault (λ why. (first ≡ Some why) ⊎ IsNoLine why)
+first_known None first is = tt
+first_known (Some why) first is = inl (sym is)
+
+-- no test says both
+pub not_both : {Y : Type 0} {b : Bool} → b ≡ true → b ≡ false → Y
+not_both on off = absurd (cc)

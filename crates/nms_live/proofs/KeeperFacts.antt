@@ -1,12 +1,12 @@
 -- How what a keeper keeps comes from one publishing to the next.
-use Rattle.std.proofs.Common.{ℕ, ◌≡◌, ◌≤◌, ◌⊎◌, ◌++◌, List, [], ◌∷◌, length, Option, ap, sym, subst, inl, inr, arith, length-append}
+use Rattle.std.proofs.Common.{ℕ, ◌≡◌, ◌≤◌, ◌⊎◌, ◌++◌, List, [], ◌∷◌, length, Option, refl, ap, sym, subst, ◌∙◌, inl, inr, arith, length-append}
 use Rattle.std.specs.Prelude.{◌↔◌}
 use Rattle.std.specs.List.{AllByRecursion, Contains}
 use Rattle.std.proofs.lemmas.List.Elements.{Contains-append_left, Contains-push, Contains-push_cases}
 use Rattle.nms_versions.specs.Published.{Batches, changes, publications}
 use Rattle.nms_versions.specs.Taped.{Taped, tape_of}
 use Rattle.nms_live.specs.Faults.{IsNoLineIfAny}
-use Rattle.nms_live.specs.Keeping.{AreListed, IsKept}
+use Rattle.nms_live.specs.Keeping.{AreListed, IsKept, IsSameKeeping, Keeping}
 use Rattle.nms_live.specs.declared.live_fault.LiveFault.{LiveFault}
 use Rattle.nms_live.proofs.NumberFacts.{all_push, below_all, rising_push}
 
@@ -70,3 +70,23 @@ kept_more old new listed more stop these whole is had =
           top;
       stopped = had.stopped;
     })
+
+-- the opening and the bounds stay what they are
+pub same_self : (k : Keeping) → IsSameKeeping k k
+same_self k = record { opening = refl; sizes = refl; limit = refl }
+
+-- and stay the same through two steps
+pub same_then : (old mid new : Keeping) → IsSameKeeping old mid → IsSameKeeping mid new → IsSameKeeping old new
+same_then old mid new before after = record {
+  opening = after.opening ∙ before.opening;
+  sizes = after.sizes ∙ before.sizes;
+  limit = after.limit ∙ before.limit;
+}
+
+-- the same tape has the same opening and bounds
+pub same_taped : (old new : Keeping) → new.taped ≡ old.taped → IsSameKeeping old new
+same_taped old new is = record {
+  opening = ap (λ (t : Taped). t.opening) is;
+  sizes = ap (λ (t : Taped). t.sizes) is;
+  limit = ap (λ (t : Taped). t.limit) is;
+}

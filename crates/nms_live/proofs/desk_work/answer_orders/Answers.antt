@@ -1,9 +1,10 @@
--- `answer_orders`: clause `knows`, a step on the way and the turns of its loop, by `take_more` and
--- `so_far_more`.
-use Rattle.std.proofs.Common.{◌≡◌, ◌++◌, ◌∷◌, [], List, take, ap, sym, ◌∙◌, rules}
+-- `answer_orders`: its loop (the turns by `take_more` and `so_far_more`), what it calls and its returns.
+use Rattle.std.proofs.Common.{◌≡◌, ◌++◌, ◌∷◌, [], List, refl, take, ap, sym, ◌∙◌}
+use Rattle.std.proofs.lemmas.List.{take_all}
 use Rattle.nms_quote.specs.Tape.{Tape}
+use Rattle.nms_versions.specs.Taped.{Knowing}
 use Rattle.nms_live.proofs.AnswerFacts.{take_more}
-use Rattle.nms_live.proofs.DeskFacts.{so_far_more}
+use Rattle.nms_live.proofs.DeskFacts.{so_far_more, so_far_start, worked_so_far}
 use Rattle.nms_live.proofs.desk_work.answer_orders.Goals as goal
 
 pub returns-in-Err-push_back-clause-knows : goal.returns-in-Err-push_back-clause-knows
@@ -18,7 +19,7 @@ loop-place-preserved g c =
     let place = c.loop-place.place in
     let orders = c.args.orders.now in
     let best = c.in-Ok.ensures.best in
-    let pushed : c.push_back.new.self.items ≡ c.loop-place.answers.items ++ c.in-Ok.answer ∷ [] = search rules in
+    let pushed : c.push_back.new.self.items ≡ c.loop-place.answers.items ++ c.in-Ok.answer ∷ [] = c.in-Ok-push_back.ensures.items in
     record {
       opening = c.answer_one.ensures.same.0 ∙ c.loop-place.invariant.opening;
       sizes = c.answer_one.ensures.same.1 ∙ c.loop-place.invariant.sizes;
@@ -26,4 +27,41 @@ loop-place-preserved g c =
           (so_far_more c.args.setup.now (take place orders) order c.args.desk.now.known
           c.loop-place.desk.known c.answer_one.new.desk.known c.loop-place.answers.items c.in-Ok.answer best.0
           c.in-Ok.ensures.order best.1 best.2 best.3 best.4 c.loop-place.invariant.so_far);
+    }
+
+pub loop-place-init : goal.loop-place-init
+loop-place-init g c = record {
+  opening = refl;
+  sizes = refl;
+  so_far = rw c.new-answers.ensures.items (so_far_start c.args.setup.now c.args.desk.now.known);
+}
+
+pub answer_one-requires-clause-sizes : goal.answer_one-requires-clause-sizes
+answer_one-requires-clause-sizes g c = λ loans lives. c.loop-place.invariant.sizes ∙ c.requires.sizes
+
+pub returns-in-Err : goal.returns-in-Err
+returns-in-Err g c =
+    let inv = c.loop-place.invariant in
+    let same = c.answer_one.ensures.same in
+    let knows = inv.so_far.knows in
+    record {
+      same = (same.0 ∙ inv.opening, same.1 ∙ inv.sizes);
+      worked = tt;
+      knows = (knows.0, ap (λ (d : Knowing). d.known) c.in-Err.ensures.unchanged ∙ knows.1);
+      later = tt;
+      fault = c.in-Err.ensures.fault;
+    }
+
+pub returns : goal.returns
+returns g c =
+    let inv = c.loop-place.invariant in
+    let place = c.loop-place.place in
+    let orders = c.args.orders.now in
+    record {
+      same = (inv.opening, inv.sizes);
+      worked = rw (sym (take_all place orders c.loop-place-test.false)) (worked_so_far c.args.setup.now (take place orders)
+          c.args.desk.now.known c.loop-place.desk.known c.loop-place.answers.items inv.so_far);
+      knows = inv.so_far.knows;
+      later = inv.so_far.later;
+      fault = tt;
     }

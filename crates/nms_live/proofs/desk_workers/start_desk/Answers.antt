@@ -1,4 +1,5 @@
--- `start_desk`: clause `started`, by `desked_by_job`: the row at the desk's number has the desk's own orders.
+-- `start_desk`: clause `started`, by `desked_by_job`: the row at the desk's number has the desk's own orders. The job keeps what
+-- the closure ensures, since its snapshots are of the same values.
 use Rattle.std.proofs.Common.{ap, ◌∙◌, rules}
 use Rattle.nms_live.specs.Answering.{numbered, own}
 use Rattle.nms_live.specs.declared.desk_work.DeskJob.{DeskJob}
@@ -17,3 +18,6 @@ returns g c =
           (ap (λ (j : DeskJob). j.desk.value) kept ∙ c.of-3.ensures)
           keeps;
     }
+
+pub spawn_with-requires-clause-keeps : goal.spawn_with-requires-clause-keeps
+spawn_with-requires-clause-keeps g c = λ k lives r worked. rw (c.of.ensures, c.of-2.ensures, c.of-3.ensures) worked

@@ -1,6 +1,10 @@
--- `end_feeds`, `merged`: what the senders sent is what the workers returned, by `sent_back`.
-use Rattle.std.proofs.Common.{ap, ◌∙◌}
+-- `end_feeds`: the first fault is what it returns; what the senders sent is what the workers returned, by `sent_back`.
+use Rattle.std.proofs.Common.{◌≡◌, ap, sym, subst, ◌∙◌}
 use Rattle.nms_quote.specs.Merge.{own_of}
+use Rattle.nms_feed.specs.Lane.{AreSendersOf}
+use Rattle.nms_live.specs.Crew.{first_stop}
+use Rattle.nms_live.proofs.FaultFacts.{first_known, some_not_none}
+use Rattle.nms_live.proofs.KeeperFacts.{same_self}
 use Rattle.nms_live.proofs.FedFacts.{sent_back}
 use Rattle.nms_live.proofs.feed_workers.end_feeds.Goals as goal
 
@@ -11,3 +15,23 @@ returns-clause-merged g c = λ none went.
       (λ feed. merged.1 feed ∙ ap (own_of feed) (sent_back c.in-Some.senders.items c.args.fed.items c.in-Some.ensures.senders)),
       merged.2,
     )
+
+pub returns-then-is_some : goal.returns-then-is_some
+returns-then-is_some g c =
+    let first = c.fault_of_feeds-first.result in
+    let known : first ≡ first_stop c.args.fed.items = c.fault_of_feeds-first.ensures.first ∙ ap first_stop c.deref.ensures.value in
+    let some = sym c.is_some.ensures ∙ c.if-is_some.true in
+    record {
+      same = same_self c.args.keeper.now;
+      fault = first_known first (first_stop c.args.fed.items) known;
+      first = λ _. known;
+      whole = some_not_none first some;
+      merged = some_not_none first some;
+    }
+
+pub take_rest-requires-clause-ends : goal.take_rest-requires-clause-ends
+take_rest-requires-clause-ends g c = λ loans lives.
+    subst (AreSendersOf c.args.taker) (sym c.in-Some.ensures.senders) c.requires.ends
+
+pub take_rest-requires-clause-taken : goal.take_rest-requires-clause-taken
+take_rest-requires-clause-taken g c = λ loans lives. c.requires.taken

@@ -4,8 +4,9 @@ use Rattle.std.proofs.Common.{ap, sym, ◌∙◌}
 use Rattle.nms_flow.specs.Run.{changes_in}
 use Rattle.nms_versions.specs.Taped.{tape_of}
 use Rattle.nms_live.specs.Crew.{first_stop, texts_of}
-use Rattle.nms_live.proofs.FaultFacts.{fault_of_ends}
+use Rattle.nms_live.proofs.FaultFacts.{fault_of_ends, not_some}
 use Rattle.nms_live.proofs.FedFacts.{ends_back, fault_of_fed, fed_all, none_first, none_stopped}
+use Rattle.nms_live.proofs.KeeperFacts.{same_self, same_then}
 use Rattle.nms_live.proofs.TapeFacts.{reads_of_all, tape_of_feeds}
 use Rattle.nms_live.proofs.feed_workers.run_feeds.Goals as goal
 
@@ -32,11 +33,7 @@ returns g c =
     let before = c.take_until_ended.ensures.same in
     let after = c.end_feeds.ensures.same in
     record {
-      same = record {
-        opening = after.opening ∙ before.opening;
-        sizes = after.sizes ∙ before.sizes;
-        limit = after.limit ∙ before.limit;
-      };
+      same = same_then c.args.keeper.now c.take_until_ended.new.keeper c.end_feeds.new.keeper before after;
       fault = fault_of_ends roster texts (first_stop fed) c.end_feeds.result (fault_of_fed roster texts c.args.ends.0.items fed all)
           c.end_feeds.ensures.fault;
       whole = c.end_feeds.ensures.whole;
@@ -47,3 +44,18 @@ returns g c =
           (reads_of_all roster texts c.args.ends.1 c.args.ends.0.items fed merged.0 c.requires.ends.of_lane c.requires.ends.all all stopped
           merged.1);
     }
+
+pub returns-then-is_err : goal.returns-then-is_err
+returns-then-is_err g c = record { same = same_self c.args.keeper.now; fault = tt; whole = not_some; tape = not_some }
+
+pub returns-then-not-all_started : goal.returns-then-not-all_started
+returns-then-not-all_started g c = record { same = c.take_until_ended.ensures.same; fault = tt; whole = not_some; tape = not_some }
+
+pub start_feeds-all_started-requires-clause-fresh : goal.start_feeds-all_started-requires-clause-fresh
+start_feeds-all_started-requires-clause-fresh g c = λ loans lives. c.requires.ends.fresh
+
+pub start_feeds-all_started-requires-clause-empty : goal.start_feeds-all_started-requires-clause-empty
+start_feeds-all_started-requires-clause-empty g c = λ loans lives. c.reserve.ensures.items ∙ c.new-handles.ensures.items
+
+pub join_feeds-fed-requires-clause-empty : goal.join_feeds-fed-requires-clause-empty
+join_feeds-fed-requires-clause-empty g c = c.reserve-else-is_err.ensures.items ∙ c.new-back.ensures.items

@@ -1,5 +1,8 @@
--- `run_over`: the desks and the ends of the lane are as `run_in_threads` requires, by `ready_for`, `count_of_all` and `fresh_ends`.
-use Rattle.std.proofs.Common.{◌∙◌, sym}
+-- `run_over`: the desks and the ends of the lane are as `run_in_threads` requires, by `ready_for`, `count_of_all` and `fresh_ends`;
+-- what else it calls follows from how the tape was opened.
+use Rattle.std.proofs.Common.{ap, ◌∙◌, sym}
+use Rattle.nms_versions.specs.Taped.{Taped, tape_of}
+use Rattle.nms_live.specs.Keeping.{Keeping}
 use Rattle.nms_live.proofs.CrewFacts.{count_of_all, fresh_ends, ready_for}
 use Rattle.nms_live.proofs.living.run_over.Goals as goal
 
@@ -17,3 +20,21 @@ pub run_in_threads-requires-clause-ends : goal.run_in_threads-requires-clause-en
 run_in_threads-requires-clause-ends g c = λ loans lives.
     fresh_ends c.args.given.now c.feeds.result c.in-Ok.ends.1 c.in-Ok.ends.0.items c.in-Ok.ensures.senders c.in-Ok.ensures.taker.0
     c.in-Ok.ensures.taker.1 (c.requires.feeds ∙ sym c.feeds.ensures.value)
+
+pub run_in_threads-requires-clause-empty : goal.run_in_threads-requires-clause-empty
+run_in_threads-requires-clause-empty g c = λ loans lives.
+    ap (λ (k : Keeping). tape_of k.taped) c.new-keeper.ensures ∙ ap tape_of c.in-Ok-open_tape.ensures.opened
+
+pub new-keeper-requires : goal.new-keeper-requires
+new-keeper-requires g c = ap (λ (t : Taped). t.published) c.in-Ok-open_tape.ensures.opened
+
+pub close_all-requires : goal.close_all-requires
+close_all-requires g c = record {
+  limit = c.in-Ok-run_in_threads.ensures.same.limit ∙ ap (λ (k : Keeping). k.taped.limit) c.new-keeper.ensures
+      ∙ ap (λ (t : Taped). t.limit) c.in-Ok-open_tape.ensures.opened;
+  desks = c.requires.desks;
+  done = c.in-Ok-run_in_threads.ensures.done;
+}
+
+pub returns-in-Err : goal.returns-in-Err
+returns-in-Err g c = record { live = tt; refused = c.in-Err.ensures.fault }

@@ -1,4 +1,4 @@
--- `run_workers`: clause `done` and the call of `fault_among`, by `back_all`.
+-- `run_workers`: clause `done` and the call of `fault_among`, by `back_all`; what else it calls has what it was given.
 use Rattle.std.proofs.Common.{ℕ, ◌≡◌, ◌<◌, None, List, length, sym, ◌∙◌, subst}
 use Rattle.std.specs.Prelude.{slice_index_or}
 use Rattle.nms_versions.specs.Pages.{Book}
@@ -6,6 +6,7 @@ use Rattle.nms_live.specs.Crew.{AreBack}
 use Rattle.nms_live.specs.Faults.{IsNoLineIfAny}
 use Rattle.nms_live.specs.declared.desk_work.Desked.{Desked}
 use Rattle.nms_live.proofs.CrewFacts.{back_all}
+use Rattle.nms_live.proofs.KeeperFacts.{same_self}
 use Rattle.nms_live.proofs.workers.run_workers.Goals as goal
 
 pub fault_among-requires : goal.fault_among-requires
@@ -40,3 +41,24 @@ returns-in-None-clause-done g c =
       ended = subst (λ (l : List Desked). (k : ℕ) (d : Desked) → k < length l → (slice_index_or l k d).stop ≡ None) c.as_slice.ensures.value
           none.1;
     }
+
+pub run_feeds-fed-requires-clause-ends : goal.run_feeds-fed-requires-clause-ends
+run_feeds-fed-requires-clause-ends g c = λ loans lives. c.requires.ends
+
+pub run_feeds-fed-requires-clause-empty : goal.run_feeds-fed-requires-clause-empty
+run_feeds-fed-requires-clause-empty g c = λ loans lives. c.requires.empty
+
+pub start_crew-requires-clause-all : goal.start_crew-requires-clause-all
+start_crew-requires-clause-all g c = λ loans lives. c.requires.desks
+
+pub start_crew-requires-clause-sizes : goal.start_crew-requires-clause-sizes
+start_crew-requires-clause-sizes g c = λ loans lives k d below. (c.requires.ready k d below).1
+
+pub join_desks-desks-requires : goal.join_desks-desks-requires
+join_desks-desks-requires g c = record { empty = c.in-Ok.ensures.empty; room = c.in-Ok.ensures.room }
+
+pub returns-in-Err-clause-same : goal.returns-in-Err-clause-same
+returns-in-Err-clause-same g c = same_self c.args.keeper.now
+
+pub returns-in-Some-clause-same : goal.returns-in-Some-clause-same
+returns-in-Some-clause-same g c = c.run_feeds-fed.ensures.same

@@ -1,8 +1,10 @@
--- `Keeper::publish`: the invariant of what it leaves, by `kept_more` and `kept_with`.
-use Rattle.std.proofs.Common.{ℕ, ◌++◌, ◌∷◌, [], List, Some, length, refl, ap, ◌∙◌, arith}
+-- `Keeper::publish`: the invariant of what it leaves, by `kept_more` and `kept_with`, and its early returns, which leave the tape.
+use Rattle.std.proofs.Common.{ℕ, ◌++◌, ◌∷◌, [], List, Some, length, refl, ap, sym, ◌∙◌, arith}
 use Rattle.nms_versions.specs.Taped.{tape_of}
 use Rattle.nms_live.specs.declared.live_fault.LiveFault.TheVariants as fault
-use Rattle.nms_live.proofs.KeeperFacts.{kept_more, kept_with}
+use Rattle.nms_live.specs.Keeping.{Keeping}
+use Rattle.nms_live.proofs.FaultFacts.{not_some, some_not_none}
+use Rattle.nms_live.proofs.KeeperFacts.{kept_more, kept_with, same_taped}
 use Rattle.nms_live.proofs.keeper.Keeper.publish.Goals as goal
 
 pub invariant_of-self-then-is_err : goal.invariant_of-self-then-is_err
@@ -31,3 +33,27 @@ invariant_of-self-2 g c =
           c.self.invariant.0,
       omega arith,
     )
+
+pub returns-then-is_some : goal.returns-then-is_some
+returns-then-is_some g c =
+    let stop = c.self.inside.stop in
+    let some = sym c.is_some.ensures ∙ c.if-is_some.true in
+    record {
+      same = same_taped c.args.self.now _ (ap (λ (k : Keeping). k.taped) c.self.view_is);
+      tape = some_not_none stop some;
+      whole = some_not_none stop some;
+    }
+
+pub returns-then-is_err : goal.returns-then-is_err
+returns-then-is_err g c = record {
+  same = same_taped c.args.self.now _ (ap (λ (k : Keeping). k.taped) c.self.view_is);
+  tape = not_some;
+  whole = not_some;
+}
+
+pub returns-then-not-passes : goal.returns-then-not-passes
+returns-then-not-passes g c = record {
+  same = same_taped c.args.self.now _ (ap (λ (k : Keeping). k.taped) c.self.view_is);
+  tape = not_some;
+  whole = not_some;
+}
