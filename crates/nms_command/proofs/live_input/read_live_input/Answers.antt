@@ -1,5 +1,6 @@
 -- `read_live_input`: the words are as many as the files, and why a file was not read is why the whole was not.
 use Rattle.std.proofs.Common.{arith, ◌≡◌, ◌+◌, length}
+use Rattle.std.proofs.lemmas.Grind.{common_steps}
 use Rattle.std.proofs.lemmas.Result.{IfOk-weaker}
 use Rattle.nms_command.proofs.FailedFacts.{unread_given}
 use Rattle.nms_command.proofs.live_input.read_live_input.Goals as goal
@@ -31,3 +32,17 @@ returns-clause-counted g c other =
 
 pub returns-clause-refused : goal.returns-clause-refused
 returns-clause-refused g c = c.with_orders.ensures.refused (length c.args.words.now)
+
+-- ---- goals that `grind` closes; the search that is tried before it takes longer
+
+pub returns-clause-orders : goal.returns-clause-orders
+returns-clause-orders g c = grind (arith, common_steps)
+
+pub returns-clause-desks : goal.returns-clause-desks
+returns-clause-desks g c = grind (arith, common_steps)
+
+pub returns-clause-feeds : goal.returns-clause-feeds
+returns-clause-feeds g c = grind (arith, common_steps)
+
+pub returns-clause-within : goal.returns-clause-within
+returns-clause-within g c = grind (arith, common_steps)

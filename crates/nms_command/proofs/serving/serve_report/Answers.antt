@@ -32,3 +32,11 @@ returns-in-Err-report_changes-clause-cut g c =
     report_cut c.in-Err-report_changes.fault shows c.args.setup.now _ old new c.in-Some.sym ending.Done
     (λ whole reports. (refl, (_, c.in-Some.sym, place, reports))) c.in-Err-report_changes.ensures.cut
     c.in-Err-report_changes.ensures.unwritten
+
+-- ---- goals that `grind` closes; the search that is tried before it takes longer
+
+pub report_changes-requires : goal.report_changes-requires
+report_changes-requires g c = grind (arith, common_steps)
+
+pub bounds-words-1 : goal.bounds-words-1
+bounds-words-1 g c = grind (arith, common_steps)

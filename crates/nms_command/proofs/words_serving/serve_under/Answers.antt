@@ -1,5 +1,6 @@
 -- `serve_under`: what a live run is given, or what is left if there is none.
-use Rattle.std.proofs.Common.{◌∙◌, ap, length, refl, sym}
+use Rattle.std.proofs.Common.{arith, ◌∙◌, ap, length, refl, sym}
+use Rattle.std.proofs.lemmas.Grind.{common_steps}
 use Rattle.std.specs.String.{string_bytes}
 use Rattle.std.proofs.lemmas.List.{length-map}
 use Rattle.nms_words.specs.CommandLine.{shown}
@@ -27,3 +28,8 @@ returns-in-Err-clause-left g c =
 
 pub returns-in-Script : goal.returns-in-Script
 returns-in-Script g c = c.serve_to_end.ensures
+
+-- ---- goals that `grind` closes; the search that is tried before it takes longer
+
+pub serve_to_end-requires : goal.serve_to_end-requires
+serve_to_end-requires g c = grind (arith, common_steps)

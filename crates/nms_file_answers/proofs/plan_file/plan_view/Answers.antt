@@ -1,6 +1,7 @@
 -- `plan_view`: clause `cut`, the rest of its promise and the call of `write_plan`, by `whole_kept`,
 -- `legs_parts` and `plan_cut`.
-use Rattle.std.proofs.Common.{rules, ◌<◌, All, Err, ap, length, refl, subst, sym}
+use Rattle.std.proofs.Common.{arith, rules, ◌<◌, All, Err, ap, length, refl, subst, sym}
+use Rattle.std.proofs.lemmas.Grind.{common_steps}
 use Rattle.nms_quote.specs.declared.side_quote.Side.{Side}
 use Rattle.nms_quote.specs.Terms.{Terms}
 use Rattle.nms_board.specs.View.{rows_on}
@@ -44,3 +45,14 @@ returns-in-Err-clause-cut g c _ =
     plan_cut c.args.setup.now c.args.view.now c.args.order.now _ _ c.plan-plan.result.0 c.plan-plan.result.1.items _ _ c.fees.ensures.value
     c.roster.ensures
     c.plan-plan.ensures.accepted c.plan-plan.ensures.optimal (whole_kept _ _ _ _ c.in-Ok.ensures.written c.in-Err.ensures.bytes)
+
+-- ---- goals that `grind` closes; the search that is tried before it takes longer
+
+pub write_plan-requires-clause-sym : goal.write_plan-requires-clause-sym
+write_plan-requires-clause-sym g c = grind (arith, common_steps)
+
+pub unreachable-requires : goal.unreachable-requires
+unreachable-requires g c = grind (arith, common_steps)
+
+pub returns-in-Err-NoMemory-clause-cut : goal.returns-in-Err-NoMemory-clause-cut
+returns-in-Err-NoMemory-clause-cut g c = grind (arith, common_steps)

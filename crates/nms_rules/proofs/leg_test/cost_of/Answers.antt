@@ -1,5 +1,6 @@
 -- `cost_of`: the turns of its loop, by `cost_of-none` and `cost_of-push`.
 use Rattle.std.proofs.Common.{◌++◌, ◌∷◌, [], List, take, arith, ap, sym, ◌∙◌}
+use Rattle.std.proofs.lemmas.Grind.{common_steps}
 use Rattle.std.proofs.lemmas.Int.{ints}
 use Rattle.std.proofs.lemmas.List.{take_more}
 use Rattle.nms_quote.specs.declared.plan.Leg.{Leg}
@@ -25,3 +26,8 @@ loop-leg-preserved c =
       low = omega (arith, ints, c.plus-cost.ensures, c.leg_cost.ensures.low, c.loop-leg.invariant.low);
       high = omega (arith, ints, c.plus-cost.ensures, c.leg_cost.ensures.high, c.loop-leg.invariant.high);
     }
+
+-- ---- goals that `grind` closes; the search that is tried before it takes longer
+
+pub returns : goal.returns
+returns c = grind (arith, common_steps)

@@ -1,5 +1,6 @@
 -- `first_traded_through`: all that it promises and the turns of its loop, by `find-here` and `find-none_more`.
-use Rattle.std.proofs.Common.{ap, sym, ◌∙◌}
+use Rattle.std.proofs.Common.{arith, ap, sym, ◌∙◌}
+use Rattle.std.proofs.lemmas.Grind.{common_steps}
 use Rattle.std.specs.List.{find}
 use Rattle.nms_board.specs.View.{rows_on}
 use Rattle.nms_quote.specs.Terms.{Terms}
@@ -22,3 +23,8 @@ pub loop-row-preserved : goal.loop-row-preserved
 loop-row-preserved c = find-none_more (is_traded_through c.args.order.now c.args.legs.now) c.rows-row-items.result.now
     c.loop-row.row-index c.row-item.result c.loop-row-test.true c.row-item.is c.loop-row.invariant
     (sym c.is_traded_through.ensures ∙ c.if-is_traded_through.false)
+
+-- ---- goals that `grind` closes; the search that is tried before it takes longer
+
+pub returns : goal.returns
+returns c = grind (arith, common_steps)

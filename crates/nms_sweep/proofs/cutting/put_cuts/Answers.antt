@@ -1,5 +1,6 @@
 -- put_cuts: one more cut, and the better of two choices, by what tried and cheaper say (clauses cuts, best, range).
 use Rattle.std.proofs.Common.{◌≡◌, ◌≤◌, refl, List, [], ◌∷◌, ◌++◌, All, length, map, ap, sym, ◌∙◌, subst, arith}
+use Rattle.std.proofs.lemmas.Grind.{common_steps}
 use Rattle.std.proofs.lemmas.List.Elements.{All-push, All-tail}
 use Rattle.std.proofs.Math.Seq.{append_snoc}
 use Rattle.nms_quote.specs.declared.certificate.Cut.{Cut}
@@ -49,3 +50,11 @@ loop-cutoff-preserved c =
       room = omega (arith, is.room, ap length coming, c.push.ensures.len);
       rows = search;
     }
+
+-- ---- goals that `grind` closes; the search that is tried before it takes longer
+
+pub loop-cutoff-smaller : goal.loop-cutoff-smaller
+loop-cutoff-smaller c = grind (arith, common_steps)
+
+pub push-requires : goal.push-requires
+push-requires c = grind (arith, common_steps)

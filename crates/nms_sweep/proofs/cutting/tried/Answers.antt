@@ -1,5 +1,6 @@
 -- tried: what a cutoff offers costs what its marginal says (clause offer), by TakenLemmas: offer_is.
-use Rattle.std.proofs.Common.{◌≡◌, ◌≤◌, ◌-◌, ap, ◌∙◌}
+use Rattle.std.proofs.Common.{arith, ◌≡◌, ◌≤◌, ◌-◌, ap, ◌∙◌}
+use Rattle.std.proofs.lemmas.Grind.{common_steps}
 use Rattle.std.specs.Prelude.{pos, ◌+ℤ◌}
 use Rattle.nms_rules.specs.Cutoff.{least_cost}
 use Rattle.nms_rules.specs.Usable.{rank_of}
@@ -23,3 +24,11 @@ returns-clause-offer c =
     (c.plus.ensures ∙ ap (λ z. cutoff.swept_cost +ℤ z)
     (c.take_cheapest-taken.ensures.cost ∙ ap (λ z. taken_cost z rest by_cost) c.of-rank.ensures)) in
     choice_same c.of-rank.result rank marginal c.plus.result (least_cost by_cost c.args.most rank marginal) c.of-rank.ensures cost
+
+-- ---- goals that `grind` closes; the search that is tried before it takes longer
+
+pub plus-requires-clause-low : goal.plus-requires-clause-low
+plus-requires-clause-low c = grind (arith, common_steps)
+
+pub plus-requires-clause-high : goal.plus-requires-clause-high
+plus-requires-clause-high c = grind (arith, common_steps)

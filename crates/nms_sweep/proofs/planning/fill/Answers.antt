@@ -1,5 +1,6 @@
 -- fill: all that is planned, by what the walk found (PlanLemmas: Found) and how the legs at the chosen cutoff fill.
 use Rattle.std.proofs.Common.{◌≡◌, ◌≤◌, All, List, Option, refl, ap, sym, ◌∙◌, subst, arith}
+use Rattle.std.proofs.lemmas.Grind.{common_steps}
 use Rattle.std.specs.List.Sorted.{IsPermutation}
 use Rattle.nms_quote.specs.Terms.{Terms}
 use Rattle.nms_quote.specs.contracts.order.Order.{the_view}
@@ -134,3 +135,8 @@ returns c = λ (seen : Seen) (fees : Charges) (walk : IsTable seen c.args.order.
       exact = subst (λ n. AreExact asked.side rows n cuts) (sym all.fillable_is)
           (exact asked.side fees rows by_price by_cost all.rows (fillable rows asked.shares) cuts all.cuts_are);
     }
+
+-- ---- goals that `grind` closes; the search that is tried before it takes longer
+
+pub invariant_of-plan : goal.invariant_of-plan
+invariant_of-plan c = grind (arith, common_steps)

@@ -1,5 +1,6 @@
 -- `take_cheapest`: clause `cost` and the turns of its loop, by `share_later`, `taken_here` and `taken_later`.
 use Rattle.std.proofs.Common.{◌≡◌, ◌-◌, false, true, List, ◌∷◌, length, ap, sym, ◌∙◌, arith}
+use Rattle.std.proofs.lemmas.Grind.{common_steps}
 use Rattle.std.specs.Prelude.{pos, ◌*ℤ◌}
 use Rattle.std.proofs.lemmas.Bool.{and_parts, leb-true}
 use Rattle.std.proofs.lemmas.Int.{ints}
@@ -56,3 +57,35 @@ loop-row-preserved c =
       high = omega (arith, ints, is.high, with'.cost, with'.high, is.behind, ap length behind);
       few = omega (arith, is.few, rest);
     }
+
+-- ---- goals that `grind` closes; the search that is tried before it takes longer
+
+pub with_shares-taken-requires-clause-low : goal.with_shares-taken-requires-clause-low
+with_shares-taken-requires-clause-low c = grind (arith, common_steps)
+
+pub with_shares-requires-clause-low : goal.with_shares-requires-clause-low
+with_shares-requires-clause-low c = grind (arith, common_steps)
+
+pub with_shares-taken-requires-clause-high : goal.with_shares-taken-requires-clause-high
+with_shares-taken-requires-clause-high c = grind (arith, common_steps)
+
+pub returns-then-has_last-clause-high : goal.returns-then-has_last-clause-high
+returns-then-has_last-clause-high c = grind (arith, common_steps)
+
+pub with_shares-requires-clause-high : goal.with_shares-requires-clause-high
+with_shares-requires-clause-high c = grind (arith, common_steps)
+
+pub returns-then-has_last-clause-marginal_low : goal.returns-then-has_last-clause-marginal_low
+returns-then-has_last-clause-marginal_low c = grind (arith, common_steps)
+
+pub loop-row-init : goal.loop-row-init
+loop-row-init c = grind (arith, common_steps)
+
+pub returns-then-has_last-clause-marginal_high : goal.returns-then-has_last-clause-marginal_high
+returns-then-has_last-clause-marginal_high c = grind (arith, common_steps)
+
+pub returns-clause-low : goal.returns-clause-low
+returns-clause-low c = grind (arith, common_steps)
+
+pub loop-row-smaller : goal.loop-row-smaller
+loop-row-smaller c = grind (arith, common_steps)

@@ -44,3 +44,14 @@ loop-digit-preserved c =
 pub returns-clause-small : goal.returns-clause-small
 returns-clause-small c = below_more_digits c.loop-digit.number c.loop-digit.digit-index c.args.most c.loop-digit.invariant.small
     (omega arith)
+
+-- ---- goals that `grind` closes; the search that is tried before it takes longer
+
+pub returns-clause-by_length : goal.returns-clause-by_length
+returns-clause-by_length c = grind (arith, common_steps)
+
+pub returns-then-not-is_ascii_digit-clause-number : goal.returns-then-not-is_ascii_digit-clause-number
+returns-then-not-is_ascii_digit-clause-number c = grind (arith, common_steps)
+
+pub returns-clause-number : goal.returns-clause-number
+returns-clause-number c = grind (arith, common_steps)

@@ -1,5 +1,6 @@
 -- `args_of`: the turns of its loop, by `mapped_next` and `all_next`.
-use Rattle.std.proofs.Common.{◌≡◌, false}
+use Rattle.std.proofs.Common.{arith, ◌≡◌, false}
+use Rattle.std.proofs.lemmas.Grind.{common_steps}
 use Rattle.clap.specs.Words.{rule_of}
 use Rattle.clap.specs.declared.builder.arg.Arg.{Arg}
 use Rattle.nms_words.specs.WordTable.{rule_for}
@@ -13,3 +14,8 @@ loop-word-preserved c = record {
   local = all_next (λ (arg : Arg). arg.global ≡ false) c.loop-word.args.items c.push.new.self.items c.arg_of.result
       c.in_ok-push.ensures.items c.loop-word.invariant.local c.arg_of.ensures.local;
 }
+
+-- ---- goals that `grind` closes; the search that is tried before it takes longer
+
+pub returns-clause-rules : goal.returns-clause-rules
+returns-clause-rules c = grind (arith, common_steps)

@@ -1,5 +1,6 @@
 -- `sub_commands`: the turns of its loop, by `mapped_next` and `all_next`.
-use Rattle.std.proofs.Common.{◌≡◌, false}
+use Rattle.std.proofs.Common.{arith, ◌≡◌, false}
+use Rattle.std.proofs.lemmas.Grind.{common_steps}
 use Rattle.clap.specs.Words.{app_of}
 use Rattle.clap.specs.declared.builder.command.Command.{Command}
 use Rattle.clap.specs.declared.builder.command.Command.TheViews.{out-Command as fields_of}
@@ -15,3 +16,11 @@ loop-sub-preserved c = record {
       c.in_ok-sub_command.field-0
       c.in_ok-push.ensures.items c.loop-sub.invariant.local c.in_ok-sub_command.ensures.local;
 }
+
+-- ---- goals that `grind` closes; the search that is tried before it takes longer
+
+pub returns-clause-apps : goal.returns-clause-apps
+returns-clause-apps c = grind (arith, common_steps)
+
+pub loop-sub-init : goal.loop-sub-init
+loop-sub-init c = grind (arith, common_steps)

@@ -1,6 +1,7 @@
 -- `parse_words`: clauses `read`, `accepted`, `refused` and `taken` and the call of `request_in`, by
 -- `accepted_asks`.
-use Rattle.std.proofs.Common.{◌≡◌, ◌∙◌, true, List, [], ◌∷◌, Option, is_some, inl, inr, ap, subst, sym, refl, map}
+use Rattle.std.proofs.Common.{arith, ◌≡◌, ◌∙◌, true, List, [], ◌∷◌, Option, is_some, inl, inr, ap, subst, sym, refl, map}
+use Rattle.std.proofs.lemmas.Grind.{common_steps}
 use Rattle.clap.specs.Words.{App, HasKind, IsAmong, Kinds, Row, Text, fault_of, is_simple, is_simple_and_free, kind_of, subcommand_of}
 use Rattle.clap.specs.Words.{takes}
 use Rattle.clap.specs.declared.error.Error.{Error}
@@ -63,3 +64,11 @@ pub returns-in-Err-clause-taken : goal.returns-in-Err-clause-taken
 returns-in-Err-clause-taken c = λ taken.
     c.fault_of.ensures.memory (c.in-Err.ensures.passes
     (ap (λ (app : App). takes app (map (λ word. word.now) c.args.words.now)) c.in_ok-tool_command.ensures ∙ taken))
+
+-- ---- goals that `grind` closes; the search that is tried before it takes longer
+
+pub returns-in_ok-request_in-in-Ok-clause-refused : goal.returns-in_ok-request_in-in-Ok-clause-refused
+returns-in_ok-request_in-in-Ok-clause-refused c = grind (arith, common_steps)
+
+pub returns-in_ok-request_in-in-Ok-clause-taken : goal.returns-in_ok-request_in-in-Ok-clause-taken
+returns-in_ok-request_in-in-Ok-clause-taken c = grind (arith, common_steps)

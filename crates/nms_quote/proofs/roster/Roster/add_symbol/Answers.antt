@@ -1,5 +1,6 @@
 -- `Roster::add_symbol`: the call of `push`, by `IsUtf8-symbol_name` and `symbol_name-worded`.
-use Rattle.std.proofs.Common.{sym, ◌∙◌}
+use Rattle.std.proofs.Common.{arith, sym, ◌∙◌}
+use Rattle.std.proofs.lemmas.Grind.{common_steps}
 use Rattle.nms_quote.proofs.TableLemmas.{IsUtf8-symbol_name}
 use Rattle.nms_quote.proofs.WordLemmas.{symbol_name-worded}
 use Rattle.nms_quote.proofs.roster.Roster.add_symbol.Goals as goal
@@ -9,3 +10,14 @@ push-requires-clause-text c = IsUtf8-symbol_name c.args.name.now (sym c.is_symbo
 
 pub push-requires-clause-worded : goal.push-requires-clause-worded
 push-requires-clause-worded c = symbol_name-worded c.args.name.now (sym c.is_symbol_name.ensures ∙ c.in_default.ensures.formed)
+
+-- ---- goals that `grind` closes; the search that is tried before it takes longer
+
+pub invariant_of-self-2 : goal.invariant_of-self-2
+invariant_of-self-2 c = grind (arith, common_steps)
+
+pub returns-clause-added : goal.returns-clause-added
+returns-clause-added c = grind (arith, common_steps)
+
+pub at-requires : goal.at-requires
+at-requires c = grind (arith, common_steps)

@@ -1,5 +1,6 @@
 -- `Lot::displayed`: its clauses, by `lots_by_reciprocal`.
 use Rattle.std.proofs.Common.{◌≡◌, ◌+◌, ◌*◌, ◌/◌, ◌≤◌, arith, ap}
+use Rattle.std.proofs.lemmas.Grind.{common_steps}
 use Rattle.std.proofs.Math.Nat.{div-mul-le_self}
 use Rattle.nms_units.specs.Lot.{displayed_size, reciprocal_of}
 use Rattle.nms_units.proofs.LotLemmas.{lots_by_reciprocal}
@@ -21,3 +22,8 @@ returns-clause-within c = rw (size c) (div-mul-le_self c.args.shares c.args.self
 
 pub overflow_mul-result : goal.overflow_mul-result
 overflow_mul-result c = omega (arith, returns-clause-within c, c.get.ensures.number, c.get.ensures.high)
+
+-- ---- goals that `grind` closes; the search that is tried before it takes longer
+
+pub overflow_cast-lots : goal.overflow_cast-lots
+overflow_cast-lots c = grind (arith, common_steps)

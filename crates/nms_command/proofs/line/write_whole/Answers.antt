@@ -1,0 +1,7 @@
+-- `write_whole`: goals that `grind` closes; the search that is tried before it takes longer.
+use Rattle.std.proofs.Common.{arith}
+use Rattle.std.proofs.lemmas.Grind.{common_steps}
+use Rattle.nms_command.proofs.line.write_whole.Goals as goal
+
+pub returns-clause-written : goal.returns-clause-written
+returns-clause-written g c = grind (arith, common_steps)

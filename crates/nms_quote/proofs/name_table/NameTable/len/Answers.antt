@@ -1,0 +1,7 @@
+-- `len`: goals that `grind` closes; the search that is tried before it takes longer.
+use Rattle.std.proofs.Common.{arith}
+use Rattle.std.proofs.lemmas.Grind.{common_steps}
+use Rattle.nms_quote.proofs.name_table.NameTable.len.Goals as goal
+
+pub returns : goal.returns
+returns g c = grind (arith, common_steps)

@@ -1,0 +1,7 @@
+-- `swept_cost_part`: goals that `grind` closes; the search that is tried before it takes longer.
+use Rattle.std.proofs.Common.{arith}
+use Rattle.std.proofs.lemmas.Grind.{common_steps}
+use Rattle.nms_rules.proofs.cutoff.swept_cost_part.Goals as goal
+
+pub returns-then-is_swept-clause-part : goal.returns-then-is_swept-clause-part
+returns-then-is_swept-clause-part c = grind (arith, common_steps)

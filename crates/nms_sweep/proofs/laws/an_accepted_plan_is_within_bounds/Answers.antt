@@ -1,0 +1,7 @@
+-- `an_accepted_plan_is_within_bounds`: goals that `grind` closes; the search that is tried before it takes longer.
+use Rattle.std.proofs.Common.{arith}
+use Rattle.std.proofs.lemmas.Grind.{common_steps}
+use Rattle.nms_sweep.proofs.laws.an_accepted_plan_is_within_bounds.Goals as goal
+
+pub returns : goal.returns
+returns c = grind (arith, common_steps)
