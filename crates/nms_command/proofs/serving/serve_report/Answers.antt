@@ -28,7 +28,8 @@ returns-in-Err-report_changes-clause-cut g c =
     let new = g.W.Write.contents c.report_changes.new.writer in
     let place : place_in c.args.setup.now.roster.syms (field (map string_bytes c.args.words.now) 1) ≡ Some c.in-Some.sym =
     grind (arith, common_steps) in
-    let shows = λ (whole : Option (List ℕ)) (ends : Ending). (ends ≡ ending.Done) × Reports c.args.setup.now (map string_bytes c.args.words.now) old whole in
+    let shows = λ (whole : Option (List ℕ)) (ends : Ending).
+    (ends ≡ ending.Done) × Reports c.args.setup.now (map string_bytes c.args.words.now) old whole in
     report_cut c.in-Err-report_changes.fault shows c.args.setup.now _ old new c.in-Some.sym ending.Done
     (λ whole reports. (refl, (_, c.in-Some.sym, place, reports))) c.in-Err-report_changes.ensures.cut
     c.in-Err-report_changes.ensures.unwritten

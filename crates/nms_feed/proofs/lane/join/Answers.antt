@@ -1,5 +1,6 @@
 -- `join`: what was taken is a merge of what was sent, by `joins` and `merged`.
-use Rattle.std.proofs.Common.{◌≡◌, ◌++◌, [], List, ap, sym, subst, ◌∙◌}
+use Rattle.std.proofs.Common.{arith, ◌≡◌, ◌++◌, [], List, ap, sym, subst, ◌∙◌}
+use Rattle.std.proofs.lemmas.Grind.{common_steps}
 use Rattle.std.proofs.lemmas.List.{append-nil, nil_from_length}
 use Rattle.std.specs.Vec.Iter.{into_iter_items}
 use Rattle.std.specs.List.{AllByRecursion}
@@ -22,3 +23,11 @@ returns c =
     let all = subst (λ (k : Known). AllByRecursion (λ s. s.changes ≡ of_feed s.feed (taken_in k ++ tallies.0)) k.sent)
     (c.loop-sender.invariant.knows ∙ ap (joined taker.senders taker.taken) whole) tallies.1 in
     merged taker.senders c.args.senders.items taker.taken tallies.0 c.requires.all.in_order all c.requires.taken
+
+-- ---- goals that `grind` closes; the search that is tried before it takes longer
+
+pub loop-sender-init : goal.loop-sender-init
+loop-sender-init c = grind (arith, common_steps)
+
+pub loop-sender-preserved : goal.loop-sender-preserved
+loop-sender-preserved c = grind (arith, common_steps)

@@ -1,5 +1,6 @@
 -- `repeats`: its result, by what stands before a name, from `NameLemmas`.
-use Rattle.std.proofs.Common.{sym, ap, ◌∙◌}
+use Rattle.std.proofs.Common.{arith, sym, ap, ◌∙◌}
+use Rattle.std.proofs.lemmas.Grind.{common_steps}
 use Rattle.nms_fees.proofs.NameLemmas.{repeated, learned, names_of-unnamed, texts}
 use Rattle.nms_fees.specs.Places.{has_repeat}
 use Rattle.nms_fees.proofs.repeat.repeats.Goals as goal
@@ -27,3 +28,8 @@ loop-row-preserved c =
                 ∙ c.loop-row.invariant.once;
           }
     ]
+
+-- ---- goals that `grind` closes; the search that is tried before it takes longer
+
+pub returns-clause-found : goal.returns-clause-found
+returns-clause-found c = grind (arith, common_steps)

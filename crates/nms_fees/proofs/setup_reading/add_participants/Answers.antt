@@ -1,5 +1,6 @@
 -- `add_participants`: no participant is refused, by `unrefused`.
-use Rattle.std.proofs.Common.{codes}
+use Rattle.std.proofs.Common.{arith, codes}
+use Rattle.std.proofs.lemmas.Grind.{common_steps}
 use Rattle.nms_fees.specs.declared.section.Section.TheVariants as section
 use Rattle.nms_fees.specs.Setup.{text_at, table_of, feed_of_text}
 use Rattle.nms_fees.proofs.SoundLemmas.{unrefused}
@@ -11,3 +12,11 @@ add_participant-requires c =
     (λ row. feed_of_text (text_at (codes "feed")
     (table_of row))) c.args.rows.now c.loop-row.row-index c.row-item.result c.loop-row.roster.parts c.requires.sound.1
     c.loop-row-test.true c.row-item.is c.loop-row.invariant.parts
+
+-- ---- goals that `grind` closes; the search that is tried before it takes longer
+
+pub loop-row-preserved : goal.loop-row-preserved
+loop-row-preserved c = grind (arith, common_steps)
+
+pub returns-clause-parts : goal.returns-clause-parts
+returns-clause-parts c = grind (arith, common_steps)

@@ -1,5 +1,6 @@
 -- `fees_of`: the fees keep the caps, by `charges_of_rows`, and a row more adds its fees.
 use Rattle.std.proofs.Common.{◌≡◌, ℕ, ◌+◌, ◌<◌, List, [], ◌∷◌, ◌++◌, length, take, get_or, map, ap, subst, sym, ◌∙◌, arith}
+use Rattle.std.proofs.lemmas.Grind.{common_steps}
 use Rattle.std.proofs.lemmas.List.{map-append, take_all}
 use Rattle.toml.specs.View.{view}
 use Rattle.toml.specs.declared.value.Value.{Value}
@@ -29,3 +30,8 @@ pub loop-row-preserved : goal.loop-row-preserved
 loop-row-preserved c =
     with_last c.args.rows.now c.loop-row.row-index c.row-item.result c.loop-row-test.true c.row-item.is c.loop-row.schedules.items
     c.push.new.self.items c.schedule_of.result c.loop-row.invariant c.schedule_of.ensures c.in-Ok.ensures.items
+
+-- ---- goals that `grind` closes; the search that is tried before it takes longer
+
+pub returns-clause-value : goal.returns-clause-value
+returns-clause-value c = grind (arith, common_steps)

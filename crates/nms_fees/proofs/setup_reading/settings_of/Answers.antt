@@ -1,5 +1,6 @@
 -- `settings_of`: the rows are sound, and the invariant of a setup holds, from `SoundLemmas`.
 use Rattle.std.proofs.Common.{◌≡◌, None, List, ℕ, ◌<◌, ◌≤◌, Fits, w8, arith, ap, ◌∙◌, sym, subst, length, map}
+use Rattle.std.proofs.lemmas.Grind.{common_steps}
 use Rattle.std.proofs.lemmas.List.{length-map}
 use Rattle.std.specs.List.{AllByRecursion}
 use Rattle.toml.specs.Data.{Data}
@@ -81,3 +82,8 @@ invariant_of-result c =
           (kept rows c.choices_in-chosen.result _ c.choices_in-chosen.ensures
           (participants_of (table_view c.args.document.now) c.requires rows c.rows_at-participants.ensures)));
     }
+
+-- ---- goals that `grind` closes; the search that is tried before it takes longer
+
+pub same-result : goal.same-result
+same-result c = grind (arith, common_steps)

@@ -1,5 +1,6 @@
 -- `read_within`: clause `all`.
 use Rattle.std.proofs.Common.{rules, ◌≡◌, ◌∙◌, ◌≤◌, ◌+◌, ◌++◌, ℕ, List, [], Option, Some, None, IfSome, length, option_map, take, min}
+use Rattle.std.proofs.lemmas.Grind.{common_steps}
 use Rattle.std.proofs.Common.{subst, ap, arith}
 use Rattle.std.proofs.lemmas.List.{length-take, take_all}
 use Rattle.std.specs.Io.Take.{take_inner, take_limit, take_remaining}
@@ -31,3 +32,11 @@ returns-in-Ok-clause-all g c =
     let few : length c.read_to_end.new.buf.items ≤ c.args.most = search rules in
     begun g.R.Read.remaining c.take-begin.result c.args.source c.args.most c.new-bytes.result.items c.read_to_end.new.buf.items
     c.take-begin.ensures.limit c.take-begin.ensures.inner c.new-bytes.ensures.items c.in-Ok.ensures.bytes few
+
+-- ---- goals that `grind` closes; the search that is tried before it takes longer
+
+pub returns-in-Err-clause-refused : goal.returns-in-Err-clause-refused
+returns-in-Err-clause-refused g c = grind (arith, common_steps)
+
+pub returns-in-Ok-2-clause-refused : goal.returns-in-Ok-2-clause-refused
+returns-in-Ok-2-clause-refused g c = grind (arith, common_steps)

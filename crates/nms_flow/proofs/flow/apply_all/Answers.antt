@@ -1,5 +1,6 @@
 -- `apply_all`: the turns of its loop.
 use Rattle.std.proofs.Common.{◌++◌, ◌∷◌, [], List, take, arith, ap, sym, subst, ◌∙◌, append_assoc}
+use Rattle.std.proofs.lemmas.Grind.{common_steps}
 use Rattle.std.proofs.lemmas.List.{map-append, take_more}
 use Rattle.nms_quote.specs.Tape.{Tape}
 use Rattle.nms_quote.specs.declared.marked.Marked.{Marked}
@@ -20,3 +21,8 @@ loop-marked-preserved c =
       sizes = ap (λ (b : Board). b.sizes) c.apply.ensures.after ∙ c.loop-marked.invariant.sizes;
       applied = omega (arith, ap (λ (b : Board). b.applied) c.apply.ensures.after, c.loop-marked.invariant.applied);
     }
+
+-- ---- goals that `grind` closes; the search that is tried before it takes longer
+
+pub returns-clause-stands : goal.returns-clause-stands
+returns-clause-stands c = grind (arith, common_steps)

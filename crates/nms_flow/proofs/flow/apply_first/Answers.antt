@@ -1,5 +1,6 @@
 -- `apply_first`: clause `stands` and the call of `apply_all`, by `all_back` and `first_of_two`.
-use Rattle.std.proofs.Common.{◌≡◌, ◌-◌, ◌++◌, true, take, ap, sym, subst, ◌∙◌, append_assoc}
+use Rattle.std.proofs.Common.{arith, ◌≡◌, ◌-◌, ◌++◌, true, take, ap, sym, subst, ◌∙◌, append_assoc}
+use Rattle.std.proofs.lemmas.Grind.{common_steps}
 use Rattle.std.specs.Prelude.{All}
 use Rattle.std.proofs.lemmas.List.{map-append}
 use Rattle.nms_quote.specs.Roster.{Sizes, holds}
@@ -27,3 +28,11 @@ returns-clause-stands c tape h =
     ∙ ap changes_in (first_of_two c.as_slices.result.0.now c.as_slices.result.1.now c.args.count c.min-first.result c.min-first.ensures
     ∙ ap (take c.args.count) c.as_slices.ensures.items)))
     (c.apply_all-2.ensures.stands _ (c.apply_all.ensures.stands tape h))
+
+-- ---- goals that `grind` closes; the search that is tried before it takes longer
+
+pub slice_bounds-apply_all-length : goal.slice_bounds-apply_all-length
+slice_bounds-apply_all-length c = grind (arith, common_steps)
+
+pub returns-clause-applied : goal.returns-clause-applied
+returns-clause-applied c = grind (arith, common_steps)

@@ -1,5 +1,6 @@
 -- `advance`: clause `came`, by `breaks_off`, `comes_on`, `ends_before` and `stops_after`.
-use Rattle.std.proofs.Common.{rules, ◌≡◌, Bool, Ok, Err, ap, ◌∙◌}
+use Rattle.std.proofs.Common.{arith, rules, ◌≡◌, Bool, Ok, Err, ap, ◌∙◌}
+use Rattle.std.proofs.lemmas.Grind.{common_steps}
 use Rattle.csv.specs.Records.{fields_of}
 use Rattle.nms_text.specs.declared.script_fault.ScriptFault.TheVariants as fault
 use Rattle.nms_scripts.proofs.ProgressFacts.{breaks_off, comes_on, ends_before, stops_after}
@@ -60,3 +61,11 @@ returns-in_err-tell_answer-clause-came g c bytes old refused come =
     come found c.clear.ensures.items c.in-Ok.ensures.served c.in-Ok.ensures.room c.deref.ensures.value c.in_err-tell_answer.ensures.part in
     let is_fault : c.from_residual-in_err-tell_answer.result ≡ Err c.in_err-tell_answer.field-0.0 = search rules in
     rw is_fault (record { stopped = λ other. absurd (other c.in_err-tell_answer.ensures.refused); cut = λ _. off })
+
+-- ---- goals that `grind` closes; the search that is tried before it takes longer
+
+pub returns-in_default-clause-failed : goal.returns-in_default-clause-failed
+returns-in_default-clause-failed g c = grind (arith, common_steps)
+
+pub returns-clause-most : goal.returns-clause-most
+returns-clause-most g c = grind (arith, common_steps)

@@ -1,6 +1,7 @@
 -- `answer_records`: clauses `answered`, `stopped` and `cut` and the turns of its loop, by `answers_all`,
 -- `answers_beginning` and `comes_first`.
 use Rattle.std.proofs.Common.{Bool, true, false, cond, refl, sym, arith, ◌≡◌, ◌≢◌, ◌≤◌, lit≤, ◌∙◌}
+use Rattle.std.proofs.lemmas.Grind.{common_steps}
 use Rattle.nms_scripts.specs.declared.TheConstants.{MOST_RECORDS}
 use Rattle.nms_scripts.specs.declared.script.Progress.TheVariants as progress
 use mir.Val.{bool_byte}
@@ -62,3 +63,8 @@ loop-done-preserved g c =
       few = omega (arith, more, at_most_one c.in-Ok-Answered.more, c.loop-done.invariant.few);
       within = omega (arith, not_last, c.loop-done.invariant.within);
     }
+
+-- ---- goals that `grind` closes; the search that is tried before it takes longer
+
+pub overflow_add-refused : goal.overflow_add-refused
+overflow_add-refused g c = grind (arith, common_steps)

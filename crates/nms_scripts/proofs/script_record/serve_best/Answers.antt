@@ -1,6 +1,7 @@
 -- `serve_best`: all that it promises and the call of `tell_best`, by `shown_parts`, `best_part` and
 -- `shows_best`.
-use Rattle.std.proofs.Common.{◌<◌, subst, sym, refl}
+use Rattle.std.proofs.Common.{arith, ◌<◌, subst, sym, refl}
+use Rattle.std.proofs.lemmas.Grind.{common_steps}
 use Rattle.std.specs.Prelude.{All}
 use Rattle.nms_quote.specs.Roster.{Sizes}
 use Rattle.nms_quote.specs.declared.side_quote.Side.TheVariants.{Bid, Offer}
@@ -27,3 +28,8 @@ returns c = shows_best c.args.roster.now c.args.flow.now c.args.flow.now c.args.
     c.best-best.result.bid c.best-best.result.offer _ _
     (c.best-best.ensures.went c.args.desk) c.best-best.ensures.bid c.best-best.ensures.offer
     (c.in_ok-tell_best.ensures (seen_on c.args.flow.now.board c.args.sym) refl (sym c.published.ensures.count))
+
+-- ---- goals that `grind` closes; the search that is tried before it takes longer
+
+pub best-best-requires : goal.best-best-requires
+best-best-requires c = grind (arith, common_steps)

@@ -1,4 +1,6 @@
 -- `serve_line`: what is answered to each kind of line.
+use Rattle.std.proofs.Common.{arith}
+use Rattle.std.proofs.lemmas.Grind.{common_steps}
 use Rattle.nms_scripts.proofs.script_record.serve_line.Goals as goal
 
 pub returns-in-Change : goal.returns-in-Change
@@ -27,3 +29,14 @@ returns-in-Through-clause-served c = rw c.in-Through.is (rw c.roster-in-Through.
 
 pub returns-in-Sweep-clause-served : goal.returns-in-Sweep-clause-served
 returns-in-Sweep-clause-served c = rw c.in-Sweep.is c.serve_sweep.ensures
+
+-- ---- goals that `grind` closes; the search that is tried before it takes longer
+
+pub serve_through-requires-clause-sym : goal.serve_through-requires-clause-sym
+serve_through-requires-clause-sym c = grind (arith, common_steps)
+
+pub serve_sweep-requires-clause-sym : goal.serve_sweep-requires-clause-sym
+serve_sweep-requires-clause-sym c = grind (arith, common_steps)
+
+pub serve_best-requires-clause-sym : goal.serve_best-requires-clause-sym
+serve_best-requires-clause-sym c = grind (arith, common_steps)

@@ -1,5 +1,6 @@
 -- `serve_sweep`: all that it promises, by `shows_plan`.
-use Rattle.std.proofs.Common.{ℕ, ◌≡◌, ◌++◌, ◌∙◌, List, ap, subst}
+use Rattle.std.proofs.Common.{arith, ℕ, ◌≡◌, ◌++◌, ◌∙◌, List, ap, subst}
+use Rattle.std.proofs.lemmas.Grind.{common_steps}
 use Rattle.nms_quote.specs.Terms.{Terms}
 use Rattle.nms_quote.specs.Roster.{Listing}
 use Rattle.nms_quote.specs.declared.certificate.Cut.{Cut}
@@ -34,3 +35,8 @@ returns c =
     shows_plan c.args.setup.now c.args.flow.now c.args.flow.now c.args.desk order seen plan cuts before
     c.append_plan.new.out.items (c.board.ensures.went c.args.desk order.sym) accepted
     (subst (λ (one : Listing). c.append_plan.new.out.items ≡ before ++ text_of (plan_records one plan cuts)) c.roster.ensures text)
+
+-- ---- goals that `grind` closes; the search that is tried before it takes longer
+
+pub plan_on-requires : goal.plan_on-requires
+plan_on-requires c = grind (arith, common_steps)

@@ -1,5 +1,6 @@
 -- `tell_through_rows`: the turns of its loop.
-use Rattle.std.proofs.Common.{◌++◌, ◌∷◌, [], map, take, ap, sym, ◌∙◌, append_assoc}
+use Rattle.std.proofs.Common.{arith, ◌++◌, ◌∷◌, [], map, take, ap, sym, ◌∙◌, append_assoc}
+use Rattle.std.proofs.lemmas.Grind.{common_steps}
 use Rattle.std.proofs.lemmas.List.{take_more}
 use Rattle.std.proofs.lemmas.List.Concat.{flat_map-append}
 use Rattle.std.proofs.lemmas.List.{map-append}
@@ -20,3 +21,8 @@ loop-side-preserved c =
     ∙ ap (λ out. out ++ text_of (record_of quotation ∷ [])) c.loop-side.invariant
     ∙ append_assoc c.args.out.now.items (text_of (map record_of before)) (text_of (record_of quotation ∷ []))
     ∙ ap (λ text. c.args.out.now.items ++ text) (sym texts)
+
+-- ---- goals that `grind` closes; the search that is tried before it takes longer
+
+pub returns : goal.returns
+returns c = grind (arith, common_steps)

@@ -1,5 +1,6 @@
 -- `tell_answers`: the turns of its loop.
-use Rattle.std.proofs.Common.{◌++◌, ◌∷◌, [], take, ap, sym, ◌∙◌, append_assoc}
+use Rattle.std.proofs.Common.{arith, ◌++◌, ◌∷◌, [], take, ap, sym, ◌∙◌, append_assoc}
+use Rattle.std.proofs.lemmas.Grind.{common_steps}
 use Rattle.std.specs.List.{flat_map}
 use Rattle.std.proofs.lemmas.List.{append-nil, take_more}
 use Rattle.std.proofs.lemmas.List.Concat.{flat_map-append}
@@ -21,3 +22,8 @@ loop-answer-preserved c =
     ∙ ap (λ out. out ++ text_of (records answer)) c.loop-answer.invariant
     ∙ append_assoc c.args.out.now.items (text_of (flat_map records before)) (text_of (records answer))
     ∙ ap (λ text. c.args.out.now.items ++ text) (sym texts)
+
+-- ---- goals that `grind` closes; the search that is tried before it takes longer
+
+pub returns : goal.returns
+returns c = grind (arith, common_steps)

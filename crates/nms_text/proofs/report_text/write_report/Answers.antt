@@ -1,4 +1,6 @@
 -- `write_report`: all that it promises, by `report_written`.
+use Rattle.std.proofs.Common.{arith}
+use Rattle.std.proofs.lemmas.Grind.{common_steps}
 use Rattle.nms_text.proofs.ReportFacts.{report_written}
 use Rattle.nms_text.proofs.report_text.write_report.Goals as goal
 
@@ -8,3 +10,8 @@ returns g c =
     c.market_between.result
     c.best-bid.ensures c.best-offer.ensures c.market_between.ensures c.in_ok-write_header.ensures c.in_ok-write_side.ensures
     c.in_ok-write_side-2.ensures c.write_pairs.ensures
+
+-- ---- goals that `grind` closes; the search that is tried before it takes longer
+
+pub write_pairs-requires : goal.write_pairs-requires
+write_pairs-requires g c = grind (arith, common_steps)

@@ -35,9 +35,3 @@ returns-in-Ok-clause-known g c = grind (arith, common_steps)
 
 pub returns-in-Ok-clause-told : goal.returns-in-Ok-clause-told
 returns-in-Ok-clause-told g c = grind (arith, common_steps)
-
-pub returns-clause-quiet : goal.returns-clause-quiet
-returns-clause-quiet g c = grind (arith, common_steps)
-
-pub returns-clause-done : goal.returns-clause-done
-returns-clause-done g c = grind (arith, common_steps)

@@ -1,6 +1,5 @@
 -- `FeeBook::unit_cost`: clause `cost`.
 use Rattle.std.proofs.Common.{ℤ, pos, negsuc, ◌≡◌, ◌+ℤ◌, ◌≤ℤ◌, arith, ◌∙◌, to_z, of_z}
-use Rattle.std.proofs.lemmas.Grind.{common_steps}
 use Rattle.std.proofs.lemmas.Int.{ints}
 use Rattle.std.specs.Int.{w128}
 use Rattle.nms_fee_book.proofs.fee_book.FeeBook.unit_cost.Goals as goal
@@ -16,14 +15,3 @@ returns-clause-cost c =
     let sum = sum_kept c.new.result c.price_for.result c.fee.result c.get.result c.get-fee.result c.get.ensures c.get-fee.ensures
     c.price_for.ensures.low c.price_for.ensures.high c.fee.ensures.low c.fee.ensures.high c.new.ensures in
     sum ∙ rw (c.price_for.ensures.price, c.fee.ensures.fee)
-
--- ---- goals that `grind` closes; the search that is tried before it takes longer
-
-pub overflow_add-get : goal.overflow_add-get
-overflow_add-get c = grind (arith, common_steps)
-
-pub returns-clause-high : goal.returns-clause-high
-returns-clause-high c = grind (arith, common_steps)
-
-pub returns-clause-low : goal.returns-clause-low
-returns-clause-low c = grind (arith, common_steps)

@@ -1,5 +1,6 @@
 -- `take`: the rule stays when a change is taken, by `takes`.
-use Rattle.std.proofs.Common.{◌++◌, ◌∷◌, [], ap, ◌∙◌}
+use Rattle.std.proofs.Common.{arith, ◌++◌, ◌∷◌, [], ap, ◌∙◌}
+use Rattle.std.proofs.lemmas.Grind.{common_steps}
 use Rattle.nms_feed.specs.Known.{taken_in}
 use Rattle.nms_feed.specs.Lane.{Taking}
 use Rattle.nms_feed.proofs.Moves.{takes}
@@ -19,3 +20,17 @@ returns-clause-taken g c =
         taken = (ap taken_in c.in_ok-marked.ensures.rule.0 ∙ ap (λ (t : Taking). t.taken ++ marked ∷ []) was) i;
       },
     )
+
+-- ---- goals that `grind` closes; the search that is tried before it takes longer
+
+pub invariant_of-self-2 : goal.invariant_of-self-2
+invariant_of-self-2 g c = grind (arith, common_steps)
+
+pub returns-in_err-marked-clause-unchanged : goal.returns-in_err-marked-clause-unchanged
+returns-in_err-marked-clause-unchanged g c = grind (arith, common_steps)
+
+pub returns-in_err-marked-clause-taken : goal.returns-in_err-marked-clause-taken
+returns-in_err-marked-clause-taken g c = grind (arith, common_steps)
+
+pub invariant_of-self : goal.invariant_of-self
+invariant_of-self g c = grind (arith, common_steps)

@@ -1,5 +1,6 @@
 -- `Flow::sent_at`: the change at the place, by `sent_there`.
 use Rattle.std.proofs.Common.{◌≡◌, ◌-◌, ◌<◌, ◌≤◌, ◌∙◌, ap, arith, inl, inr, length, refl, slice_get, subst, sym, None, Some}
+use Rattle.std.proofs.lemmas.Grind.{common_steps}
 use Rattle.std.specs.Prelude.{option_map}
 use Rattle.std.proofs.lemmas.Bool.{cases_lt}
 use Rattle.std.proofs.lemmas.Option.{slice_get_past, slice_get_read}
@@ -32,3 +33,8 @@ returns-in-None c = λ at h behind.
     sym (ap (option_map (λ (m : Marked). m.change)) (slice_get_past kept since past))
     ∙ sent_there _ at c.args.place since (subst (λ (s : State). StandsAt s at) (sym c.self.view_is) h) behind
     (c.in_ok-since.ensures.1 ∙ ap (λ n. c.args.place - n) c.applied.ensures.count)
+
+-- ---- goals that `grind` closes; the search that is tried before it takes longer
+
+pub returns-in_err-since : goal.returns-in_err-since
+returns-in_err-since c = grind (arith, common_steps)

@@ -1,5 +1,6 @@
 -- `Flow::take_all`: clause `run`, by what the takings one after another come to.
 use Rattle.std.proofs.Common.{◌≡◌, ◌+◌, arith, subst, sym}
+use Rattle.std.proofs.lemmas.Grind.{common_steps}
 use Rattle.nms_flow.specs.Flow.{State}
 use Rattle.nms_flow.proofs.TakeLemmas.{takes_until_empty, takes_until_full, takes_until_wanting}
 use Rattle.nms_flow.proofs.flow.Flow.take_all.Goals as goal
@@ -25,3 +26,17 @@ returns-clause-run c =
     (omega (arith, c.min-more.ensures, c.len.ensures, c.self.invariant.pending))
     (λ e. c.if-more-queued.false (omega (arith, e, c.len.ensures, c.self.invariant.pending)))
     (omega (arith, c.min-more.ensures, c.if-more-queued.false, taken, c.self.invariant.taken)))
+
+-- ---- goals that `grind` closes; the search that is tried before it takes longer
+
+pub returns-clause-sends_nothing : goal.returns-clause-sends_nothing
+returns-clause-sends_nothing c = grind (arith, common_steps)
+
+pub overflow_sub-self-inside : goal.overflow_sub-self-inside
+overflow_sub-self-inside c = grind (arith, common_steps)
+
+pub returns-then-more-queued-clause-sends_nothing : goal.returns-then-more-queued-clause-sends_nothing
+returns-then-more-queued-clause-sends_nothing c = grind (arith, common_steps)
+
+pub returns-in_default-clause-sends_nothing : goal.returns-in_default-clause-sends_nothing
+returns-in_default-clause-sends_nothing c = grind (arith, common_steps)

@@ -1,0 +1,7 @@
+-- `count_at`: goals that `grind` closes; the search that is tried before it takes longer.
+use Rattle.std.proofs.Common.{arith}
+use Rattle.std.proofs.lemmas.Grind.{common_steps}
+use Rattle.nms_fees.proofs.toml_table.count_at.Goals as goal
+
+pub returns : goal.returns
+returns c = grind (arith, common_steps)

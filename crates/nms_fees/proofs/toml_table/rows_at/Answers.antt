@@ -1,0 +1,13 @@
+-- `rows_at`: goals that `grind` closes; the search that is tried before it takes longer.
+use Rattle.std.proofs.Common.{arith}
+use Rattle.std.proofs.lemmas.Grind.{common_steps}
+use Rattle.nms_fees.proofs.toml_table.rows_at.Goals as goal
+
+pub returns-in_default : goal.returns-in_default
+returns-in_default c = grind (arith, common_steps)
+
+pub returns-in-None : goal.returns-in-None
+returns-in-None c = grind (arith, common_steps)
+
+pub returns-in-Some-rows_in : goal.returns-in-Some-rows_in
+returns-in-Some-rows_in c = grind (arith, common_steps)

@@ -1,7 +1,0 @@
--- `tell_fault`: goals that `grind` closes; the search that is tried before it takes longer.
-use Rattle.std.proofs.Common.{arith}
-use Rattle.std.proofs.lemmas.Grind.{common_steps}
-use Rattle.nms_tool.proofs.program.tell_fault.Goals as goal
-
-pub returns-clause-told : goal.returns-clause-told
-returns-clause-told c = grind (arith, common_steps)
