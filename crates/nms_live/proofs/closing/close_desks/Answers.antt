@@ -1,5 +1,6 @@
 -- `close_desks`: its loop (the turns by `row_more`), what it calls and its returns.
 use Rattle.std.proofs.Common.{ℕ, ◌≡◌, ◌++◌, ◌∷◌, [], None, length, refl, ap, sym, subst, ◌∙◌, append_assoc, length-append, arith}
+use Rattle.std.proofs.lemmas.Grind.{common_steps}
 use Rattle.std.specs.Vec.Iter.{into_iter_items}
 use Rattle.nms_versions.specs.Taped.{tape_of}
 use Rattle.nms_live.specs.Answering.{IsClosed}
@@ -88,3 +89,17 @@ returns-in-Err g c = record {
   rows = tt;
   fault = c.in-Err.ensures.fault;
 }
+
+-- ---- goals that `grind` closes; the search that is tried before it takes longer
+
+pub returns-in-Err-push-clause-unchanged : goal.returns-in-Err-push-clause-unchanged
+returns-in-Err-push-clause-unchanged g c = grind (arith, common_steps)
+
+pub returns-in-Err-push-clause-fault : goal.returns-in-Err-push-clause-fault
+returns-in-Err-push-clause-fault g c = grind (arith, common_steps)
+
+pub returns-in-Err-push-clause-rows : goal.returns-in-Err-push-clause-rows
+returns-in-Err-push-clause-rows g c = grind (arith, common_steps)
+
+pub returns-in-Err-push-clause-all : goal.returns-in-Err-push-clause-all
+returns-in-Err-push-clause-all g c = grind (arith, common_steps)

@@ -1,5 +1,6 @@
 -- `answer_orders`: its loop (the turns by `take_more` and `so_far_more`), what it calls and its returns.
-use Rattle.std.proofs.Common.{◌≡◌, ◌++◌, ◌∷◌, [], List, refl, take, ap, sym, ◌∙◌}
+use Rattle.std.proofs.Common.{arith, ◌≡◌, ◌++◌, ◌∷◌, [], List, refl, take, ap, sym, ◌∙◌}
+use Rattle.std.proofs.lemmas.Grind.{common_steps}
 use Rattle.std.proofs.lemmas.List.{take_all}
 use Rattle.nms_quote.specs.Tape.{Tape}
 use Rattle.nms_versions.specs.Taped.{Knowing}
@@ -65,3 +66,8 @@ returns g c =
       later = inv.so_far.later;
       fault = tt;
     }
+
+-- ---- goals that `grind` closes; the search that is tried before it takes longer
+
+pub returns-in-Err-push_back-clause-same : goal.returns-in-Err-push_back-clause-same
+returns-in-Err-push_back-clause-same g c = grind (arith, common_steps)

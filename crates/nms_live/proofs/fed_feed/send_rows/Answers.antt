@@ -1,6 +1,7 @@
 -- `send_rows`: clauses `read` and `refused` and the turns of its loop, by `all_push`, `first_refused` and
 -- `says_more`.
 use Rattle.std.proofs.Common.{ap, Ok, Bool, ◌∙◌, ◌+◌, ◌++◌, ◌∷◌, [], Some, length, arith, length-append}
+use Rattle.std.proofs.lemmas.Grind.{common_steps}
 use Rattle.nms_lines.specs.Rows.{fields_of}
 use Rattle.nms_lines.specs.ChangeReading.{IsOwn}
 use Rattle.nms_live.proofs.NumberFacts.{all_push}
@@ -44,3 +45,11 @@ returns-in-Err-send_record-clause-refused g c = λ text reads.
     first_refused c.args.setup.now.roster c.args.feed text had.0 (fields_of c.read_next.new.row) c.loop-index.sender.sent
     (c.loop-index.index + 1) c.in-Err-send_record.fault
     found.begins had.2 (omega (arith, had.3)) c.in-Err-send_record.ensures.refused
+
+-- ---- goals that `grind` closes; the search that is tried before it takes longer
+
+pub returns-in-Err-send_record-clause-same : goal.returns-in-Err-send_record-clause-same
+returns-in-Err-send_record-clause-same g c = grind (arith, common_steps)
+
+pub loop-index-init : goal.loop-index-init
+loop-index-init g c = grind (arith, common_steps)

@@ -1,5 +1,6 @@
 -- `end_feeds`: the first fault is what it returns; what the senders sent is what the workers returned, by `sent_back`.
-use Rattle.std.proofs.Common.{◌≡◌, ap, sym, subst, ◌∙◌}
+use Rattle.std.proofs.Common.{arith, ◌≡◌, ap, sym, subst, ◌∙◌}
+use Rattle.std.proofs.lemmas.Grind.{common_steps}
 use Rattle.nms_quote.specs.Merge.{own_of}
 use Rattle.nms_feed.specs.Lane.{AreSendersOf}
 use Rattle.nms_live.specs.Crew.{first_stop}
@@ -35,3 +36,17 @@ take_rest-requires-clause-ends g c = λ loans lives.
 
 pub take_rest-requires-clause-taken : goal.take_rest-requires-clause-taken
 take_rest-requires-clause-taken g c = λ loans lives. c.requires.taken
+
+-- ---- goals that `grind` closes; the search that is tried before it takes longer
+
+pub returns-in_default-clause-merged : goal.returns-in_default-clause-merged
+returns-in_default-clause-merged g c = grind (arith, common_steps)
+
+pub returns-in_default-clause-fault : goal.returns-in_default-clause-fault
+returns-in_default-clause-fault g c = grind (arith, common_steps)
+
+pub returns-in_default-clause-first : goal.returns-in_default-clause-first
+returns-in_default-clause-first g c = grind (arith, common_steps)
+
+pub returns-in_default-clause-whole : goal.returns-in_default-clause-whole
+returns-in_default-clause-whole g c = grind (arith, common_steps)

@@ -1,5 +1,6 @@
 -- `take_rest`: its loop and its end: the keeping stays the same by `same_then`, and what was sent is what it was given.
-use Rattle.std.proofs.Common.{Global, Vec, refl, ap, sym, subst, ◌∙◌}
+use Rattle.std.proofs.Common.{arith, Global, Vec, refl, ap, sym, subst, ◌∙◌}
+use Rattle.std.proofs.lemmas.Grind.{common_steps}
 use Rattle.nms_quote.specs.Merge.{own_of}
 use Rattle.nms_feed.specs.Lane.{lists_of}
 use Rattle.nms_feed.specs.declared.not_empty.NotEmpty.{NotEmpty}
@@ -38,3 +39,8 @@ returns-in-Ok g c =
             tape.1 ∙ inv.taken tape.0,
           );
     }
+
+-- ---- goals that `grind` closes; the search that is tried before it takes longer
+
+pub unreachable-requires : goal.unreachable-requires
+unreachable-requires g c = grind (arith, common_steps)

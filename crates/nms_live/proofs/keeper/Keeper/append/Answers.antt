@@ -1,5 +1,6 @@
 -- `Keeper::append`: the invariant of what it leaves, by `kept_with`.
-use Rattle.std.proofs.Common.{◌≡◌, ap}
+use Rattle.std.proofs.Common.{arith, ◌≡◌, ap}
+use Rattle.std.proofs.lemmas.Grind.{common_steps}
 use Rattle.nms_versions.specs.Taped.{Taped}
 use Rattle.nms_live.proofs.KeeperFacts.{kept_with}
 use Rattle.nms_live.proofs.keeper.Keeper.append.Goals.{in-Ok, in-Err}
@@ -16,3 +17,8 @@ invariant_of-self c =
           had,
       c.self.invariant.1,
     )
+
+-- ---- goals that `grind` closes; the search that is tried before it takes longer
+
+pub returns-clause-appended : goal.returns-clause-appended
+returns-clause-appended c = grind (arith, common_steps)

@@ -1,5 +1,6 @@
 -- `Keeper::end`: clause `published`.
-use Rattle.std.proofs.Common.{◌≡◌, subst}
+use Rattle.std.proofs.Common.{arith, ◌≡◌, subst}
+use Rattle.std.proofs.lemmas.Grind.{common_steps}
 use Rattle.nms_versions.specs.Published.{changes}
 use Rattle.nms_versions.specs.Taped.{tape_of}
 use Rattle.nms_live.specs.Keeping.{Keeping, WasPublished}
@@ -14,3 +15,11 @@ returns-clause-published g c =
       none_empty = c.tape-within.ensures.batches;
       listed_them = c.self.invariant.0.published;
     })
+
+-- ---- goals that `grind` closes; the search that is tried before it takes longer
+
+pub returns-clause-rising : goal.returns-clause-rising
+returns-clause-rising g c = grind (arith, common_steps)
+
+pub returns-clause-within : goal.returns-clause-within
+returns-clause-within g c = grind (arith, common_steps)

@@ -1,5 +1,6 @@
 -- `Keeper::publish`: the invariant of what it leaves, by `kept_more` and `kept_with`, and its early returns, which leave the tape.
 use Rattle.std.proofs.Common.{ℕ, ◌++◌, ◌∷◌, [], List, Some, length, refl, ap, sym, ◌∙◌, arith}
+use Rattle.std.proofs.lemmas.Grind.{common_steps}
 use Rattle.nms_versions.specs.Taped.{tape_of}
 use Rattle.nms_live.specs.declared.live_fault.LiveFault.TheVariants as fault
 use Rattle.nms_live.specs.Keeping.{Keeping}
@@ -57,3 +58,11 @@ returns-then-not-passes g c = record {
   tape = not_some;
   whole = not_some;
 }
+
+-- ---- goals that `grind` closes; the search that is tried before it takes longer
+
+pub publish_now-requires : goal.publish_now-requires
+publish_now-requires g c = grind (arith, common_steps)
+
+pub returns-clause-whole : goal.returns-clause-whole
+returns-clause-whole g c = grind (arith, common_steps)
