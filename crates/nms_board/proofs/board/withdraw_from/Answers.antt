@@ -61,3 +61,17 @@ alter-requires-clause-room c = grind (arith, common_steps)
 
 pub alter-requires-clause-sym : goal.alter-requires-clause-sym
 alter-requires-clause-sym c = grind (arith, common_steps)
+
+-- ---- goals that `grind` closes; the search that is tried before it takes longer
+
+pub alter-requires-clause-ranks : goal.alter-requires-clause-ranks
+alter-requires-clause-ranks c = grind (arith, common_steps)
+
+pub alter-requires-clause-bests : goal.alter-requires-clause-bests
+alter-requires-clause-bests c = grind (arith, common_steps)
+
+pub alter-requires-clause-part : goal.alter-requires-clause-part
+alter-requires-clause-part c = grind (arith, common_steps)
+
+pub alter-requires-clause-parts : goal.alter-requires-clause-parts
+alter-requires-clause-parts c = grind (arith, common_steps)

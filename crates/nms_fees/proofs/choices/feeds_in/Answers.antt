@@ -8,3 +8,11 @@ returns-in-Some-feeds_of c = grind (arith, common_steps)
 
 pub returns-in-None : goal.returns-in-None
 returns-in-None c = grind (arith, common_steps)
+
+-- ---- goals that `grind` closes; the search that is tried before it takes longer
+
+pub returns-in_default : goal.returns-in_default
+returns-in_default c = grind (arith, common_steps)
+
+pub returns-in_default-as_integer : goal.returns-in_default-as_integer
+returns-in_default-as_integer c = grind (arith, common_steps)

@@ -1,5 +1,6 @@
 -- `close_desk`: clause `row`, by `closed`.
-use Rattle.std.proofs.Common.{ℕ, ◌≡◌, ◌≤◌, ◌++◌, ◌∷◌, List, length, ap, subst, ◌∙◌, rules}
+use Rattle.std.proofs.Common.{arith, ℕ, ◌≡◌, ◌≤◌, ◌++◌, ◌∷◌, List, length, ap, subst, ◌∙◌, rules}
+use Rattle.std.proofs.lemmas.Grind.{common_steps}
 use Rattle.std.specs.List.{AllByRecursion, Contains}
 use Rattle.nms_quote.specs.Tape.{Tape}
 use Rattle.nms_versions.specs.Published.{Batches, changes, publications}
@@ -37,3 +38,8 @@ returns-in-Ok-settle-clause-row g c =
     (c.requires.back.worked c.requires.ended)
     (subst (λ (o : List (ℕ × DeskOrder)). IsWorked c.args.given.now.setup.now o after closing) mine c.in-Ok.ensures.worked)
     (subst (λ (k : List Tape). AllByRecursion (λ n. longest_of k ≤ n) (versions closing)) learnt c.in-Ok.ensures.later)
+
+-- ---- goals that `grind` closes; the search that is tried before it takes longer
+
+pub returns-in-Err-clause-fault : goal.returns-in-Err-clause-fault
+returns-in-Err-clause-fault g c = grind (arith, common_steps)

@@ -1,5 +1,6 @@
 -- `join_desks`: clause `kept` and the turns of its loop, by `row_more` and `stands_at`.
 use Rattle.std.proofs.Common.{ℕ, ◌≡◌, ◌++◌, ◌∷◌, [], length, ap, sym, subst, ◌∙◌, append_assoc, length-append, arith, rules}
+use Rattle.std.proofs.lemmas.Grind.{common_steps}
 use Rattle.std.specs.Prelude.{slice_index_or}
 use Rattle.std.specs.Vec.Iter.{into_iter_items}
 use Rattle.std.specs.declared.thread.PromisedHandle.{PromisedHandle}
@@ -40,3 +41,11 @@ loop-handle-preserved g c =
 
 pub returns-clause-kept : goal.returns-clause-kept
 returns-clause-kept g c = λ k d h below. c.loop-handle.invariant.kept k d below h
+
+-- ---- goals that `grind` closes; the search that is tried before it takes longer
+
+pub unreachable-unreachable : goal.unreachable-unreachable
+unreachable-unreachable g c = grind (arith, common_steps)
+
+pub loop-handle-init : goal.loop-handle-init
+loop-handle-init g c = grind (arith, common_steps)

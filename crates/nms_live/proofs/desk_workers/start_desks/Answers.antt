@@ -1,5 +1,6 @@
 -- `start_desks`: its loop (the turns by `row_more` and `stands_at`), what it calls and its last return.
 use Rattle.std.proofs.Common.{ℕ, ◌≡◌, ◌++◌, ◌∷◌, [], length, refl, ap, sym, subst, ◌∙◌, append_assoc, length-append, arith, rules}
+use Rattle.std.proofs.lemmas.Grind.{common_steps}
 use Rattle.std.specs.Prelude.{slice_index_or}
 use Rattle.std.specs.Vec.Iter.{into_iter_items}
 use Rattle.std.specs.declared.thread.PromisedHandle.{PromisedHandle}
@@ -88,3 +89,14 @@ returns g c =
       started = inv.started;
       fault = tt;
     }
+
+-- ---- goals that `grind` closes; the search that is tried before it takes longer
+
+pub returns-in-None-start_desk-clause-started : goal.returns-in-None-start_desk-clause-started
+returns-in-None-start_desk-clause-started g c = grind (arith, common_steps)
+
+pub unreachable-unreachable : goal.unreachable-unreachable
+unreachable-unreachable g c = grind (arith, common_steps)
+
+pub loop-desk-init-derived : goal.loop-desk-init-derived
+loop-desk-init-derived g c = grind (arith, common_steps)

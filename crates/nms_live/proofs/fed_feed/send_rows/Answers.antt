@@ -53,3 +53,26 @@ returns-in-Err-send_record-clause-same g c = grind (arith, common_steps)
 
 pub loop-index-init : goal.loop-index-init
 loop-index-init g c = grind (arith, common_steps)
+
+-- ---- goals that `grind` closes; the search that is tried before it takes longer
+
+pub returns-in-Err-send_record-clause-read : goal.returns-in-Err-send_record-clause-read
+returns-in-Err-send_record-clause-read g c = grind (arith, common_steps)
+
+pub returns-in-Err-clause-read : goal.returns-in-Err-clause-read
+returns-in-Err-clause-read g c = grind (arith, common_steps)
+
+pub returns-in-Ok-false-clause-same : goal.returns-in-Ok-false-clause-same
+returns-in-Ok-false-clause-same g c = grind (arith, common_steps)
+
+pub send_record-requires-clause-few : goal.send_record-requires-clause-few
+send_record-requires-clause-few g c = grind (arith, common_steps)
+
+pub returns-in-Ok-false-clause-refused : goal.returns-in-Ok-false-clause-refused
+returns-in-Ok-false-clause-refused g c = grind (arith, common_steps)
+
+pub returns-in-Err-clause-refused : goal.returns-in-Err-clause-refused
+returns-in-Err-clause-refused g c = grind (arith, common_steps)
+
+pub returns-in-Err-clause-same : goal.returns-in-Err-clause-same
+returns-in-Err-clause-same g c = grind (arith, common_steps)

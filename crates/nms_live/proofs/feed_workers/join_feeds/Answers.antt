@@ -1,5 +1,6 @@
 -- `join_feeds`: its loop with one worker more, by `zip_more`.
 use Rattle.std.proofs.Common.{◌≡◌, ◌++◌, ◌∷◌, [], length, ap, sym, ◌∙◌, append_assoc, length-append, arith, rules}
+use Rattle.std.proofs.lemmas.Grind.{common_steps}
 use Rattle.std.specs.Vec.Iter.{into_iter_items}
 use Rattle.nms_live.specs.Crew.{HasKept}
 use Rattle.nms_live.proofs.FedFacts.{zip_more}
@@ -25,3 +26,8 @@ loop-handle-preserved g c =
       room = omega (arith, at.invariant.room, c.push.ensures.capacity);
       kept = rw pushed (zip_more HasKept at.yielded at.back.items handle back at.invariant.kept c.join.ensures);
     }
+
+-- ---- goals that `grind` closes; the search that is tried before it takes longer
+
+pub loop-handle-init : goal.loop-handle-init
+loop-handle-init g c = grind (arith, common_steps)

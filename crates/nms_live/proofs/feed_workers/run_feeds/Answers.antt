@@ -1,6 +1,7 @@
 -- `run_feeds`: what was started and joined is fed (`fed_all`), so its ends are those of the lane, its fault is that of a text,
 -- and its tape is a merge of what the texts say (`reads_of_all`).
-use Rattle.std.proofs.Common.{ap, sym, ◌∙◌}
+use Rattle.std.proofs.Common.{arith, ap, sym, ◌∙◌}
+use Rattle.std.proofs.lemmas.Grind.{common_steps}
 use Rattle.nms_flow.specs.Run.{changes_in}
 use Rattle.nms_versions.specs.Taped.{tape_of}
 use Rattle.nms_live.specs.Crew.{first_stop, texts_of}
@@ -59,3 +60,14 @@ start_feeds-all_started-requires-clause-empty g c = λ loans lives. c.reserve.en
 
 pub join_feeds-fed-requires-clause-empty : goal.join_feeds-fed-requires-clause-empty
 join_feeds-fed-requires-clause-empty g c = c.reserve-else-is_err.ensures.items ∙ c.new-back.ensures.items
+
+-- ---- goals that `grind` closes; the search that is tried before it takes longer
+
+pub start_feeds-all_started-requires-clause-room : goal.start_feeds-all_started-requires-clause-room
+start_feeds-all_started-requires-clause-room g c = grind (arith, common_steps)
+
+pub same-taker : goal.same-taker
+same-taker g c = grind (arith, common_steps)
+
+pub join_feeds-fed-requires-clause-room : goal.join_feeds-fed-requires-clause-room
+join_feeds-fed-requires-clause-room g c = grind (arith, common_steps)

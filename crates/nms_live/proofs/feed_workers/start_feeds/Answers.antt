@@ -1,5 +1,6 @@
 -- `start_feeds`: its loop with one sender more, started or not, by `gone` and `zip_more`, what it calls and its return.
 use Rattle.std.proofs.Common.{◌≡◌, ◌≤◌, ◌++◌, ◌∷◌, [], ℕ, List, length, refl, ap, sym, subst, ◌∙◌, append_assoc, length-append, arith}
+use Rattle.std.proofs.lemmas.Grind.{common_steps}
 use Rattle.std.specs.List.{AllByRecursion, AllZip}
 use Rattle.std.specs.Vec.Iter.{into_iter_items}
 use Rattle.nms_feed.specs.Lane.{Sending}
@@ -89,3 +90,23 @@ returns g c =
       started = λ is. subst (λ (l : List Sending). AllZip (WillBeFed c.args.given.now.setup.now.roster (texts_of c.args.given.now)) l
           at.handles.items) all (inv.started is);
     }
+
+-- ---- goals that `grind` closes; the search that is tried before it takes longer
+
+pub unreachable-requires : goal.unreachable-requires
+unreachable-requires g c = grind (arith, common_steps)
+
+pub loop-sender-preserved-then-not-all_started-derived : goal.loop-sender-preserved-then-not-all_started-derived
+loop-sender-preserved-then-not-all_started-derived g c = grind (arith, common_steps)
+
+pub unreachable-unreachable : goal.unreachable-unreachable
+unreachable-unreachable g c = grind (arith, common_steps)
+
+pub loop-sender-preserved-in-Ok-1-derived : goal.loop-sender-preserved-in-Ok-1-derived
+loop-sender-preserved-in-Ok-1-derived g c = grind (arith, common_steps)
+
+pub loop-sender-init-derived : goal.loop-sender-init-derived
+loop-sender-init-derived g c = grind (arith, common_steps)
+
+pub loop-sender-preserved-derived : goal.loop-sender-preserved-derived
+loop-sender-preserved-derived g c = grind (arith, common_steps)

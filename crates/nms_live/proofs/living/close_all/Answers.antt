@@ -1,5 +1,6 @@
 -- `close_all`: what it calls, from what all workers did.
-use Rattle.std.proofs.Common.{◌≡◌, length, ap, ◌∙◌}
+use Rattle.std.proofs.Common.{arith, ◌≡◌, length, ap, ◌∙◌}
+use Rattle.std.proofs.lemmas.Grind.{common_steps}
 use Rattle.nms_versions.specs.Taped.{tape_of}
 use Rattle.nms_live.specs.Keeping.{Keeping}
 use Rattle.nms_live.proofs.living.close_all.Goals as goal
@@ -23,3 +24,8 @@ gather-requires g c =
       rows = rw (orders, tape, listed) c.in-Ok.ensures.rows;
       desks = rw (orders, count) c.requires.desks;
     }
+
+-- ---- goals that `grind` closes; the search that is tried before it takes longer
+
+pub returns-in-Err-clause-fault : goal.returns-in-Err-clause-fault
+returns-in-Err-clause-fault g c = grind (arith, common_steps)

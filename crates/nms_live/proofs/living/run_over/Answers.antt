@@ -1,6 +1,7 @@
 -- `run_over`: the desks and the ends of the lane are as `run_in_threads` requires, by `ready_for`, `count_of_all` and `fresh_ends`;
 -- what else it calls follows from how the tape was opened.
-use Rattle.std.proofs.Common.{ap, ◌∙◌, sym}
+use Rattle.std.proofs.Common.{arith, ap, ◌∙◌, sym}
+use Rattle.std.proofs.lemmas.Grind.{common_steps}
 use Rattle.nms_versions.specs.Taped.{Taped, tape_of}
 use Rattle.nms_live.specs.Keeping.{Keeping}
 use Rattle.nms_live.proofs.CrewFacts.{count_of_all, fresh_ends, ready_for}
@@ -38,3 +39,8 @@ close_all-requires g c = record {
 
 pub returns-in-Err : goal.returns-in-Err
 returns-in-Err g c = record { live = tt; refused = c.in-Err.ensures.fault }
+
+-- ---- goals that `grind` closes; the search that is tried before it takes longer
+
+pub returns-in-Ok-run_in_threads-clause-live : goal.returns-in-Ok-run_in_threads-clause-live
+returns-in-Ok-run_in_threads-clause-live g c = grind (arith, common_steps)

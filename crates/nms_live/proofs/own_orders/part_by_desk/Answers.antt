@@ -1,5 +1,6 @@
 -- `part_by_desk`: its loop (the turns by `numbered_more` and `own_more`), what it calls and its last return.
-use Rattle.std.proofs.Common.{◌+◌, ◌<◌, List, take, sym, subst, ◌∙◌, rules}
+use Rattle.std.proofs.Common.{arith, ◌+◌, ◌<◌, List, take, sym, subst, ◌∙◌, rules}
+use Rattle.std.proofs.lemmas.Grind.{common_steps}
 use Rattle.std.proofs.lemmas.List.{take_all}
 use Rattle.nms_quote.specs.declared.desk_order.DeskOrder.{DeskOrder}
 use Rattle.nms_live.specs.Answering.{AreOwn}
@@ -39,3 +40,11 @@ returns c =
       own = subst (λ (o : List DeskOrder). AreOwn o at.rows.items) (take_all at.place c.args.orders.now c.loop-place-test.false)
           at.invariant.own;
     }
+
+-- ---- goals that `grind` closes; the search that is tried before it takes longer
+
+pub returns-in_err-rows-clause-own : goal.returns-in_err-rows-clause-own
+returns-in_err-rows-clause-own c = grind (arith, common_steps)
+
+pub returns-in_err-rows-clause-all : goal.returns-in_err-rows-clause-all
+returns-in_err-rows-clause-all c = grind (arith, common_steps)

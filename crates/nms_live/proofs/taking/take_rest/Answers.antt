@@ -44,3 +44,11 @@ returns-in-Ok g c =
 
 pub unreachable-requires : goal.unreachable-requires
 unreachable-requires g c = grind (arith, common_steps)
+
+-- ---- goals that `grind` closes; the search that is tried before it takes longer
+
+pub loop-preserved-derived : goal.loop-preserved-derived
+loop-preserved-derived g c = grind (arith, common_steps)
+
+pub loop-init-derived : goal.loop-init-derived
+loop-init-derived g c = grind (arith, common_steps)

@@ -1,5 +1,6 @@
 -- `run_workers`: clause `done` and the call of `fault_among`, by `back_all`; what else it calls has what it was given.
-use Rattle.std.proofs.Common.{ℕ, ◌≡◌, ◌<◌, None, List, length, sym, ◌∙◌, subst}
+use Rattle.std.proofs.Common.{arith, ℕ, ◌≡◌, ◌<◌, None, List, length, sym, ◌∙◌, subst}
+use Rattle.std.proofs.lemmas.Grind.{common_steps}
 use Rattle.std.specs.Prelude.{slice_index_or}
 use Rattle.nms_versions.specs.Pages.{Book}
 use Rattle.nms_live.specs.Crew.{AreBack}
@@ -62,3 +63,11 @@ returns-in-Err-clause-same g c = same_self c.args.keeper.now
 
 pub returns-in-Some-clause-same : goal.returns-in-Some-clause-same
 returns-in-Some-clause-same g c = c.run_feeds-fed.ensures.same
+
+-- ---- goals that `grind` closes; the search that is tried before it takes longer
+
+pub returns-in-Some-clause-fault : goal.returns-in-Some-clause-fault
+returns-in-Some-clause-fault g c = grind (arith, common_steps)
+
+pub returns-in-Err-clause-fault : goal.returns-in-Err-clause-fault
+returns-in-Err-clause-fault g c = grind (arith, common_steps)

@@ -1,6 +1,7 @@
 -- `Boards::view`: clauses `cells`, `shows` and `parts`, and the invariant of `view`, by `rows_held_unlisted`, `seen_stands`,
 -- `rows_held_are_rows` and `seen_parts`.
-use Rattle.std.proofs.Common.{◌≡◌, slice_get, None, ◌∙◌, sym, ap, subst, refl}
+use Rattle.std.proofs.Common.{arith, ◌≡◌, slice_get, None, ◌∙◌, sym, ap, subst, refl}
+use Rattle.std.proofs.lemmas.Grind.{common_steps}
 use Rattle.nms_quote.specs.declared.side_quote.Side.TheVariants.{Bid, Offer}
 use Rattle.nms_board.specs.Cells.{Board, IsBoard}
 use Rattle.nms_board.specs.View.{Seen}
@@ -46,3 +47,11 @@ returns-in_default-clause-shows c = λ tape stands. returns-in_default-clause-ce
 
 pub returns-in_default-clause-parts : goal.returns-in_default-clause-parts
 returns-in_default-clause-parts c = seen_parts c.args.self.now c.args.sym _ (returns-in_default-clause-cells c)
+
+-- ---- goals that `grind` closes; the search that is tried before it takes longer
+
+pub show-requires-clause-offers : goal.show-requires-clause-offers
+show-requires-clause-offers c = grind (arith, common_steps)
+
+pub show-requires-clause-bids : goal.show-requires-clause-bids
+show-requires-clause-bids c = grind (arith, common_steps)

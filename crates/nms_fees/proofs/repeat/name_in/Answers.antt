@@ -1,0 +1,10 @@
+-- `name_in`: goals that `grind` closes; the search that is tried before it takes longer.
+use Rattle.std.proofs.Common.{arith}
+use Rattle.std.proofs.lemmas.Grind.{common_steps}
+use Rattle.nms_fees.proofs.repeat.name_in.Goals as goal
+
+pub returns : goal.returns
+returns c = grind (arith, common_steps)
+
+pub returns-in_err-value_at : goal.returns-in_err-value_at
+returns-in_err-value_at c = grind (arith, common_steps)
