@@ -61,3 +61,11 @@ returns-clause-part g c =
 
 pub returns-clause-written : goal.returns-clause-written
 returns-clause-written g c = grind (arith, common_steps)
+
+-- ---- goals that `grind` closes; the search that is tried before it takes longer
+
+pub returns-in_err-write_text-2-clause-written : goal.returns-in_err-write_text-2-clause-written
+returns-in_err-write_text-2-clause-written g c = grind (arith, common_steps)
+
+pub returns-in_err-write_text-clause-written : goal.returns-in_err-write_text-clause-written
+returns-in_err-write_text-clause-written g c = grind (arith, common_steps)

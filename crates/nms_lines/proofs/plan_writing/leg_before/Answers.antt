@@ -5,3 +5,20 @@ use Rattle.nms_lines.proofs.plan_writing.leg_before.Goals as goal
 
 pub returns-clause-written : goal.returns-clause-written
 returns-clause-written c = grind (arith, common_steps)
+
+-- ---- goals that `grind` closes; the search that is tried before it takes longer
+
+pub text_before-end-requires-clause-room : goal.text_before-end-requires-clause-room
+text_before-end-requires-clause-room c = grind (arith, common_steps)
+
+pub word_before-requires-clause-room : goal.word_before-requires-clause-room
+word_before-requires-clause-room c = grind (arith, common_steps)
+
+pub text_before-end-requires-clause-within : goal.text_before-end-requires-clause-within
+text_before-end-requires-clause-within c = grind (arith, common_steps)
+
+pub word_before-requires-clause-within : goal.word_before-requires-clause-within
+word_before-requires-clause-within c = grind (arith, common_steps)
+
+pub returns-clause-within : goal.returns-clause-within
+returns-clause-within c = grind (arith, common_steps)

@@ -1,6 +1,7 @@
 -- `write_text`: clauses `written` and `part` and the turns of its loop, by `failed_part`, `more_within`,
 -- `more_written` and `part_written`.
 use Rattle.std.proofs.Common.{arith, subst}
+use Rattle.std.proofs.lemmas.Grind.{common_steps}
 use Rattle.std.proofs.lemmas.List.{take_all}
 use Rattle.std.specs.Io.KnownBytes.{Appends}
 use Rattle.csv.proofs.WriteFacts.{appends-none}
@@ -27,3 +28,8 @@ loop-preserved g c = record {
 
 pub returns-clause-part : goal.returns-clause-part
 returns-clause-part g c = part_written _ _ c.args.text.now c.loop.done c.loop.invariant.written
+
+-- ---- goals that `grind` closes; the search that is tried before it takes longer
+
+pub overflow_add-done : goal.overflow_add-done
+overflow_add-done g c = grind (arith, common_steps)

@@ -5,3 +5,26 @@ use Rattle.nms_text.proofs.answer.look_before.Goals as goal
 
 pub returns-clause-written : goal.returns-clause-written
 returns-clause-written c = grind (arith, common_steps)
+
+-- ---- goals that `grind` closes; the search that is tried before it takes longer
+
+pub text_before-end-requires-2-clause-within : goal.text_before-end-requires-2-clause-within
+text_before-end-requires-2-clause-within c = grind (arith, common_steps)
+
+pub word_before-requires-clause-room : goal.word_before-requires-clause-room
+word_before-requires-clause-room c = grind (arith, common_steps)
+
+pub text_before-end-requires-2-clause-room : goal.text_before-end-requires-2-clause-room
+text_before-end-requires-2-clause-room c = grind (arith, common_steps)
+
+pub number_before-end-requires-2-clause-room : goal.number_before-end-requires-2-clause-room
+number_before-end-requires-2-clause-room c = grind (arith, common_steps)
+
+pub number_before-end-requires-2-clause-within : goal.number_before-end-requires-2-clause-within
+number_before-end-requires-2-clause-within c = grind (arith, common_steps)
+
+pub returns-clause-within : goal.returns-clause-within
+returns-clause-within c = grind (arith, common_steps)
+
+pub word_before-requires-clause-within : goal.word_before-requires-clause-within
+word_before-requires-clause-within c = grind (arith, common_steps)

@@ -1,5 +1,6 @@
 -- `tell_best`: all that it promises, by `best_written`.
 use Rattle.std.proofs.Common.{◌≡◌, ◌++◌, ap, sym, drop, take, ◌∙◌, ◌-◌, arith, List, ℕ, Option, [], rules}
+use Rattle.std.proofs.lemmas.Grind.{common_steps}
 use Rattle.std.proofs.lemmas.List.{length-drop, take_all}
 use Rattle.std.proofs.lemmas.Result.{on_ok_weaker}
 use Rattle.std.specs.Prelude.{OnOk, unwrap_or, option_map, slice_get}
@@ -31,3 +32,11 @@ returns c seen is_sym is_version =
     (sym is_version)
     (c.word_of_market-market.ensures.word ∙ ap market_word c.market_between.ensures)))
     appended
+
+-- ---- goals that `grind` closes; the search that is tried before it takes longer
+
+pub sym_name-requires : goal.sym_name-requires
+sym_name-requires c = grind (arith, common_steps)
+
+pub look_before-start-requires-clause-sym : goal.look_before-start-requires-clause-sym
+look_before-start-requires-clause-sym c = grind (arith, common_steps)

@@ -1,5 +1,6 @@
 -- `Flow::new`: the invariant of what it returns.
 use Rattle.std.proofs.Common.{◌≡◌, true, List, [], arith, length, ap, sym, subst}
+use Rattle.std.proofs.lemmas.Grind.{common_steps}
 use Rattle.std.specs.Prelude.{All}
 use Rattle.std.proofs.lemmas.List.Elements.{All-nil}
 use Rattle.nms_quote.specs.Roster.{holds}
@@ -23,3 +24,8 @@ invariant_of-result c =
       limit = c.tape_limit.ensures.high;
       room = omega (arith, ready.ensures'.capacity);
     }
+
+-- ---- goals that `grind` closes; the search that is tried before it takes longer
+
+pub returns-clause-room : goal.returns-clause-room
+returns-clause-room c = grind (arith, common_steps)

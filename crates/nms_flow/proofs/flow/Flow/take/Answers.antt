@@ -26,3 +26,20 @@ returns-clause-went c = grind (arith, common_steps)
 
 pub returns-then-version-self-clause-sends_nothing : goal.returns-then-version-self-clause-sends_nothing
 returns-then-version-self-clause-sends_nothing c = grind (arith, common_steps)
+
+-- ---- goals that `grind` closes; the search that is tried before it takes longer
+
+pub make_room-requires : goal.make_room-requires
+make_room-requires c = grind (arith, common_steps)
+
+pub returns-then-is_err-clause-unchanged : goal.returns-then-is_err-clause-unchanged
+returns-then-is_err-clause-unchanged c = grind (arith, common_steps)
+
+pub overflow_add-self : goal.overflow_add-self
+overflow_add-self c = grind (arith, common_steps)
+
+pub overflow_add-result : goal.overflow_add-result
+overflow_add-result c = grind (arith, common_steps)
+
+pub returns-clause-taken : goal.returns-clause-taken
+returns-clause-taken c = grind (arith, common_steps)

@@ -40,3 +40,53 @@ returns-then-more-queued-clause-sends_nothing c = grind (arith, common_steps)
 
 pub returns-in_default-clause-sends_nothing : goal.returns-in_default-clause-sends_nothing
 returns-in_default-clause-sends_nothing c = grind (arith, common_steps)
+
+-- ---- goals that `grind` closes; the search that is tried before it takes longer
+
+pub returns-then-more-queued-clause-full : goal.returns-then-more-queued-clause-full
+returns-then-more-queued-clause-full c = grind (arith, common_steps)
+
+pub overflow_add-most : goal.overflow_add-most
+overflow_add-most c = grind (arith, common_steps)
+
+pub returns-then-more-queued-clause-unchanged : goal.returns-then-more-queued-clause-unchanged
+returns-then-more-queued-clause-unchanged c = grind (arith, common_steps)
+
+pub returns-in_default-clause-full : goal.returns-in_default-clause-full
+returns-in_default-clause-full c = grind (arith, common_steps)
+
+pub returns-then-more-queued-clause-room : goal.returns-then-more-queued-clause-room
+returns-then-more-queued-clause-room c = grind (arith, common_steps)
+
+pub overflow_add-most-2 : goal.overflow_add-most-2
+overflow_add-most-2 c = grind (arith, common_steps)
+
+pub make_room-requires : goal.make_room-requires
+make_room-requires c = grind (arith, common_steps)
+
+pub returns-clause-room : goal.returns-clause-room
+returns-clause-room c = grind (arith, common_steps)
+
+pub overflow_add-self : goal.overflow_add-self
+overflow_add-self c = grind (arith, common_steps)
+
+pub returns-then-more-queued-clause-empty : goal.returns-then-more-queued-clause-empty
+returns-then-more-queued-clause-empty c = grind (arith, common_steps)
+
+pub returns-clause-empty : goal.returns-clause-empty
+returns-clause-empty c = grind (arith, common_steps)
+
+pub returns-in_default-clause-unchanged : goal.returns-in_default-clause-unchanged
+returns-in_default-clause-unchanged c = grind (arith, common_steps)
+
+pub returns-in_default-clause-empty : goal.returns-in_default-clause-empty
+returns-in_default-clause-empty c = grind (arith, common_steps)
+
+pub returns-clause-unchanged : goal.returns-clause-unchanged
+returns-clause-unchanged c = grind (arith, common_steps)
+
+pub returns-clause-full : goal.returns-clause-full
+returns-clause-full c = grind (arith, common_steps)
+
+pub returns-in_default-clause-room : goal.returns-in_default-clause-room
+returns-in_default-clause-room c = grind (arith, common_steps)

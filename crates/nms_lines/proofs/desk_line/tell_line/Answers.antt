@@ -1,0 +1,7 @@
+-- `tell_line`: goals that `grind` closes; the search that is tried before it takes longer.
+use Rattle.std.proofs.Common.{arith}
+use Rattle.std.proofs.lemmas.Grind.{common_steps}
+use Rattle.nms_lines.proofs.desk_line.tell_line.Goals as goal
+
+pub returns-clause-of : goal.returns-clause-of
+returns-clause-of c = grind (arith, common_steps)

@@ -1,0 +1,7 @@
+-- `symbol_name_is_formed`: goals that `grind` closes; the search that is tried before it takes longer.
+use Rattle.std.proofs.Common.{arith}
+use Rattle.std.proofs.lemmas.Grind.{common_steps}
+use Rattle.nms_lines.proofs.laws.symbol_name_is_formed.Goals as goal
+
+pub sym_name-requires : goal.sym_name-requires
+sym_name-requires c = grind (arith, common_steps)

@@ -1,0 +1,7 @@
+-- `average_in`: goals that `grind` closes; the search that is tried before it takes longer.
+use Rattle.std.proofs.Common.{arith}
+use Rattle.std.proofs.lemmas.Grind.{common_steps}
+use Rattle.nms_lines.proofs.lot_field.average_in.Goals as goal
+
+pub returns : goal.returns
+returns c = grind (arith, common_steps)
