@@ -154,7 +154,5 @@ settle-requires-clause-part c = grind (arith, common_steps)
 pub follow-requires-clause-parts : goal.follow-requires-clause-parts
 follow-requires-clause-parts c = grind (arith, common_steps)
 
--- ---- goals that `grind` closes; the search that is tried before it takes longer
-
 pub bounds-ranks-sym : goal.bounds-ranks-sym
 bounds-ranks-sym c = grind (arith, common_steps)

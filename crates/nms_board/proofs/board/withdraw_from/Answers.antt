@@ -62,8 +62,6 @@ alter-requires-clause-room c = grind (arith, common_steps)
 pub alter-requires-clause-sym : goal.alter-requires-clause-sym
 alter-requires-clause-sym c = grind (arith, common_steps)
 
--- ---- goals that `grind` closes; the search that is tried before it takes longer
-
 pub alter-requires-clause-ranks : goal.alter-requires-clause-ranks
 alter-requires-clause-ranks c = grind (arith, common_steps)
 

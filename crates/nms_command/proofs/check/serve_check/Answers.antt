@@ -25,7 +25,5 @@ bounds-words-1 g c = grind (arith, common_steps)
 pub returns-in_err-source-clause-cut : goal.returns-in_err-source-clause-cut
 returns-in_err-source-clause-cut g c = grind (arith, common_steps)
 
--- ---- goals that `grind` closes; the search that is tried before it takes longer
-
 pub bounds-words-0 : goal.bounds-words-0
 bounds-words-0 g c = grind (arith, common_steps)

@@ -14,7 +14,5 @@ returns-in-Ok-clause-cut g c = grind (arith, common_steps)
 pub returns-in-Err-VersionBeyondTape-clause-told : goal.returns-in-Err-VersionBeyondTape-clause-told
 returns-in-Err-VersionBeyondTape-clause-told g c = grind (arith, common_steps)
 
--- ---- goals that `grind` closes; the search that is tried before it takes longer
-
 pub returns-in-Err-Doubt-clause-told : goal.returns-in-Err-Doubt-clause-told
 returns-in-Err-Doubt-clause-told g c = grind (arith, common_steps)

@@ -6,8 +6,6 @@ use Rattle.nms_command.proofs.line.write_whole.Goals as goal
 pub returns-clause-written : goal.returns-clause-written
 returns-clause-written g c = grind (arith, common_steps)
 
--- ---- goals that `grind` closes; the search that is tried before it takes longer
-
 pub returns-in_err-write_text-clause-written : goal.returns-in_err-write_text-clause-written
 returns-in_err-write_text-clause-written g c = grind (arith, common_steps)
 

@@ -6,8 +6,6 @@ use Rattle.nms_command.proofs.live_input.read_feed.Goals as goal
 pub returns-in-Err-clause-refused : goal.returns-in-Err-clause-refused
 returns-in-Err-clause-refused g c = grind (arith, common_steps)
 
--- ---- goals that `grind` closes; the search that is tried before it takes longer
-
 pub returns-in-Ok-read_within-clause-refused : goal.returns-in-Ok-read_within-clause-refused
 returns-in-Ok-read_within-clause-refused g c = grind (arith, common_steps)
 

@@ -29,7 +29,5 @@ returns-in-Err-push-clause-refused g c = grind (arith, common_steps)
 pub returns-in-Err-clause-within : goal.returns-in-Err-clause-within
 returns-in-Err-clause-within g c = grind (arith, common_steps)
 
--- ---- goals that `grind` closes; the search that is tried before it takes longer
-
 pub returns-clause-feeds : goal.returns-clause-feeds
 returns-clause-feeds g c = grind (arith, common_steps)

@@ -47,8 +47,6 @@ returns-clause-feeds g c = grind (arith, common_steps)
 pub returns-clause-within : goal.returns-clause-within
 returns-clause-within g c = grind (arith, common_steps)
 
--- ---- goals that `grind` closes; the search that is tried before it takes longer
-
 pub returns-in_default-clause-refused : goal.returns-in_default-clause-refused
 returns-in_default-clause-refused g c = grind (arith, common_steps)
 

@@ -31,7 +31,5 @@ plan_changes-requires-clause-self_help g c = grind (arith, common_steps)
 pub plan_changes-requires-clause-sym : goal.plan_changes-requires-clause-sym
 plan_changes-requires-clause-sym g c = grind (arith, common_steps)
 
--- ---- goals that `grind` closes; the search that is tried before it takes longer
-
 pub returns-in_default-first-clause-cut : goal.returns-in_default-first-clause-cut
 returns-in_default-first-clause-cut g c = grind (arith, common_steps)

@@ -6,7 +6,5 @@ use Rattle.nms_command.proofs.process_words.own_words.Goals as goal
 pub returns-in-Err-push : goal.returns-in-Err-push
 returns-in-Err-push g c = grind (arith, common_steps)
 
--- ---- goals that `grind` closes; the search that is tried before it takes longer
-
 pub loop-word-preserved : goal.loop-word-preserved
 loop-word-preserved g c = grind (arith, common_steps)

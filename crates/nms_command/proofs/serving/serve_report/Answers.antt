@@ -42,8 +42,6 @@ report_changes-requires g c = grind (arith, common_steps)
 pub bounds-words-1 : goal.bounds-words-1
 bounds-words-1 g c = grind (arith, common_steps)
 
--- ---- goals that `grind` closes; the search that is tried before it takes longer
-
 pub returns-in-Err-clause-served : goal.returns-in-Err-clause-served
 returns-in-Err-clause-served g c = grind (arith, common_steps)
 

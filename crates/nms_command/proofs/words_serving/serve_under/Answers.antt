@@ -34,8 +34,6 @@ returns-in-Script g c = c.serve_to_end.ensures
 pub serve_to_end-requires : goal.serve_to_end-requires
 serve_to_end-requires g c = grind (arith, common_steps)
 
--- ---- goals that `grind` closes; the search that is tried before it takes longer
-
 pub returns-in-Err-clause-met : goal.returns-in-Err-clause-met
 returns-in-Err-clause-met g c = grind (arith, common_steps)
 

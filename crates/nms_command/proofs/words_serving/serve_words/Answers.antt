@@ -22,8 +22,6 @@ enum_noted-fault g c = grind (arith, common_steps)
 pub returns-in-Err-clause-left : goal.returns-in-Err-clause-left
 returns-in-Err-clause-left g c = grind (arith, common_steps)
 
--- ---- goals that `grind` closes; the search that is tried before it takes longer
-
 pub returns-in_ok-show_help-in-Err-Parser-default-true-clause-left : goal.returns-in_ok-show_help-in-Err-Parser-default-true-clause-left
 returns-in_ok-show_help-in-Err-Parser-default-true-clause-left g c = grind (arith, common_steps)
 

@@ -6,8 +6,6 @@ use Rattle.nms_fees.proofs.check.array_fault.Goals as goal
 pub returns-in-Some-rows_in-clause-found : goal.returns-in-Some-rows_in-clause-found
 returns-in-Some-rows_in-clause-found c = grind (arith, common_steps)
 
--- ---- goals that `grind` closes; the search that is tried before it takes longer
-
 pub returns-in-Some-rows_in-clause-memory : goal.returns-in-Some-rows_in-clause-memory
 returns-in-Some-rows_in-clause-memory c = grind (arith, common_steps)
 

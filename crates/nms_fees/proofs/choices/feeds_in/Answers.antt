@@ -9,8 +9,6 @@ returns-in-Some-feeds_of c = grind (arith, common_steps)
 pub returns-in-None : goal.returns-in-None
 returns-in-None c = grind (arith, common_steps)
 
--- ---- goals that `grind` closes; the search that is tried before it takes longer
-
 pub returns-in_default : goal.returns-in_default
 returns-in_default c = grind (arith, common_steps)
 

@@ -9,7 +9,5 @@ unwrap-requires c = grind (arith, common_steps)
 pub overflow_cast-number_in : goal.overflow_cast-number_in
 overflow_cast-number_in c = grind (arith, common_steps)
 
--- ---- goals that `grind` closes; the search that is tried before it takes longer
-
 pub returns : goal.returns
 returns c = grind (arith, common_steps)

@@ -6,7 +6,5 @@ use Rattle.nms_fees.proofs.setup_reading.number_in.Goals as goal
 pub returns-in-Some : goal.returns-in-Some
 returns-in-Some c = grind (arith, common_steps)
 
--- ---- goals that `grind` closes; the search that is tried before it takes longer
-
 pub returns-in-None : goal.returns-in-None
 returns-in-None c = grind (arith, common_steps)

@@ -18,7 +18,5 @@ loop-key-preserved c = grind (arith, common_steps)
 pub returns-then-not-is_known : goal.returns-then-not-is_known
 returns-then-not-is_known c = grind (arith, common_steps)
 
--- ---- goals that `grind` closes; the search that is tried before it takes longer
-
 pub returns : goal.returns
 returns c = grind (arith, common_steps)

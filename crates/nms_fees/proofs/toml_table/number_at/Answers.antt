@@ -6,8 +6,6 @@ use Rattle.nms_fees.proofs.toml_table.number_at.Goals as goal
 pub returns-in-Some-as_integer : goal.returns-in-Some-as_integer
 returns-in-Some-as_integer c = grind (arith, common_steps)
 
--- ---- goals that `grind` closes; the search that is tried before it takes longer
-
 pub returns-in-None : goal.returns-in-None
 returns-in-None c = grind (arith, common_steps)
 

@@ -37,8 +37,6 @@ slice_bounds-apply_all-length c = grind (arith, common_steps)
 pub returns-clause-applied : goal.returns-clause-applied
 returns-clause-applied c = grind (arith, common_steps)
 
--- ---- goals that `grind` closes; the search that is tried before it takes longer
-
 pub apply_all-requires-2-clause-room : goal.apply_all-requires-2-clause-room
 apply_all-requires-2-clause-room c = grind (arith, common_steps)
 

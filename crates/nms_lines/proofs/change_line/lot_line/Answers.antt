@@ -9,7 +9,5 @@ returns-clause-of c = grind (arith, common_steps)
 pub returns-clause-line : goal.returns-clause-line
 returns-clause-line c = grind (arith, common_steps)
 
--- ---- goals that `grind` closes; the search that is tried before it takes longer
-
 pub returns-then-is_foreign-clause-line : goal.returns-then-is_foreign-clause-line
 returns-then-is_foreign-clause-line c = grind (arith, common_steps)

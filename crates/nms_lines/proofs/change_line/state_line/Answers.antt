@@ -23,7 +23,5 @@ returns-clause-of c = λ brought.
 pub returns-clause-line : goal.returns-clause-line
 returns-clause-line c = grind (arith, common_steps)
 
--- ---- goals that `grind` closes; the search that is tried before it takes longer
-
 pub feed_of-requires : goal.feed_of-requires
 feed_of-requires c = grind (arith, common_steps)

@@ -6,8 +6,6 @@ use Rattle.nms_lines.proofs.change_line.withdraw_line.Goals as goal
 pub returns-clause-of : goal.returns-clause-of
 returns-clause-of c = grind (arith, common_steps)
 
--- ---- goals that `grind` closes; the search that is tried before it takes longer
-
 pub returns-clause-line : goal.returns-clause-line
 returns-clause-line c = grind (arith, common_steps)
 

@@ -6,7 +6,5 @@ use Rattle.nms_lines.proofs.desk_line.best_line.Goals as goal
 pub returns-clause-of : goal.returns-clause-of
 returns-clause-of c = grind (arith, common_steps)
 
--- ---- goals that `grind` closes; the search that is tried before it takes longer
-
 pub returns-clause-line : goal.returns-clause-line
 returns-clause-line c = grind (arith, common_steps)

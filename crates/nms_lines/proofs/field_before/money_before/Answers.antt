@@ -6,8 +6,6 @@ use Rattle.nms_lines.proofs.field_before.money_before.Goals as goal
 pub returns-else-number-lt0-clause-written : goal.returns-else-number-lt0-clause-written
 returns-else-number-lt0-clause-written c = grind (arith, common_steps)
 
--- ---- goals that `grind` closes; the search that is tried before it takes longer
-
 pub returns-then-number-lt0-clause-before : goal.returns-then-number-lt0-clause-before
 returns-then-number-lt0-clause-before c = grind (arith, common_steps)
 

@@ -9,7 +9,5 @@ returns-clause-written c = grind (arith, common_steps)
 pub bounds-buf-end-3 : goal.bounds-buf-end-3
 bounds-buf-end-3 c = grind (arith, common_steps)
 
--- ---- goals that `grind` closes; the search that is tried before it takes longer
-
 pub bounds-buf-end-2 : goal.bounds-buf-end-2
 bounds-buf-end-2 c = grind (arith, common_steps)

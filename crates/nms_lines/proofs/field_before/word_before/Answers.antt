@@ -6,7 +6,5 @@ use Rattle.nms_lines.proofs.field_before.word_before.Goals as goal
 pub returns-clause-written : goal.returns-clause-written
 returns-clause-written c = grind (arith, common_steps)
 
--- ---- goals that `grind` closes; the search that is tried before it takes longer
-
 pub returns-clause-start : goal.returns-clause-start
 returns-clause-start c = grind (arith, common_steps)

@@ -6,7 +6,5 @@ use Rattle.nms_lines.proofs.kind.kind_named.Goals as goal
 pub returns-in-len1 : goal.returns-in-len1
 returns-in-len1 c = grind (arith, common_steps)
 
--- ---- goals that `grind` closes; the search that is tried before it takes longer
-
 pub bounds-text-0 : goal.bounds-text-0
 bounds-text-0 c = grind (arith, common_steps)

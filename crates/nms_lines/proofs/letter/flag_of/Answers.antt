@@ -6,7 +6,5 @@ use Rattle.nms_lines.proofs.letter.flag_of.Goals as goal
 pub returns-in-M : goal.returns-in-M
 returns-in-M c = grind (arith, common_steps)
 
--- ---- goals that `grind` closes; the search that is tried before it takes longer
-
 pub bounds-flag-0 : goal.bounds-flag-0
 bounds-flag-0 c = grind (arith, common_steps)

@@ -9,7 +9,5 @@ returns-in-B c = grind (arith, common_steps)
 pub returns-in-S : goal.returns-in-S
 returns-in-S c = grind (arith, common_steps)
 
--- ---- goals that `grind` closes; the search that is tried before it takes longer
-
 pub bounds-text-0 : goal.bounds-text-0
 bounds-text-0 c = grind (arith, common_steps)

@@ -12,7 +12,5 @@ returns-in-A c = grind (arith, common_steps)
 pub returns-in-H : goal.returns-in-H
 returns-in-H c = grind (arith, common_steps)
 
--- ---- goals that `grind` closes; the search that is tried before it takes longer
-
 pub bounds-text-0 : goal.bounds-text-0
 bounds-text-0 c = grind (arith, common_steps)

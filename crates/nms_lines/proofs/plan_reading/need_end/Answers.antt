@@ -20,8 +20,6 @@ returns-in-Err-Failed-clause-refused g c = grind (arith, common_steps)
 pub returns-in-Ok-false-clause-refused : goal.returns-in-Ok-false-clause-refused
 returns-in-Ok-false-clause-refused g c = grind (arith, common_steps)
 
--- ---- goals that `grind` closes; the search that is tried before it takes longer
-
 pub returns-in-Ok-true-clause-faults : goal.returns-in-Ok-true-clause-faults
 returns-in-Ok-true-clause-faults g c = grind (arith, common_steps)
 

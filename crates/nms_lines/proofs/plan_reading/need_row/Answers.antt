@@ -18,8 +18,6 @@ returns-in-Ok-false-clause-read g c = grind (arith, common_steps)
 pub returns-in-Ok-true-clause-read : goal.returns-in-Ok-true-clause-read
 returns-in-Ok-true-clause-read g c = grind (arith, common_steps)
 
--- ---- goals that `grind` closes; the search that is tried before it takes longer
-
 pub returns-in-Err-Failed-clause-faults : goal.returns-in-Err-Failed-clause-faults
 returns-in-Err-Failed-clause-faults g c = grind (arith, common_steps)
 

@@ -79,8 +79,6 @@ returns-then-is_err-clause-faults g c = grind (arith, common_steps)
 pub returns-then-is_end-clause-faults : goal.returns-then-is_end-clause-faults
 returns-then-is_end-clause-faults g c = grind (arith, common_steps)
 
--- ---- goals that `grind` closes; the search that is tried before it takes longer
-
 pub returns-in_err-need_row-clause-faults : goal.returns-in_err-need_row-clause-faults
 returns-in_err-need_row-clause-faults g c = grind (arith, common_steps)
 

@@ -43,7 +43,5 @@ returns-clause-there g c = grind (arith, common_steps)
 pub returns-clause-named : goal.returns-clause-named
 returns-clause-named g c = grind (arith, common_steps)
 
--- ---- goals that `grind` closes; the search that is tried before it takes longer
-
 pub returns-clause-faults : goal.returns-clause-faults
 returns-clause-faults g c = grind (arith, common_steps)

@@ -80,8 +80,6 @@ returns-in_default-clause-refused g c = grind (arith, common_steps)
 pub returns-in_default-clause-there : goal.returns-in_default-clause-there
 returns-in_default-clause-there g c = grind (arith, common_steps)
 
--- ---- goals that `grind` closes; the search that is tried before it takes longer
-
 pub returns-then-is_err-clause-there : goal.returns-then-is_err-clause-there
 returns-then-is_err-clause-there g c = grind (arith, common_steps)
 

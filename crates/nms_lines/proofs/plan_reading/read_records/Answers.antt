@@ -53,7 +53,5 @@ returns-clause-refused g c = grind (arith, common_steps)
 pub returns-clause-parts : goal.returns-clause-parts
 returns-clause-parts g c = grind (arith, common_steps)
 
--- ---- goals that `grind` closes; the search that is tried before it takes longer
-
 pub returns-in_err-certificate-clause-faults : goal.returns-in_err-certificate-clause-faults
 returns-in_err-certificate-clause-faults g c = grind (arith, common_steps)

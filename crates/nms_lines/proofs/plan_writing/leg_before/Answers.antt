@@ -6,8 +6,6 @@ use Rattle.nms_lines.proofs.plan_writing.leg_before.Goals as goal
 pub returns-clause-written : goal.returns-clause-written
 returns-clause-written c = grind (arith, common_steps)
 
--- ---- goals that `grind` closes; the search that is tried before it takes longer
-
 pub text_before-end-requires-clause-room : goal.text_before-end-requires-clause-room
 text_before-end-requires-clause-room c = grind (arith, common_steps)
 

@@ -6,7 +6,5 @@ use Rattle.nms_lines.proofs.plan_writing.name_of_sym.Goals as goal
 pub returns-then-has_sym-clause-short : goal.returns-then-has_sym-clause-short
 returns-then-has_sym-clause-short c = grind (arith, common_steps)
 
--- ---- goals that `grind` closes; the search that is tried before it takes longer
-
 pub sym_name-requires : goal.sym_name-requires
 sym_name-requires c = grind (arith, common_steps)

@@ -12,8 +12,6 @@ returns-clause-room c = grind (arith, common_steps)
 pub returns-clause-within : goal.returns-clause-within
 returns-clause-within c = grind (arith, common_steps)
 
--- ---- goals that `grind` closes; the search that is tried before it takes longer
-
 pub number_before-end-requires-clause-room : goal.number_before-end-requires-clause-room
 number_before-end-requires-clause-room c = grind (arith, common_steps)
 

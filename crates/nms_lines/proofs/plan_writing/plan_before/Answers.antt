@@ -6,8 +6,6 @@ use Rattle.nms_lines.proofs.plan_writing.plan_before.Goals as goal
 pub returns-clause-written : goal.returns-clause-written
 returns-clause-written c = grind (arith, common_steps)
 
--- ---- goals that `grind` closes; the search that is tried before it takes longer
-
 pub number_before-end-requires-2-clause-room : goal.number_before-end-requires-2-clause-room
 number_before-end-requires-2-clause-room c = grind (arith, common_steps)
 

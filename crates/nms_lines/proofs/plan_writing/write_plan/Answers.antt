@@ -15,8 +15,6 @@ returns-clause-cut g c = grind (arith, common_steps)
 pub returns-in_default-clause-cut : goal.returns-in_default-clause-cut
 returns-in_default-clause-cut g c = grind (arith, common_steps)
 
--- ---- goals that `grind` closes; the search that is tried before it takes longer
-
 pub returns-in-Ok-write_text-clause-unwritten : goal.returns-in-Ok-write_text-clause-unwritten
 returns-in-Ok-write_text-clause-unwritten g c = grind (arith, common_steps)
 

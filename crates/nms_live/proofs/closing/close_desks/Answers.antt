@@ -104,8 +104,6 @@ returns-in-Err-push-clause-rows g c = grind (arith, common_steps)
 pub returns-in-Err-push-clause-all : goal.returns-in-Err-push-clause-all
 returns-in-Err-push-clause-all g c = grind (arith, common_steps)
 
--- ---- goals that `grind` closes; the search that is tried before it takes longer
-
 pub loop-desked-init-derived : goal.loop-desked-init-derived
 loop-desked-init-derived g c = grind (arith, common_steps)
 

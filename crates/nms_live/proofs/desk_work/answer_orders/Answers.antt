@@ -72,8 +72,6 @@ returns g c =
 pub returns-in-Err-push_back-clause-same : goal.returns-in-Err-push_back-clause-same
 returns-in-Err-push_back-clause-same g c = grind (arith, common_steps)
 
--- ---- goals that `grind` closes; the search that is tried before it takes longer
-
 pub returns-in-Err-push_back-clause-worked : goal.returns-in-Err-push_back-clause-worked
 returns-in-Err-push_back-clause-worked g c = grind (arith, common_steps)
 

@@ -9,7 +9,5 @@ send-requires g c = grind (arith, common_steps)
 pub returns-clause-sent : goal.returns-clause-sent
 returns-clause-sent g c = grind (arith, common_steps)
 
--- ---- goals that `grind` closes; the search that is tried before it takes longer
-
 pub returns-clause-same : goal.returns-clause-same
 returns-clause-same g c = grind (arith, common_steps)

@@ -54,8 +54,6 @@ returns-in-Err-send_record-clause-same g c = grind (arith, common_steps)
 pub loop-index-init : goal.loop-index-init
 loop-index-init g c = grind (arith, common_steps)
 
--- ---- goals that `grind` closes; the search that is tried before it takes longer
-
 pub returns-in-Err-send_record-clause-read : goal.returns-in-Err-send_record-clause-read
 returns-in-Err-send_record-clause-read g c = grind (arith, common_steps)
 

@@ -6,7 +6,5 @@ use Rattle.nms_live.proofs.feed_workers.senders_of.Goals as goal
 pub loop-sender-preserved : goal.loop-sender-preserved
 loop-sender-preserved c = grind (arith, common_steps)
 
--- ---- goals that `grind` closes; the search that is tried before it takes longer
-
 pub returns : goal.returns
 returns c = grind (arith, common_steps)

@@ -6,8 +6,6 @@ use Rattle.nms_live.proofs.gathering.next_of.Goals as goal
 pub returns-clause-others : goal.returns-clause-others
 returns-clause-others c = grind (arith, common_steps)
 
--- ---- goals that `grind` closes; the search that is tried before it takes longer
-
 pub take_next-requires-clause-some : goal.take_next-requires-clause-some
 take_next-requires-clause-some c = grind (arith, common_steps)
 

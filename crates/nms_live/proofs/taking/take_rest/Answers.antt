@@ -45,8 +45,6 @@ returns-in-Ok g c =
 pub unreachable-requires : goal.unreachable-requires
 unreachable-requires g c = grind (arith, common_steps)
 
--- ---- goals that `grind` closes; the search that is tried before it takes longer
-
 pub loop-preserved-derived : goal.loop-preserved-derived
 loop-preserved-derived g c = grind (arith, common_steps)
 

@@ -6,8 +6,6 @@ use Rattle.nms_text.proofs.answer.look_before.Goals as goal
 pub returns-clause-written : goal.returns-clause-written
 returns-clause-written c = grind (arith, common_steps)
 
--- ---- goals that `grind` closes; the search that is tried before it takes longer
-
 pub text_before-end-requires-2-clause-within : goal.text_before-end-requires-2-clause-within
 text_before-end-requires-2-clause-within c = grind (arith, common_steps)
 

@@ -12,8 +12,6 @@ returns-in-Ok-clause-written g c = grind (arith, common_steps)
 pub returns-clause-cut : goal.returns-clause-cut
 returns-clause-cut g c = grind (arith, common_steps)
 
--- ---- goals that `grind` closes; the search that is tried before it takes longer
-
 pub returns-clause-unwritten : goal.returns-clause-unwritten
 returns-clause-unwritten g c = grind (arith, common_steps)
 

@@ -16,7 +16,5 @@ returns g c =
 pub write_pairs-requires : goal.write_pairs-requires
 write_pairs-requires g c = grind (arith, common_steps)
 
--- ---- goals that `grind` closes; the search that is tried before it takes longer
-
 pub write_header-requires : goal.write_header-requires
 write_header-requires g c = grind (arith, common_steps)

@@ -19,7 +19,5 @@ returns g c = grind (arith, common_steps)
 pub write_row-requires : goal.write_row-requires
 write_row-requires g c = grind (arith, common_steps)
 
--- ---- goals that `grind` closes; the search that is tried before it takes longer
-
 pub loop-row-init : goal.loop-row-init
 loop-row-init g c = grind (arith, common_steps)

@@ -171,7 +171,5 @@ alter-requires-clause-part c = grind (arith, common_steps)
 pub alter-requires-clause-parts : goal.alter-requires-clause-parts
 alter-requires-clause-parts c = grind (arith, common_steps)
 
--- ---- goals that `grind` closes; the search that is tried before it takes longer
-
 pub withdraw_from-requires-clause-parts : goal.withdraw_from-requires-clause-parts
 withdraw_from-requires-clause-parts c = grind (arith, common_steps)

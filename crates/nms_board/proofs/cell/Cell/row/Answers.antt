@@ -6,7 +6,5 @@ use Rattle.nms_board.proofs.cell.Cell.row.Goals as goal
 pub returns : goal.returns
 returns c = grind (arith, common_steps)
 
--- ---- goals that `grind` closes; the search that is tried before it takes longer
-
 pub returns-then-size-eq0 : goal.returns-then-size-eq0
 returns-then-size-eq0 c = grind (arith, common_steps)

@@ -6,7 +6,5 @@ use Rattle.nms_board.proofs.cell.Cell.size.Goals as goal
 pub returns : goal.returns
 returns c = grind (arith, common_steps)
 
--- ---- goals that `grind` closes; the search that is tried before it takes longer
-
 pub returns-then-eq : goal.returns-then-eq
 returns-then-eq c = grind (arith, common_steps)

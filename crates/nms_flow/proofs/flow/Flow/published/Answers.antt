@@ -6,7 +6,5 @@ use Rattle.nms_flow.proofs.flow.Flow.published.Goals as goal
 pub returns-clause-at : goal.returns-clause-at
 returns-clause-at c = grind (arith, common_steps)
 
--- ---- goals that `grind` closes; the search that is tried before it takes longer
-
 pub returns-clause-told : goal.returns-clause-told
 returns-clause-told c = grind (arith, common_steps)

@@ -27,8 +27,6 @@ returns-clause-went c = grind (arith, common_steps)
 pub returns-then-version-self-clause-sends_nothing : goal.returns-then-version-self-clause-sends_nothing
 returns-then-version-self-clause-sends_nothing c = grind (arith, common_steps)
 
--- ---- goals that `grind` closes; the search that is tried before it takes longer
-
 pub make_room-requires : goal.make_room-requires
 make_room-requires c = grind (arith, common_steps)
 

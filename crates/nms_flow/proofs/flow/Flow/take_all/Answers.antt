@@ -41,8 +41,6 @@ returns-then-more-queued-clause-sends_nothing c = grind (arith, common_steps)
 pub returns-in_default-clause-sends_nothing : goal.returns-in_default-clause-sends_nothing
 returns-in_default-clause-sends_nothing c = grind (arith, common_steps)
 
--- ---- goals that `grind` closes; the search that is tried before it takes longer
-
 pub returns-then-more-queued-clause-full : goal.returns-then-more-queued-clause-full
 returns-then-more-queued-clause-full c = grind (arith, common_steps)
 

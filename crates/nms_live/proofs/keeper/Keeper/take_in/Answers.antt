@@ -6,8 +6,6 @@ use Rattle.nms_live.proofs.keeper.Keeper.take_in.Goals as goal
 pub invariant_of-self-then-self-lt-MOST_WAITING : goal.invariant_of-self-then-self-lt-MOST_WAITING
 invariant_of-self-then-self-lt-MOST_WAITING g c = grind (arith, common_steps)
 
--- ---- goals that `grind` closes; the search that is tried before it takes longer
-
 pub returns-then-self-lt-MOST_WAITING-clause-taken : goal.returns-then-self-lt-MOST_WAITING-clause-taken
 returns-then-self-lt-MOST_WAITING-clause-taken g c = grind (arith, common_steps)
 
