@@ -76,13 +76,13 @@ names seat known sealed next batch nothing seen is views kept at =
       (shot, refl, ap (λ (z : Sealed). z.seen.book) (sym same), ap (λ (z : Sealed). z.boards.sizes) (sym same)),
     )
 
--- where the pair shows what it showed, what is read of that stays
+-- if the pair still shows what it showed before, what is read of that is unchanged
 pub shown_as : {W E X : Type 0} (result : Result W E) (shown : W → Sealed) (read : Sealed → X) (before : Sealed) (x : X)
     → read before ≡ x → IfOk result (λ w. shown w ≡ before) → IfOk result (λ w. read (shown w) ≡ x)
 shown_as (Ok w) shown read before x is same = ap read same ∙ is
 shown_as (Err fault) shown read before x is same = tt
 
--- where the pair shows what it showed, and names its opening, the opening is that of what it shows
+-- if the pair still shows what it showed before, and names its opening, that is the opening of what it shows
 pub named_by : {W E : Type 0} (result : Result W E) (shown : W → Sealed) (known : W → Known) (before : Sealed) (book : Book)
     → before.seen.book ≡ book → IfOk result (λ w. shown w ≡ before) → IfOk result (λ w. Names unnamed before (shown w) (known w))
     → IfOk result (λ w. IsNamed (known w) book)
