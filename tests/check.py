@@ -155,7 +155,7 @@ def drawn(judge, count, file):
     compare(file, judge.cases(count).encode(), read("cases", file))
 
 
-DRAWN = (judge, 40, "chance.cases"), (judge_live, 8, "chance_live.cases"), (judge_orders, 20, "chance_orders.cases"), (judge_plans, 100, "chance_plans.cases")
+DRAWN = (judge, 40, "random_scripts.cases"), (judge_live, 8, "random_live.cases"), (judge_orders, 20, "random_orders.cases"), (judge_plans, 100, "random_plans.cases")
 
 
 def differs(text):

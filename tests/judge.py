@@ -2,7 +2,7 @@
 """Writes examples of random scripts, each with what it must give: `tests/judge.py CASES [SEED]`.
 
 What it must give is said by the slow program of rules.py. The records are of all kinds that a script has, under the
-built-in setup; some are refused. tests/cases/chance.cases has 40.
+built-in setup; some are refused. tests/cases/random_scripts.cases has 40.
 """
 import random
 import sys
@@ -43,7 +43,7 @@ def case(chance, number):
     machine, script = Machine(QUEUE, TAPE, dict.fromkeys(SYMS, LOT)), [drawn(chance) for _ in range(40)]
     lines, refused = answers(machine, script)
     counts = f"{len(script)} read, {refused} refused, {len(machine.tape)} taken, {machine.published} published"
-    return [f"== script drawn by chance, {number}", *(record for record, _ in script), "-- gives", *lines, counts]
+    return [f"== script drawn at random, {number}", *(record for record, _ in script), "-- gives", *lines, counts]
 
 
 def cases(count, seed=242_600):

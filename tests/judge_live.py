@@ -2,7 +2,7 @@
 """Writes random live runs, each with what it must give: `tests/judge_live.py RUNS [SEED]`.
 
 It applies the changes of each feed alone, since a participant's changes all come by one feed, and plans each order on what
-is left by `planned` of rules.py. So what must come is the same whatever the threads do. tests/cases/chance_live.cases has 8.
+is left by `planned` of rules.py. So what must come is the same whatever the threads do. tests/cases/random_live.cases has 8.
 """
 import random
 import sys
@@ -46,7 +46,7 @@ def case(chance, number):
         desk, order = chance.randrange(desks), drawn_order(chance, base)
         orders.append(record_of(order, desk))
         answers += [f"ANSWER,{desk},{place}", *planned(order, quotes_of(board, order), length)]
-    words = [f"== command a live run drawn by chance, {number}", "live", "orders", "feed_a", "feed_b", "--setup", "setup.toml"]
+    words = [f"== command a live run drawn at random, {number}", "live", "orders", "feed_a", "feed_b", "--setup", "setup.toml"]
     files = ["-- file feed_a", *feeds[0], "-- file feed_b", *feeds[1], "-- file orders", *orders, "-- file setup.toml"]
     setup = SETUP.format(limit=max(1, length), queue=queue, desks=desks)
     return [*words, *files, setup, "-- gives", "0", *answers, "-- errors"]

@@ -3,7 +3,7 @@
 
 What they must give is `planned` of rules.py: the plan of the fixed choice, which has to be as good as the best of every way
 to spread the lots. Each script has 25 small boards, one change apart, under the built-in setup, and an order on each.
-tests/cases/chance_orders.cases has 20.
+tests/cases/random_orders.cases has 20.
 """
 import random
 import sys
@@ -50,7 +50,7 @@ def case(chance, number):
         script += ["F", record_of(order, 0)]
         answers += [f"PUB,{version}", *planned(order, quotes_of(board, order), version)]
     counts = "75 read, 0 refused, 25 taken, 25 published"
-    return [f"== script orders drawn by chance, {number}", *script, "-- gives", *answers, counts]
+    return [f"== script orders drawn at random, {number}", *script, "-- gives", *answers, counts]
 
 
 def cases(count, seed=242_600):

@@ -2,7 +2,7 @@
 """Writes audits of random plans, each with what it must find: `tests/judge_plans.py CASES [SEED]`.
 
 What it must find is `doubt` of rules.py, over a few quotations that never change, under the built-in setup. It stops if a
-certificate passes for a plan that is not the best of every way to spread the lots. tests/cases/chance_plans.cases has 100.
+certificate passes for a plan that is not the best of every way to spread the lots. tests/cases/random_plans.cases has 100.
 """
 import random
 import sys
@@ -79,7 +79,7 @@ def case(chance, number):
     if found is None and (-filled, cost) != best_way(order, quotes):
         raise AssertionError(f"case {number}: a certificate passes for a plan that is not the best")
     plan_text = records_of(order, len(quotes), "ABC", plan, cuts)
-    return [f"== check drawn by chance, {number}", *changes_of(order, quotes), "-- plan", *plan_text, "-- gives", found or "confirmed"]
+    return [f"== check drawn at random, {number}", *changes_of(order, quotes), "-- plan", *plan_text, "-- gives", found or "confirmed"]
 
 
 def cases(count, seed=242_611):

@@ -47,7 +47,9 @@ impl Patience {
             thread::yield_now();
         } else {
             let rest = Duration::from_micros(u64::from(self.rest));
-            self.rest = self.rest.saturating_mul(2).min(LONGEST_REST);
+            if self.rest < LONGEST_REST {
+                self.rest *= 2;
+            }
             Parker::new().park_timeout(rt, rest);
         }
     }

@@ -35,11 +35,12 @@ pub struct Means<'m, R, G> {
 impl<'g> Given<'g> {
     /// The most changes that the tape can come to, if each record of the feeds ends with a line feed.
     pub(crate) fn most_changes(&self) -> usize {
-        let mut records = self.feeds.len();
+        let most = self.setup.tape_limit() as usize;
+        let mut records = most.min(self.feeds.len());
         for text in &self.feeds {
-            records = records.saturating_add(line_feeds(text));
+            records += line_feeds(text).min(most - records);
         }
-        records.min(self.setup.tape_limit() as usize)
+        records
     }
 
     /// Whether the workers of all feeds have ended.
@@ -50,9 +51,11 @@ impl<'g> Given<'g> {
 
 /// How many line feeds a text has.
 fn line_feeds(text: &[u8]) -> usize {
-    let mut found = 0usize;
+    let mut found = 0;
     for byte in text {
-        found = found.saturating_add(usize::from(*byte == b'\n'));
+        if *byte == b'\n' {
+            found += 1;
+        }
     }
     found
 }

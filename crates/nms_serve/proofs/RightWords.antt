@@ -35,7 +35,7 @@ each_append {X} read (value ∷ rest) others =
     go (Some x) (Some xs) None = refl
     go (Some x) (Some xs) (Some ys) = refl
 
--- what stands twice does so with others behind it
+-- what stands twice does so with others after it
 still_twice : {X : Type 0} (same : X → X → Bool) (xs ys : List X) → has_twice same xs ≡ true → has_twice same (xs ++ ys) ≡ true
 still_twice same [] ys twice = cc
 still_twice same (x ∷ xs) ys twice =

@@ -128,10 +128,10 @@ fn shown_to(desk: &mut Desk, sym: Sym) -> (u64, u32) {
 
 /// How many changes of a tape stand where they were appended.
 fn in_place(tape: &[Change]) -> usize {
-    let mut count = 0usize;
+    let mut count = 0;
     for (change, number) in tape.iter().zip(0..1000u32) {
         if offer_numbered(number) == Some(*change) {
-            count = count.saturating_add(1);
+            count += 1;
         }
     }
     count

@@ -24,7 +24,7 @@ impl<'a> Read for Flaky<'a> {
         match (self.text.get(self.at), buf.first_mut()) {
             (Some(byte), Some(place)) => {
                 *place = *byte;
-                self.at = self.at.saturating_add(1);
+                self.at += 1;
                 Ok(1)
             }
             _ => Ok(0),

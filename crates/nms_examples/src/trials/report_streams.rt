@@ -36,7 +36,7 @@ pub(super) fn a_report_is_one_write_and_flushed<T: AllocGlobal>(
             text: b"X,N\n",
             times: 1,
             fails: false,
-            behind: b"",
+            after: b"",
             rest: b"",
         };
         let reported = reported(rt.alloc(), setup, file, writes, flushes)?;
@@ -56,12 +56,12 @@ pub(super) fn a_refused_file_is_read_to_its_end_and_nothing_is_written<T: AllocG
         (b"X,N\nK\n", true, "E1"),
         (b"X,N\nX,", true, "E1"),
     ] {
-        let behind = b"\nX,N\n";
+        let after = b"\nX,N\n";
         let file = Source {
             text,
             times: 1,
             fails,
-            behind,
+            after,
             rest: b"",
         };
         same(reported(rt.alloc(), setup, file, 9, 9)?, (code, 0))?;

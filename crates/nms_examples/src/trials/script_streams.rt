@@ -1,6 +1,6 @@
 //! Scripts on streams that fail or count.
 use super::same;
-use super::streams::{Pipe, Source};
+use super::streams::{Pipe, Source, checked_sum};
 use nms_engine::{ScriptFault, run_script};
 use nms_fees::Setup;
 use std::alloc::Global;
@@ -43,8 +43,8 @@ impl<'a> Read for Asker<'a> {
             let Some((record, answer)) = records().get(self.next) else {
                 return Ok(0);
             };
-            self.next = self.next.saturating_add(1);
-            self.due = self.due.saturating_add(*answer);
+            self.next += 1;
+            self.due = checked_sum(self.due, *answer)?;
             self.rest = record.as_bytes();
         }
         self.rest.read(buf)
@@ -92,7 +92,7 @@ pub(super) fn a_failed_read_leaves_the_answers_so_far<T: AllocGlobal>(
     rt: &T,
     setup: &Setup,
 ) -> Result<(), Fail> {
-    let behind = b"\nF\n";
+    let after = b"\nF\n";
     // The last record of the third script does not end.
     for (text, answers) in [
         (b"".as_slice(), 0),
@@ -104,7 +104,7 @@ pub(super) fn a_failed_read_leaves_the_answers_so_far<T: AllocGlobal>(
             text,
             times: 1,
             fails,
-            behind,
+            after,
             rest: b"",
         };
         let ended = ended(rt.alloc(), setup, script, 9, 9);
@@ -132,7 +132,7 @@ pub(super) fn a_failed_write_or_flush_ends_the_script<T: AllocGlobal>(
             text: b"Q,N,ABC,A,,,10.00,100\nF\nP\nF\n",
             times: 1,
             fails: false,
-            behind: b"",
+            after: b"",
             rest: b"",
         };
         let ended = ended(rt.alloc(), setup, script, writes, flushes);
@@ -147,7 +147,7 @@ fn worked(fails: bool) -> Source<'static> {
         text: b"Q,N,ABC,A,,,10.00,300\nQ,P,ABC,A,,,10.00,500\nQ,Y,ABC,A,,,10.01,200\nF\n",
         times: 1,
         fails,
-        behind: b"O,0,B,ABC,600,10.01\n",
+        after: b"O,0,B,ABC,600,10.01\n",
         rest: b"",
     }
 }

@@ -8,7 +8,7 @@ pub(super) struct Source<'a> {
     pub(super) text: &'a [u8],
     pub(super) times: u32,
     pub(super) fails: bool,
-    pub(super) behind: &'a [u8],
+    pub(super) after: &'a [u8],
     pub(super) rest: &'a [u8],
 }
 
@@ -21,8 +21,8 @@ impl<'a> Read for Source<'a> {
             self.fails = false;
             return Err(io::Error::from(ErrorKind::BrokenPipe));
         } else if self.rest.is_empty() {
-            self.rest = self.behind;
-            self.behind = b"";
+            self.rest = self.after;
+            self.after = b"";
         }
         self.rest.read(buf)
     }
@@ -51,7 +51,7 @@ impl<'a> Pipe<'a> {
 impl<'a> Write for Pipe<'a> {
     fn write(&mut self, buf: &[u8]) -> io::Result<usize> {
         self.writes = one_less(self.writes)?;
-        self.bytes = self.bytes.saturating_add(buf.len());
+        self.bytes = checked_sum(self.bytes, buf.len())?;
         Ok(buf.len())
     }
 
@@ -68,4 +68,11 @@ fn one_less(left: usize) -> io::Result<usize> {
         0 => Err(io::Error::from(ErrorKind::BrokenPipe)),
         left => Ok(left - 1),
     }
+}
+
+/// The sum of two counts of bytes; a failure if no count is as great.
+pub(super) fn checked_sum(before: usize, more: usize) -> io::Result<usize> {
+    before
+        .checked_add(more)
+        .ok_or(io::Error::from(ErrorKind::OutOfMemory))
 }

@@ -267,12 +267,12 @@ fn shares_path(clients: &[ClientPaths], tape: &str) -> bool
 fn has_input_twice(clients: &[ClientPaths]) -> bool
     ensures { result ≡ has_twice (λ one other. is_same_input (shown_client one) (shown_client other)) clients.now }
 {
-    let mut behind = clients;
-    while let Some((client, more)) = behind.split_first() {
+    let mut rest = clients;
+    while let Some((client, more)) = rest.split_first() {
         if has_input(more, client.input.as_str()) {
             return true;
         }
-        behind = more;
+        rest = more;
     }
     false
 }
@@ -281,12 +281,12 @@ fn has_input_twice(clients: &[ClientPaths]) -> bool
 fn has_output_twice(clients: &[ClientPaths]) -> bool
     ensures { result ≡ has_twice (λ one other. is_same_output (shown_client one) (shown_client other)) clients.now }
 {
-    let mut behind = clients;
-    while let Some((client, more)) = behind.split_first() {
+    let mut rest = clients;
+    while let Some((client, more)) = rest.split_first() {
         if has_output(more, client.output.as_str()) {
             return true;
         }
-        behind = more;
+        rest = more;
     }
     false
 }

@@ -56,8 +56,8 @@ impl Gate for Paced {
     fn may(&self, at: GatePoint) -> bool {
         match at {
             GatePoint::Look { k, .. } => {
-                let count = k.saturating_mul(self.pace);
-                self.has_sent(if count < self.all { count } else { self.all })
+                let count = k.checked_mul(self.pace).unwrap_or(self.all);
+                self.has_sent(count.min(self.all))
             }
             _ => true,
         }
@@ -76,7 +76,7 @@ fn first_refusal(sent: &[Sent]) -> Option<LiveFault> {
         if let Some(fault) = own.fault {
             return Some(LiveFault::Line {
                 feed: Feed::at(u8::try_from(place).ok()?)?,
-                number: (own.changes.len() as u64).saturating_add(1),
+                number: own.changes.len() as u64 + 1,
                 fault,
             });
         }
@@ -85,19 +85,21 @@ fn first_refusal(sent: &[Sent]) -> Option<LiveFault> {
 }
 
 /// How many changes all feeds send.
-fn all_of(sent: &[Sent]) -> u64 {
+fn all_of<R: Abort>(rt: &R, sent: &[Sent]) -> u64 {
     let mut all = 0u64;
     for own in sent {
-        all = all.saturating_add(own.changes.len() as u64);
+        all = all
+            .checked_add(own.changes.len() as u64)
+            .expect(rt, "a count");
     }
     all
 }
 
 /// The fault that has to end the run, if one has.
-fn due(sent: &[Sent], limit: u64) -> Option<LiveFault> {
+fn due<R: Abort>(rt: &R, sent: &[Sent], limit: u64) -> Option<LiveFault> {
     match first_refusal(sent) {
         Some(fault) => Some(fault),
-        None if limit < all_of(sent) => Some(LiveFault::Append),
+        None if limit < all_of(rt, sent) => Some(LiveFault::Append),
         None => None,
     }
 }
@@ -137,8 +139,10 @@ pub(crate) fn setup_of<R: Abort>(rt: &R, alloc: Global, limits: Limits) -> Strin
     let mut text = format!(in alloc;
         "tape_limit = {tape}\nqueue = {queue}\ndesks = {desks}\nfeeds = {feeds}\n"
     ).expect(rt, "memory");
-    for part in 0..feeds.saturating_mul(2) {
-        add_participant(rt, alloc, &mut text, part);
+    for part in 0..16 {
+        if part / 2 < feeds {
+            add_participant(rt, alloc, &mut text, part);
+        }
     }
     text.push_str("[[symbol]]\nname = \"ABC\"\nlot = 100\n[[symbol]]\nname = \"PNY\"\nlot = 100\n")
         .expect(rt, "memory");
@@ -210,7 +214,7 @@ fn try_orders<R: Threads + Wait + Abort + Sync>(
     pace: u64,
 ) -> &'static str {
     let setup = setup_of(rt, alloc, limits);
-    let due = due(sent, u64::from(limits.tape));
+    let due = due(rt, sent, u64::from(limits.tape));
     try_under(rt, alloc, setup.as_str(), sent, table, pace, due)
 }
 
@@ -236,7 +240,7 @@ fn try_under<R: Threads + Wait + Abort + Sync>(
     let gate = Paced {
         sent: AtomicU64::new(0),
         pace,
-        all: all_of(sent),
+        all: all_of(rt, sent),
     };
     let texts = texts_of(rt, alloc, sent);
     let came_to = run(rt, alloc, setup, &texts, table, &gate);

@@ -227,8 +227,8 @@ fn add_refused_text<R: Abort>(rt: &R, text: &mut Vec<u8>, number: u32, feed: Fee
         add(rt, text, &[line]);
         fault
     } else {
-        let (front, is_own, behind, fault) = refused(number);
-        add(rt, text, &[front, named(feed, is_own), behind]);
+        let (front, is_own, after, fault) = refused(number);
+        add(rt, text, &[front, named(feed, is_own), after]);
         fault
     }
 }

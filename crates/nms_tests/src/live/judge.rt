@@ -31,14 +31,17 @@ fn has_all_of(tape: &[Change], feed: usize, sent: &[Change]) -> bool {
 
 /// Whether the tape has the changes of all feeds, those of each in order, and no others.
 fn is_merge(tape: &[Change], sent: &[Sent]) -> bool {
-    let mut all = 0usize;
+    let mut others = tape.len();
     for (feed, own) in sent.iter().enumerate() {
         if !has_all_of(tape, feed, &own.changes) {
             return false;
         }
-        all = all.saturating_add(own.changes.len());
+        let Some(left) = others.checked_sub(own.changes.len()) else {
+            return false;
+        };
+        others = left;
     }
-    all == tape.len()
+    others == 0
 }
 
 /// The most changes that are appended between two publishings: the number of the rule, not of the program.
@@ -52,12 +55,12 @@ fn rises_to(published: &[u64], all: u64) -> bool {
     };
     let mut last = 0u64;
     for number in before {
-        if *number <= last || *number > last.saturating_add(MOST_BETWEEN) {
+        if *number <= last || *number - last > MOST_BETWEEN {
             return false;
         }
         last = *number;
     }
-    *end == all && last <= *end && *end <= last.saturating_add(MOST_BETWEEN)
+    *end == all && last <= *end && *end - last <= MOST_BETWEEN
 }
 
 /// Whether the answer is to this order of the table.
@@ -69,12 +72,10 @@ fn is_for(answer: &Answer, number: usize, wanted: &Wanted) -> bool {
 
 /// Whether each order has its answer, in order.
 fn answers_all(answers: &[Answer], table: &[Wanted]) -> bool {
-    let mut number = 0usize;
-    for (answer, wanted) in answers.iter().zip(table) {
+    for (number, (answer, wanted)) in answers.iter().zip(table).enumerate() {
         if !is_for(answer, number, wanted) {
             return false;
         }
-        number = number.saturating_add(1);
     }
     answers.len() == table.len()
 }

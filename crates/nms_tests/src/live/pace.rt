@@ -48,10 +48,10 @@ impl Gate for Held {
     }
 }
 
-/// That many changes of one participant.
-fn changes<R: Abort>(rt: &R, alloc: Global, count: u64) -> Vec<u8> {
+/// A change of one participant, and that many more.
+fn changes<R: Abort>(rt: &R, alloc: Global, more: u64) -> Vec<u8> {
     let mut text = Vec::new(alloc);
-    for _ in 0..count {
+    for _ in 0..=more {
         let record = b"Q,N,ABC,A,,,10.00,100\n".as_slice();
         text.extend_from_slice(record).expect(rt, "memory");
     }
@@ -77,7 +77,7 @@ fn published_under<R: Threads + Wait + Abort + Sync>(
     setup: &str,
     more: u64,
 ) -> Option<Vec<u64>> {
-    let text = changes(rt, alloc, more.saturating_add(1));
+    let text = changes(rt, alloc, more);
     let gate = make_held(more);
     let feeds = [text.as_slice(), b"".as_slice()];
     match run(rt, alloc, setup, &feeds, &[], &gate) {

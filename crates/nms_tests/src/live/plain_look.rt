@@ -61,7 +61,9 @@ fn is_shown(tape: &[Change], count: u64, order: &Order, leg: &Leg) -> bool {
         follow(&mut side, change, order, leg.part);
     }
     let more = side.shares.checked_rem(u32::from(side.lot)).unwrap_or(0);
-    let displayed = side.shares.saturating_sub(more);
+    let Some(displayed) = side.shares.checked_sub(more) else {
+        return false;
+    };
     !side.is_halted && leg.price.get() == side.price && leg.shares.get() <= displayed
 }
 

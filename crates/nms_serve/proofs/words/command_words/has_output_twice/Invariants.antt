@@ -7,7 +7,7 @@ use Rattle.nms_serve.proofs.words.command_words.has_output_twice.Given as goal
 -- no client so far has another after it with its output
 abbrev pub invariant-loop-client : goal.invariant-loop-client
 invariant-loop-client l = has_twice (λ one other. is_same_output (shown_client one) (shown_client other)) l.fn.clients
-    ≡ has_twice (λ one other. is_same_output (shown_client one) (shown_client other)) l.behind
+    ≡ has_twice (λ one other. is_same_output (shown_client one) (shown_client other)) l.rest
 
 abbrev pub decreases-loop-client : goal.decreases-loop-client
-decreases-loop-client l = length l.behind
+decreases-loop-client l = length l.rest
