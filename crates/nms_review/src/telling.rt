@@ -87,11 +87,31 @@ fn kind_of(fault: &Fault, request: &Request<'_>) -> Option<&'static str> {
 
 /// The kind of a file of records that a call names, if it is one.
 fn kind_of_records(about: About, command: Sub) -> Option<&'static str> {
-    match (about, command) {
-        (About::Word(_), Sub::Tape) => Some("script"),
-        (About::Word(1), Sub::Why) | (About::Plan, _) => Some("plan"),
-        (About::Word(_), _) => Some("changes"),
-        _ => None,
+    match about {
+        About::Word(place) => Some(kind_of_word(place, command)),
+        About::Plan => Some("plan"),
+        About::Nothing
+        | About::Setup
+        | About::Feed
+        | About::Times
+        | About::Symbols
+        | About::Symbol
+        | About::Version
+        | About::Map
+        | About::From
+        | About::To
+        | About::Trades => None,
+    }
+}
+
+/// The kind of the file of records that the subcommand's own word at that place names.
+fn kind_of_word(place: usize, command: Sub) -> &'static str {
+    if command == Sub::Tape {
+        "script"
+    } else if command == Sub::Why && place == 1 {
+        "plan"
+    } else {
+        "changes"
     }
 }
 

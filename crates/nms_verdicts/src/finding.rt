@@ -146,19 +146,6 @@ fn of_breach<'a>(place: &BreachPlace, roster: &'a Roster, order: &Order) -> Find
             Item::of_money(*found),
             Item::of_money(*expected),
         ),
-        BreachPlace::NoSuchQuotation(_)
-        | BreachPlace::PriceDiffers(_)
-        | BreachPlace::ZeroLeg(_)
-        | BreachPlace::OverSize(_)
-        | BreachPlace::BeyondLimit { .. }
-        | BreachPlace::Repeated { .. }
-        | BreachPlace::TradedThrough { .. } => of_leg_breach(place, roster, order),
-    }
-}
-
-/// What is found at a leg.
-fn of_leg_breach<'a>(place: &BreachPlace, roster: &'a Roster, order: &Order) -> Finding<'a> {
-    match place {
         BreachPlace::NoSuchQuotation(leg) => {
             of_leg(
                 roster,
@@ -210,11 +197,6 @@ fn of_leg_breach<'a>(place: &BreachPlace, roster: &'a Roster, order: &Order) -> 
             let expected = first_price(passed.as_slice());
             of_leg(roster, worst, "", leg_price(worst), expected)
         }
-        BreachPlace::OtherVersion { .. }
-        | BreachPlace::OtherOrder { .. }
-        | BreachPlace::OverAsked { .. }
-        | BreachPlace::FilledWrong { .. }
-        | BreachPlace::CostWrong { .. } => of_plan("", Item::Absent, Item::Absent),
     }
 }
 

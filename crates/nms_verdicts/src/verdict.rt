@@ -38,13 +38,14 @@ impl Verdict {
 
     /// The code of the breach, if that is what is doubtful.
     pub(crate) fn breach(&self) -> Option<&'static str> {
-        match self {
-            Verdict::Doubted {
-                doubt: Doubt::Breach(breach),
-                ..
-            } => Some(breach.code()),
-            _ => None,
-        }
+        let Verdict::Doubted {
+            doubt: Doubt::Breach(breach),
+            ..
+        } = self
+        else {
+            return None;
+        };
+        Some(breach.code())
     }
 
     /// Whether it is confirmed.

@@ -59,7 +59,7 @@ impl Gate for Paced {
                 let count = k.checked_mul(self.pace).unwrap_or(self.all);
                 self.has_sent(count.min(self.all))
             }
-            _ => true,
+            GatePoint::Send { .. } | GatePoint::Publish { .. } => true,
         }
     }
 

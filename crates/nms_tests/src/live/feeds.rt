@@ -146,7 +146,7 @@ impl Gate for Stepped {
         match at {
             GatePoint::Send { k, .. } => k
                 <= self.published.load(std::sync::atomic::Ordering::SeqCst),
-            _ => true,
+            GatePoint::Look { .. } | GatePoint::Publish { .. } => true,
         }
     }
 

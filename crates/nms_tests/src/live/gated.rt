@@ -133,7 +133,7 @@ impl Gate for Relay {
                 self.wait(&self.published_second);
             }
             GatePoint::Publish { k: 1 } => set(&self.published_second),
-            _ => {}
+            GatePoint::Send { .. } | GatePoint::Publish { .. } => {}
         }
     }
 }

@@ -82,7 +82,7 @@ impl Gate for Overlap {
             }
             GatePoint::Look { desk: 0, k: 1 } => is_set(&self.published_second),
             GatePoint::Send { k: 1, .. } => is_set(&self.looked_second),
-            _ => true,
+            GatePoint::Send { .. } | GatePoint::Look { .. } | GatePoint::Publish { .. } => true,
         }
     }
 
@@ -92,7 +92,7 @@ impl Gate for Overlap {
             GatePoint::Publish { k: 1 } => set(&self.published_second),
             GatePoint::Look { desk: 0, k: 0 } => set(&self.looked_first),
             GatePoint::Look { desk: 0, k: 1 } => set(&self.looked_second),
-            _ => {}
+            GatePoint::Send { .. } | GatePoint::Look { .. } | GatePoint::Publish { .. } => {}
         }
     }
 }

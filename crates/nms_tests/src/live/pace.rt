@@ -34,16 +34,13 @@ impl Gate for Held {
                 self.is_sent.load(Ordering::SeqCst)
             }
             GatePoint::Send { k, .. } => k == 0 || self.is_held.load(Ordering::SeqCst),
-            _ => true,
+            GatePoint::Look { .. } | GatePoint::Publish { .. } => true,
         }
     }
 
     fn done(&self, at: GatePoint) {
-        match at {
-            GatePoint::Send { feed: Feed::A, k } if k == self.more => {
-                self.is_sent.store(true, Ordering::SeqCst);
-            }
-            _ => {}
+        if matches!(at, GatePoint::Send { feed: Feed::A, k } if k == self.more) {
+            self.is_sent.store(true, Ordering::SeqCst);
         }
     }
 }

@@ -219,11 +219,10 @@ enum Shut {
 
 impl Gate for Shut {
     fn may(&self, at: GatePoint) -> bool {
-        match (self, at) {
-            (Shut::Send, GatePoint::Send { feed: Feed::A, .. }) => false,
-            (Shut::Look, GatePoint::Look { .. }) => false,
-            (Shut::Publish, GatePoint::Publish { .. }) => false,
-            _ => true,
+        match self {
+            Shut::Send => !matches!(at, GatePoint::Send { feed: Feed::A, .. }),
+            Shut::Look => !matches!(at, GatePoint::Look { .. }),
+            Shut::Publish => !matches!(at, GatePoint::Publish { .. }),
         }
     }
 
