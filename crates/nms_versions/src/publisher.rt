@@ -118,7 +118,7 @@ impl Publisher {
     pub fn make_room(&mut self, changes: usize)
         ensures { self.new ≡ self.old }
     {
-        let most = self.limit.saturating_sub(self.tape.len() as u64);
+        let most = self.limit - self.tape.len() as u64;
         let _room = self.tape.reserve(changes.min(most as usize));
     }
 
