@@ -56,7 +56,7 @@ pub(crate) fn append_all<R: Wait>(
     };
     let tape = publisher.close(rt);
     Ok(Appended {
-        in_place: in_place(tape.as_slice()),
+        in_place: in_place(tape.as_slice())?,
         tape: tape.len(),
         shown,
         is_whole,
@@ -127,12 +127,12 @@ fn shown_to(desk: &mut Desk, sym: Sym) -> (u64, u32) {
 }
 
 /// How many changes of a tape stand where they were appended.
-fn in_place(tape: &[Change]) -> usize {
-    let mut count = 0;
+fn in_place(tape: &[Change]) -> Result<usize, Failed> {
+    let mut count = 0usize;
     for (change, number) in tape.iter().zip(0..1000u32) {
         if offer_numbered(number) == Some(*change) {
-            count += 1;
+            count = count.checked_add(1).ok_or(Failed)?;
         }
     }
-    count
+    Ok(count)
 }
