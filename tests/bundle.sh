@@ -11,7 +11,7 @@ setup() { echo "== setup${1:+ $1}"; [ $# = 0 ] || cat "$1"; }
 script() { echo "== script $1"; cat "$1"; }
 report() { echo "== report $1 $2"; cat "$2"; }
 
-# So many quotes of one bid, each at a price of its own from 1 dollar on, published in batches of 16.
+# That many quotes of one bid, each at its own price from 1 dollar on, published in batches of 16.
 quotes() { seq "$1" | awk '{ print "Q,N,ABC,A," $1 ",100,," } $1 % 16 == 0 { print "F" }'; }
 published() { seq 16 16 "$1" | sed 's/^/PUB,/'; }
 
