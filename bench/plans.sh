@@ -16,7 +16,8 @@ grep -E "^$below:" crates.txt >"$room/crates.txt"
 echo 'nms_plans: nms_units nms_quote nms_board nms_fees nms_cert nms_sweep arrayvec' >>"$room/crates.txt"
 source=$room/crates/nms_plans/src
 mkdir -p "$source"
-# The gate allows files `.rt` in crates alone.
+# The plain planner and the comparison are those of nms_tests. The gate allows files `.rt` only in crates.
+cp crates/nms_tests/src/{chance,compared,plain}.rt "$source"
 for file in bench/plans/*.rattle; do
     cp "$file" "$source/$(basename "$file" .rattle).rt"
 done

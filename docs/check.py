@@ -19,13 +19,17 @@ import claims
 import draw_crates
 
 TOP = os.path.dirname(os.path.dirname(os.path.realpath(__file__)))
+sys.path.insert(0, f"{TOP}/tests")
+import edits
+
 # Lines and words of the front page, and words of a sentence there.
 MOST_LINES, MOST_FRONT, MOST_WORDS = 130, 1600, 25
 # Columns of a definition or a proof.
 MOST_COLUMNS = 148
 # The limits in README.md: the constant of the sources, and what it counts.
 LIMITS = (("MOST_RECORDS", "records of a script"), ("MOST_CHANGES", "changes of a tape"), ("MOST_SYMBOLS", "symbols"),
-          ("MOST_PARTICIPANTS", "participants"), ("MOST_FEEDS", "feeds"), ("MOST_DESKS", "desks"), ("MOST_QUEUE", "changes in the queue"))
+          ("MOST_PARTICIPANTS", "participants"), ("MOST_FEEDS", "feeds"), ("MOST_DESKS", "desks"), ("MOST_QUEUE", "changes in the queue"),
+          ("MOST_EXECUTIONS", "executions"))
 # The picture in README.md is what the program draws in this case.
 DRAWINGS = "tests/review/drawing.cases"
 DAY = "command a day with a locked and two crossed stretches, and a plan where it was made"
@@ -215,6 +219,9 @@ def check_codes():
         check([it for it, _ in told].count(code) == 1, "docs/ERRORS.md", f"{code} has {[it for it, _ in told].count(code)} rows")
     for code in helped:
         check(code in CODES, "the help", f"no code {code}")
+    worded = "".join(read(f"crates/{it}.rt") for it in ("nms_codes/src/code", "nms_explain/src/execution_code", "nms_explain/src/other_codes"))
+    for code in sorted(CODES):
+        check(f'"{code}"' in worded, "`explain code`", f"no words for {code}")
     for code, names in told:
         check(bool(set(names) & CODES.get(code, set())), "docs/ERRORS.md", f"{code} is {sorted(CODES.get(code, []))}, and not {names}")
     check_remedies()
@@ -441,9 +448,36 @@ def check_cases():
             check(f"`{os.path.basename(file)}`" in read(page), page, f"`{file}` is not listed")
 
 
+def check_edits():
+    """Each edit of must-fail/ and wrong/ fits its source. One of wrong/ says what is wrong, and names a function that is there."""
+    for file in sorted(FILES):
+        place = re.fullmatch(r"crates/(\w+)/(must-fail|wrong)/.*", file)
+        if place:
+            check(file.endswith(".edit"), file, "it is no edit")
+            edit = edits.read_edit(os.path.join(TOP, file))
+            check(bool(edit.changes), file, "it changes nothing")
+            try:
+                edit.texts(f"{TOP}/crates/{place[1]}")
+                check(True, file, "")
+            except (edits.Unfit, OSError) as error:
+                check(False, file, str(error))
+            if place[2] == "wrong":
+                check(bool(edit.says), file, "no line `# ..` says what is wrong")
+                check(has_function(place[1], edit.function), file, f"there is no function `{edit.function}`")
+
+
+def has_function(crate, path):
+    """Whether a crate has a function in that module."""
+    *modules, name = path.split("::")
+    while modules and not modules[-1][:1].islower():
+        modules.pop()
+    file = f"crates/{crate}/src/{'/'.join(modules)}.rt"
+    return file in FILES and bool(re.search(rf"\bfn {name}\b", read(file)))
+
+
 def main():
     for part in (check_names, check_codes, check_statuses, check_links, check_made, check_imports, check_proofs, check_front, check_twice,
-                 check_kit, check_plain, check_cases):
+                 check_kit, check_plain, check_cases, check_edits):
         part()
     print(f"{COUNT['passed']} passed, {COUNT['failed']} failed")
     return 1 if COUNT["failed"] else 0

@@ -6,7 +6,7 @@
 
 A part stands between the lines `<!-- made: NAME -->` and `<!-- end -->` of a page. In docs/CLAIMS.md a part is a crate's public
 functions: the first sentence of the comment without its CFR section (docs/RULES.md has them), the names of the clauses, and the
-fault. In docs/ARCHITECTURE.md it is the words: each public type of the crates below nms_tool, with its file and the first sentence of
+fault; or the codes of each fault, or the calls that may take memory. In docs/ARCHITECTURE.md it is the words: each public type of the crates below nms_tool, with its file and the first sentence of
 its comment, up to the colon of a long one.
 """
 import functools
@@ -72,7 +72,7 @@ class Item:
         self.clauses = re.findall(r"^\s*ensures\s+(?:\*\s*)?(\w*)", header, re.M)
         returned = re.search(r"->\s*(.*?)(?=\n\s*(?:requires|ensures)|\s*\{|$)", header, re.S)
         self.returned = returned[1] if returned else ""
-        self.comment = comment
+        self.header, self.comment = header, comment
 
     def promised(self):
         return ", ".join(f"`{it}`" for it in dict.fromkeys(self.clauses) if it)
@@ -183,8 +183,29 @@ def faults():
     return "\n".join(["|Fault|Codes|", "|---|---|", *(f"|`{it}`|{shortened(codes_of(it))}|" for it in kinds)]) + "\n"
 
 
-def edits_of(crate):
-    folder = os.path.join(TOP, "crates", crate, "must-fail")
+def is_out_of_memory(kind, seen=()):
+    """Whether a fault can be out of memory: by a variant of its own, or by a fault that it carries."""
+    text = "\n".join(it.enums[kind] for it in tree().values() if kind in it.enums)
+    carried = set(re.findall(r"\b(\w+Fault)\b", text)) - {kind, *seen}
+    return "NoMemory" in text or any(is_out_of_memory(it, (*seen, kind)) for it in carried)
+
+
+def may_take_memory(function):
+    """Whether a function's signature names an allocator, or a fault that can be out of memory."""
+    signature = re.split(r"\n\s*(?:requires|ensures)", function.header)[0]
+    kinds = re.findall(r"\b\w+Fault\b", function.returned)
+    return bool(re.search(r"\b(AllocGlobal|Global|AllocError)\b", signature)) or any(map(is_out_of_memory, kinds))
+
+
+def memory():
+    """The part of CLAIMS.md on the calls that may take memory."""
+    rows = {crate.name: [it.name for it in crate.functions if may_take_memory(it)] for crate in tree().values()}
+    made = [f"|`{crate}`|{', '.join(f'`{it}`' for it in names)}|" for crate, names in rows.items() if names]
+    return "\n".join(table("|Crate|Calls|", made)) + "\n"
+
+
+def edits_of(crate, part):
+    folder = os.path.join(TOP, "crates", crate, part)
     return sorted(it[:-5] for it in os.listdir(folder) if it.endswith(".edit")) if os.path.isdir(folder) else []
 
 
@@ -224,7 +245,8 @@ def claims_of(crate):
         else:
             calls.append(f"|`{it.name}`|{it.says}|{it.promised()}|{fault}|")
     pieces = table("|Call|Says|Clauses|Fault|", calls) + table("|Law|Says|Clauses|", laws)
-    for head, names in (("A number and its bounds", numbers), ("One clause each", plain), *alone.items(), ("No clause", bare), ("Edits", edits_of(crate.name))):
+    for head, names in (("A number and its bounds", numbers), ("One clause each", plain), *alone.items(), ("No clause", bare),
+                        ("Edits", edits_of(crate.name, "must-fail")), ("Wrong bodies", edits_of(crate.name, "wrong"))):
         pieces += listed(head, names)
     return "\n\n".join(pieces) + "\n"
 
@@ -257,7 +279,7 @@ def words():
 @functools.cache
 def parts():
     """Each part by its name."""
-    return {"words": words(), "faults": faults(), **{it.name: claims_of(it) for it in tree().values()}}
+    return {"words": words(), "faults": faults(), "memory": memory(), **{it.name: claims_of(it) for it in tree().values()}}
 
 
 def made(page):

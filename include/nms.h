@@ -2,7 +2,7 @@
  *
  * HOW TO CALL
  *   Every call returns a code of `enum nms_code`: NMS_OK (0), or why it was refused. A refused call leaves the board
- *   as it was and writes nothing to the caller's structs; the calls that differ say so.
+ *   as it was and writes nothing to the caller's structs. Two calls differ, and say so: nms_apply_all and nms_confirm.
  *   Set a board to NMS_BOARD_CLOSED before nms_open. Close each board that was opened, once.
  *   Find the number of a name once (nms_find_part, nms_find_sym), and use the number after that. A participant's number is
  *   its place in the setup's document, 0 to 31; so is a symbol's, 0 to 999.
@@ -14,23 +14,40 @@
  * MEMORY
  *   nms_open takes memory, and nms_close gives it back. nms_setup_place takes memory and gives it back before it returns. No
  *   other call takes any. The caller's structs may lie anywhere: on the stack, in an array, in shared memory.
+ *   Stack that a call needs, in KiB; a thread or a fiber with less room dies in the call:
+ *     nms_open 2048, nms_setup_place 2048, nms_read_plan 96, nms_confirm 20, nms_opening_of 16, nms_plan_text 12,
+ *     nms_traded_through 12, any other call 4
+ *   nms_open and nms_setup_place take 48 for a text that is a setup. They take more for one that nests, up to 80 tables with
+ *   keys of 80 parts each, which are the most that TOML text may have here.
  *
  * THREADS
- *   A board is for one call at a time. Give each thread a board of its own, or call under a lock of your own. A board may
- *   go from one thread to another if a lock, a start or a join orders the two. No call waits, starts a thread, or may be
- *   made from a signal handler. The library holds no state besides the boards. It does not publish versions to several
- *   threads: that needs the runtime of a whole program, and a library that C calls has none.
+ *   A look is a call that takes a `const nms_board *`. Looks at one board may run together, in any number of threads, as
+ *   long as no other call runs on that board: a reader's lock does that. Every other call on a board needs an exclusive
+ *   lock, which keeps looks out too. That holds also for nms_plan_order, nms_plan_text and nms_read_plan, since they work
+ *   in room that lies in the board. Or give each thread a board of its own. A board may go from one thread to another if a
+ *   lock, a start or a join orders the two. No call waits, starts a thread, or may be made from a signal handler. The
+ *   library holds no state besides the boards. It does not publish versions to several threads: that needs the runtime of
+ *   a whole program, and a library that C calls has none.
+ *
+ * WHAT A LOOK COPIES
+ *   The library's function takes the board out of the handle that it is given, and puts it back before it returns. So a
+ *   look gives it a copy of the handle's 16 bytes, on the stack. The caller's handle stays as it is, and the copy ends with
+ *   the look. What is proved of each function speaks of one handle, which owns its board while the function runs. C has to
+ *   keep the rest: until every look has returned, no other call runs on the board. That looks which run together answer as
+ *   each of them does without the others is tested, and not proved.
  *
  * NULL POINTERS
  *   The calls below are inline functions. Each tests its pointers, answers NMS_NULL (18) if one is null, and then calls the
- *   function of the library, which has the same name with `nms_raw_` in place of `nms_` and the same arguments. C and C++
- *   call the inline functions. A language that can't read this header calls nms_raw_*, and passes no null pointer.
+ *   function of the library, which has the same name with `nms_raw_` in place of `nms_` and the same arguments. A text of 0
+ *   bytes and an array of 0 changes, which a call only reads, may have a null pointer. C and C++ call the inline functions.
+ *   A language that can't read this header calls nms_raw_*. It passes no null pointer, compares nms_abi() with NMS_ABI once,
+ *   and gives each look a copy of the handle, or an exclusive lock.
  *
  * WHAT NO CALL CAN SEE
  *   A pointer that is not null has to point at a whole struct of its type, or at as many bytes or elements as the caller
- *   says. Two arguments of one call may not overlap. Never copy a struct nms_board. After one copy is closed or used, the
- *   other points at memory that is no longer its own, and no test can find that out. Treat it as a pthread_mutex_t. The
- *   same holds for a board whose bytes the caller alters.
+ *   says. Two arguments of one call may not overlap. Never copy a struct nms_board yourself. After one copy is closed or
+ *   used, the other points at memory that is no longer its own, and no test can find that out. Treat it as a
+ *   pthread_mutex_t. The same holds for a board whose bytes the caller alters.
  */
 #ifndef NMS_H
 #define NMS_H
@@ -42,12 +59,14 @@
 extern "C" {
 #endif
 
-/* The version of this header's layout. Compare it with nms_abi() once. */
+/* The version of this header's layout. nms_open and nms_setup_place compare it with nms_abi(). */
 #define NMS_ABI 1
 
 #define NMS_MOST_PARTS 32    /* participants of a setup, and rows of a side */
 #define NMS_MOST_SYMS 1000   /* symbols of a setup */
 #define NMS_MOST_OPENING 65  /* opening changes of a symbol: a round lot, and 64 sides */
+#define NMS_MOST_PRICE UINT64_C(99999999999) /* 1/10,000 dollar, of a quotation or a limit */
+#define NMS_MOST_SHARES 999999999            /* of a quotation or an order */
 
 /* Room that always suffices for a text with its closing zero. */
 #define NMS_NAME_ROOM 9        /* the name of a participant or a symbol */
@@ -79,6 +98,7 @@ enum nms_code {
     NMS_OPEN_ALREADY = 17,    /* the board is open already */
     NMS_NULL = 18,            /* a null pointer */
     NMS_ROOM = 19,            /* the caller's buffer is too small */
+    NMS_WRONG_ABI = 20,       /* the library has another layout than this header: only nms_open, nms_setup_place */
     /* why a record or the text of a plan is refused, as nms_tool names it: L1 to L8, L11, L14 */
     NMS_L1_UNKNOWN_KIND = 101,
     NMS_L2_FIELD_COUNT = 102,
@@ -109,7 +129,7 @@ enum nms_spot {
 };
 enum nms_cut_kind { NMS_TOO_MUCH = 0, NMS_TOO_LITTLE = 1, NMS_MARGINAL = 2 };
 
-/* A board. Set it to NMS_BOARD_CLOSED (all zero) before nms_open. Its fields are the library's, and it is never copied. */
+/* A board. Set it to NMS_BOARD_CLOSED (all zero) before nms_open. Its fields are the library's. The caller never copies it. */
 typedef struct nms_board {
     uint64_t mark;
     void *at;
@@ -306,6 +326,13 @@ uint32_t nms_raw_opening_of(nms_board *board, uint16_t sym, nms_opening *opening
 
 /* ---- the calls ---- */
 
+/* Where a call begins to read: any place if there is nothing to read, since the library is given no null pointer. */
+static inline const void *nms_from(const void *at)
+{
+    static const uint64_t nothing = 0;
+    return at ? at : &nothing;
+}
+
 /* Writes the version of the library, as "0.2.0", with a closing zero. *bytes is its length without the zero.
  * Codes: NMS_ROOM. */
 static inline uint32_t nms_version(char *out, size_t room, size_t *bytes)
@@ -317,24 +344,52 @@ static inline uint32_t nms_version(char *out, size_t room, size_t *bytes)
  * Codes: NMS_NONE if no call answers that code, NMS_ROOM. */
 static inline uint32_t nms_code_text(uint32_t code, char *out, size_t room, size_t *bytes)
 {
-    return out && bytes ? nms_raw_code_text(code, (uint8_t *)out, room, bytes) : (uint32_t)NMS_NULL;
+    /* This code is the header's own, so the library has no text for it. */
+    static const char wrong_abi[] = "the library has another layout than nms.h";
+    if (!out || !bytes) {
+        return NMS_NULL;
+    }
+    if (code != NMS_WRONG_ABI) {
+        return nms_raw_code_text(code, (uint8_t *)out, room, bytes);
+    }
+    if (room < sizeof wrong_abi) {
+        return NMS_ROOM;
+    }
+    for (size_t at = 0; at < sizeof wrong_abi; ++at) {
+        out[at] = wrong_abi[at];
+    }
+    *bytes = sizeof wrong_abi - 1;
+    return NMS_OK;
 }
 
 /* Opens a board from the text of a setup, a TOML document in UTF-8. The board is empty: no change was applied.
- * Codes: NMS_OPEN_ALREADY; 1 to 8 if the text is no setup; NMS_NO_MEMORY. The board stays closed then. Takes memory. */
+ * Codes: NMS_WRONG_ABI; NMS_OPEN_ALREADY; 1 to 8 if the text is no setup; NMS_NO_MEMORY. A closed board stays closed then.
+ * Takes memory. Needs an exclusive lock. */
 static inline uint32_t nms_open(const char *setup, size_t setup_bytes, nms_board *board)
 {
-    return setup && board ? nms_raw_open((const uint8_t *)setup, setup_bytes, board) : (uint32_t)NMS_NULL;
+    if (!board || (!setup && setup_bytes > 0)) {
+        return NMS_NULL;
+    }
+    if (nms_abi() != NMS_ABI) {
+        return NMS_WRONG_ABI;
+    }
+    return nms_raw_open((const uint8_t *)nms_from(setup), setup_bytes, board);
 }
 
 /* Writes where a text is no setup, and why: the code that nms_open answers, and the first place that has it. All 0 if the
- * text is a setup. Codes: NMS_NO_MEMORY. Takes memory and gives it back. */
+ * text is a setup. Codes: NMS_WRONG_ABI, NMS_NO_MEMORY. Takes memory and gives it back. */
 static inline uint32_t nms_setup_place(const char *setup, size_t setup_bytes, nms_place *place)
 {
-    return setup && place ? nms_raw_setup_place((const uint8_t *)setup, setup_bytes, place) : (uint32_t)NMS_NULL;
+    if (!place || (!setup && setup_bytes > 0)) {
+        return NMS_NULL;
+    }
+    if (nms_abi() != NMS_ABI) {
+        return NMS_WRONG_ABI;
+    }
+    return nms_raw_setup_place((const uint8_t *)nms_from(setup), setup_bytes, place);
 }
 
-/* Closes a board and gives its memory back. It may be opened again. Codes: NMS_CLOSED. */
+/* Closes a board and gives its memory back. It may be opened again. Codes: NMS_CLOSED. Needs an exclusive lock. */
 static inline uint32_t nms_close(nms_board *board)
 {
     return board ? nms_raw_close(board) : (uint32_t)NMS_NULL;
@@ -342,58 +397,83 @@ static inline uint32_t nms_close(nms_board *board)
 
 /* Writes how many changes were applied, how many may still be, and how many participants and symbols there are.
  * Codes: NMS_CLOSED. */
-static inline uint32_t nms_counts_of(nms_board *board, nms_counts *counts)
+static inline uint32_t nms_counts_of(const nms_board *board, nms_counts *counts)
 {
-    return board && counts ? nms_raw_counts_of(board, counts) : (uint32_t)NMS_NULL;
+    if (!board || !counts) {
+        return NMS_NULL;
+    }
+    nms_board look = *board;
+    return nms_raw_counts_of(&look, counts);
 }
 
 /* Writes the number of the participant of that name (no closing zero is needed). Codes: NMS_NO_PART, NMS_CLOSED. */
-static inline uint32_t nms_find_part(nms_board *board, const char *name, size_t name_bytes, uint8_t *part)
+static inline uint32_t nms_find_part(const nms_board *board, const char *name, size_t name_bytes, uint8_t *part)
 {
-    return board && name && part ? nms_raw_find_part(board, (const uint8_t *)name, name_bytes, part) : (uint32_t)NMS_NULL;
+    if (!board || (!name && name_bytes > 0) || !part) {
+        return NMS_NULL;
+    }
+    nms_board look = *board;
+    return nms_raw_find_part(&look, (const uint8_t *)nms_from(name), name_bytes, part);
 }
 
 /* Writes the number of the symbol of that name. Codes: NMS_NO_SYM, NMS_CLOSED. */
-static inline uint32_t nms_find_sym(nms_board *board, const char *name, size_t name_bytes, uint16_t *sym)
+static inline uint32_t nms_find_sym(const nms_board *board, const char *name, size_t name_bytes, uint16_t *sym)
 {
-    return board && name && sym ? nms_raw_find_sym(board, (const uint8_t *)name, name_bytes, sym) : (uint32_t)NMS_NULL;
+    if (!board || (!name && name_bytes > 0) || !sym) {
+        return NMS_NULL;
+    }
+    nms_board look = *board;
+    return nms_raw_find_sym(&look, (const uint8_t *)nms_from(name), name_bytes, sym);
 }
 
 /* Writes the name of a participant with a closing zero. *bytes is its length without the zero, 1 to 4.
  * Codes: NMS_NO_PART, NMS_CLOSED, NMS_ROOM. */
-static inline uint32_t nms_part_name(nms_board *board, uint8_t part, char *out, size_t room, size_t *bytes)
+static inline uint32_t nms_part_name(const nms_board *board, uint8_t part, char *out, size_t room, size_t *bytes)
 {
-    return board && out && bytes ? nms_raw_part_name(board, part, (uint8_t *)out, room, bytes) : (uint32_t)NMS_NULL;
+    if (!board || !out || !bytes) {
+        return NMS_NULL;
+    }
+    nms_board look = *board;
+    return nms_raw_part_name(&look, part, (uint8_t *)out, room, bytes);
 }
 
 /* Writes the name of a symbol with a closing zero. *bytes is its length without the zero, 1 to 8.
  * Codes: NMS_NO_SYM, NMS_CLOSED, NMS_ROOM. */
-static inline uint32_t nms_sym_name(nms_board *board, uint16_t sym, char *out, size_t room, size_t *bytes)
+static inline uint32_t nms_sym_name(const nms_board *board, uint16_t sym, char *out, size_t room, size_t *bytes)
 {
-    return board && out && bytes ? nms_raw_sym_name(board, sym, (uint8_t *)out, room, bytes) : (uint32_t)NMS_NULL;
+    if (!board || !out || !bytes) {
+        return NMS_NULL;
+    }
+    nms_board look = *board;
+    return nms_raw_sym_name(&look, sym, (uint8_t *)out, room, bytes);
 }
 
-/* Applies one change. Codes: NMS_RANGE, NMS_NO_PART, NMS_NO_SYM, NMS_FULL, NMS_CLOSED; the board is as it was then. */
+/* Applies one change. Codes: NMS_RANGE, NMS_NO_PART, NMS_NO_SYM, NMS_FULL, NMS_CLOSED; the board is as it was then. Needs an
+ * exclusive lock. */
 static inline uint32_t nms_apply(nms_board *board, const nms_change *change)
 {
     return board && change ? nms_raw_apply(board, change) : (uint32_t)NMS_NULL;
 }
 
-/* Applies changes in order, up to the first that is refused. *applied is how many were applied; that many of the first
- * changes are on the board, and the answer is the code of the next one. Codes: as nms_apply. *applied is written unless
- * the answer is NMS_CLOSED or NMS_NULL. */
+/* Applies changes in order, up to the first that is refused. *applied is how many were applied: those stay on the board,
+ * and the answer is the code of the next one. Codes: as nms_apply. *applied is written unless the answer is NMS_CLOSED or
+ * NMS_NULL. Needs an exclusive lock. */
 static inline uint32_t nms_apply_all(nms_board *board, const nms_change *changes, size_t count, size_t *applied)
 {
-    return board && changes && applied ? nms_raw_apply_all(board, changes, count, applied) : (uint32_t)NMS_NULL;
+    if (!board || (!changes && count > 0) || !applied) {
+        return NMS_NULL;
+    }
+    return nms_raw_apply_all(board, (const nms_change *)nms_from(changes), count, applied);
 }
 
 /* Applies the change that one record says, as "Q,NYSE,ABC,A,10.01,300,10.03,200": a line of a file of changes, with or
  * without its end of line. Records of kinds Q, S, X and R are read, of any participant. Its fields are what stands between
  * the commas: none of them needs a quote, and no quote is read. nms_raw_apply_text takes no end of line.
- * Codes: NMS_L1 to NMS_L8, NMS_L14, NMS_RANGE (more than 255 bytes), NMS_FULL, NMS_CLOSED; the board is as it was then. */
+ * Codes: NMS_L1 to NMS_L8, NMS_L14, NMS_RANGE (more than 255 bytes), NMS_FULL, NMS_CLOSED; the board is as it was then.
+ * Needs an exclusive lock. */
 static inline uint32_t nms_apply_text(nms_board *board, const char *record, size_t record_bytes)
 {
-    if (!board || !record) {
+    if (!board || (!record && record_bytes > 0)) {
         return NMS_NULL;
     }
     if (record_bytes > 0 && record[record_bytes - 1] == '\n') {
@@ -402,67 +482,99 @@ static inline uint32_t nms_apply_text(nms_board *board, const char *record, size
             record_bytes--;
         }
     }
-    return nms_raw_apply_text(board, (const uint8_t *)record, record_bytes);
+    return nms_raw_apply_text(board, (const uint8_t *)nms_from(record), record_bytes);
 }
 
 /* Writes the best bid, the best offer and the state of the market of a symbol. Codes: NMS_NO_SYM, NMS_CLOSED. */
-static inline uint32_t nms_best_of(nms_board *board, uint16_t sym, nms_best *best)
+static inline uint32_t nms_best_of(const nms_board *board, uint16_t sym, nms_best *best)
 {
-    return board && best ? nms_raw_best_of(board, sym, best) : (uint32_t)NMS_NULL;
+    if (!board || !best) {
+        return NMS_NULL;
+    }
+    nms_board look = *board;
+    return nms_raw_best_of(&look, sym, best);
 }
 
 /* Writes the row at a place of a side's rank order, from 0 on. side: enum nms_side.
  * Codes: NMS_RANGE (the side), NMS_NO_SYM, NMS_NONE (no row there), NMS_CLOSED. */
-static inline uint32_t nms_ranked(nms_board *board, uint16_t sym, uint8_t side, uint8_t place, nms_row *row)
+static inline uint32_t nms_ranked(const nms_board *board, uint16_t sym, uint8_t side, uint8_t place, nms_row *row)
 {
-    return board && row ? nms_raw_ranked(board, sym, side, place, row) : (uint32_t)NMS_NULL;
+    if (!board || !row) {
+        return NMS_NULL;
+    }
+    nms_board look = *board;
+    return nms_raw_ranked(&look, sym, side, place, row);
 }
 
 /* Writes all rows of a side in rank order, and their total size. Codes: NMS_RANGE (the side), NMS_NO_SYM, NMS_CLOSED. */
-static inline uint32_t nms_rows_of(nms_board *board, uint16_t sym, uint8_t side, nms_rows *rows)
+static inline uint32_t nms_rows_of(const nms_board *board, uint16_t sym, uint8_t side, nms_rows *rows)
 {
-    return board && rows ? nms_raw_rows_of(board, sym, side, rows) : (uint32_t)NMS_NULL;
+    if (!board || !rows) {
+        return NMS_NULL;
+    }
+    nms_board look = *board;
+    return nms_raw_rows_of(&look, sym, side, rows);
 }
 
 /* Writes both sides of a symbol, as nms_rows_of, with the state of the market. Codes: NMS_NO_SYM, NMS_CLOSED. */
-static inline uint32_t nms_view_of(nms_board *board, uint16_t sym, nms_view *view)
+static inline uint32_t nms_view_of(const nms_board *board, uint16_t sym, nms_view *view)
 {
-    return board && view ? nms_raw_view_of(board, sym, view) : (uint32_t)NMS_NULL;
+    if (!board || !view) {
+        return NMS_NULL;
+    }
+    nms_board look = *board;
+    return nms_raw_view_of(&look, sym, view);
 }
 
 /* Writes the protected quotations that an execution at a price trades through (17 CFR 242.600, "trade-through"): the
  * protected bids above it and the protected offers below it. The price is in 1/1,000,000 dollar, 1 to 9,999,999,999,999,
  * so that an average price is judged as it is, and not rounded to 1/10,000 dollar first.
  * Codes: NMS_RANGE (the price), NMS_NO_SYM, NMS_CLOSED. */
-static inline uint32_t nms_traded_through(nms_board *board, uint16_t sym, uint64_t millionths, nms_through *through)
+static inline uint32_t nms_traded_through(const nms_board *board, uint16_t sym, uint64_t millionths, nms_through *through)
 {
-    return board && through ? nms_raw_traded_through(board, sym, millionths, through) : (uint32_t)NMS_NULL;
+    if (!board || !through) {
+        return NMS_NULL;
+    }
+    nms_board look = *board;
+    return nms_raw_traded_through(&look, sym, millionths, through);
 }
 
 /* Plans an order: a lawful plan that fills the most shares, at the least cost with fees, with its certificate. A plan
- * that fills nothing has 0 legs. Codes: NMS_RANGE, NMS_NO_PART (self_help), NMS_NO_SYM, NMS_CLOSED. */
+ * that fills nothing has 0 legs. Codes: NMS_RANGE, NMS_NO_PART (self_help), NMS_NO_SYM, NMS_CLOSED. Needs an exclusive lock,
+ * since it works in the board's own room. */
 static inline uint32_t nms_plan_order(nms_board *board, const nms_order *order, nms_plan *plan)
 {
     return board && order && plan ? nms_raw_plan_order(board, order, plan) : (uint32_t)NMS_NULL;
 }
 
 /* Confirms on the board that a plan is lawful and the best one for the order, from any maker. It does not trust the
- * planner. Codes: NMS_OK if it is; NMS_DOUBTED, and then *doubt says why; NMS_RANGE, NMS_NO_PART and NMS_NO_SYM if the
- * numbers say no order and no plan; NMS_CLOSED. *doubt is written at NMS_OK and NMS_DOUBTED alone. */
-static inline uint32_t nms_confirm(nms_board *board, const nms_order *order, const nms_plan *plan, nms_doubt *doubt)
+ * planner. A plan rests on one version of the whole board, so each change applied after it, of another symbol too, brings
+ * doubt 1 and breach 1 (K1, P1). To ask whether the plan is still right, set plan.version to nms_counts.applied and
+ * confirm again, under the same lock.
+ * Codes: NMS_OK if it is confirmed; NMS_DOUBTED, and then *doubt says why; NMS_RANGE, NMS_NO_PART and NMS_NO_SYM if the
+ * numbers say no order and no plan; NMS_CLOSED. *doubt is written at NMS_OK and NMS_DOUBTED only. */
+static inline uint32_t nms_confirm(const nms_board *board, const nms_order *order, const nms_plan *plan, nms_doubt *doubt)
 {
-    return board && order && plan && doubt ? nms_raw_confirm(board, order, plan, doubt) : (uint32_t)NMS_NULL;
+    if (!board || !order || !plan || !doubt) {
+        return NMS_NULL;
+    }
+    nms_board look = *board;
+    return nms_raw_confirm(&look, order, plan, doubt);
 }
 
 /* Writes what one share costs with the fee of a participant, in nanodollars: for a buyer the price and the fee, for a
  * seller what is received, negative. side: enum nms_order_side. Codes: NMS_RANGE, NMS_NO_PART, NMS_CLOSED. */
-static inline uint32_t nms_unit_cost(nms_board *board, uint8_t part, uint8_t side, uint64_t price, int64_t *nanodollars)
+static inline uint32_t nms_unit_cost(const nms_board *board, uint8_t part, uint8_t side, uint64_t price, int64_t *nanodollars)
 {
-    return board && nanodollars ? nms_raw_unit_cost(board, part, side, price, nanodollars) : (uint32_t)NMS_NULL;
+    if (!board || !nanodollars) {
+        return NMS_NULL;
+    }
+    nms_board look = *board;
+    return nms_raw_unit_cost(&look, part, side, price, nanodollars);
 }
 
 /* Writes a plan and its certificate as text, in the layout that nms_tool writes and reads, with a closing zero.
- * *bytes is its length without the zero. The plan need not be lawful.
+ * *bytes is its length without the zero. The plan need not be lawful. Needs an exclusive lock, as nms_plan_order.
  * Codes: NMS_RANGE, NMS_NO_PART, NMS_NO_SYM, NMS_CLOSED, NMS_ROOM. */
 static inline uint32_t nms_plan_text(nms_board *board, const nms_order *order, const nms_plan *plan, char *out, size_t room, size_t *bytes)
 {
@@ -470,18 +582,26 @@ static inline uint32_t nms_plan_text(nms_board *board, const nms_order *order, c
 }
 
 /* Reads a plan, its order and its certificate from that text. What it reads need not be lawful: nms_confirm judges that.
+ * Needs an exclusive lock, as nms_plan_order.
  * Codes: NMS_L11_BAD_PLAN_TEXT, NMS_RANGE (more than 8,192 bytes, or a marginal beyond 10^18 nanodollars), NMS_CLOSED. */
 static inline uint32_t nms_read_plan(nms_board *board, const char *text, size_t text_bytes, nms_order *order, nms_plan *plan)
 {
-    return board && text && order && plan ? nms_raw_read_plan(board, (const uint8_t *)text, text_bytes, order, plan) : (uint32_t)NMS_NULL;
+    if (!board || (!text && text_bytes > 0) || !order || !plan) {
+        return NMS_NULL;
+    }
+    return nms_raw_read_plan(board, (const uint8_t *)nms_from(text), text_bytes, order, plan);
 }
 
 /* Writes the changes that bring an empty board of the same setup to the symbol's rows: its round lot if it differs from
  * the setup's, then its sides in order of receipt, hidden ones included. A caller cuts its day with them: open a new
  * board, apply the opening of each symbol, close the old one. Codes: NMS_NO_SYM, NMS_CLOSED. */
-static inline uint32_t nms_opening_of(nms_board *board, uint16_t sym, nms_opening *opening)
+static inline uint32_t nms_opening_of(const nms_board *board, uint16_t sym, nms_opening *opening)
 {
-    return board && opening ? nms_raw_opening_of(board, sym, opening) : (uint32_t)NMS_NULL;
+    if (!board || !opening) {
+        return NMS_NULL;
+    }
+    nms_board look = *board;
+    return nms_raw_opening_of(&look, sym, opening);
 }
 
 #ifdef __cplusplus

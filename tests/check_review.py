@@ -10,8 +10,8 @@ page a line of four spaces and `./nms_review WORDS` is a call, or one of `./nms_
 after it is what it writes, with the words `status N` in the text between them if N is not 0. Besides these the program
 meets a closed output, one whose reader has gone, records of a million bytes, records whose fields and lists are longer than
 any that is right, byte order marks before quotes, each byte of a file once, a setup of many symbols, streams of several
-pieces, a day with more versions than a picture has columns, a page of as many executions as it shows and of one more, a symbol
-that is cut to four shards, a script of one record too many, the imports of examples/import/, and the random files that the judges
+pieces, days with more versions than a picture has columns, a page of as many executions as it shows and of one more, a symbol
+that is cut to four shards, what is written beside a shard, lines of all ends, a trade after a refused row, imports to one name that fail or have fewer shards, a script of one record too many, the imports of examples/import/, and the random files that the judges
 JUDGES compare with a plain slow program.
 """
 import gzip
@@ -31,6 +31,7 @@ ROOM = os.path.join(EXAMPLES, "review")
 # The pages whose calls run, the mappings of examples/import/, and the programs that judge random files.
 PAGES = ("docs/REVIEW.md", "docs/TRADES.md")
 IMPORTS = ("taq", "databento-mbp1", "lobster", "taq-trades")
+CLOSED = ("2>&-", "1>&-", "1>&- 2>&-", "0<&-", "0<&- 1>&- 2>&-")
 JUDGES = ("import_judge.py", "times_judge.py", "trades_judge.py", "day_judge.py")
 # Memory within which a file of two hundred million bytes is explained: it must not grow with the file, but with the longest
 # record alone.
@@ -426,11 +427,162 @@ def cut_often(program, path):
     must((ran.returncode, ran.stdout, lines[:3], sum(lines)) == (0, said, [66] * 3, 206), f"{ran.returncode}, {ran.stdout!r}, {lines}, {ran.stderr!r}")
 
 
+def import_to_out(program, room, texts, words):
+    """An import to `out` in a folder, after files were written there. Returns the run, and what the folder has then."""
+    for name, text in {"given.toml": MAP, "setup.toml": SETUP, **texts}.items():
+        with open(os.path.join(room, name), "wb") as file:
+            file.write(text)
+    ran = called(program, ["import", "given.toml", *words, "--out", "out", "--setup", "setup.toml"], capture_output=True, cwd=room)
+    return ran, {it: read(room, it) for it in sorted(os.listdir(room)) if it.startswith("out")}
+
+
+def withdrawn(program, path):
+    """A trade after a refused row is not judged by the quotation before that row; with `keep` it is."""
+    room = os.path.dirname(path)
+    rows = b"093000,N,ABC,9.90,300,10.00,200\n093001,P,ABC,9.90,100,10.05,100\n093002,N,ABC,9.90,300,10.10001,200\n0930,P,ABC,9.90,1,10.05,x\n"
+    trade = {"given.csv": rows, "given.executions": b"D,a,ABC,10.05,100,B,@093005000000000,P,\n"}
+    words = ["trades", "out.changes", "given.executions", "--times", "out.times", "--setup", "setup.toml"]
+    quotes = b"Q,N,ABC,A,9.9000,300,10.0000,200\nQ,P,ABC,A,9.9000,100,10.0500,100\n"
+    for more, left, times, said in ((b"", b"Q,N,ABC,A,,,,\nQ,P,ABC,A,,,,\n", b"093002000000000\n093002000000000\n", b"CLEAN,a,4\n"),
+                                    (b'[file]\non_refused = "keep"\n', b"", b"", b"THROUGH,a,2,")):
+        _, came = import_to_out(program, room, {**trade, "given.toml": MAP + more}, ["given.csv"])
+        compare("changes", came["out.changes"], quotes + left)
+        compare("times", came["out.times"], b"093000000000000\n093001000000000\n" + times)
+        ran = called(program, words, capture_output=True, cwd=room)
+        must(ran.stdout.startswith(said), f"{ran.stdout!r}, {ran.stderr!r}")
+
+
+def lots_of_the_setup(program, path):
+    """Sizes that count the setup's lot of each symbol, in one file and in shards."""
+    room = os.path.dirname(path)
+    lots = SETUP + b'[[symbol]]\nname = "NVR"\nlot = 10\n[[symbol]]\nname = "BRK.A"\nlot = 1\n'
+    mapping = MAP.replace(b'unit = "shares"', b'unit = "lots"\nlot = "setup"')
+    rows = b"093000,N,ABC,9.90,3,10.00,2\n093000,N,BRK.A,9.90,3,10.00,2\n093000,N,NVR,9.90,3,10.00,2\n"
+    wanted = b"".join(b"Q,N,%s,A,9.9000,%d,10.0000,%d\n" % (name, 3 * lot, 2 * lot) for name, lot in ((b"ABC", 100), (b"BRK.A", 1), (b"NVR", 10)))
+    for words, name in (["given.csv"], "out.changes"), (["given.csv", "--shards"], "out.1.changes"):
+        ran, came = import_to_out(program, room, {"given.csv": rows, "given.toml": mapping, "setup.toml": lots}, words)
+        must(ran.returncode == 0, f"{ran.returncode}, {ran.stderr!r}")
+        compare(name, came[name], wanted)
+
+
+def out_of_one_import(program, path):
+    """The files of a name are of one import: after a failure of the earlier one, with no temporary file left; then of the new one,
+    without a shard of the earlier one."""
+    room = os.path.dirname(path)
+    rows = b"".join(b"0930%02d,%s,ABC,9.%d,300,10.%d,200\n" % (it // 4, (b"N", b"P")[it % 2], 80 + it % 10, 10 + it % 7) for it in range(200))
+    for words in (["given.csv"], ["given.csv", "--shards"]):
+        ran, first = import_to_out(program, room, {"given.csv": rows}, words)
+        must(ran.returncode == 0, f"{ran.returncode}, {ran.stderr!r}")
+        ran, after = import_to_out(program, room, {"given.csv": rows[:4000]}, [*words, "no.csv"])
+        must((ran.returncode, after) == (1, first), f"{ran.returncode}, {ran.stderr!r}, {[it for it in after if after[it] != first.get(it)]}")
+    ran, last = import_to_out(program, room, {"given.csv": rows[:4000]}, ["given.csv", "--shards"])
+    ends = ("changes", "symbols", "times", "toml")
+    names = {f"out.{it}.{end}" for it in (1, 2) for end in ends} | {f"out.{end}" for end in ends[:3]}
+    must((ran.returncode, set(last)) == (0, names), f"{ran.returncode}, {ran.stderr!r}, {sorted(last)}")
+
+
+def inputs_named_as_shards(program, path):
+    """A vendor's file with the name of a shard's file is refused if that shard is made, and is never removed."""
+    rows = b"".join(b"0930%02d,N,ABC,9.%d,300,10.%d,200\n" % (it // 4, 80 + it % 10, 10 + it % 7) for it in range(100))
+    for name, status in (("out.2.changes", 2), ("out.3.changes", 0)):
+        ran, came = import_to_out(program, os.path.dirname(path), {name: rows}, [name, "--shards"])
+        must((ran.returncode, came.get(name)) == (status, rows), f"{name}: {ran.returncode}, {ran.stderr!r}, {sorted(came)}")
+
+
+SHARD = b"""# opening changes: 0
+tape_limit = 66
+queue = 2
+desks = 1
+feeds = 3
+caps = 2024
+
+[[participant]]
+name = "N"
+feed = "C"
+fee = 1000000
+rate = 100
+
+[[participant]]
+name = "P"
+feed = "A"
+fee = -5
+rate = -7
+
+[[symbol]]
+name = "XYZ"
+lot = 100
+
+[[symbol]]
+name = "ABC"
+lot = 40
+"""
+
+
+def shard_of(program, path):
+    """What is written beside the changes of a shard: the setup with its caps, feeds, fees and lots, and the symbols in the order of the rows."""
+    room = os.path.dirname(path)
+    tables = SHARD.split(b"\n\n")
+    setup = b"\n\n".join([tables[0].partition(b"\n")[2], *tables[1:3], tables[4]])
+    rows = b"093000,N,XYZ,9.99,100,10.01,200\n093001,P,XYZ,9.99,100,10.01,200\n093000,P,ABC,9.99,100,10.01,200\n"
+    strange = b"093000,N,ABCD.PRAW,9.99,100,10.01,200\n093000,N,abc,9.99,100,10.01,200\n"
+    for name, text in (("given.toml", MAP), ("setup.toml", setup), ("given.csv", rows + strange)):
+        with open(os.path.join(room, name), "wb") as file:
+            file.write(text)
+    words = ["import", "given.toml", "given.csv", "--out", "out", "--setup", "setup.toml", "--shards"]
+    ran = called(program, words, capture_output=True, cwd=room)
+    compare("out.1.toml", read(room, "out.1.toml"), SHARD)
+    compare("out.1.symbols", read(room, "out.1.symbols"), b"XYZ,1,2\nABC,3,3\n")
+    form = b"refused: a symbol that is not 1 to 8 capital letters, digits and points"
+    told = b"given.csv:4: column 3: %s: `ABCD.PRAW`\ngiven.csv:5: column 3: %s: `abc`\n" % (form, form)
+    must((ran.returncode, ran.stderr) == (0, told), f"{ran.returncode}, {ran.stderr!r}")
+
+
+def vanishing(file):
+    """3,002 changes, so that a column of the picture has three versions: in the last one of each there is no bid, in the others there is one."""
+    moves = (b"Q,N,ABC,A,9.99,100,10.01,100\n", b"X,P\n", b"Q,N,ABC,A,,,10.01,100\n")
+    file.write(moves[0] + b"".join(moves[it % 3] for it in range(2, 3_003)))
+
+
+def gaps(program, path):
+    """A bid that ends in a column is drawn to the column's end, and the next one begins again: 1,001 times, after the move to the corner."""
+    ran = called(program, ["draw", path, "ABC", *long_day(path)], capture_output=True)
+    text = ran.stdout.decode()
+    wanted = "Best bids from 9.9900 to 9.9900 dollars, at the end with none."
+    must(ran.returncode == 0 and wanted in text, f"{ran.returncode}, {re.findall('Best bids.*', text)}, {ran.stderr!r}")
+    begun = sorted(it.count("M") for it in re.findall(r'<path [^>]*d="([^"]*)"', text))
+    must(begun[-2:] == [1_002, 1_002], f"lines begin {begun[-2:]} times")
+
+
+def editor_lines(program, path):
+    """The lines of rows that are refused, with each kind of line end, in files of several pieces with blank lines and line ends in quotes."""
+    draw = random.Random(7)
+    for end in ("\n", "\r\n", "\r"):
+        text, line, wanted = "\ufeff" * (end == "\n") + end, 2, []
+        for it in range(1_200):
+            blank = draw.choice((0, 0, 0, 0, 1, 3))
+            symbol = '"A' + end * draw.choice((1, 2)) + "B" * draw.choice((1, 9_000)) + '"' if it % 80 == 7 else "ABC"
+            text, line = text + end * blank, line + blank
+            if it % 20 == 7:
+                wanted.append(line)
+            row = f"093000,{'Q' if it % 20 == 7 else 'N'},{symbol},9.99,300,10.01,200{end}"
+            text, line = text + row, line + row.count(end)
+        for name, given in (("given.toml", MAP + b"[file]\nquotes = true\n"), ("given.csv", text.encode())):
+            with open(os.path.join(os.path.dirname(path), name), "wb") as file:
+                file.write(given)
+        for words, how in (["given.csv"], {"stdin": subprocess.DEVNULL}), (["/dev/stdin"], {"input": text.encode()}):
+            ran = subprocess.run([program, "import", "given.toml", *words, "--out", "out"], capture_output=True, timeout=MOST, cwd=os.path.dirname(path), check=False, **how)
+            told = [int(it) for it in re.findall(rb"^" + words[0].encode() + rb":(\d+): column 2: ", ran.stderr, re.M)]
+            differs = next((it for it, (one, other) in enumerate(zip(told, wanted)) if one != other), None)
+            must((ran.returncode, told) == (0, wanted), f"{end!r}: {ran.returncode}, {len(told)} rows, the first that differs: {differs}")
+
+
 TRIALS = [
     ("closed", refused), ("reader_gone", refused), ("long", long_records), ("far_name", long_names), ("far_fields", long_fields),
     ("mark", marked), ("mark_in_parts", nothing), ("harmless", each_byte), ("small_memory", large), ("no_memory", larger),
     ("one_found", among), ("one_too_many", too_many), ("name_found", many_symbols), ("most_faults", other_keys), ("pieces", each_other), ("columns", narrow),
     ("flagged", no_change), ("told_apart", nothing), ("cut_often", nothing),
+    ("withdrawn", nothing), ("lots_of_the_setup", nothing), ("out_of_one_import", nothing), ("inputs_named_as_shards", nothing),
+    ("shard_of", nothing), ("gaps", vanishing), ("editor_lines", nothing),
 ]
 
 
@@ -450,6 +602,56 @@ def imported(program, mapping):
         compare(f"{mapping}.{name}", text, read(given, f"{mapping}.{name}"))
 
 
+def imported_closed(program, closed):
+    """The files of an import with standard streams closed have nothing else in them."""
+    given = os.path.join(EXAMPLES, "import")
+    with tempfile.TemporaryDirectory(prefix="nms-") as room:
+        words = ["import", "taq.toml", "taq.txt", "--out", os.path.join(room, "day"), "--setup", "../market.toml"]
+        ran = called("sh", ["-c", f'exec "$@" {closed}', "sh", program, *words], capture_output=True, cwd=given)
+        must(ran.returncode == 0, f"status {ran.returncode}, {ran.stderr!r}")
+        came = {name.partition(".")[2]: read(room, name) for name in os.listdir(room)}
+    must("changes" in came, f"it writes {sorted(came)}")
+    for name, text in came.items():
+        compare(f"taq.{name}", text, read(given, f"taq.{name}"))
+
+
+# What the shipped mappings of TAQ say of each condition of a quote, and of each letter and each correction code of a trade. A
+# quote is automated, manual, halted, none, or refused; a trade has flags, is skipped, or is refused.
+QUOTES = {"A": "CR CO NR NY NO", "M": "CH CU CW C4 NH NF N4", "H": "CD CI CJ CK CM CP CS CV NI NX", "": "CC CL CN NL NN NU NZ", "refused": "CA CB CE CF NA NB"}
+TRADES = {"": "@ A D E H I K S V X Y 8", "C": "C N R", "O": "O 5 6", "I": "F", "K": "4 B W", "P": "1", "Q": "7", "T": "T", "T+Z": "U", "Z": "G L P Z", "skipped": "M Q 9"}
+CODES = {"": "00 01", "skipped": "07 08 10 11 12", "refused": "02 13 -"}
+
+
+def shipped(program):
+    """The mappings of TAQ beside the examples, on a row of each condition, letter and code."""
+    with tempfile.TemporaryDirectory(prefix="nms-") as room:
+        quotes = [(kind, it) for kind, those in QUOTES.items() for it in those.split()]
+        head = read(EXAMPLES, "import", "taq.txt").partition(b"\n")[0].decode()
+        rows = [f"093000|Q|AAPL|190|1|191|1|{it[1]}|1|0||||{it[0]}|||||||||" for _, it in quotes]
+        ran, lines = imported_rows(program, room, "taq", head, rows, "changes")
+        sides = {"": ",,,,", "A": ",190.0000,100,191.0000,100", "M": ",190.0000,100,191.0000,100", "H": ",190.0000,100,191.0000,100"}
+        wanted = [f"Q,Q,AAPL,{kind or 'A'}{sides[kind]}" for kind, _ in quotes if kind != "refused"]
+        must((ran.returncode, lines[:len(wanted)]) == (0, wanted), f"{ran.returncode}, {ran.stderr.decode()}{lines}")
+        must(b"\n%d rows = %d changes + 6 refused + 1 skipped\n" % (len(quotes) + 1, len(wanted)) in ran.stdout, f"{ran.stdout!r}")
+        trades = [(kind, it, "00") for kind, those in TRADES.items() for it in those.split()]
+        trades += [(kind, "@", it.strip("-")) for kind, those in CODES.items() for it in those.split()]
+        head = read(EXAMPLES, "import", "taq-trades.txt").partition(b"\n")[0].decode()
+        rows = [f"093000|Q|AAPL|{letter}|100|190.01||{code}|1|x{at}|N||||0" for at, (_, letter, code) in enumerate(trades)]
+        ran, lines = imported_rows(program, room, "taq-trades", head, rows, "executions")
+        wanted = [f"D,x{at},AAPL,190.010000,100,,@093000000000000,Q,{kind}" for at, (kind, _, _) in enumerate(trades) if kind not in ("skipped", "refused")]
+        must((ran.returncode, lines) == (0, wanted), f"{ran.returncode}, {ran.stderr.decode()}{lines}")
+        must(ran.stdout.splitlines()[-1] == b"%d rows = %d executions + 3 refused + 9 skipped" % (len(trades) + 1, len(wanted)), f"{ran.stdout!r}")
+
+
+def imported_rows(program, room, mapping, head, rows, made):
+    """An import of rows under a head and before a last line by a mapping of the examples, and the lines of the file that it makes."""
+    with open(os.path.join(room, "given.txt"), "w", encoding="ascii") as file:
+        file.write("".join(f"{it}\n" for it in (head, *rows, f"END|20240102|{len(rows)}")))
+    given = os.path.join(EXAMPLES, "import", f"{mapping}.toml")
+    ran = called(program, ["import", given, "given.txt", "--out", "out", "--setup", os.path.join(EXAMPLES, "market.toml")], capture_output=True, cwd=room)
+    return ran, read(room, f"out.{made}").decode().splitlines()
+
+
 def judged(program, judge):
     """Random files, against the plain slow program of a judge, which prints its seed and what differs."""
     ran = called(sys.executable, [os.path.join(TESTS, judge), program], capture_output=True)
@@ -465,6 +667,8 @@ def trials(program, tool):
     yield from pages(program, tool)
     yield from (Trial(f"trial: {name}", in_room, (name, make, program)) for name, make in TRIALS)
     yield from (Trial(f"trial: imported {it}", imported, (program, it)) for it in IMPORTS)
+    yield from (Trial(f"trial: imported with {it}", imported_closed, (program, it)) for it in CLOSED)
+    yield Trial("trial: conditions, letters and codes of the mappings of TAQ", shipped, (program,))
     yield from (Trial(f"trial: judged by {it}", judged, (program, it)) for it in JUDGES)
     yield from (Trial(f"examples/review/{it}", named_by_the_page, (it,)) for it in sorted(os.listdir(ROOM)))
 

@@ -3,7 +3,8 @@
 
     tests/day_judge.py PROGRAM      PROGRAM is nms_review
 
-The day is run by two jobs and by one, its parts are set beside one tape of all of them, and a torn file is mended. The rows
+The day is run by two jobs and by one, its parts are set beside one tape of all of them, and a torn file is mended. Trades are
+judged on it, whether symbols are cut by time or not. The rows
 that `compare` gets are those of `stream`, some of them altered; each alteration must be found, and nothing else. A line
 for each difference, and last `N passed, M failed`; status 1 at a difference.
 """
@@ -71,6 +72,8 @@ def real_day(program):
         for name in names:
             with gzip.open(f"{name}.gz") as packed, open(f"{out}.txt", "ab") as file:
                 file.write(b"".join(packed.readlines()[0 if name == names[0] else 1:-1]))
+        with open(f"{out}.txt", "ab") as file:
+            file.write(b"END|20240102|6000\n")
         words = ["import", os.path.join(EXAMPLES, "import/taq.toml"), f"{out}.txt", "--out", out, "--setup", setup]
         called(program, words, capture_output=True, check=True)
         whole = called(program, ["stream", f"{out}.changes", "--setup", setup], capture_output=True, check=True)
@@ -98,6 +101,85 @@ def real_day(program):
         with open(path, "wb") as file:
             file.write(right)
         must(day("torn", "2") == day("two", "2"), "what was left is not what was missing")
+
+
+TRADE_NAMES = ("Time|Exchange|Symbol|Sale Condition|Trade Volume|Trade Price|Trade Stop Stock Indicator|Trade Correction Indicator|Sequence Number|"
+               "Trade Id|Source of Trade|Trade Reporting Facility|Participant Timestamp|Trade Reporting Facility TRF Timestamp|"
+               "Trade Through Exempt Indicator")
+
+
+def made_trades(room, dice):
+    """Trades in the symbols of a made day, at the times of quotes and near them, at the cuts of one of its folders, and before the
+    first quote of all. Returns their file, how many they are, and the names of those in the second after a cut."""
+    quotes, trades, near = {}, [], set()
+
+    def seconds(time):
+        return time // 10 ** 13 * 3600 + time // 10 ** 11 % 100 * 60 + time // 10 ** 9 % 100 + time % 10 ** 9 / 10 ** 9
+    for letter in "ABC":
+        with gzip.open(os.path.join(room, f"SPLITS_US_ALL_BBO_{letter}_20240102.gz"), "rt") as file:
+            for line in file.readlines()[1:-1]:
+                fields = line.split("|")
+                quotes.setdefault(fields[2], []).append((int(fields[0]), float(fields[3])))
+    cuts = []
+    for name in sorted(os.listdir(os.path.join(room, "cut"))):
+        if name.endswith(".symbols"):
+            with open(os.path.join(room, "cut", name), encoding="ascii") as file:
+                cuts += [(symbol, int(cut)) for symbol, cut in re.findall(r"(\w+) (?:from|until) (\d{15}),", file.read())]
+    must(len(cuts) > 8, f"{len(cuts)} cuts")
+    for symbol, cut in [*cuts, *((it, None) for it in quotes for _ in range(30)), *((it, 93000000000000) for it in quotes)]:
+        time, price = dice.choice(quotes[symbol])
+        time = (cut or time) + dice.choice([0, 0, 0, 1, -1])
+        price = min(quotes[symbol], key=lambda it: abs(it[0] - time))[1] + dice.choice([-0.02, -0.01, 0, 0.01, 0.02])
+        # The digit below 60 before the nanoseconds is kept: a nanosecond before a full minute would be no time.
+        time = time if time // 10 ** 9 % 100 < 60 else time + 1
+        if any(it == symbol and -0.1 < seconds(time) - seconds(at) < 1.1 for it, at in cuts):
+            near.add(str(len(trades)))
+        trades.append(f"{time:015}|{dice.choice('ABCDN')}|{symbol}|@   |{dice.randrange(1, 900)}|{max(price, 0.01):.2f}||00|1|{len(trades)}|N||||0\n")
+    path = os.path.join(room, "trades.txt")
+    with open(path, "w", encoding="ascii") as file:
+        file.write("\n".join([TRADE_NAMES, ""]) + "".join(trades))
+    return path, len(trades), near
+
+
+def judged_by(program, room, out, path, *options):
+    """The answers of all shards, by the name of the execution: without the versions and receipts, which are a shard's own."""
+    script = os.path.join(EXAMPLES, "real_day", "trades.sh")
+    ran = called("bash", [script, path, os.path.join(room, out), *options], capture_output=True, env=dict(os.environ, NMS_REVIEW=program))
+    must(ran.returncode == 0, f"{out}: status {ran.returncode}, {ran.stderr!r}")
+    answers, name = {}, ""
+    with open(os.path.join(room, out, "day.judged"), encoding="ascii") as file:
+        for line in file:
+            fields = line.rstrip("\n").split(",")[1:]
+            if fields[0] == "ROW":
+                answers[name].append(fields[:5] + fields[6:])
+                continue
+            name = fields[1]
+            must(name not in answers, f"{out}: {name} is judged twice")
+            answers[name] = [fields[:2] + fields[3:]]
+    return answers
+
+
+def judged_day(program):
+    """Trades of a made day are judged by the shards as they are by those of a day that cuts no symbol, each once: also at the very
+    time of a cut, with --before and without. A shard does not know what flickered before it began."""
+    def without(answer):
+        return [[re.sub(r"\+?FLICKER", "", field) or "NONE" for field in line] for line in answer]
+    place = os.path.join(EXAMPLES, "real_day")
+    with tempfile.TemporaryDirectory(prefix="nms-") as room:
+        called(sys.executable, [os.path.join(place, "make_day.py"), room, "3000", "ABC", "4"], check=True)
+        for out, limit in (("whole", "10000000"), ("cut", "90")):
+            env = dict(os.environ, NMS_REVIEW=program, LIMIT=limit)
+            called("bash", [os.path.join(place, "day.sh"), room, os.path.join(room, out), "2"], capture_output=True, env=env, check=True)
+        path, count, near = made_trades(room, random.Random(56))
+        for options in ((), ("--before",)):
+            whole = judged_by(program, room, "whole", path, *options)
+            must(len(whole) == count, f"{len(whole)} answers, and not {count}")
+            kinds = {it[0][0] for it in whole.values()}
+            must(kinds >= {"CLEAN", "NOQUOTE", "THROUGH"}, f"{kinds}")
+            cut = judged_by(program, room, "cut", path, *options)
+            for name in near:
+                whole[name], cut[name] = without(whole[name]), without(cut[name])
+            must(cut == whole, next((f"{it}: {cut.get(it)}, and not {whole[it]}" for it in whole if cut.get(it) != whole[it]), "more"))
 
 
 NATIONAL = ["--map", "nbbo.toml", "--times", "taq.times", "--setup", "../market.toml"]
@@ -151,5 +233,5 @@ def compared_day(program):
 
 
 if __name__ == "__main__":
-    TRIALS = [("a made day", real_day), ("stored national bests", compared), ("altered national bests", compared_day)]
+    TRIALS = [("a made day", real_day), ("a made day's trades", judged_day), ("stored national bests", compared), ("altered national bests", compared_day)]
     sys.exit(run("review", [Trial(name, trial, (os.path.realpath(sys.argv[1]),)) for name, trial in TRIALS]))

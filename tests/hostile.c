@@ -5,7 +5,7 @@
  * of it back.
  *
  * What a call is given ends at a page that can't be touched, so a byte too many ends the program. Link it with
- * -Wl,--wrap=malloc,--wrap=realloc,--wrap=calloc,--wrap=free; tests/library.py runs it under the address and
+ * -Wl,--wrap=malloc,--wrap=realloc,--wrap=calloc,--wrap=free,--wrap=nms_abi; tests/library.py runs it under the address and
  * undefined-behaviour sanitizers, and under valgrind.
  *
  *     hostile SETUP [ROUNDS]     the built-in setup; that many rounds of random bytes, 20,000 by default
@@ -76,6 +76,16 @@ void __wrap_free(void *at)
 {
     blocks -= at != NULL;
     __real_free(at);
+}
+
+/* ---- the library's layout, which is another one now and then ---- */
+
+uint32_t __real_nms_abi(void);
+static uint32_t newer;
+
+uint32_t __wrap_nms_abi(void)
+{
+    return __real_nms_abi() + newer;
 }
 
 /* ---- memory that ends at a page that can't be touched ---- */
@@ -257,18 +267,18 @@ static void nulls(nms_board *board)
         nms_version(text, 9, NULL),
         nms_code_text(0, NULL, 9, bytes),
         nms_code_text(0, text, 9, NULL),
-        nms_open(NULL, 0, board),
+        nms_open(NULL, 1, board),
         nms_open(setup, setup_bytes, NULL),
-        nms_setup_place(NULL, 0, (nms_place *)out),
+        nms_setup_place(NULL, 1, (nms_place *)out),
         nms_setup_place(setup, setup_bytes, NULL),
         nms_close(NULL),
         nms_counts_of(NULL, (nms_counts *)text),
         nms_counts_of(board, NULL),
         nms_find_part(NULL, "N", 1, (uint8_t *)text),
-        nms_find_part(board, NULL, 0, (uint8_t *)text),
+        nms_find_part(board, NULL, 1, (uint8_t *)text),
         nms_find_part(board, "N", 1, NULL),
         nms_find_sym(NULL, "ABC", 3, (uint16_t *)out),
-        nms_find_sym(board, NULL, 0, (uint16_t *)out),
+        nms_find_sym(board, NULL, 1, (uint16_t *)out),
         nms_find_sym(board, "ABC", 3, NULL),
         nms_part_name(NULL, 0, text, 9, bytes),
         nms_part_name(board, 0, NULL, 9, bytes),
@@ -279,10 +289,10 @@ static void nulls(nms_board *board)
         nms_apply(NULL, &change),
         nms_apply(board, NULL),
         nms_apply_all(NULL, &change, 1, bytes),
-        nms_apply_all(board, NULL, 0, bytes),
+        nms_apply_all(board, NULL, 1, bytes),
         nms_apply_all(board, &change, 1, NULL),
         nms_apply_text(NULL, "X,N", 3),
-        nms_apply_text(board, NULL, 0),
+        nms_apply_text(board, NULL, 1),
         nms_best_of(NULL, 0, (nms_best *)out),
         nms_best_of(board, 0, NULL),
         nms_ranked(NULL, 0, 0, 0, (nms_row *)out),
@@ -308,7 +318,7 @@ static void nulls(nms_board *board)
         nms_plan_text(board, &order, &plan, NULL, 9, bytes),
         nms_plan_text(board, &order, &plan, text, 9, NULL),
         nms_read_plan(NULL, "END\n", 4, out_order, out),
-        nms_read_plan(board, NULL, 0, out_order, out),
+        nms_read_plan(board, NULL, 1, out_order, out),
         nms_read_plan(board, "END\n", 4, NULL, out),
         nms_read_plan(board, "END\n", 4, out_order, NULL),
         nms_opening_of(NULL, 0, (nms_opening *)out),
@@ -319,6 +329,50 @@ static void nulls(nms_board *board)
         equals(is_filled(out, sizeof *out, 0x5A) && is_filled(bytes, sizeof *bytes, 0x5A), 1, "what a call with a null pointer wrote");
     }
     equals(state_of(board), before, "the board after null pointers");
+}
+
+/* A null pointer to nothing is an empty text, or an array of no changes: the answer is that of any other pointer. */
+static void empties(nms_board *board)
+{
+    const unsigned long before = state_of(board);
+    nms_board closed = NMS_BOARD_CLOSED;
+    nms_place *place = filled(0, sizeof *place, 0x5A);
+    size_t *applied = filled(2, sizeof *applied, 0x5A);
+    unsigned char *out = filled(1, 2, 0x5A);
+    nms_order *order = filled(1, sizeof *order, 0x5A);
+    nms_plan *plan = filled(3, sizeof *plan, 0x5A);
+    equals(nms_open(NULL, 0, &closed), NMS_C2_MISSING, "an open of no text");
+    equals(nms_open(NULL, 0, board), NMS_OPEN_ALREADY, "a second open of no text");
+    equals(nms_setup_place(NULL, 0, place), NMS_OK, "the place of no text's fault");
+    equals(place->code == NMS_C2_MISSING && place->table == NMS_TOP && place->spare == 0, 1, "what that place says");
+    equals(nms_apply_all(&closed, NULL, 0, applied), NMS_CLOSED, "no changes on a closed board");
+    equals(is_filled(applied, sizeof *applied, 0x5A), 1, "how many were applied on it");
+    equals(nms_apply_all(board, NULL, 0, applied), NMS_OK, "no changes");
+    equals(*applied, 0, "how many of none were applied");
+    equals(nms_apply_text(board, NULL, 0), NMS_L1_UNKNOWN_KIND, "an empty record");
+    equals(nms_find_part(board, NULL, 0, out), NMS_NO_PART, "a participant with no name");
+    equals(nms_find_sym(board, NULL, 0, (uint16_t *)out), NMS_NO_SYM, "a symbol with no name");
+    equals(nms_read_plan(board, NULL, 0, order, plan), NMS_L11_BAD_PLAN_TEXT, "a plan of no text");
+    equals(is_filled(order, sizeof *order, 0x5A) && is_filled(plan, sizeof *plan, 0x5A), 1, "what was read of it");
+    equals(state_of(board), before, "the board after nothing");
+}
+
+/* A library of another layout: no board is opened and no struct is written. */
+static void layouts(nms_board *board)
+{
+    nms_board *other = filled(0, sizeof *other, 0);
+    nms_place *place = filled(1, sizeof *place, 0x5A);
+    char text[NMS_CODE_TEXT_ROOM];
+    size_t bytes;
+    newer = 1;
+    equals(nms_open(setup, setup_bytes, other), NMS_WRONG_ABI, "an open by a library of another layout");
+    equals(nms_open(setup, setup_bytes, board), NMS_WRONG_ABI, "a second open by a library of another layout");
+    equals(nms_open(setup, setup_bytes, NULL), NMS_NULL, "an open of no board by a library of another layout");
+    equals(nms_setup_place(setup, setup_bytes, place), NMS_WRONG_ABI, "a place by a library of another layout");
+    equals(is_filled(other, sizeof *other, 0) && is_filled(place, sizeof *place, 0x5A), 1, "what a library of another layout wrote");
+    newer = 0;
+    equals(nms_code_text(NMS_WRONG_ABI, text, sizeof text, &bytes), NMS_OK, "the text of its code");
+    equals(strstr(text, "nms.h") != NULL && strlen(text) == bytes, 1, "what the text says");
 }
 
 /* ---- bad numbers ---- */
@@ -543,7 +597,7 @@ static void looks(nms_board *board)
                "what was written of a plan in so much room");
     }
     for (uint32_t code = 0; code < 200; ++code) {
-        const int is_known = code <= 19 || (code >= 101 && code <= 111) || code == 114;
+        const int is_known = code <= 20 || (code >= 101 && code <= 111) || code == 114;
         const uint32_t answer = nms_code_text(code, whole, NMS_CODE_TEXT_ROOM, &need);
         equals(answer, is_known ? NMS_OK : NMS_NONE, "the text of a code");
         for (size_t size = 0; is_known && answer == NMS_OK && size <= need + 1; ++size) {
@@ -964,6 +1018,8 @@ int main(int count, char **words)
     nulls(&board);
     changes(&board);
     equals(requests, from, "requests for memory of calls on an open board");
+    empties(&board);
+    layouts(&board);
     equals(nms_close(&board), NMS_OK, "a close");
     open_board(&board);
     from = requests;

@@ -25,7 +25,7 @@ TAQ = ("Time|Exchange|Symbol|Bid_Price|Bid_Size|Offer_Price|Offer_Size|Quote_Con
        "FINRA_BBO_Indicator|FINRA_ADF_MPID_Indicator|Quote_Cancel_Correction|Source_Of_Quote").split("|")
 DATABENTO = ("ts_recv,ts_event,rtype,publisher_id,instrument_id,action,side,depth,price,size,flags,ts_in_delta,sequence,bid_px_00,"
              "ask_px_00,bid_sz_00,ask_sz_00,bid_ct_00,ask_ct_00,symbol").split(",")
-STATES = {"A": "CR CO CW NR NY NO", "M": "CH NH NU", "H": "CD CI CJ CK CM CP CS CV NI", "": "CC CL CN NL NN NZ", "half": "CA CB CE CF NA NB"}
+STATES = {"A": "CR CO NR NY NO", "M": "CH CU CW C4 NF NH N4", "H": "CD CI CJ CK CM CP CS CV NI NX", "": "CC CL CN NL NN NU NZ", "half": "CA CB CE CF NA NB"}
 STATE = {word: state for state, words in STATES.items() for word in words.split()}
 LAST = "END|20240102|"
 
@@ -47,10 +47,13 @@ class Layout:
     zone: int = 0
     unit: str = "dollars"
     none: tuple = ("", "0", "0.00")
-    lot: int = 1
+    # The shares of a unit of size, None if it is the setup's lot of each symbol.
+    lot: int | None = 1
     names_of: dict = field(default_factory=dict)
     same: bool = True
     half: str = "refuse"
+    # Whether a refused row withdraws what its participant showed.
+    withdraws: bool = True
     states: bool = True
     end: str = ""
 
@@ -61,13 +64,14 @@ TAQ_COLUMNS = {"time": 0, "participant": 1, "symbol": 2, "bid": 3, "bid_size": 4
 
 def taq(name, share, edits=(), **more):
     """The layout of NYSE Daily TAQ, with edits of its mapping."""
-    return Layout(name, "taq.toml", share, TAQ, TAQ_COLUMNS, edits=list(edits), lot=100, names_of={"T": "Q"}, end="END", **more)
+    return Layout(name, "taq.toml", share, TAQ, TAQ_COLUMNS, edits=list(edits), lot=None, names_of={"T": "Q"}, end="END", **more)
 
 
 LAYOUTS = [
     taq("taq", 30),
     taq("taq, both sides manual", 8, [('half = "refuse"', 'half = "manual"')], half="manual"),
-    taq("taq, both sides automated", 8, [('half = "refuse"', 'half = "automated"')], half="automated"),
+    taq("taq, both sides automated", 8, [('half = "refuse"', 'half = "automated"'), ('end = "END"', 'on_refused = "keep"\nend = "END"')],
+        half="automated", withdraws=False),
     taq("taq, iso", 14, [('form = "HHMMSSn"', 'form = "iso"\nzone_offset = "+0530"')], form="iso", zone=19800),
     taq("taq, iso without a zone", 6, [('form = "HHMMSSn"', 'form = "iso"')], form="iso"),
     Layout("databento", "databento-mbp1.toml", 20, DATABENTO, {"time": 0, "participant": 3, "symbol": 19, "bid": 13, "bid_size": 15, "offer": 14,
@@ -108,7 +112,16 @@ def price_of(layout, text):
     return number or None
 
 
-def side_of(layout, price, size):
+def lots():
+    """The round lot of each symbol of the setup."""
+    with open(SETUP, "rb") as file:
+        return {it["name"]: it["lot"] for it in tomllib.load(file)["symbol"]}
+
+
+LOTS = lots()
+
+
+def side_of(layout, price, size, lot):
     """The two fields of a side, or the cause why there are none."""
     try:
         price = price_of(layout, price)
@@ -116,8 +129,8 @@ def side_of(layout, price, size):
         return "bad price"
     if size == "":
         shares = 0
-    elif re.fullmatch("[0-9]{1,9}", size) and int(size) * layout.lot <= 999999999:
-        shares = int(size) * layout.lot
+    elif re.fullmatch("[0-9]{1,9}", size) and int(size) * lot <= 999999999:
+        shares = int(size) * lot
     else:
         return "bad size"
     if shares == 0:
@@ -166,6 +179,22 @@ def state_of(layout, it):
     return "one side manual" if layout.half == "refuse" else (layout.half[0].upper(), True)
 
 
+def names_in(layout, it, parts, syms):
+    """The participant and the symbol of a row on the roster, None for one that is not."""
+    part = layout.names_of.get(it["participant"], it["participant"] if layout.same else None)
+    sym = it["symbol"].replace(" ", ".")
+    return part if part in parts else None, sym if sym in syms else None
+
+
+def withdrawal(layout, row, parts, syms, last):
+    """What a refused row leaves, as `outcome` answers it: its participant shows nothing of its symbol. None if it leaves nothing."""
+    it = {**layout.fixed, **{what: row[place] if place < len(row) else "" for what, place in layout.columns.items()}}
+    part, sym = names_in(layout, it, parts, syms)
+    if not layout.withdraws or part is None or sym is None:
+        return None
+    return (f"Q,{part},{sym},A,,,,", time_of(layout, it["time"]) or last, sym, False)
+
+
 def outcome(layout, row, parts, syms):
     """(record, time, symbol, only one side is manual) of a row, or the cause why it makes none."""
     if layout.end and row[0] == layout.end:
@@ -178,21 +207,21 @@ def outcome(layout, row, parts, syms):
     time = time_of(layout, it["time"])
     if time is None:
         return "bad time"
-    part = layout.names_of.get(it["participant"], it["participant"] if layout.same else None)
-    if part not in parts:
+    part, sym = names_in(layout, it, parts, syms)
+    if part is None:
         return "unknown participant"
-    sym = it["symbol"].replace(" ", ".")
-    if sym not in syms:
+    if sym is None:
         return "other symbol"
     state = state_of(layout, it)
     if isinstance(state, str):
         return state
     if state[0] == "":
         return (f"Q,{part},{sym},A,,,,", time, sym, False)
-    bid = side_of(layout, it["bid"], it["bid_size"])
+    lot = layout.lot or LOTS.get(sym, 100)
+    bid = side_of(layout, it["bid"], it["bid_size"], lot)
     if isinstance(bid, str):
         return bid
-    offer = side_of(layout, it["offer"], it["offer_size"])
+    offer = side_of(layout, it["offer"], it["offer_size"], lot)
     if isinstance(offer, str):
         return offer
     return (f"Q,{part},{sym},{state[0]},{bid[0]},{offer[0]}", time, sym, state[1])
@@ -232,17 +261,17 @@ def random_row(layout, dice, parts, syms):
     def maybe(right, wrong, one_in=60):
         return dice.choice(wrong) if dice.randrange(one_in) == 0 else right
     middle = dice.randrange(1, 4000000)
-    lots = [1, 2, 5, 40] if layout.lot > 1 else [1, 100, 250, 4000]
+    lots = [1, 2, 5, 40] if layout.lot is None else [1, 100, 250, 4000]
     it = {
         "time": maybe(*random_time(layout, dice)),
         "participant": maybe(dice.choice(parts + ["T"]) if layout.same else "2", ["", "?", "W", "QQ", "Q", "39"]),
-        "symbol": maybe(dice.choice(syms).replace(".", " " if layout.lot > 1 else "."), ["", "MSFT", "ZVZZT", "BRK B PR", "ABCDEFGHI", "aapl"], 20),
+        "symbol": maybe(dice.choice(syms).replace(".", " " if layout.lot is None else "."), ["", "MSFT", "ZVZZT", "BRK B PR", "ABCDEFGHI", "aapl"], 20),
         "bid": maybe(random_price(layout, dice, middle), ["", "0", "0.00", "0.0000", "1.23456", "12345678", "-1", "1e3", ".5", "1.", *layout.none,
                                                           "9999900001", "9999999999999900000", "10000000000000000", "123456789012"]),
         "bid_size": maybe(str(dice.choice([0, *lots])), ["", "00", "1234567890", "9999999", "10000000", "1.0", " 1"]),
         "offer": maybe(random_price(layout, dice, middle + dice.randrange(1, 500)), ["", "0", "9999999.9999", "10.00005", "x", *layout.none]),
         "offer_size": maybe(str(dice.choice([0, *lots])), ["", "10000000", "-1"]),
-        "condition": maybe("R", list("OWHDICLNAEFYZB") + [""], 8),
+        "condition": maybe("R", list("OWHDICLNAEFYZBU4X") + [""], 8),
         "source": maybe(dice.choice("CN"), ["", "X"], 200),
         "skip": maybe("", ["A", "B", "C"], 50),
     }
@@ -261,32 +290,36 @@ def random_row(layout, dice, parts, syms):
 def files_of(layout, dice, rows, room):
     """The rows in two files, and the rows of both with their last lines."""
     half = len(rows) // 2
-    first = rows[:half] + ([(LAST + "1").split("|")] if layout.end else [])
+    parts = [part + ([f"{LAST}{len(part)}".split("|")] if layout.end else []) for part in (rows[:half], rows[half:])]
     paths = [os.path.join(room, name) for name in ("one.txt", "two.txt")]
-    for path, part in zip(paths, (first, rows[half:])):
+    for path, part in zip(paths, parts):
         end = dice.choice(["\n", "\r\n"])
         with open(path, "w", encoding="utf-8", newline="") as file:
             file.write(end.join(layout.delimiter.join(row) for row in ([layout.names] if layout.header else []) + part) + end)
-    return paths, first + rows[half:]
+    return paths, parts[0] + parts[1]
 
 
 def wanted_of(layout, rows, parts, syms, numbers):
     """What the converter writes, by the end of the file's name."""
-    changes, times, counts, spans, halves = [], [], {}, {}, 0
+    changes, times, counts, spans, halves, withdrawn, time = [], [], {}, {}, 0, 0, NO_TIME
     for number, row in enumerate(rows, 1):
         made_of = outcome(layout, row, parts, syms)
         if isinstance(made_of, str):
             counts[made_of] = counts.get(made_of, 0) + 1
-            continue
+            made_of = None if made_of in SKIPS else withdrawal(layout, row, parts, syms, time)
+            if made_of is None:
+                continue
+            withdrawn += 1
         record, time, sym, half = made_of
         changes.append(record)
         times.append(f"{time},{number:015}" if numbers else time)
         halves += half
         spans[sym] = (spans.get(sym, (len(changes),))[0], len(changes))
-    return {"changes": changes, "times": times, "counts": counted(layout, counts, halves, len(rows), len(changes)),
+    return {"changes": changes, "times": times, "counts": counted(layout, counts, halves, withdrawn, len(rows), len(changes) - withdrawn),
             "symbols": [f"{sym},{spans[sym][0]},{spans[sym][1]}" for sym in syms if sym in spans]}
 
 
+NO_TIME = "0" * 15
 SKIPS = ("last line of a file", "word to skip", "other symbol")
 CAUSES = ("too few columns", "bad time", "unknown participant", "unknown symbol", "unknown condition", "one side manual", "bad price", "bad size",
           "shares without a price", "symbol after its end", *SKIPS)
@@ -307,36 +340,42 @@ def cut_of(layout, rows, parts, limit, numbers):
         return f"{time},{number:015}" if numbers else time
     def shard():
         return {"changes": [], "times": [], "symbols": [], "opened": 0}
-    shards, counts, begun, now, halves, changes = [shard()], {}, set(), None, 0, 0
+    shards, counts, begun, now, halves, changes, withdrawn, last = [shard()], {}, set(), None, 0, 0, 0, (NO_TIME, 0)
     for number, row in enumerate(rows, 1):
         place = layout.columns["symbol"]
         name = (row[place] if place < len(row) else "").replace(" ", ".")
-        made_of = outcome(layout, row, parts, {name} if re.fullmatch("[A-Z0-9.]{1,8}", name) else set())
-        if not isinstance(made_of, str) and name != now and name in begun:
+        own = {name} if re.fullmatch("[A-Z0-9.]{1,8}", name) else set()
+        made_of, ended = outcome(layout, row, parts, own), name != now and name in begun
+        if not isinstance(made_of, str) and ended:
             made_of = "symbol after its end"
-        if isinstance(made_of, str):
+        refused = isinstance(made_of, str)
+        if refused:
             counts[made_of] = counts.get(made_of, 0) + 1
-            continue
+            made_of = None if made_of in SKIPS or ended else withdrawal(layout, row, parts, own, last[0])
+            if made_of is None:
+                continue
+            withdrawn += 1
         record, time, _, half = made_of
         it = shards[-1]
         if name != now:
             if len(it["symbols"]) == 1000 or len(it["changes"]) >= limit // 2:
                 shards.append(shard())
             it = shards[-1]
-            it["symbols"].append([name, len(it["changes"]) + 1, 0])
+            it["symbols"].append([name, len(it["changes"]) + 1, 0, "", ""])
             now, sides, states, applied = name, {}, {}, 0
             begun.add(name)
         elif len(it["changes"]) == limit:
+            it["symbols"][-1][4] = time
             it = shard()
             it["changes"] = opening_of(sides, states, name)
             it["opened"] = len(it["changes"])
             it["times"] = [stamp(*last)] * it["opened"]
-            it["symbols"] = [[name, 1, 0]]
+            it["symbols"] = [[name, 1, 0, time, ""]]
             shards.append(it)
         it["changes"].append(record)
         it["times"].append(stamp(time, number))
         it["symbols"][-1][2] = len(it["changes"])
-        applied, last, halves, changes = applied + 1, (time, number), halves + half, changes + 1
+        applied, last, halves, changes = applied + 1, (time, number), halves + half, changes + (not refused)
         fields = record.split(",")
         states[fields[1]] = fields[3]
         for side, content in enumerate((",".join(fields[4:6]), ",".join(fields[6:8]))):
@@ -344,16 +383,22 @@ def cut_of(layout, rows, parts, limit, numbers):
                 sides[fields[1], side] = (content, applied)
     opened = sum(it["opened"] for it in shards)
     said = [f"{len(shards)} shard{'s' * (len(shards) != 1)}, {opened} opening changes"]
-    return shards, said + counted(layout, counts, halves, len(rows), changes)
+    return shards, said + counted(layout, counts, halves, withdrawn, len(rows), changes)
 
 
-def counted(layout, counts, halves, rows, changes):
+def counted(layout, counts, halves, withdrawn, rows, changes):
     """The lines of the counts."""
     said = [f"{counts[why]} {'skipped' if why in SKIPS else 'refused'}: {why}" for why in CAUSES if why in counts]
     if halves:
         said.append(f"{halves} changes: one side manual, both made {layout.half}")
     skipped = sum(counts.get(why, 0) for why in SKIPS)
-    return said + [f"{rows} rows = {changes} changes + {sum(counts.values()) - skipped} refused + {skipped} skipped"]
+    refused = sum(counts.values()) - skipped
+    if withdrawn:
+        said.append(f"{withdrawn} of the refused: the venue shows nothing until its next row that is read")
+    if refused > withdrawn:
+        said.append(f"{refused - withdrawn} of the refused: " + ("venue or symbol not known, so an earlier quotation may still be shown"
+                    if layout.withdraws else "an earlier quotation is still shown"))
+    return said + [f"{rows} rows = {changes} changes + {refused} refused + {skipped} skipped"]
 
 
 def setup_of(text, symbols, opened):
@@ -384,12 +429,14 @@ def judge_shards(program, layout, dice, rows, limit, symbols, numbers):
         if differs(f"{name}: counts", counts, ran.stdout.decode().splitlines(), ran):
             return False
         for place, it in enumerate(shards, 1):
-            it["symbols"] = [f"{symbol},{first},{last}" for symbol, first, last in it["symbols"]]
+            names = [it[0] for it in it["symbols"]]
+            it["symbols"] = [f"{symbol}{word and f' {word} {cut}'},{first},{last}" for symbol, first, last, *cuts in it["symbols"]
+                             for word, cut in (("", ""), ("from", cuts[0]), ("until", cuts[1])) if cut or not word]
             for end in ("changes", "times", "symbols"):
                 if differs(f"{name}: {place}.{end}", it[end], lines_of(f"{out}.{place}.{end}"), ran):
                     return False
             own = lines_of(f"{out}.{place}.toml")
-            wanted = setup_of(text, [line.split(",")[0] for line in it["symbols"]], it["opened"])
+            wanted = setup_of(text, names, it["opened"])
             if (tomllib.loads("\n".join(own)), own[:1]) != wanted:
                 print(f"{name}: {place}.toml: wanted {wanted}, got {own}"[:2000])
                 return False
@@ -436,11 +483,11 @@ TRADE_NAMES = ("Time|Exchange|Symbol|Sale Condition|Trade Volume|Trade Price|Tra
                "Trade Through Exempt Indicator").split("|")
 TRADE_COLUMNS = {"time": 0, "participant": 1, "symbol": 2, "condition": 3, "shares": 4, "price": 5, "skip": 7, "id": 9, "exempt": 14}
 # The letters of the flags, in the order in which they are written, and those that are reasons for an exemption.
-FLAGS = {"C": "CNR", "O": "O56", "I": "F", "J": "", "K": "4", "P": "1", "Q": "7", "E": "", "T": "TU", "Z": "LUZ"}
+FLAGS = {"C": "CNR", "O": "O56", "I": "F", "J": "", "K": "4BW", "P": "1", "Q": "7", "E": "", "T": "TU", "Z": "GLPUZ"}
 REASONS = "COIJKPQ"
-NOTHING = "@ ABDEGHIKMPQSVWXY89"
+NOTHING, NO_TRADE = "@ ADEHIKSVXY8", "MQ9"
 TRADE_CAUSES = ("too few columns", "bad name", "bad time", "unknown participant", "unknown symbol", "bad price", "bad shares", "unknown side",
-                "unknown condition", "unknown mark", "last line of a file", "word to skip", "other symbol")
+                "unknown condition", "unknown mark", "unknown word", "last line of a file", "word to skip", "no trade", "other symbol")
 TRADES = [
     Layout("trades", "taq-trades.toml", 40, TRADE_NAMES, TRADE_COLUMNS, none=(), names_of={"T": "Q", "D": ""}, end="END"),
     Layout("trades by row, in 1e-9 dollar, with sides", "taq-trades.toml", 30, TRADE_NAMES,
@@ -486,6 +533,10 @@ def trade_outcome(layout, number, row, parts, syms):
     it = {"id": str(number), "side": "", "exempt": "", **{what: row[place] for what, place in layout.columns.items()}}
     if it["skip"] in ("07", "08", "10", "11", "12"):
         return "word to skip"
+    if it["skip"] not in ("00", "01"):
+        return "unknown word"
+    if set(it["condition"]) & set(NO_TRADE):
+        return "no trade"
     if not re.fullmatch("[A-Za-z0-9._-]{1,32}", it["id"]):
         return "bad name"
     time = time_of(layout, it["time"])
@@ -519,7 +570,7 @@ def random_trade(layout, dice, parts, syms):
     millionths, digits = dice.randrange(1, 400000000), dice.randrange(7)
     text = f"{millionths // 1000000}.{millionths % 1000000:06}"
     right = {"dollars": text[:len(text) - 6 + digits].rstrip("."), "1e-4": str(millionths // 100), "1e-9": str(millionths * 1000)}[layout.unit]
-    condition = "".join(dice.choice(it) for it in ("@@@CNR", " F4O567", "  TULZ", " IXWVQ1"))
+    condition = "".join(dice.choice(it) for it in ("@@@CNR", " F4O567", "  TULZ", " IXWV19B"))
     it = {
         "id": maybe(str(dice.randrange(1, 10 ** dice.choice([1, 5, 20]))), ["", "a" * 32, "a" * 33, "1 2", "a,b", "A.b-c_9", "\u00e9"]),
         "time": maybe(*random_time(layout, dice)),
@@ -531,7 +582,7 @@ def random_trade(layout, dice, parts, syms):
         "side": maybe(dice.choice(["A", "B", "N", ""]), ["S", "BB", "a"]),
         "condition": maybe(condition, ["", "?", "@?", "F", "@F 4", "FTZ", "    ", "2", "\u00e9"], 20),
         "exempt": maybe(dice.choice("01X "), ["", "2", "Y", "11"], 40),
-        "skip": maybe("00", ["01", "07", "08", "10", "11", "12", ""], 30),
+        "skip": maybe("00", ["01", "07", "08", "10", "11", "12", "02", "13", ""], 30),
     }
     fields = [""] * len(layout.names)
     for what, place in layout.columns.items():
@@ -556,12 +607,12 @@ def judge_trades(program, layout, dice, rows):
             else:
                 records += it
         read = read_back(program, room, got["executions"])
-    skips = TRADE_CAUSES[-3:]
+    skips = TRADE_CAUSES[-4:]
     said = [f"{counts[why]} {'skipped' if why in skips else 'refused'}: {why}" for why in TRADE_CAUSES if why in counts]
     skipped = sum(counts.get(why, 0) for why in skips)
     said.append(f"{len(given)} rows = {len(records)} executions + {sum(counts.values()) - skipped} refused + {skipped} skipped")
-    clean = [f"CLEAN,{record.split(',')[1]},0" for record in records]
-    return are_same(layout, {"executions": records, "read": clean, "counts": said}, {**got, "read": read}, ran)
+    unquoted = [f"NOQUOTE,{record.split(',')[1]},0" for record in records]
+    return are_same(layout, {"executions": records, "read": unquoted, "counts": said}, {**got, "read": read}, ran)
 
 
 def read_back(program, room, records):

@@ -1,6 +1,6 @@
 #!/usr/bin/env python3
-"""Tests the library for other languages, as a part of the gate: its header against its archive, its four callers, a hostile
-caller, and its answers beside the program's.
+"""Tests the library for other languages, as a part of the gate: its header against its archive, its four callers, its wrappers,
+looks that run together, a hostile caller, and its answers beside the program's.
 
     tests/library.py PROGRAM        PROGRAM is nms_tool, which the gate has built
     NMS_OUT=FOLDER tests/library.py PROGRAM      takes libnms.a and libnms.so from there, and builds nothing
@@ -21,8 +21,8 @@ TOP = os.path.dirname(os.path.dirname(os.path.realpath(__file__)))
 MOST_BYTES = 300_000
 # Seconds that a program may take.
 MOST = 3600
-# The functions that count requests for memory come before the C library's own.
-WRAP = "-Wl," + ",".join(f"--wrap={it}" for it in ("malloc", "realloc", "calloc", "free"))
+# The functions that count requests for memory come before the C library's own, and that of another layout before the library's.
+WRAP = "-Wl," + ",".join(f"--wrap={it}" for it in ("malloc", "realloc", "calloc", "free", "nms_abi"))
 WARNINGS = ["-Wall", "-Wextra", "-Werror"]
 
 
@@ -131,15 +131,27 @@ class Library:
             status, said = run([nm, *flags, file])
             has = {it for kind, it in re.findall(r"\b([A-Z]) (\w+)", said) if kind == "T"}
             needs = {it for kind, it in re.findall(r"\b([A-Z]) (\w+)", said) if kind == "U"} - has
-            own = {it for it in has if not it.startswith("rattle_")}
-            check(f"{os.path.basename(file)} has the functions of nms.h, and no others", own == declared, sorted(own ^ declared))
+            # Those through which the toolchain asks for memory, which a shared object does not show.
+            more = {"rattle_alloc", "rattle_realloc", "rattle_dealloc"} if file == self.archive else set()
+            wanted = declared | more
+            check(f"{os.path.basename(file)} has the functions of nms.h, and no others", has == wanted, sorted(has ^ wanted))
             wanted = {"malloc", "realloc", "free", "memcpy", "memmove", "memset", "memcmp", "bcmp"}
             # A division of 128 bits, which every linker of C has from its compiler.
             wanted |= {"__udivti3"} if file == self.archive else set()
             check(f"{os.path.basename(file)} needs the C library alone", needs <= wanted, sorted(needs - wanted))
+        if self.cc:
+            words = [self.cc, "-shared", "-Wl,-z,defs", "-Wl,--whole-archive", self.archive, "-Wl,--no-whole-archive"]
+            built("the archive goes into a shared object", [*words, "-o", f"{self.room}/plugin.so"])
 
     def header(self):
-        """The header's own assertions in C and in C++, and its structs beside what the library reads and writes."""
+        """The header's own assertions in C and in C++, its structs beside what the library reads and writes, and the locks."""
+        with open(f"{TOP}/include/nms.h", encoding="utf-8") as file:
+            calls = re.findall(r"/\*((?:(?!\*/).)*)\*/\nstatic inline uint32_t (nms_\w+)\(([^)]*)\)", file.read(), re.S)
+        for comment, name, arguments in calls:
+            stores = re.search(r"(?<!const )nms_board \*", arguments)
+            check(f"{name} says which lock it needs", bool(stores) == ("exclusive lock" in comment), comment)
+        looks = [name for _, name, arguments in calls if "const nms_board *" in arguments]
+        check("nms.h has 24 calls, and 13 are looks", (len(calls), len(looks)) == (24, 13), looks)
         if not self.cc:
             skip("the header in C", "C compiler")
             return
@@ -154,6 +166,51 @@ class Library:
             words = [self.cxx, f"-std={standard}", *WARNINGS, "-pedantic", "-I", f"{TOP}/include", f"{self.room}/header.cpp", self.archive]
             if built(f"the header is taken as {standard}", [*words, "-o", f"{self.room}/header"]):
                 check("a program of C++ is of the library's layout", run([f"{self.room}/header"])[0] == 0)
+
+    def stacks(self):
+        """The stack of each call beside what the header says, in KiB."""
+        if not self.cc:
+            skip("the stack of each call", "C compiler")
+            return
+        with open(f"{TOP}/include/nms.h", encoding="utf-8") as file:
+            header = file.read()
+        calls = {f"nms_{it}" for it in re.findall(r"^uint32_t nms_raw_(\w+)\(", header, re.M)}
+        table = re.search(r"^ \*   Stack that a call needs, in KiB.*\n((?: \*     .*\n)+)", header, re.M)
+        said = {name: 1024 * int(size) for name, size in re.findall(r"(nms_\w+|any other call) (\d+)", table[1] if table else "")}
+        least = 1024 * int((re.findall(r"take (\d+) for a text that is a setup", header) or [0])[0])
+        if not built("tests/stack.c is built", self.c("tests/stack.c", "stack", "-O1", "-pedantic")):
+            return
+        status, came = run([f"{self.room}/stack", f"{TOP}/examples/builtin.toml"])
+        rows = re.findall(r"^(nms_\w+) (\d+)$", came, re.M)
+        setups = {f"{name}_of_a_setup" for name in ("nms_open", "nms_setup_place")}
+        check("the stack of each call is measured", status == 0 and {name for name, _ in rows} == calls | setups, came[-500:])
+        for name, size in rows:
+            most = least if name in setups else said.get(name, said.get("any other call", 0))
+            check(f"the stack of {name}", int(size) <= most, f"{size} bytes, and not {most} at most")
+
+    def readers(self):
+        """Looks by four threads beside a writer."""
+        setup = f"{TOP}/examples/builtin.toml"
+        if not self.cc:
+            skip("looks that run together", "C compiler")
+        elif built("tests/readers.c is built", self.c("tests/readers.c", "readers", "-O1", "-pedantic", "-pthread")):
+            counted("looks that run together", [f"{self.room}/readers", setup])
+            if tool("valgrind"):
+                words = ["valgrind", "-q", "--tool=helgrind", "--error-exitcode=99"]
+                counted("looks that run together, under helgrind", [*words, f"{self.room}/readers", setup, "60"])
+            else:
+                skip("looks that run together, under helgrind", "valgrind")
+
+    def wrappers(self):
+        """The wrappers' own tests: wrong arguments, and what an error names."""
+        setup = f"{TOP}/examples/builtin.toml"
+        if not self.cxx:
+            skip("the class in C++", "C++ compiler")
+        else:
+            words = [self.cxx, "-std=c++17", *WARNINGS, "-pedantic", "-I", f"{TOP}/include", f"{TOP}/tests/owner.cpp", self.archive]
+            if built("tests/owner.cpp is built", [*words, "-Wl,--wrap=nms_abi", "-o", f"{self.room}/owner"]):
+                counted("the class in C++", [f"{self.room}/owner", setup])
+        counted("the module in Python", [sys.executable, f"{TOP}/tests/wrapper.py", setup], env={**os.environ, "NMS_LIBRARY": self.shared})
 
     def callers(self, program):
         """Each caller, with what it must print."""
@@ -248,6 +305,9 @@ def main(program):
         if library.make():
             library.link()
             library.header()
+            library.stacks()
+            library.readers()
+            library.wrappers()
             library.callers(program)
             library.page(program)
             library.hostile()

@@ -381,8 +381,8 @@ class Room:
         os.mkfifo(self.path(name))
         return self.path(name)
 
-    def start(self, *words, stdin=subprocess.DEVNULL, stdout=subprocess.PIPE, **how):
-        return subprocess.Popen([self.program, *words], stdin=stdin, stdout=stdout, stderr=subprocess.PIPE, **how)
+    def start(self, *words, stdin=subprocess.DEVNULL, stdout=subprocess.PIPE, stderr=subprocess.PIPE, **how):
+        return subprocess.Popen([self.program, *words], stdin=stdin, stdout=stdout, stderr=stderr, **how)
 
     def drop(self):
         shutil.rmtree(self.folder)
@@ -435,7 +435,7 @@ def run_at_random(seed, program, tool, is_short=False):
     kinds = {name.encode(): letter for name, letter in drawn.parts.items()}
     good &= check(f"{what}: the tape is a merge of the feeds", is_merge(changes, drawn.said, lambda line: "A" if line.startswith(b"R") else kinds[line.split(b",")[1]]))
     for letter in drawn.texts:
-        line = f"nms_serve: feed {letter}: {drawn.read[letter]} records, {drawn.refused[letter]} refused\n"
+        line = f"nms_serve: feed {letter}: ended: {drawn.read[letter]} records, {drawn.refused[letter]} refused\n"
         good &= check(f"{what}: the summary of feed {letter}", line in errors, (line, errors[-600:]))
     good &= replay(what, tool, setup, tape, [(b"".join(caller.lines), caller.answers) for caller in callers])
     if good:
@@ -452,6 +452,8 @@ desks = 2
 participant = [{name = "N", feed = "A", fee = 0, rate = 0}, {name = "Y", feed = "B", fee = 0, rate = 0}]
 symbol = [{name = "ABC", lot = 100}]
 """
+# Why a path could not be opened or written.
+NO_FILE, DISK_FULL = "No such file or directory (os error 2)", "No space left on device (os error 28)"
 GOOD = b"Q,N,ABC,A,9.99,100,10.01,100\n"
 OTHER = b"Q,N,ABC,A,9.98,100,10.02,200\n"
 
@@ -473,10 +475,10 @@ class Failing:
         return ["--setup", self.setup, "--tape", self.tape, "--feed", f"A={feed_a}", "--feed", f"B={feed_b}", *more]
 
     def ends(self, started, status, said, most=MOST):
-        """Whether a run ends with this status, and its last line on standard error is as it has to be."""
+        """Whether a run ends with this status, and its only fault on standard error is as it has to be."""
         got, _, errors = end_of(self.what, started, most)
-        last = errors.rstrip("\n").split("\n")[-1]
-        return check(self.what, (got, last) == (status, f"nms_serve: {said}"), (got, errors[-400:]))
+        faults = [line for line in errors.split("\n") if re.match(r"nms_serve: ([A-Z]\d|usage)\b", line)]
+        return check(self.what, (got, faults) == (status, [f"nms_serve: {said}"]), (got, errors[-400:]))
 
     def tape_is(self, wanted):
         with open(self.tape, "rb") as file:
@@ -511,10 +513,11 @@ def refused_words(program, tool):
             it.ends(it.room.start("--setup", it.setup, "--tape", "t", *words, cwd=it.room.folder), 2, f"usage: {said}")
     with Failing(program, tool, "a tape with something in it") as it:
         it.room.write("tape", "Q\n")
-        it.ends(it.room.start(*it.words("/dev/null")), 2, "usage: there is something in the tape's file, or in FILE.published or FILE.1, already")
+        it.ends(it.room.start(*it.words("/dev/null")), 2, f"usage: a file of the tape is there already: {it.tape}")
         it.tape_is(b"Q\n")
     with Failing(program, tool, "no setup") as it:
-        it.ends(it.room.start("--setup", it.room.path("none"), "--tape", it.tape, "--feed", "A=a"), 1, "E1: the setup could not be read")
+        none = it.room.path("none")
+        it.ends(it.room.start("--setup", none, "--tape", it.tape, "--feed", "A=a"), 1, f"E1: the setup could not be read: {none}: {NO_FILE}")
 
 
 def failing_paths(program, tool):
@@ -522,22 +525,27 @@ def failing_paths(program, tool):
     with Failing(program, tool, "a feed that is not there") as it:
         fifos = [it.room.fifo(name) for name in ("b", "in", "out")]
         more = ["--client", ",".join(fifos[1:])]
-        it.ends(it.room.start(*it.words(it.room.path("none"), fifos[0], *more)), 1, "E1: feed A could not be opened")
+        none = it.room.path("none")
+        it.ends(it.room.start(*it.words(none, fifos[0], *more)), 1, f"E1: feed A could not be opened: {none}: {NO_FILE}")
     with Failing(program, tool, "a feed that is a folder") as it:
-        it.ends(it.room.start(*it.words(it.room.folder, it.room.fifo("b")), stdin=subprocess.PIPE), 1, "E1: feed A could not be read")
+        it.ends(it.room.start(*it.words(it.room.folder, it.room.fifo("b")), stdin=subprocess.PIPE), 1, f"E1: feed A could not be read: {it.room.folder}: Is a directory (os error 21)")
     with Failing(program, tool, "a folder of answers that is not there") as it:
-        more = ["--client", f"{it.room.fifo('in')},{it.room.path('none/out')}"]
-        it.ends(it.room.start(*it.words(it.room.fifo("a"), it.room.fifo("b"), *more)), 1, "E1: the answers to client 1 could not be opened")
+        more = ["--client", f"{it.room.fifo('in')},{(out := it.room.path('none/out'))}"]
+        said = f"E1: the answers to client 1 could not be opened: {out}: {NO_FILE}"
+        it.ends(it.room.start(*it.words(it.room.fifo("a"), it.room.fifo("b"), *more)), 1, said)
     with Failing(program, tool, "a full disk for the tape") as it:
         os.symlink("/dev/full", it.tape)
-        it.ends(it.room.start(*it.words(it.room.write("a", GOOD), it.room.fifo("b")), stdin=subprocess.PIPE), 1, "E2: the tape could not be written")
+        said = f"E2: the tape could not be written: {it.tape}: {DISK_FULL}"
+        it.ends(it.room.start(*it.words(it.room.write("a", GOOD), it.room.fifo("b")), stdin=subprocess.PIPE), 1, said)
     with Failing(program, tool, "a full disk for the lengths") as it:
         os.symlink("/dev/full", f"{it.tape}.published")
-        it.ends(it.room.start(*it.words(it.room.write("a", GOOD), it.room.fifo("b")), stdin=subprocess.PIPE), 1, "E2: the file of published lengths could not be written")
+        said = f"E2: the file of published lengths could not be written: {it.tape}.published: {DISK_FULL}"
+        it.ends(it.room.start(*it.words(it.room.write("a", GOOD), it.room.fifo("b")), stdin=subprocess.PIPE), 1, said)
         it.tape_is(GOOD.replace(b"9.99", b"9.9900").replace(b"10.01", b"10.0100"))
     with Failing(program, tool, "a full disk for the answers") as it:
         more = ["--client", f"{it.room.write('in', 'N,0,ABC' + chr(10))},/dev/full"]
-        it.ends(it.room.start(*it.words(it.room.fifo("a"), it.room.fifo("b"), *more)), 1, "E2: the answers to client 1 could not be written")
+        said = f"E2: the answers to client 1 could not be written: /dev/full: {DISK_FULL}"
+        it.ends(it.room.start(*it.words(it.room.fifo("a"), it.room.fifo("b"), *more)), 1, said)
     with Failing(program, tool, "a reader of answers that left") as it:
         reader, writer = os.pipe()
         started = it.room.start(*it.words(it.room.fifo("a"), it.room.fifo("b")), stdin=subprocess.PIPE, stdout=writer)
@@ -545,7 +553,7 @@ def failing_paths(program, tool):
         os.close(reader)
         started.stdin.write(b"N,0,ABC\n")
         started.stdin.flush()
-        it.ends(started, 1, "E2: the answers to client 1 could not be written")
+        it.ends(started, 1, "E2: the answers to client 1 could not be written: standard output: Broken pipe (os error 32)")
     with Failing(program, tool, "a reader that reads no answers, and a fault elsewhere") as it:
         reader, writer = os.pipe()
         started = it.room.start(*it.words(fifo := it.room.fifo("a"), it.room.fifo("b"), "--strict"), stdin=subprocess.PIPE, stdout=writer)
@@ -569,13 +577,22 @@ def bytes_of(path):
 def full_tape(program, tool):
     """A tape that is full: the next epoch goes on in files of its own, which have to be empty."""
     with Failing(program, tool, "a tape without room for epochs", SETUP.replace("1000000", "9")) as it:
-        said = "E6: tape_limit has no room for twice the most opening changes: 2 a participant and 1, for each symbol"
+        said = "E6: tape_limit has to be 10 at least: twice the most opening changes, 2 a participant and 1, for each symbol"
         it.ends(it.room.start(*it.words("/dev/null")), 3, said)
         check(f"{it.what}: no file is made", not os.path.exists(it.tape))
-    for name in ("tape.1", "tape.1.published"):
-        with Failing(program, tool, f"{name} with something in it", SHORT) as it:
-            it.room.write(name, "Q\n")
-            it.ends(it.room.start(*it.words("/dev/null")), 2, "usage: there is something in the tape's file, or in FILE.published or FILE.1, already")
+    for name in ("tape", "tape.published", "tape.1", "tape.1.published", "tape.2", "tape.7.published", "tape.4294967295"):
+        for text in ("Q\n", ""):
+            with Failing(program, tool, f"{name} that is there, with {len(text)} bytes", SHORT) as it:
+                there = it.room.write(name, text)
+                it.ends(it.room.start(*it.words("/dev/null")), 2, f"usage: a file of the tape is there already: {there}")
+                check(f"{it.what}: no file is made", sorted(os.listdir(it.room.folder)) == sorted(["setup.toml", name]))
+                words = it.words("/dev/null")
+                words[3] = "tape"
+                it.ends(it.room.start(*words, cwd=it.room.folder), 2, f"usage: a file of the tape is there already: {name}")
+    with Failing(program, tool, "files that are none of the tape's", SHORT) as it:
+        for name in ("tape.", "tape..published", "tape.1.publishe", "tape.1x", "tape.-1", "tapes", "tap", "1.tape", "tape.published.1", b"tape.\xff"):
+            it.room.write(name, "Q\n") if isinstance(name, str) else open(os.path.join(it.room.folder.encode(), name), "wb").close()
+        Heard(it.room.start(*it.words("/dev/null"))).ends(it.what, 0)
     for count, last in ((10, 0), (11, 1), (18, 1), (19, 2)):
         with Failing(program, tool, f"{count} changes on tapes of 10", SHORT) as it:
             # Two sides of one participant stand with two receipts: the second epoch begins with two opening changes.
@@ -589,16 +606,21 @@ def full_tape(program, tool):
         ("tape.2", "E2: there is something in the tape of the next epoch already"),
         ("tape.2.published", "E2: there is something in the file of published lengths of the next epoch already"),
     ):
-        with Failing(program, tool, f"{name} with something in it", SHORT) as it:
-            it.room.write(name, "Q\n")
-            feed = it.room.write("a", (GOOD + OTHER) * 20)
-            it.ends(it.room.start(*it.words(feed, it.room.fifo("b")), stdin=subprocess.PIPE), 1, said)
+        with Failing(program, tool, f"{name} that comes while the run goes on", SHORT) as it:
+            started = it.room.start(*it.words(fifo := it.room.fifo("a"), it.room.fifo("b")), stdin=subprocess.PIPE)
+            with open(fifo, "wb", buffering=0) as feed:
+                feed.write(GOOD)
+                check(f"{it.what}: it serves", seen(started, 1))
+                there = it.room.write(name, "")
+                feed.write((OTHER + GOOD) * 20)
+                it.ends(started, 1, f"{said}: {there}")
             counts = [text.count(b"\n") for text in map(bytes_of, (it.tape, f"{it.tape}.1"))]
             check(f"{it.what}: the tapes before it are whole", counts == [10, 10], counts)
-    for name, said in (("tape.1", "E2: the tape could not be written"), ("tape.1.published", "E2: the file of published lengths could not be written")):
+    for name, said in (("tape.1", "the tape"), ("tape.1.published", "the file of published lengths")):
         with Failing(program, tool, f"a full disk for {name}", SHORT) as it:
             os.symlink("/dev/full", it.room.path(name))
             feed = it.room.write("a", (GOOD + OTHER) * 20)
+            said = f"E2: {said} could not be written: {it.room.path(name)}: {DISK_FULL}"
             it.ends(it.room.start(*it.words(feed, it.room.fifo("b")), stdin=subprocess.PIPE), 1, said)
 
 
@@ -662,16 +684,22 @@ def refused_records(program, tool):
         started, began = it.room.start(*it.words(feed)), time.monotonic()
         status, _, errors = end_of(it.what, started)
         seconds, lines = time.monotonic() - began, errors.split("\n")
-        reports = [line for line in lines if re.fullmatch(r"nms_serve: A:\d+: L[13]", line)]
-        check(it.what, status == 6 and "nms_serve: feed A: 60000 records, 40000 refused" in lines, (status, errors[-300:]))
-        check(f"{it.what}: the first is reported", reports[:1] == ["nms_serve: A:1: L3"], reports[:3])
+        reports = [line for line in lines if re.fullmatch(r"nms_serve: A:\d+: (L3: Q,NONE,ABC,A,1,1,1,1|L1: \?)", line)]
+        check(it.what, status == 6 and "nms_serve: feed A: ended: 60000 records, 40000 refused" in lines, (status, errors[-300:]))
+        check(f"{it.what}: the first is reported", reports[:1] == ["nms_serve: A:1: L3: Q,NONE,ABC,A,1,1,1,1"], reports[:3])
         check(f"{it.what}: at most 10 a second", len(reports) <= 10 * (seconds + 2), (len(reports), seconds))
     with Failing(program, tool, "a million refused records") as it:
         status, _, errors = end_of(it.what, it.room.start(*it.words(it.room.write("a", b"?\n" * 1_000_000))))
-        check(it.what, status == 6 and "nms_serve: feed A: 1000000 records, 1000000 refused\n" in errors, (status, errors[-300:]))
+        check(it.what, status == 6 and "nms_serve: feed A: ended: 1000000 records, 1000000 refused\n" in errors, (status, errors[-300:]))
     with Failing(program, tool, "a refused record of a strict run") as it:
         feed = it.room.write("a", GOOD + b"Q,Y,ABC,A,1,1,1,1\n" + OTHER)
         it.ends(it.room.start(*it.words(feed, it.room.fifo("b"), "--strict"), stdin=subprocess.PIPE), 6, "E5: A:2: L9")
+    shown = ((b"?", "L1: ?"), (b"S,N,ABC,\x1b[2J", "L5: S,N,ABC,\\x1b[2J"), (b"X,N," + b"9" * 300, "L2: X,N," + "9" * 196 + ".."), (b"X,N," + b"9" * 196, "L2: X,N," + "9" * 196))
+    with Failing(program, tool, "the lines of refused records") as it:
+        heard = Heard(it.room.start(*it.words(it.room.write("a", b"".join(line + b"\n" for line, _ in shown)))))
+        heard.ends(it.what, 6)
+        told = [line for line in heard.lines if line.startswith("A:")]
+        check(it.what, told == [f"A:{number}: {said}" for number, (_, said) in enumerate(shown, 1)], told)
     with Failing(program, tool, "two faults of one record") as it:
         feed = it.room.write("a", GOOD + b"Q,Y,ABC,A,1.00001,1,1,1\n")
         it.ends(it.room.start(*it.words(feed, it.room.fifo("b"), "--strict"), stdin=subprocess.PIPE), 6, "E5: A:2: L6")
@@ -692,7 +720,7 @@ ASKED = (
 def fixed_requests(program, tool):
     """Requests of each kind to one version, in one epoch, and lines that are none."""
     with Failing(program, tool, "requests to one version") as it:
-        asks, out = it.room.write("in", b"".join(asked + b"\n" for asked, _ in ASKED)), it.room.path("out")
+        asks, out = it.room.write("in", b"".join(asked + b"\n" for asked, _ in ASKED)), it.room.write("out", b"")
         started = it.room.start(*it.words(it.room.write("a", GOOD), "/dev/null", "--wait", "--client", f"{asks},{out}"))
         Heard(started).ends(it.what, 0)
         lines = bytes_of(out).splitlines(keepends=True)
@@ -794,7 +822,7 @@ def held_requests(program, tool):
         Heard(started).ends(it.what, 6)
     with Failing(program, tool, "held requests, and feeds without changes") as it:
         asks = it.room.write("in", b"N,0,ABC\n")
-        started = it.room.start(*it.words("/dev/null", "/dev/null", "--wait", "--client", f"{asks},{it.room.path('out')}"))
+        started = it.room.start(*it.words("/dev/null", "/dev/null", "--wait", "--client", f"{asks},{it.room.write('out', b'')}"))
         Heard(started).ends(it.what, 0)
         with open(it.room.path("out"), "rb") as file:
             answer = file.read()
@@ -802,7 +830,7 @@ def held_requests(program, tool):
     for turn in range(5):
         with Failing(program, tool, f"held requests, and a feed at full speed, turn {turn}") as it:
             feed, asks = it.room.write("a", (GOOD + OTHER) * 40_000), it.room.write("in", b"N,0,ABC\n")
-            fifo, out = it.room.fifo("b"), it.room.path("out")
+            fifo, out = it.room.fifo("b"), it.room.write("out", b"")
             started = it.room.start(*it.words(feed, fifo, "--wait", "--client", f"{asks},{out}"))
             time.sleep(0.01 * turn)
             with open(fifo, "wb", buffering=0) as other:
@@ -834,7 +862,7 @@ def silent_feeds(program, tool):
             check(f"{it.what}: one that says no more", heard.has("feed A: silent for 1 s"), heard.lines)
             check(f"{it.what}: in time", 0.9 < time.monotonic() - began < 6, time.monotonic() - began)
             time.sleep(1.3)
-            check(f"{it.what}: once", len(heard.lines) == 2, heard.lines)
+            check(f"{it.what}: once", sorted(heard.lines) == ["feed A: silent for 1 s", "feed B: silent for 1 s", "serving"], heard.lines)
             feed.write(b"?\n")
             check(f"{it.what}: a refused record breaks a silence", heard.has("feed A: speaks again"), heard.lines)
             check(f"{it.what}: the next silence", heard.has("feed A: silent for 1 s", 2), heard.lines)
@@ -882,6 +910,179 @@ def opened(fifo, most=60):
     return None
 
 
+def closed_streams(program, tool):
+    """With a standard stream closed, no message and no answer goes into the tape or into the lengths."""
+    line = b"Q,N,ABC,A,9.9900,100,10.0100,100\n"
+    for closed in ("2>&-", "1>&-", "1>&- 2>&-", "0<&-", "0<&- 1>&- 2>&-"):
+        for more in ([], ["--stale", "1"]):
+            with Failing(program, tool, f"a run with {closed} {more}") as it:
+                words = it.words(it.room.write("a", b"bad\n" + GOOD), it.room.write("b", b""), *more)
+                asks = it.room.write("asks", b"N,0,ABC\n" * 9)
+                with open(asks, "rb") as stdin:
+                    started = subprocess.Popen(["sh", "-c", f'exec "$@" {closed}', "sh", program, *words], stdin=stdin, stdout=subprocess.PIPE, stderr=subprocess.PIPE)
+                    status, _, errors = end_of(it.what, started)
+                check(f"{it.what}: its status", status == 6, (status, errors))
+                it.tape_is(line)
+                check(f"{it.what}: the lengths", bytes_of(f"{it.tape}.published") == b"1\n", bytes_of(f"{it.tape}.published"))
+
+
+def shared_tapes(program, tool):
+    """No two runs have one tape."""
+    with Failing(program, tool, "a second run on the tape of the first") as it:
+        fifo = it.room.fifo("a")
+        started = it.room.start(*it.words(fifo), stdin=subprocess.PIPE)
+        heard = Heard(started)
+        check(f"{it.what}: the first serves", heard.has("serving"), heard.lines)
+        it.ends(it.room.start(*it.words(it.room.write("c", OTHER))), 2, f"usage: a file of the tape is there already: {it.tape}.published")
+        with open(fifo, "wb", buffering=0) as feed:
+            feed.write(GOOD)
+        started.stdin.close()
+        heard.ends(it.what, 0)
+        it.tape_is(stood(GOOD))
+    for turn in range(10):
+        with Failing(program, tool, f"two runs that begin at once, turn {turn}") as it:
+            runs = [it.room.start(*it.words(it.room.write(name, line * 50))) for name, line in (("a", GOOD), ("c", OTHER))]
+            ends = [end_of(it.what, run) for run in runs]
+            statuses = [status for status, _, _ in ends]
+            check(f"{it.what}: one is refused", sorted(statuses) == [0, 2], ends)
+            check(f"{it.what}: it names the file", any(f"usage: a file of the tape is there already: {it.tape}" in errors for _, _, errors in ends), ends)
+            it.tape_is(stood((GOOD, OTHER)[statuses.index(0)]) * 50 if 0 in statuses else b"")
+
+
+def one_file(program, tool):
+    """Two words of a call never name one file, however it is spelled; a device may be named twice. Answers make no file."""
+    def refused(what, first, second, *words, make=()):
+        with Failing(program, tool, what) as it:
+            for name, how in make:
+                how(it, name)
+            before = sorted(os.listdir(it.room.folder))
+            it.ends(it.room.start("--setup", it.setup, *words, cwd=it.room.folder), 2, f"usage: two paths name one file: {first}: {second}")
+            check(f"{it.what}: no file is made", sorted(os.listdir(it.room.folder)) == before)
+
+    file, fifo = lambda it, name: it.room.write(name, GOOD), lambda it, name: it.room.fifo(name)
+    link = lambda it, name: os.link(it.room.path("a"), it.room.path(name))
+    soft = lambda it, name: os.symlink("a", it.room.path(name))
+    feeds = ["--tape", "t", "--feed", "A=a", "--feed", "B=/dev/null"]
+    refused("answers into a feed's file", "a", "./a", *feeds, "--client", "i,./a", make=[("a", file), ("i", file)])
+    refused("answers into the file of the requests", "i", "./i", *feeds, "--client", "i,./i", make=[("a", file), ("i", file)])
+    refused("answers into a hard link of a feed's file", "a", "o", *feeds, "--client", "i,o", make=[("a", file), ("i", file), ("o", link)])
+    refused("requests from a link to a feed", "a", "i", *feeds, "--client", "i,/dev/null", make=[("a", fifo), ("i", soft)])
+    refused("two feeds on one FIFO", "a", "./a", *feeds[:4], "--feed", "B=./a", make=[("a", fifo)])
+    refused("a tape into a feed's FIFO", "a", "./a", "--tape", "./a", *feeds[2:], make=[("a", fifo)])
+    refused("a tape into the FIFO of the answers", "o", "t", *feeds, "--client", "i,o", make=[("a", file), ("i", file), ("o", fifo), ("t", lambda it, name: os.symlink("o", it.room.path(name)))])
+    for name in ("t", "./t", "t.published", "answres"):
+        with Failing(program, tool, f"answers to {name}, which is not there") as it:
+            it.room.write("i", b"N,0,ABC\n")
+            words = ["--setup", it.setup, "--tape", "t" if name != "t" else "./t", "--feed", f"A={it.room.write('a', GOOD)}", "--feed", "B=/dev/null", "--client", f"i,{name}"]
+            it.ends(it.room.start(*words, cwd=it.room.folder), 1, f"E1: the answers to client 1 could not be opened: {name}: {NO_FILE}")
+            check(f"{it.what}: no file is made", sorted(os.listdir(it.room.folder)) == ["a", "i", "setup.toml"])
+    with Failing(program, tool, "a feed's file that is the tape") as it:
+        feed = it.room.write("a", b"")
+        it.ends(it.room.start("--setup", it.setup, "--tape", feed, "--feed", f"A={feed}", "--feed", "B=/dev/null"), 2, f"usage: a file of the tape is there already: {feed}")
+        check(f"{it.what}: it stays", bytes_of(feed) == b"")
+    with Failing(program, tool, "devices that are named twice") as it:
+        Heard(it.room.start(*it.words("/dev/null", "/dev/null", "--client", "/dev/null,/dev/null"))).ends(it.what, 0)
+
+
+def unread_errors(program, tool):
+    """A standard error that nobody reads stops no feed, no client and no end."""
+    for what, text, more, status in (("bad records", b"?\n" + GOOD, [], 6), ("silences", GOOD, ["--stale", "1"], 0), ("a fault", GOOD, ["--strict"], 6)):
+        with Failing(program, tool, f"unread errors, and {what}") as it:
+            reader, writer = os.pipe()
+            os.set_blocking(writer, False)
+            with contextlib.suppress(BlockingIOError):
+                while os.write(writer, b"." * 4096):
+                    pass
+            os.set_blocking(writer, True)
+            fifos = it.room.fifo("a"), it.room.fifo("b")
+            started = it.room.start(*it.words(*fifos, *more), stdin=subprocess.PIPE, stderr=writer)
+            os.close(writer)
+            with open(fifos[0], "wb", buffering=0) as feed, open(fifos[1], "wb", buffering=0) as other:
+                feed.write(text)
+                check(f"{it.what}: the feed goes on", seen(started, 1))
+                if more == ["--stale", "1"]:
+                    time.sleep(1.5)
+                feed.write(b"?\n" * 2000 if status else OTHER)
+                other.write(FROM_B)
+                if "--strict" not in more:
+                    check(f"{it.what}: the other feed goes on", seen(started, 2 if status else 3))
+                    started.stdin.close()
+                if "--strict" in more:
+                    check(f"{it.what}: it ends", ended(started) == status, started.returncode)
+            if "--strict" not in more:
+                check(f"{it.what}: it ends", ended(started) == status, started.returncode)
+            os.close(reader)
+
+
+def ended(started):
+    """The status of a run that ends by itself; None if it does not."""
+    try:
+        return started.wait(MOST)
+    except subprocess.TimeoutExpired:
+        started.kill()
+        return None
+
+
+def told_at_once(program, tool):
+    """A feed's end and a fault are reported when they happen; after a fault the process ends, whatever can't be woken."""
+    with Failing(program, tool, "a feed that ends while the run goes on") as it:
+        fifo = it.room.fifo("a")
+        started = it.room.start(*it.words(fifo, it.room.fifo("b")), stdin=subprocess.PIPE)
+        heard = Heard(started)
+        check(f"{it.what}: that it serves", heard.has("serving"), heard.lines)
+        with open(fifo, "wb", buffering=0) as feed:
+            feed.write(GOOD)
+        check(it.what, heard.has("feed A: ended: 1 records, 0 refused"), heard.lines)
+        check(f"{it.what}: the run goes on", started.poll() is None and seen(started, 1))
+        open(it.room.path("b"), "wb").close()
+        started.stdin.close()
+        heard.ends(it.what, 0)
+    for how in ("removed", "made again"):
+        with Failing(program, tool, f"a FIFO that is {how} while its writer is idle, and a fault elsewhere") as it:
+            fifos = it.room.fifo("a"), it.room.fifo("b")
+            started = it.room.start(*it.words(*fifos, "--strict"), stdin=subprocess.PIPE)
+            heard = Heard(started)
+            with open(fifos[0], "wb", buffering=0) as idle, open(fifos[1], "wb", buffering=0) as other:
+                idle.write(GOOD)
+                check(f"{it.what}: it is read", seen(started, 1))
+                os.remove(fifos[0])
+                if how == "made again":
+                    it.room.fifo("a")
+                other.write(b"?\n")
+                check(f"{it.what}: the fault is told", heard.has("E5: B:1: L1"), heard.lines)
+                check(f"{it.what}: it ends", ended(started) == 6, started.returncode)
+    with Failing(program, tool, "a FIFO that is removed before its first writer, and a fault elsewhere") as it:
+        fifos = it.room.fifo("a"), it.room.fifo("b")
+        started = it.room.start(*it.words(*fifos, "--strict"), stdin=subprocess.PIPE)
+        heard = Heard(started)
+        check(f"{it.what}: it serves", heard.has("serving"), heard.lines)
+        time.sleep(0.2)
+        os.remove(fifos[0])
+        with open(fifos[1], "wb", buffering=0) as other:
+            other.write(b"?\n")
+        check(f"{it.what}: it ends", ended(started) == 6, started.returncode)
+    for most in range(6, 16):
+        with Failing(program, tool, f"{most} descriptors") as it:
+            words = it.words(it.room.fifo("a"), it.room.fifo("b"), *(more for number in "12" for more in ("--client", f"{it.room.fifo('in' + number)},{it.room.fifo('out' + number)}")))
+            limit = lambda: resource.setrlimit(resource.RLIMIT_NOFILE, (most, most))
+            started = it.room.start(*words, preexec_fn=limit)
+            heard = Heard(started)
+            until = time.monotonic() + 5
+            while started.poll() is None and "serving" not in heard.lines and time.monotonic() < until:
+                time.sleep(0.01)
+            time.sleep(0.3)
+            if started.poll() is None and not any(line.startswith("E1: ") for line in heard.lines):
+                # All paths are open or wait, with no descriptor left to wake them.
+                with open(it.room.path("a"), "wb", buffering=0):
+                    started.terminate()
+                    started.wait(MOST)
+                continue
+            check(f"{it.what}: it ends", ended(started) == 1, started.returncode)
+            heard.join(10)
+            faults = [line for line in heard.lines if line.startswith("E")]
+            check(f"{it.what}: its fault", len(faults) == 1 and faults[0].startswith("E1: ") and faults[0].endswith("Too many open files (os error 24)"), heard.lines)
+
+
 def kept_feeds(program, tool):
     """With --keep a FIFO waits for its next writer, until its writer has left and all clients have ended."""
     with Failing(program, tool, "a kept feed") as it:
@@ -890,7 +1091,8 @@ def kept_feeds(program, tool):
         heard = Heard(started)
         with open(fifo, "wb", buffering=0) as feed:
             feed.write(GOOD + OTHER[:-9])
-        check(f"{it.what}: a half line is refused as its writer leaves", heard.has("A:2: L1"), heard.lines)
+        check(f"{it.what}: a half line is refused as its writer leaves", heard.has("A:2: L1: ?"), heard.lines)
+        check(f"{it.what}: it is reported that it left", heard.has("feed A: its writer has left: 2 records, 1 refused"), heard.lines)
         with open(fifo, "wb", buffering=0) as feed:
             feed.write(OTHER)
             check(f"{it.what}: the next writer's first line", seen(started, 2))
@@ -900,7 +1102,7 @@ def kept_feeds(program, tool):
         check(f"{it.what}: writers that come and go", seen(started, 202))
         started.stdin.close()
         heard.ends(it.what, 6)
-        check(f"{it.what}: its summary", "feed A: 203 records, 1 refused" in heard.lines, heard.lines)
+        check(f"{it.what}: its summary", "feed A: ended: 203 records, 1 refused" in heard.lines, heard.lines)
         it.tape_is(b"".join(stood(line) for line in [GOOD, OTHER] + [GOOD] * 200))
     with Failing(program, tool, "a kept feed that is removed and made again") as it:
         fifo = it.room.fifo("a")
@@ -924,7 +1126,7 @@ def kept_feeds(program, tool):
         check(f"{it.what}: the last is waited for", started.poll() is None)
         started.stdin.close()
         heard.ends(it.what, 0)
-        check(f"{it.what}: its summary", f"feed A: {sent} records, 0 refused" in heard.lines, heard.lines)
+        check(f"{it.what}: its summary", f"feed A: ended: {sent} records, 0 refused" in heard.lines, heard.lines)
     for turn in range(20):
         with Failing(program, tool, f"a kept feed that is removed as it is opened, turn {turn}") as it:
             fifo = it.room.fifo("a")
@@ -960,12 +1162,14 @@ def kept_feeds(program, tool):
         Heard(started).ends(it.what, 0)
     for what, text, status, said in (
         ("a half line of a kept feed, strict", GOOD + OTHER[:-9], 6, "E5: A:2: L1"),
-        ("a kept feed that waits, and a next tape that is not empty", (GOOD + OTHER) * 20, 1, "E2: there is something in the tape of the next epoch already"),
+        ("a kept feed that waits, and a next tape that is full", (GOOD + OTHER) * 20, 1, f"E2: the tape could not be written: tape.2: {DISK_FULL}"),
     ):
         with Failing(program, tool, what, SHORT) as it:
-            it.room.write("tape.2", "Q\n")
+            os.symlink("/dev/full", it.room.path("tape.2"))
             fifos = it.room.fifo("a"), it.room.fifo("b")
-            started = it.room.start(*it.words(*fifos, "--keep", "--strict", "--stale", "9", "--wait"), stdin=subprocess.PIPE)
+            words = it.words(*fifos, "--keep", "--strict", "--stale", "9", "--wait")
+            words[3] = "tape"
+            started = it.room.start(*words, stdin=subprocess.PIPE, cwd=it.room.folder)
             for fifo, line in ((fifos[1], b""), (fifos[0], text)):
                 with open(fifo, "wb", buffering=0) as feed:
                     feed.write(line)
@@ -1022,8 +1226,9 @@ def torn_feeds(program, tool):
             feed.write(b"Q,N,ABC,A,9.99,3")
         started.stdin.close()
         got = started.wait(MOST), started.stderr.read().decode()
-        wanted = "nms_serve: A:2: L1\nnms_serve: A:4: L1\nnms_serve: A:6: L1\nnms_serve: feed A: 6 records, 3 refused\n"
-        check(it.what, got[0] == 6 and got[1].startswith(wanted), got)
+        wanted = [f"nms_serve: A:{number}: L1: ?" for number in (2, 4, 6)] + ["nms_serve: feed A: ended: 6 records, 3 refused"]
+        told = [line for line in got[1].split("\n") if line.startswith(("nms_serve: A:", "nms_serve: feed A:"))]
+        check(it.what, got[0] == 6 and told == wanted, got)
     with Failing(program, tool, "/dev/zero as a feed") as it:
         started = it.room.start(*it.words("/dev/zero", fifo := it.room.fifo("b")), stdin=subprocess.PIPE)
         with open(fifo, "wb", buffering=0) as feed:
@@ -1048,13 +1253,13 @@ def signals(program, tool):
             started.send_signal(signal.SIGCONT)
             time.sleep(0.01)
         status, _, errors = end_of(it.what, started)
-        check(it.what, status == 0 and "nms_serve: feed A: 100000 records, 0 refused\n" in errors, (status, errors))
+        check(it.what, status == 0 and "nms_serve: feed A: ended: 100000 records, 0 refused\n" in errors, (status, errors))
     with Failing(program, tool, "signals") as texts:
         feed, asks = texts.room.write("a", (GOOD + OTHER) * 400_000), texts.room.write("in", b"N,0,ABC\nO,0,B,ABC,300,10.02\n" * 100_000)
         for number in (signal.SIGTERM, signal.SIGINT, signal.SIGKILL):
             for turn in range(20):
                 with Failing(program, tool, f"{number.name} at full speed, turn {turn}") as it:
-                    started = it.room.start(*it.words(feed, "/dev/null", "--client", f"{asks},{it.room.path('out')}"))
+                    started = it.room.start(*it.words(feed, "/dev/null", "--client", f"{asks},{it.room.write('out', b'')}"))
                     time.sleep(0.02 + 0.005 * turn)
                     started.send_signal(number)
                     started.communicate()
@@ -1078,8 +1283,7 @@ def little_memory(program, tool):
             limit = lambda: resource.setrlimit(resource.RLIMIT_AS, (megabytes << 20, megabytes << 20))
             started = it.room.start(*it.words(feed, it.room.write("b", b"X,Y\n")), stdin=subprocess.PIPE, preexec_fn=limit)
             status, _, errors = end_of(it.what, started)
-            last = errors.rstrip("\n").split("\n")[-1]
-            named = re.match(r"nms_serve: (G2|C9|E4|E6|E7)\b", last) and status in (3, 5, 7)
+            named = re.search(r"^nms_serve: (G2|C9|E4|E6|E7)\b", errors, re.M) and status in (3, 5, 7)
             check(it.what, status in (0, 127, -11) or named, (status, errors[-300:]))
             statuses.add(status)
     check("a run with little memory is refused, and one with enough is not", 0 in statuses and len(statuses) > 1, statuses)
@@ -1099,7 +1303,7 @@ def main():
         runs, seed = int((sys.argv[3:] or [20])[0]), int((sys.argv[4:] or [611])[0])
         waiting = threading.Thread(target=silent_feeds, args=(program, tool))
         waiting.start()
-        for part in (shown_help, refused_words, failing_paths, full_tape, epoch_borders, refused_records, fixed_requests, torn_feeds, held_requests, kept_feeds, written_first, signals, little_memory):
+        for part in (shown_help, refused_words, failing_paths, closed_streams, shared_tapes, one_file, unread_errors, told_at_once, full_tape, epoch_borders, refused_records, fixed_requests, torn_feeds, held_requests, kept_feeds, written_first, signals, little_memory):
             part(program, tool)
         for number in range(runs):
             run_at_random(seed + number, program, tool)

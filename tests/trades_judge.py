@@ -5,7 +5,8 @@
 
 EXECUTIONS is 20,000 if it is not given. The plain program looks back over all changes at each execution, by the rules that
 rules.py has, and compares prices in 1/1,000,000 dollar; with times it does so at each version of a window, and of the second
-before. Two files of three have times, with ties; half of those are sorted by symbol. One record in ten is refused, in each
+before. Two files of three have times, with ties; half of those are sorted by symbol, and half of these are a shard that has a
+symbol for a part of the day. In one file of four a symbol is quoted late, or never. One record in ten is refused, in each
 way that a record can be. The lines, the same as JSON, and the table as JSON must be those of the plain program. It prints the
 seed, and at a difference the first execution that differs with the changes up to its version. The last line is
 `N passed, M failed`; status 1 at a difference.
@@ -58,19 +59,21 @@ def fine(millionths):
 
 
 def drawn_flags(chance):
-    """Flags as a text, their words, and the participants that self-help names."""
+    """Flags as a text, their words, the participants that self-help names, and whether a flag after those is a name too."""
     letters = chance.choices([[], ["H"], chance.sample(list(WORDS), chance.randrange(1, 4))], [60, 15, 25])[0]
     if chance.random() < 0.1:
         letters = letters + ["H"]
-    texts, named = [], set()
+    chance.shuffle(letters)
+    texts, named, doubt = [], set(), False
     for letter in letters:
         if letter != "H":
+            doubt = doubt or letter in PARTS and "H" in letters[:letters.index(letter)]
             texts.append(letter)
             continue
         names = chance.choices(PARTS, k=chance.randrange(1, 4))
         named |= set(names)
         texts.append("H=" + "/".join(names))
-    return "+".join(texts), {WORDS[it] for it in letters if it != "H"}, named
+    return "+".join(texts), {WORDS[it] for it in letters if it != "H"}, named, doubt
 
 
 BAD = [  # the place of the field, its text, the column and the code
@@ -105,9 +108,10 @@ def is_inferior(sides, on, part, millionths):
     return any(it[3] == part and sign * it[0] * 100 >= sign * millionths for side, sign, found in sides if side == on for it in found)
 
 
-def judged(look, when, millionths, shares, part, words, named):
+def judged(look, tape, sym, when, millionths, shares, part, words, named):
     """What is found of an execution: its standing, its rows, each with how much it takes and whether it flickered, and the
-    causes. The versions are its own, those of its window, and those of the second before, if its time is known."""
+    causes. The versions are its own, those of its window, and those of the second before, if its time is known. It is clean
+    only if its symbol was quoted on each version."""
     version, window, second = when
     sides = look(version)
     through = passed(sides, millionths)
@@ -119,6 +123,7 @@ def judged(look, when, millionths, shares, part, words, named):
             flickers = any(is_inferior(look(n), side, it[3], millionths) for n in second)
             rows.append((side, it[3], it[0], it[1], it[2], abs(it[0] * 100 - millionths), takes, flickers))
     causes = set(words)
+    quoted = any(it[0] == "Q" and it[2] == sym for it in tape[:window[0]])
     if len(rows) < len(through):
         causes.add("SELFHELP-CLAIMED")
     if rows and all(it[7] for it in rows):
@@ -126,7 +131,7 @@ def judged(look, when, millionths, shares, part, words, named):
     if bids and offers and bids[0][0] > offers[0][0]:
         causes.add("CROSSED")
     several = {bool(passed(look(n), millionths)) for n in window}
-    standing = "PERHAPS" if len(several) == 2 else "THROUGH" if several == {True} else "CLEAN"
+    standing = "PERHAPS" if len(several) == 2 else "THROUGH" if several == {True} else "CLEAN" if quoted else "NOQUOTE"
     return standing, rows, [it for it in CAUSES if it in causes]
 
 
@@ -134,7 +139,7 @@ class Times:
     """The times of a file of changes: over all of them, or by symbol."""
 
     def __init__(self, chance, by_symbol=False):
-        self.by_symbol, self.all, self.spans = by_symbol, [], {}
+        self.by_symbol, self.all, self.spans, self.cuts = by_symbol, [], {}, {}
         self.before, self.alone = chance.random() < 0.3, by_symbol and chance.random() < 0.15
         self.window = chance.choice([None, None, 0, 1, 5_000_000, 400_000_000, SECOND, 3600 * SECOND, DAY])
 
@@ -160,6 +165,25 @@ class Times:
             for _ in range(first, last):
                 now += chance.choice([0, 0, 1, chance.randrange(step), chance.randrange(step)])
                 self.all.append(now)
+        if self.by_symbol and chance.random() < 0.5:
+            for sym in self.spans:
+                near = [max(it + chance.choice([0, 0, 1, -1]), 0) for it in sorted(chance.choices(self.all, k=2))]
+                self.cuts[sym] = [it if chance.random() < 0.7 else None for it in near]
+
+    def other(self, sym, nanos):
+        """Whether another shard judges an execution: the first change after a cut is in force or not."""
+        first, last = self.cuts.get(sym, (None, None))
+        def past(cut):
+            return cut < nanos if self.before else cut <= nanos
+        return first is not None and not past(first) or last is not None and past(last)
+
+    def lines(self):
+        """The file of symbols."""
+        for sym, (first, last) in self.spans.items():
+            yield f"{sym},{first + 1},{last}"
+            for word, cut in zip(("from", "until"), self.cuts.get(sym, ())):
+                if cut is not None:
+                    yield f"{sym} {word} {clock(cut)},{first + 1},{last}"
 
     def version(self, sym, nanos):
         first, last = self.spans[sym]
@@ -180,35 +204,43 @@ class Times:
         return nanos, text[:6] + text[6:].rstrip("0") if chance.random() < 0.5 else text
 
 
+SUMS = ["no_cause", "rows", "shares", "dollars", "worst"]
+
+
 def count():
-    return {"executions": 0, "perhaps": 0, "through": 0, "no_cause": 0, "rows": 0, "shares": 0, "dollars": 0, "worst": 0}
+    return {"executions": 0, "noquote": 0, "perhaps": 0, "through": 0, **{it: 0 for it in SUMS}, **{f"perhaps_{it}": 0 for it in SUMS}}
 
 
 def add(to, standing, rows, causes, whole=True):
     if whole:
         to["executions"] += 1
+        to["noquote"] += standing == "NOQUOTE"
         to["perhaps"] += standing == "PERHAPS"
         to["through"] += standing == "THROUGH"
-    if standing != "THROUGH":
+    if standing not in ("THROUGH", "PERHAPS"):
         return
+    of = "" if standing == "THROUGH" else "perhaps_"
     if whole:
-        to["no_cause"] += bool(rows) and not set(causes) - {"SELFHELP-CLAIMED"}
-    to["rows"] += len(rows)
-    to["shares"] += sum(it[6] for it in rows)
-    to["dollars"] += sum(it[5] * it[6] for it in rows)
-    to["worst"] = max([to["worst"], *(it[5] for it in rows)])
+        to[of + "no_cause"] += bool(rows) and not set(causes) - {"SELFHELP-CLAIMED"}
+    to[of + "rows"] += len(rows)
+    to[of + "shares"] += sum(it[6] for it in rows)
+    to[of + "dollars"] += sum(it[5] * it[6] for it in rows)
+    to[of + "worst"] = max([to[of + "worst"], *(it[5] for it in rows)])
 
 
 def day(chance, first):
     """A file of changes, one of executions, the lines and the table that must come; and of each answer its record."""
     pairs = [drawn_change(chance) for _ in range(CHANGES)]
+    late = chance.choice([None, None, None, ("ABC", 100), ("PNY", CHANGES)])
+    if late:
+        pairs = [it for at, it in enumerate(pairs) if at >= late[1] or it[1][0] != "Q" or it[1][2] != late[0]]
     times = chance.choice([None, Times(chance), Times(chance, by_symbol=True)])
     if times:
         pairs = times.sorted(pairs)
         times.draw(chance, pairs)
     tape, seen, records, answers = [it[1] for it in pairs], {}, [], []
     tables = {"cause": {}, "executed": {}, "passed": {}, "symbol": {}, "half_hour": {}}
-    total, refused = count(), 0
+    total, aside = count(), {"refused": 0, "other": 0}
     for number in range(EACH):
         sym, version = chance.choice(["ABC", "ABC", "PNY"]), chance.choice([0, 1, len(pairs), *range(len(pairs))])
         when, text, nanos = (version, range(version, version + 1), ()), str(version), None
@@ -218,13 +250,13 @@ def day(chance, first):
         millionths = chance.choice([chance.randrange(9_990_000, 10_020_000, 10_000), chance.randrange(9_980_000, 10_030_000),
                                     chance.randrange(9_980_000, 10_030_000, 50), 1, 9_999_999_999_999])
         shares, part = chance.choice([1, 50, 100, 300, 5000, 999_999_999]), chance.choice(["", *PARTS])
-        flags, words, named = drawn_flags(chance)
+        flags, words, named, doubt = drawn_flags(chance)
         price, name = fine(millionths), f"x{first + number}.{chance.choice(['a', 'B-', '_'])}"
         if chance.random() < 0.3 and price.endswith("0"):
             price = price.rstrip("0").rstrip(".")
         fields = ["D", name, sym, price, str(shares), chance.choice(["", "B", "S"]), text, part, flags]
         if chance.random() < 0.1:
-            refused += 1
+            aside["refused"] += 1
             if chance.random() < 0.1:
                 records.append(",".join(fields[:8] if chance.random() < 0.5 else fields + [""]))
                 answers.append([f"REFUSED,{number + 1},1,X2"])
@@ -238,59 +270,80 @@ def day(chance, first):
             continue
         records.append(",".join(fields))
         if when is None:
-            refused += 1
+            aside["refused"] += 1
             answers.append([f"REFUSED,{number + 1},3,X13"])
             continue
         version = when[0]
-        standing, rows, causes = judged(lambda n: sides_at(tape, seen, sym, n), when, millionths, shares, part, words, named)
+        if doubt:
+            aside["refused"] += 1
+            answers.append([f"REFUSED,{number + 1},9,X11"])
+            continue
+        if nanos is not None and times.other(sym, nanos):
+            aside["other"] += 1
+            answers.append([f"OTHER,{name}"])
+            continue
+        standing, rows, causes = judged(lambda n: sides_at(tape, seen, sym, n), tape, sym, when, millionths, shares, part, words, named)
         if nanos is not None:
             half_hour = nanos // (1800 * SECOND)
             add(tables["half_hour"].setdefault(f"{half_hour // 2:02}:{half_hour % 2 * 3}0", count()), standing, rows, causes)
         for table, key in (("executed", part or "(none)"), ("symbol", sym)):
             add(tables[table].setdefault(key, count()), standing, rows, causes)
         add(total, standing, rows, causes)
-        if standing == "CLEAN":
-            answers.append([f"CLEAN,{name},{version}"])
+        if standing in ("CLEAN", "NOQUOTE"):
+            answers.append([f"{standing},{name},{version}"])
             continue
-        if standing == "THROUGH":
-            for cause in causes:
-                add(tables["cause"].setdefault(cause, count()), standing, rows, causes)
-            for row in rows:
-                add(tables["passed"].setdefault(row[1], count()), standing, [row], causes, whole=False)
+        for cause in causes:
+            add(tables["cause"].setdefault(cause, count()), standing, rows, causes)
+        for row in rows:
+            add(tables["passed"].setdefault(row[1], count()), standing, [row], causes, whole=False)
         worst = fine(max((it[5] for it in rows), default=0))
         head = f"{standing},{name},{version},{len(rows)},{worst},{sum(it[6] for it in rows)},{'+'.join(causes) or 'NONE'}"
         answers.append([head] + [
             f"ROW,{side},{who},{rules.dollars(at)},{size},{receipt},{fine(by)},{'+'.join(['OWN'] * (who == part) + ['FLICKER'] * flickers)}"
             for side, who, at, size, receipt, by, _, flickers in rows])
-    return pairs, times, records, answers, table_of(total, refused, tables)
+    return pairs, times, records, answers, table_of(total, aside, tables)
 
 
-def table_of(total, refused, tables):
+def table_of(total, aside, tables):
     """The objects of the table, those of one kind in the program's order."""
     def item(what, name, it):
-        return {"what": what, "name": name, **it, "dollars": fine(it["dollars"]) + "000", "worst": fine(it["worst"]) + "000"}
+        money = ("dollars", "worst", "perhaps_dollars", "perhaps_worst")
+        return {"what": what, "name": name, **it, **{key: fine(it[key]) + "000" for key in money}}
     executions, through = total["executions"], total["through"]
-    objects = [{"what": "totals", "executions": executions, "refused": refused, "clean": executions - through - total["perhaps"], "perhaps": total["perhaps"],
-                "through": through, "no_cause": total["no_cause"], "per_10000": through * 10_000 // executions,
-                "rows": total["rows"], "shares": total["shares"], "dollars": fine(total["dollars"]) + "000"}]
-    symbols = sorted(SYMS, key=lambda it: -tables["symbol"].get(it, count())["shares"])
+    kinds = {it: total[it] for it in ("noquote", "perhaps", "through")}
+    sums = {of + it: total[of + it] for of in ("", "perhaps_") for it in SUMS if it != "worst"}
+    objects = [{"what": "totals", "executions": executions, **aside, "clean": executions - sum(kinds.values()), **kinds, **sums,
+                "per_10000": through * 10_000 // executions if executions else None,
+                "dollars": fine(total["dollars"]) + "000", "perhaps_dollars": fine(total["perhaps_dollars"]) + "000"}]
+    shares = {it: tables["symbol"].get(it, count()) for it in SYMS}
+    symbols = sorted(SYMS, key=lambda it: (-shares[it]["shares"], -shares[it]["perhaps_shares"]))
     for what, names in (("cause", CAUSES), ("executed", [*PARTS, "(none)"]), ("passed", PARTS), ("symbol", symbols),
                         ("half_hour", sorted(tables["half_hour"]))):
         objects += [item(what, name, tables[what][name]) for name in names if name in tables[what]]
     return objects
 
 
-def objects_of(answers):
+def own_of(number, record):
+    """What an object says of an execution's own record."""
+    _, _, sym, price, shares, side, when, part, _ = record.split(",")
+    whole, _, decimals = price.partition(".")
+    return {"record": number, "symbol": sym, "price": f"{int(whole)}.{decimals:0<6}", "executed": int(shares), "side": side or None,
+            "participant": part or None, "time": f"{when[1:]:0<15}" if when[0] == "@" else None}
+
+
+def objects_of(records, answers):
     """The same answers as JSON."""
-    for lines in answers:
+    for number, (record, lines) in enumerate(zip(records, answers), 1):
         head = lines[0].split(",")
         if head[0] == "REFUSED":
             yield {"what": "refused", "record": int(head[1]), "column": int(head[2]), "code": head[3]}
-        elif head[0] == "CLEAN":
-            yield {"what": "clean", "id": head[1], "version": int(head[2])}
+        elif head[0] == "OTHER":
+            yield {"what": "other", "id": head[1], "record": number}
+        elif head[0] in ("CLEAN", "NOQUOTE"):
+            yield {"what": head[0].lower(), "id": head[1], "version": int(head[2]), **own_of(number, record)}
         else:
             yield {"what": head[0].lower(), "id": head[1], "version": int(head[2]), "count": int(head[3]), "worst": head[4],
-                   "shares": int(head[5]), "cause": head[6]}
+                   "shares": int(head[5]), "cause": head[6], **own_of(number, record)}
         for line in lines[1:]:
             _, side, who, price, size, receipt, by, own = line.split(",")
             yield {"what": "row", "id": head[1], "side": side, "participant": who, "price": price, "shares": int(size),
@@ -316,7 +369,7 @@ def difference(program, folder, made):
         if times.window is not None:
             options += ["--window", str(times.window)]
         if times.by_symbol:
-            files.append(("s", [f"{sym},{first + 1},{last}" for sym, (first, last) in times.spans.items()]))
+            files.append(("s", list(times.lines())))
             options += ["--symbols", "s"]
     for name, lines in files:
         with open(os.path.join(folder, name), "w", encoding="utf-8") as file:
@@ -333,7 +386,7 @@ def difference(program, folder, made):
                 return "\n".join([*shown, " ".join(options), record, "came:", *came[at:at + 5], "wanted:", *lines])
             at += len(lines)
         return "more lines came: " + " ".join(came[at:at + 3])
-    if [json.loads(it) for it in ran(program, folder, status, "--json", *options)] != list(objects_of(answers)):
+    if [json.loads(it) for it in ran(program, folder, status, "--json", *options)] != list(objects_of(records, answers)):
         return "the objects differ"
     came = [json.loads(it) for it in ran(program, folder, status, "--table", "--json", *options)]
     if came != table:

@@ -36,14 +36,14 @@ static char *text_of(const char *path, size_t *bytes)
 }
 
 /* The numbers of a participant and of a symbol: looked up once, used from then on. */
-static uint8_t part(nms_board *board, const char *name)
+static uint8_t part(const nms_board *board, const char *name)
 {
     uint8_t number;
     must(nms_find_part(board, name, strlen(name), &number), "nms_find_part");
     return number;
 }
 
-static uint16_t sym(nms_board *board, const char *name)
+static uint16_t sym(const nms_board *board, const char *name)
 {
     uint16_t number;
     must(nms_find_sym(board, name, strlen(name), &number), "nms_find_sym");
@@ -69,12 +69,9 @@ int main(int count, char **words)
         fprintf(stderr, "usage: board SETUP\n");
         return 2;
     }
-    if (nms_abi() != NMS_ABI) {
-        fprintf(stderr, "board: nms.h and the library are of different versions\n");
-        return 1;
-    }
 
-    /* A board lies in the caller's memory, closed before it is opened. It is never copied. */
+    /* A board lies in the caller's memory, closed before it is opened. It is never copied. nms_open also tests that header
+     * and library have one layout. */
     nms_board board = NMS_BOARD_CLOSED;
     size_t bytes;
     char *setup = text_of(words[1], &bytes);

@@ -14,24 +14,71 @@
 
 namespace nms {
 
-// A call that was refused: its code and the code's text.
+// Where a setup is wrong, in words: "queue", "element 2 of participant: fee", "at byte 15". Both count from 0 on.
+inline std::string where(const nms_place &place)
+{
+    static constexpr const char *spots[] = { "", "tape_limit", "queue", "desks", "caps", "feeds", "participant", "symbol",
+                                             "name", "feed", "fee", "rate", "lot", "a key that may not stand here",
+                                             "the name of element ", "no table" };
+    if (place.table == NMS_NO_DOCUMENT)
+        return "at byte " + std::to_string(place.start);
+    std::string text;
+    if (place.table != NMS_TOP)
+        text = "element " + std::to_string(place.element) + " of " + (place.table == NMS_SYMBOL ? "symbol: " : "participant: ");
+    text += place.spot <= NMS_NO_TABLE ? spots[place.spot] : "";
+    return place.spot == NMS_NAME_TWICE ? text + std::to_string(place.twin) : text;
+}
+
+// The field of an order or of a change that is out of its range; "" if none is.
+inline const char *field_of(const nms_order &order) noexcept
+{
+    if (order.shares < 1 || order.shares > NMS_MOST_SHARES)
+        return "shares";
+    if (order.limit < 1 || order.limit > NMS_MOST_PRICE)
+        return "limit";
+    return order.side > NMS_SELL ? "side" : order.manual > 1 ? "manual" : "";
+}
+inline const char *field_of(const nms_change &change) noexcept
+{
+    const auto is_side = [](std::uint64_t price, std::uint32_t shares) {
+        return price <= NMS_MOST_PRICE && shares <= NMS_MOST_SHARES && (price == 0) == (shares == 0);
+    };
+    if (change.kind > NMS_LOT)
+        return "kind";
+    if (change.kind == NMS_LOT)
+        return change.lot < 1 || change.lot > 1000 ? "lot" : "";
+    if (change.kind != NMS_WITHDRAW && change.state > NMS_HALTED)
+        return "state";
+    if (change.kind != NMS_QUOTE)
+        return "";
+    if (!is_side(change.bid_price, change.bid_shares))
+        return "bid_price, bid_shares";
+    return is_side(change.offer_price, change.offer_shares) ? "" : "offer_price, offer_shares";
+}
+
+// A call that was refused: its code, the code's text, and the place or the field at fault if that is known.
 class Error : public std::exception {
 public:
-    explicit Error(std::uint32_t code) : code_(code)
+    explicit Error(std::uint32_t code, const std::string &at = "") : code_(code)
     {
         std::size_t bytes = 0;
         char text[NMS_CODE_TEXT_ROOM] = "";
         nms_code_text(code, text, sizeof text, &bytes);
-        text_ = "code " + std::to_string(code) + ": " + std::string(text, bytes);
+        text_ = "code " + std::to_string(code) + ": " + std::string(text, bytes) + (at.empty() ? "" : ": " + at);
     }
+    // A setup that is refused.
+    Error(std::uint32_t code, const nms_place &place) : Error(code, where(place)) { place_ = place; }
 
     // One of `enum nms_code`.
     std::uint32_t code() const noexcept { return code_; }
     const char *what() const noexcept override { return text_.c_str(); }
+    // Where the setup is wrong, if the code is that of a setup.
+    const std::optional<nms_place> &place() const noexcept { return place_; }
 
 private:
     std::uint32_t code_;
     std::string text_;
+    std::optional<nms_place> place_;
 };
 
 inline void must(std::uint32_t code)
@@ -40,11 +87,27 @@ inline void must(std::uint32_t code)
         throw Error(code);
 }
 
-// A board, one for each thread or under a lock of the caller's.
+// As `must`, with the field that is out of its range.
+template <class Numbers> void must(std::uint32_t code, const Numbers &numbers)
+{
+    if (code != NMS_OK)
+        throw Error(code, code == NMS_RANGE ? field_of(numbers) : "");
+}
+
+// A board. Its `const` methods are looks: they may run together in several threads, as long as no other method runs. So a
+// std::shared_mutex may be locked shared for them, and has to be locked for all else.
 class Board {
 public:
-    // Opens a board from the text of a setup. Only this call takes memory of the library.
-    explicit Board(std::string_view setup) { must(nms_open(setup.data(), setup.size(), &raw_)); }
+    // Opens a board from the text of a setup. Only this call takes memory of the library. It throws NMS_WRONG_ABI if the
+    // library has another layout than nms.h.
+    explicit Board(std::string_view setup)
+    {
+        const std::uint32_t code = nms_open(setup.data(), setup.size(), &raw_);
+        nms_place place;
+        if (code >= NMS_C1_NOT_TOML && code <= NMS_C8_TOO_MANY && nms_setup_place(setup.data(), setup.size(), &place) == NMS_OK)
+            throw Error(code, place);
+        must(code);
+    }
 
     ~Board() { nms_close(&raw_); }
 
@@ -62,27 +125,27 @@ public:
     Board &operator=(const Board &) = delete;
 
     // The number of a name: look it up once.
-    std::uint8_t part(std::string_view name)
+    std::uint8_t part(std::string_view name) const
     {
         std::uint8_t number = 0;
         must(nms_find_part(&raw_, name.data(), name.size(), &number));
         return number;
     }
-    std::uint16_t sym(std::string_view name)
+    std::uint16_t sym(std::string_view name) const
     {
         std::uint16_t number = 0;
         must(nms_find_sym(&raw_, name.data(), name.size(), &number));
         return number;
     }
 
-    std::string part_name(std::uint8_t number)
+    std::string part_name(std::uint8_t number) const
     {
         char name[NMS_NAME_ROOM];
         std::size_t bytes = 0;
         must(nms_part_name(&raw_, number, name, sizeof name, &bytes));
         return std::string(name, bytes);
     }
-    std::string sym_name(std::uint16_t number)
+    std::string sym_name(std::uint16_t number) const
     {
         char name[NMS_NAME_ROOM];
         std::size_t bytes = 0;
@@ -90,7 +153,7 @@ public:
         return std::string(name, bytes);
     }
 
-    nms_counts counts()
+    nms_counts counts() const
     {
         nms_counts counts;
         must(nms_counts_of(&raw_, &counts));
@@ -98,16 +161,16 @@ public:
     }
 
     // A change by numbers, and a change as a record of a file of changes.
-    void apply(const nms_change &change) { must(nms_apply(&raw_, &change)); }
+    void apply(const nms_change &change) { must(nms_apply(&raw_, &change), change); }
     void apply(std::string_view record) { must(nms_apply_text(&raw_, record.data(), record.size())); }
 
-    nms_best best(std::uint16_t sym)
+    nms_best best(std::uint16_t sym) const
     {
         nms_best best;
         must(nms_best_of(&raw_, sym, &best));
         return best;
     }
-    nms_view view(std::uint16_t sym)
+    nms_view view(std::uint16_t sym) const
     {
         nms_view view;
         must(nms_view_of(&raw_, sym, &view));
@@ -117,30 +180,30 @@ public:
     nms_plan plan(const nms_order &order)
     {
         nms_plan plan;
-        must(nms_plan_order(&raw_, &order, &plan));
+        must(nms_plan_order(&raw_, &order, &plan), order);
         return plan;
     }
     // Nothing if the plan is confirmed on this board, else why it is not.
-    std::optional<nms_doubt> doubt(const nms_order &order, const nms_plan &plan)
+    std::optional<nms_doubt> doubt(const nms_order &order, const nms_plan &plan) const
     {
         nms_doubt doubt;
         const std::uint32_t code = nms_confirm(&raw_, &order, &plan, &doubt);
         if (code == NMS_DOUBTED)
             return doubt;
-        must(code);
+        must(code, order);
         return std::nullopt;
     }
     std::string text(const nms_order &order, const nms_plan &plan)
     {
         std::string text(NMS_PLAN_TEXT_ROOM, '\0');
         std::size_t bytes = 0;
-        must(nms_plan_text(&raw_, &order, &plan, text.data(), text.size(), &bytes));
+        must(nms_plan_text(&raw_, &order, &plan, text.data(), text.size(), &bytes), order);
         text.resize(bytes);
         return text;
     }
 
     // The changes by which a new board of the same setup gets this symbol's rows.
-    std::vector<nms_change> opening(std::uint16_t sym)
+    std::vector<nms_change> opening(std::uint16_t sym) const
     {
         nms_opening opening;
         must(nms_opening_of(&raw_, sym, &opening));
@@ -149,6 +212,7 @@ public:
 
     // For a call of nms.h that has no method here.
     nms_board *raw() noexcept { return &raw_; }
+    const nms_board *raw() const noexcept { return &raw_; }
 
 private:
     nms_board raw_ = NMS_BOARD_CLOSED;

@@ -8,19 +8,26 @@
 libnms.so is taken from NMS_LIBRARY if that is set, else from where ./nms_lib builds it in this repository.
 
 Prices are whole 1/10,000 dollars, sizes are shares, money is whole nanodollars: int, and no float anywhere.
+
+A wrong argument raises NmsError, also one of a wrong type, and its `field` names the argument.
+
+Threads may share a board: the interpreter's lock (GIL) is held through each call, so calls come one after the other. A Python
+without that lock needs one of yours around every call on a shared board.
 """
 import ctypes
 import enum
+import operator
 import os
 from ctypes import POINTER, Structure, byref, c_char, c_int64, c_size_t, c_uint8, c_uint16, c_uint32, c_uint64, c_void_p
-from typing import Dict, List, NamedTuple, Optional, Tuple
+from typing import Dict, List, NamedTuple, Optional, Tuple, Type
 
 __all__ = ["Board", "Doubt", "Market", "NmsError", "OrderSide", "Place", "Plan", "Row", "Best", "Leg", "Order", "setup_place"]
 
 _HERE = os.path.dirname(os.path.realpath(__file__))
 _BUILT = os.path.join(_HERE, "..", "..", "crates", "nms_c", "out", "libnms.so")
 _ABI, _MOST_PARTS = 1, 32
-_OK, _DOUBTED = 0, 16
+_OK, _RANGE, _NO_PART, _NO_SYM, _DOUBTED = 0, 10, 11, 12, 16
+_MOST_PRICE, _MOST_SHARES = 99_999_999_999, 999_999_999
 
 
 # The structs of nms.h. Nothing compares these with the library but _SIZES below.
@@ -92,12 +99,13 @@ _CALLS = {
 }
 
 
-def _load() -> ctypes.CDLL:
+def _load() -> ctypes.PyDLL:
     """The library, with the types of its functions; refuses one of another layout."""
     path = os.environ.get("NMS_LIBRARY", _BUILT)
     if not os.path.exists(path):
         raise ImportError(f"{path} is not there: ./nms_lib builds it")
-    library = ctypes.CDLL(path)
+    # CDLL would let the interpreter's lock go, so that two threads could be in calls on one board at once.
+    library = ctypes.PyDLL(path)
     for name, arguments in _CALLS.items():
         function = getattr(library, name)
         function.argtypes, function.restype = arguments, c_uint32
@@ -110,18 +118,58 @@ _LIBRARY = _load()
 
 
 class NmsError(Exception):
-    """A call that was refused: `code` is one of `enum nms_code` of nms.h."""
+    """A call that was refused: `code` is one of `enum nms_code` of nms.h. `field` is the argument at fault if that is known,
+    else "". An argument of a wrong type has code 10, as a number that is out of its range."""
 
-    def __init__(self, code: int) -> None:
+    def __init__(self, code: int, field: str = "", why: str = "") -> None:
         text, size = ctypes.create_string_buffer(128), c_size_t()
         _LIBRARY.nms_raw_code_text(code, text, len(text), byref(size))
-        super().__init__(f"code {code}: {text.raw[:size.value].decode()}")
-        self.code = code
+        super().__init__(f"code {code}: " + (f"{field}: {why}" if field else text.raw[:size.value].decode()))
+        self.code, self.field = code, field
 
 
 def _must(code: int) -> None:
     if code != _OK:
         raise NmsError(code)
+
+
+def _found(code: int, field: str, value: object) -> None:
+    """As `_must`, of a call that looks up a name or a number."""
+    if code in (_NO_PART, _NO_SYM):
+        raise NmsError(code, field, f"{value!r:.60} is not on the roster")
+    _must(code)
+
+
+# ctypes cuts a number that is too large without a word, and takes a str for its letters: so every argument is tested here.
+
+def _number(field: str, value: int, least: int, most: int) -> int:
+    """An argument that is a number from the least to the most."""
+    try:
+        number = operator.index(value)
+    except TypeError:
+        raise NmsError(_RANGE, field, f"{value!r:.60} is no whole number") from None
+    if not least <= number <= most:
+        raise NmsError(_RANGE, field, f"{number} is not {least} to {most}")
+    return number
+
+
+def _count(field: str, value: int, most: int) -> int:
+    """An argument that is a number from 1 on. True is none: it stands in the place of another argument."""
+    if isinstance(value, bool):
+        raise NmsError(_RANGE, field, f"{value} is no whole number")
+    return _number(field, value, 1, most)
+
+
+def _is(field: str, value: object, kind: Type[object]) -> None:
+    """An argument has to be of a type."""
+    if not isinstance(value, kind):
+        raise NmsError(_RANGE, field, f"{value!r:.60} is no {kind.__name__}")
+
+
+def _bytes(field: str, value: str) -> bytes:
+    """An argument that is a text. A half character stays one, and the library refuses it."""
+    _is(field, value, str)
+    return value.encode("utf-8", "surrogatepass")
 
 
 class OrderSide(enum.IntEnum):
@@ -195,6 +243,7 @@ class Place(NamedTuple):
 
 def setup_place(setup: bytes) -> Optional[Place]:
     """Where a text is no setup: the first place of the code that `Board` raises. None if it is a setup."""
+    _is("setup", setup, bytes)
     it = _Place()
     _must(_LIBRARY.nms_raw_setup_place(setup, len(setup), byref(it)))
     if it.code == _OK:
@@ -215,13 +264,16 @@ class Plan:
 
 
 class Board:
-    """A board, for one thread at a time. It is closed by `close`, by `with`, or when nothing holds it any more."""
+    """A board. It is closed by `close`, by `with`, or when nothing holds it any more."""
 
     def __init__(self, setup: bytes) -> None:
         """Opens a board from the text of a setup. Only this call takes memory of the library."""
+        _is("setup", setup, bytes)
         self._board = _Board()
+        # Names and their numbers, which stay the same as long as the board is open.
         self._parts: Dict[str, int] = {}
         self._syms: Dict[str, int] = {}
+        self._names: Dict[int, str] = {}
         self._is_open = False
         _must(_LIBRARY.nms_raw_open(setup, len(setup), byref(self._board)))
         self._is_open = True
@@ -230,6 +282,8 @@ class Board:
         """Gives the board's memory back. Every other call is refused from then on."""
         if self._is_open:
             self._is_open = False
+            for kept in (self._parts, self._syms, self._names):
+                kept.clear()
             _must(_LIBRARY.nms_raw_close(byref(self._board)))
 
     def __enter__(self) -> "Board":
@@ -249,25 +303,33 @@ class Board:
 
     def part(self, name: str) -> int:
         """The number of a participant."""
+        return self._part("part", name)
+
+    def _part(self, field: str, name: str) -> int:
+        _is(field, name, str)
         if name not in self._parts:
-            text, number = name.encode(), c_uint8()
-            _must(_LIBRARY.nms_raw_find_part(byref(self._board), text, len(text), byref(number)))
+            text, number = _bytes(field, name), c_uint8()
+            _found(_LIBRARY.nms_raw_find_part(byref(self._board), text, len(text), byref(number)), field, name)
             self._parts[name] = number.value
         return self._parts[name]
 
     def sym(self, name: str) -> int:
         """The number of a symbol."""
+        _is("sym", name, str)
         if name not in self._syms:
-            text, number = name.encode(), c_uint16()
-            _must(_LIBRARY.nms_raw_find_sym(byref(self._board), text, len(text), byref(number)))
+            text, number = _bytes("sym", name), c_uint16()
+            _found(_LIBRARY.nms_raw_find_sym(byref(self._board), text, len(text), byref(number)), "sym", name)
             self._syms[name] = number.value
         return self._syms[name]
 
     def part_name(self, part: int) -> str:
         """The name of a participant's number."""
-        text, size = ctypes.create_string_buffer(9), c_size_t()
-        _must(_LIBRARY.nms_raw_part_name(byref(self._board), part, text, len(text), byref(size)))
-        return text.raw[:size.value].decode()
+        number = _number("part", part, 0, 255)
+        if number not in self._names:
+            text, size = ctypes.create_string_buffer(9), c_size_t()
+            _found(_LIBRARY.nms_raw_part_name(byref(self._board), number, text, len(text), byref(size)), "part", number)
+            self._names[number] = text.raw[:size.value].decode()
+        return self._names[number]
 
     def applied(self) -> int:
         """How many changes were applied: the version that answers rest on."""
@@ -277,7 +339,7 @@ class Board:
 
     def apply_text(self, record: str) -> None:
         """Applies the change that a record says, as `Q,N,ABC,A,9.99,200,10.00,300`. A refused one alters nothing."""
-        text = record.encode()
+        text = _bytes("record", record)
         _must(_LIBRARY.nms_raw_apply_text(byref(self._board), text, len(text)))
 
     def best(self, sym: str) -> Best:
@@ -298,14 +360,20 @@ class Board:
         return Plan(self, numbers, plan)
 
     def _numbers(self, order: Order) -> _Order:
-        bits = sum(1 << self.part(name) for name in set(order.self_help))
-        # ctypes cuts a number that is too large without a word: this one is refused here.
-        if not 0 <= order.shares < 2**32 or not 0 <= order.limit < 2**64:
-            raise NmsError(10)
-        return _Order(order.limit, order.shares, bits, self.sym(order.sym), order.side, order.manual)
+        _is("order", order, Order)
+        side, manual = _number("side", order.side, 0, 1), _number("manual", order.manual, 0, 1)
+        shares, limit = _count("shares", order.shares, _MOST_SHARES), _count("limit", order.limit, _MOST_PRICE)
+        # A str is a sequence of letters, each of which may be the name of another participant.
+        if not isinstance(order.self_help, (tuple, list, set, frozenset)):
+            raise NmsError(_RANGE, "self_help", f"{order.self_help!r:.60} is no tuple of names")
+        bits = 0
+        for name in order.self_help:
+            bits |= 1 << self._part("self_help", name)
+        return _Order(limit, shares, bits, self.sym(order.sym), side, manual)
 
     def confirm(self, plan: Plan) -> Optional[Doubt]:
         """None if the plan is lawful and the best one for its order on this board; else why it is not confirmed."""
+        _is("plan", plan, Plan)
         doubt = _Doubt()
         code = _LIBRARY.nms_raw_confirm(byref(self._board), byref(plan._order), byref(plan._raw), byref(doubt))
         if code == _DOUBTED:
@@ -315,12 +383,13 @@ class Board:
 
     def text(self, plan: Plan) -> str:
         """The text of a plan and its certificate, as `nms_tool check` reads it."""
+        _is("plan", plan, Plan)
         text, size = ctypes.create_string_buffer(8192), c_size_t()
         _must(_LIBRARY.nms_raw_plan_text(byref(self._board), byref(plan._order), byref(plan._raw), text, len(text), byref(size)))
         return text.raw[:size.value].decode()
 
     def read(self, text: str) -> Plan:
         """The plan that such a text says. It need not be lawful: `confirm` judges that."""
-        order, plan, data = _Order(), _Plan(), text.encode()
+        order, plan, data = _Order(), _Plan(), _bytes("text", text)
         _must(_LIBRARY.nms_raw_read_plan(byref(self._board), data, len(data), byref(order), byref(plan)))
         return Plan(self, order, plan)

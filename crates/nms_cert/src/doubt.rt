@@ -1,8 +1,10 @@
 //! Why a plan and its certificate are not confirmed.
 use nms_rules::Breach;
+use std::fmt;
+use thiserror::Error;
 
 /// Why a plan and its certificate are not confirmed, least number first. Only the first that holds is reported.
-#[derive(Clone, Copy, Debug, PartialEq, Eq)]
+#[derive(Clone, Copy, Debug, PartialEq, Eq, Error)]
 pub enum Doubt {
     /// K1: the plan is not lawful, or not summed rightly.
     Breach(Breach),
@@ -42,5 +44,19 @@ impl Doubt {
             Doubt::MarginalRange => "K6",
             Doubt::BoundFails { .. } => "K7",
         }
+    }
+}
+
+impl fmt::Display for Doubt {
+    fn fmt<W: fmt::Write>(&self, f: &mut fmt::Formatter<W>) -> fmt::Result {
+        f.write_str(match self {
+            Doubt::Breach(_) => "K1: the plan is not lawful",
+            Doubt::NotMost => "K2: more can be filled",
+            Doubt::CutMissing => "K3: a price has no cut",
+            Doubt::CutExtra => "K4: a cut too many",
+            Doubt::WrongKind => "K5: a cut of the wrong kind",
+            Doubt::MarginalRange => "K6: a marginal out of its range",
+            Doubt::BoundFails { .. } => "K7: a cut's bound is below the cost",
+        })
     }
 }

@@ -58,6 +58,10 @@ pub enum Code {
     I2,
     /// I3: times of an import fall against its mapping.
     I3,
+    /// I4: the row at the end of an import's file counts other rows than there are.
+    I4,
+    /// I5: no row of an import gave anything.
+    I5,
     /// J1: the times are not those of the changes.
     J1,
     /// J2: the changes are not in the order of the mapping.
@@ -139,6 +143,8 @@ impl Code {
             Code::I1 => "I1",
             Code::I2 => "I2",
             Code::I3 => "I3",
+            Code::I4 => "I4",
+            Code::I5 => "I5",
             Code::J1 => "J1",
             Code::J2 => "J2",
             Code::J3 => "J3",
@@ -201,7 +207,7 @@ impl Code {
             Code::E1 => Matter::Input,
             Code::E2 | Code::L13 => Matter::Output,
             Code::B1 | Code::C9 | Code::E4 | Code::G2 | Code::L12 | Code::M6 => Matter::Memory,
-            Code::I1 | Code::I2 | Code::I3 => Matter::Import,
+            Code::I1 | Code::I2 | Code::I3 | Code::I4 | Code::I5 => Matter::Import,
         }
     }
 

@@ -38,6 +38,8 @@ impl Code {
             Code::I1 => "Is it the mapping of these files?",
             Code::I2 => "Are the sizes lots? Set `size.unit`.",
             Code::I3 => "Sort the rows, or set `time.order`.",
+            Code::I4 => "Fetch the file again, or name no `count` in the mapping.",
+            Code::I5 => "Is it the setup of these files? Name it by `--setup`.",
             Code::J1 => "Are both of one import?",
             Code::J2 =>
                 "With `order = \"symbol\"` the setup has the symbols in the order of the file.",

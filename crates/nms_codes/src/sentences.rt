@@ -38,7 +38,12 @@ impl Code {
             Code::I2 =>
                 "no row shows a round lot on either side: are the sizes lots, and not shares?",
             Code::I3 => "times fall, though the mapping says that they do not",
-            Code::J1 => "it has not one time for each change",
+            Code::I4 =>
+                "the count at the end of a file is not that of its rows: is the file complete?",
+            Code::I5 =>
+                "nothing was imported: no row is of a symbol of the setup that could be read",
+            Code::J1 =>
+                "it has not one time of 15 digits for each change, as import without --rows writes them",
             Code::J2 => "a change is before an earlier one, in the order that the mapping gives",
             Code::J3 => "a row is before an earlier one, in the order that the mapping gives",
             Code::L1 => "the first refused record is of no kind that is read there",

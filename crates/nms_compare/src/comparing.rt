@@ -5,7 +5,7 @@ ghost use Rattle.csv.specs.declared.parser.Config.{Config};
 ghost use Rattle.nms_quote.specs.Roster.{holds, sizes_of};
 ghost use Rattle.nms_quote.specs.declared.TheConstants.{MOST_CHANGES};
 ghost use Rattle.nms_lines.specs.Layout.{Record};
-ghost use Rattle.nms_import.specs.Rows.{AreAllRows, RowsFrom};
+ghost use Rattle.nms_import.specs.Rows.{AreAllRows, RowsFrom, unread};
 ghost use Rattle.nms_compare.specs.Compared.{counts_of, found_of, rows_in};
 ghost use Rattle.nms_compare.specs.Standing.{Walks};
 
@@ -17,7 +17,7 @@ use crate::national::read_national;
 use crate::showing::Shown;
 use crate::walk::{Walk, find_on, open_walk, walk_to};
 use csv::{ByteRecord, Reader};
-use nms_import::{Cause, Columns, Meanings, Order, next_row};
+use nms_import::{Cause, Columns, Meanings, Order, RowSource, line_of, next_row};
 use nms_quote::{Change, Roster};
 use std::alloc::Global;
 use std::io::{Read, Write};
@@ -49,13 +49,13 @@ pub fn compare_rows<R: Read, W: Write>(
     roster: &Roster,
     changes: &[Change],
     keys: &[u64],
-    reader: &mut Reader<R>,
+    reader: &mut Reader<RowSource<R>>,
     shown: &mut Shown<'_, W>,
 ) -> Result<Counts, CompareFault>
     requires held { All (λ change. holds (sizes_of roster.now) change ≡ true) changes.now }
     requires few { length changes.now ≤ MOST_CHANGES }
     requires each { length keys.now ≡ length changes.now }
-    ensures counted { (config : Config) (bytes : Option (List ℕ)) (seen : List Record) → RowsFrom config R.remaining reader.old bytes seen
+    ensures counted { (config : Config) (bytes : Option (List ℕ)) (seen : List Record) → RowsFrom config (unread R.remaining) reader.old bytes seen
         → IfOk result (λ counts. (rows : List Record) × AreAllRows config bytes (seen ++ rows)
         × (counts ≡ counts_of vendor.now roster.now changes.now keys.now rows) × (rows_in counts ≡ length rows)) }
 {
@@ -67,6 +67,7 @@ pub fn compare_rows<R: Read, W: Write>(
         if !next_row(reader, &mut row)? {
             return Ok(counts);
         }
+        shown.at(line_of(reader, &row));
         let found = find_row(
             vendor,
             roster,
@@ -112,7 +113,7 @@ fn find_row<W: Write>(
     )? {
         Ok(theirs) => theirs,
         Err(cause) => {
-            shown.show_cause(row, cause)?;
+            shown.show_cause(cause)?;
             return Ok(Err(cause));
         }
     };
@@ -125,6 +126,6 @@ fn find_row<W: Write>(
     }
     walk_to(walk, changes, keys, key);
     let finding = find_on(walk, &theirs);
-    shown.show_finding(roster, row, &walk.board, &theirs, finding)?;
+    shown.show_finding(roster, &walk.board, &theirs, finding)?;
     Ok(Ok(finding))
 }

@@ -1,12 +1,12 @@
 //! A mapping of a vendor's national bests: one of `import`, with two columns in place of that of the participant
 //! (`specs/National`).
-ghost use Rattle.std.specs.Prelude.{◌≡◌, ◌≢◌, IfOk};
+ghost use Rattle.std.specs.Prelude.{◌≡◌, ◌≢◌, IfOk, OnOk};
 ghost use Rattle.csv.specs.Records.{fields_of};
 ghost use Rattle.nms_import.specs.Placing.{ArePlaced};
 
 use crate::comparing::Vendor;
 use csv::ByteRecord;
-use nms_import::{FileForm, MapFault, Mapping, Order, read_mapping};
+use nms_import::{FileForm, MapFault, Mapping, Order, document_of, mapping_of};
 use std::alloc::{AllocError, Global};
 use std::marker::Model;
 use toml::{Table, Value};
@@ -15,6 +15,12 @@ use toml::{Table, Value};
 const BID: &str = "bid_participant";
 
 const OFFER: &str = "offer_participant";
+
+/// The column of `import` that they stand for.
+const PARTICIPANT: &str = "participant";
+
+const COLUMNS: &str =
+    "one of time, symbol, bid_participant, bid, bid_size, offer_participant, offer, offer_size, condition, skip";
 
 const A_COLUMN: &str = "the column of the venue, as for the other columns";
 
@@ -34,13 +40,13 @@ impl Model for NationalMapping {
 }
 
 /// Reads the mapping of a text. It is a mapping of `import`, but for the table `column`, which has `bid_participant` and
-/// `offer_participant` in place of `participant`; and `order` is not `free`.
+/// `offer_participant` in place of `participant`; and `order` is not `free`. A fault names the keys that this mapping has.
 pub fn read_national_mapping(alloc: Global, text: &str) -> Result<NationalMapping, MapFault>
     ensures timed { IfOk result (λ mapping. mapping.bids.order ≢ Order.Free) }
 {
-    let bids = side_mapping(alloc, text, BID, OFFER)?;
-    match side_mapping(alloc, text, OFFER, BID) {
-        Ok(offers) => timed(alloc, NationalMapping { bids, offers }),
+    let mut document = document_of(alloc, text)?;
+    match sides_of(alloc, &mut document) {
+        Ok((bids, offers)) => timed(alloc, NationalMapping { bids, offers }),
         Err(fault) => Err(fault),
     }
 }
@@ -68,46 +74,27 @@ fn free_order(alloc: Global) -> MapFault {
     }
 }
 
-/// The mapping of one side: its participant is that of the column `own`, and the column `other` is ignored.
-fn side_mapping(
-    alloc: Global,
-    text: &str,
-    own: &'static str,
-    other: &'static str,
-) -> Result<Mapping, MapFault> {
-    match toml::table_from_str(alloc, text) {
-        Ok(mut document) => side_of(alloc, &mut document, own, other),
-        // `import` reports what is wrong with the text.
-        Err(_) => read_mapping(alloc, text),
+/// The mappings of both sides of a document: the participant of one is that of the best bid, of the other that of the best
+/// offer. The document keeps the latter.
+fn sides_of(alloc: Global, document: &mut Table) -> Result<(Mapping, Mapping), MapFault> {
+    let offer = keep_bid(alloc, document)?;
+    let bids = in_own_words(alloc, BID, mapping_of(alloc, document))?;
+    if let Some(offer) = offer {
+        put_participant(alloc, document, offer)?;
+    }
+    match in_own_words(alloc, OFFER, mapping_of(alloc, document)) {
+        Ok(offers) => Ok((bids, offers)),
+        Err(fault) => Err(fault),
     }
 }
 
-/// The mapping of one side, of a document that has both.
-fn side_of(
-    alloc: Global,
-    document: &mut Table,
-    own: &'static str,
-    other: &'static str,
-) -> Result<Mapping, MapFault> {
-    if let Some(column) = document.get_mut("column") {
-        if let Some(members) = column.as_table_mut() {
-            rename(alloc, members, own, other)?;
-        }
-    }
-    match toml::table_to_string(alloc, document) {
-        Ok(text) => read_mapping(alloc, text.as_str()),
-        Err(_) => Err(MapFault::NoMemory),
-    }
-}
-
-/// Puts the column `own` in the place of the participant, and drops the column `other`.
-fn rename(
-    alloc: Global,
-    members: &mut Table,
-    own: &'static str,
-    other: &'static str,
-) -> Result<(), MapFault> {
-    if members.contains_key("participant") {
+/// Puts the venue of the best bid in the place of the participant, and takes out that of the best offer. `None` comes of a
+/// document without a table `column`: `import` reports that.
+fn keep_bid(alloc: Global, document: &mut Table) -> Result<Option<Value>, MapFault> {
+    let Some(members) = columns_in(document) else {
+        return Ok(None);
+    };
+    if members.contains_key(PARTICIPANT) {
         return Err(own_participant(alloc));
     }
     for key in [BID, OFFER] {
@@ -115,16 +102,94 @@ fn rename(
             return Err(no_venue(alloc, key));
         }
     }
-    let _ = members.remove(other);
-    match members.remove(own) {
-        Some(value) => put_participant(alloc, members, value),
-        None => Ok(()),
+    let offer = members.remove(OFFER);
+    if let Some(bid) = members.remove(BID) {
+        put_participant(alloc, document, bid)?;
+    }
+    Ok(offer)
+}
+
+/// The table `column` of a document, if there is one.
+fn columns_in(document: &mut Table) -> Option<&mut Table> {
+    document.get_mut("column")?.as_table_mut()
+}
+
+/// Puts a column in the place of the participant.
+fn put_participant(alloc: Global, document: &mut Table, value: Value) -> Result<(), MapFault> {
+    let key = String::from_str(alloc, PARTICIPANT)?;
+    let Some(members) = columns_in(document) else {
+        return Ok(());
+    };
+    match members.insert(key, value) {
+        Ok(_) => Ok(()),
+        Err(_) => Err(MapFault::NoMemory),
+    }
+}
+
+/// What was read, or its fault by the keys of a mapping of national bests: `own` is the column of the venue.
+fn in_own_words<T: Drop>(alloc: Global, own: &str, read: Result<T, MapFault>) -> Result<T, MapFault>
+    ensures { OnOk result (result ≡ read) }
+{
+    match read {
+        Ok(read) => Ok(read),
+        Err(fault) => Err(own_fault(alloc, own, fault)),
+    }
+}
+
+/// A fault by the keys of a mapping of national bests.
+fn own_fault(alloc: Global, own: &str, fault: MapFault) -> MapFault {
+    match fault {
+        MapFault::BadValue {
+            table,
+            key,
+            expected,
+        } => match own_key(alloc, own, table, key) {
+            Ok(key) => MapFault::BadValue {
+                table,
+                key,
+                expected,
+            },
+            Err(_) => MapFault::NoMemory,
+        },
+        MapFault::NoColumn { key, expected } => match own_key(alloc, own, "column", key) {
+            Ok(key) => MapFault::NoColumn { key, expected },
+            Err(_) => MapFault::NoMemory,
+        },
+        MapFault::Unknown {
+            table,
+            key,
+            expected,
+        } => MapFault::Unknown {
+            table,
+            key,
+            expected: if table == "column" { COLUMNS } else { expected },
+        },
+        MapFault::Missing {
+            table,
+            key,
+            expected,
+        } => MapFault::Missing {
+            table,
+            key,
+            expected,
+        },
+        MapFault::NotToml { line } => MapFault::NotToml { line },
+        MapFault::NoMemory => MapFault::NoMemory,
+    }
+}
+
+/// The key of a table, `own` in place of the participant's column.
+fn own_key(alloc: Global, own: &str, table: &str, key: String) -> Result<String, AllocError> {
+    if table == "column" && key.as_str() == PARTICIPANT {
+        String::from_str(alloc, own)
+    } else {
+        Ok(key)
     }
 }
 
 /// The fault of a mapping that has the participant's own column.
 fn own_participant(alloc: Global) -> MapFault {
-    match String::from_str(alloc, "participant") {
+    match String::from_str(alloc, PARTICIPANT) {
         Ok(key) => MapFault::Unknown {
             table: "column",
             key,
@@ -143,17 +208,6 @@ fn no_venue(alloc: Global, key: &str) -> MapFault {
             expected: A_COLUMN,
         },
         Err(_) => MapFault::NoMemory,
-    }
-}
-
-/// Puts a column in the place of the participant.
-fn put_participant(alloc: Global, members: &mut Table, value: Value) -> Result<(), MapFault> {
-    let Ok(key) = String::from_str(alloc, "participant") else {
-        return Err(MapFault::NoMemory);
-    };
-    match members.insert(key, value) {
-        Ok(_) => Ok(()),
-        Err(_) => Err(MapFault::NoMemory),
     }
 }
 
@@ -180,8 +234,8 @@ impl NationalMapping {
         ensures order { IfOk result (λ vendor. vendor.order ≡ self.now.bids.order) }
         ensures meanings { IfOk result (λ vendor. vendor.meanings.now ≡ self.now.bids.meanings) }
     {
-        let bids = self.bids.columns(alloc, names)?;
-        match self.offers.columns(alloc, names) {
+        let bids = in_own_words(alloc, BID, self.bids.columns(alloc, names))?;
+        match in_own_words(alloc, OFFER, self.offers.columns(alloc, names)) {
             Ok(offers) => Ok(Vendor {
                 bids,
                 offers,

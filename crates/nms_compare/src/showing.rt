@@ -6,7 +6,6 @@ use crate::MOST_SHOWN;
 use crate::compare_fault::CompareFault;
 use crate::finding::Finding;
 use crate::national::{Best, National};
-use csv::ByteRecord;
 use nms_board::{Boards, Row};
 use nms_import::Cause;
 use nms_lines::{name_of_part, name_of_sym};
@@ -22,6 +21,7 @@ use std::marker::Model;
 pub struct Shown<'a, W> {
     out: &'a mut W,
     file: &'a str,
+    line: u64,
     left: u64,
 }
 
@@ -41,16 +41,20 @@ impl<'a, W: Write> Shown<'a, W> {
         Shown {
             out,
             file,
+            line: 0,
             left: MOST_SHOWN,
         }
     }
 
+    /// Goes on with the row that begins on a line, from 1.
+    pub(crate) fn at(&mut self, line: u64)
+        ensures { self.new ≡ self.old }
+    {
+        self.line = line;
+    }
+
     /// Shows a row that has no national best, unless the mapping skips it. The first 100 rows are shown.
-    pub(crate) fn show_cause(
-        &mut self,
-        row: &ByteRecord,
-        cause: Cause,
-    ) -> Result<(), CompareFault> {
+    pub(crate) fn show_cause(&mut self, cause: Cause) -> Result<(), CompareFault> {
         if self.left == 0 || cause.skips() {
             return Ok(());
         }
@@ -58,7 +62,7 @@ impl<'a, W: Write> Shown<'a, W> {
         let items = [
             Item::Bytes(self.file.as_bytes()),
             Item::Text(":"),
-            Item::Number(line_of(row)),
+            Item::Number(self.line),
             Item::Text(": refused: "),
             Item::Text(phrase_of(cause)),
         ];
@@ -70,7 +74,6 @@ impl<'a, W: Write> Shown<'a, W> {
     pub(crate) fn show_finding(
         &mut self,
         roster: &Roster,
-        row: &ByteRecord,
         board: &Boards,
         theirs: &National,
         finding: Finding,
@@ -85,7 +88,7 @@ impl<'a, W: Write> Shown<'a, W> {
             self.out,
             self.file,
             name_of_sym(roster, theirs.sym),
-            line_of(row),
+            self.line,
             board.applied(),
             what,
         )?;
@@ -228,13 +231,5 @@ fn phrase_of(cause: Cause) -> &'static str {
         Cause::HalfSide(Side::Offer) => "an offer with shares and no price",
         Cause::Trailer => "the last line of the file",
         Cause::Listed => "a word that the mapping skips",
-    }
-}
-
-/// The line on which a row begins, from 1.
-fn line_of(row: &ByteRecord) -> u64 {
-    match row.position() {
-        Some(position) => position.line(),
-        None => 0,
     }
 }

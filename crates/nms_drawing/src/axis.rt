@@ -1,9 +1,9 @@
 //! What the axis of a picture counts: versions, the changes of the symbol alone, or clock time.
-ghost use Rattle.std.specs.Prelude.{◌<◌};
-
 use crate::clock::{Clock, SECOND, clock_of, time_at};
+use crate::hours::Hours;
+use crate::marks::{Mark, is_between};
 use crate::scale::step_of;
-use nms_times::Rising;
+use nms_times::TimeOfDay;
 
 /// The steps between ticks of clock time, 1 second to 4 hours, in nanoseconds: the axis takes the least that goes into a range
 /// twelve times at most.
@@ -32,8 +32,8 @@ pub(crate) enum Kind<'a> {
     Versions,
     /// The changes of the symbol alone, with the versions after them.
     Own(Vec<u64>),
-    /// Nanoseconds, by the times of the changes that are drawn.
-    Clock(Rising<'a>),
+    /// Nanoseconds.
+    Clock(Hours<'a>),
 }
 
 /// The axis of a picture. A place on it is counted from its left end.
@@ -45,6 +45,10 @@ pub(crate) struct Axis<'a> {
     pub(crate) to: u64,
     /// How many versions are drawn.
     pub(crate) versions: u64,
+    /// The first time of which executions are drawn, if one was given.
+    pub(crate) since: Option<TimeOfDay>,
+    /// The last time of which they are drawn, if one was given.
+    pub(crate) until: Option<TimeOfDay>,
     /// What is counted.
     pub(crate) kind: Kind<'a>,
 }
@@ -67,18 +71,31 @@ impl Axis<'_> {
         match &self.kind {
             Kind::Versions => after,
             Kind::Own(versions) => versions.partition_point(|own| *own <= version) as u64,
-            Kind::Clock(rising) => clock_place(rising, after),
+            Kind::Clock(hours) => hours.place(after),
         }
     }
 
-    /// The last place. Clock time goes on for a little after the last change, so that the view after it is seen.
+    /// Whether an execution is drawn.
+    pub(crate) fn has(&self, mark: &Mark) -> bool {
+        is_between(mark, (self.from, self.to), (self.since, self.until))
+    }
+
+    /// The place of an execution that is drawn: that of its own time, else that of its version.
+    pub(crate) fn place_of_mark(&self, mark: &Mark) -> u64 {
+        match &self.kind {
+            Kind::Versions | Kind::Own(_) => self.place(mark.version),
+            Kind::Clock(hours) => match mark.time {
+                Some(time) => hours.after(time),
+                None => 0,
+            },
+        }
+    }
+
+    /// The last place.
     pub(crate) fn last(&self) -> u64 {
         match &self.kind {
             Kind::Versions | Kind::Own(_) => self.place(self.to),
-            Kind::Clock(rising) => {
-                let last = clock_place(rising, self.to.max(self.from) - self.from);
-                last + last / 40
-            }
+            Kind::Clock(hours) => hours.last(),
         }
     }
 
@@ -87,7 +104,7 @@ impl Axis<'_> {
         match &self.kind {
             Kind::Versions => self.from,
             Kind::Own(_) => 0,
-            Kind::Clock(rising) => begin_of(rising),
+            Kind::Clock(hours) => hours.begin(),
         }
     }
 
@@ -117,36 +134,12 @@ impl Axis<'_> {
                 };
                 Some(Label::Own(place, last.unwrap_or(self.from)))
             }
-            Kind::Clock(rising) if rising.times.is_empty() => None,
-            Kind::Clock(rising) => {
+            Kind::Clock(hours) if hours.ends.is_none() => None,
+            Kind::Clock(hours) => {
                 let time = time_at(counted)?;
-                Some(Label::Clock(clock_of(time, step), rising.version_at(time)))
+                Some(Label::Clock(clock_of(time, step), hours.rising.version_at(time)))
             }
         }
-    }
-}
-
-/// The nanoseconds after midnight of the first time, 0 if there is none.
-fn begin_of(rising: &Rising<'_>) -> u64 {
-    match rising.times.first() {
-        Some(time) => time.since_midnight(),
-        None => 0,
-    }
-}
-
-/// The nanoseconds from the first time to the time of a version. Its number of changes after the first version is given.
-fn clock_place(rising: &Rising<'_>, after: u64) -> u64
-    ensures { result < 86400000000000 }
-{
-    let Some(place) = after.checked_sub(1) else {
-        return 0;
-    };
-    match rising.times.get(place as usize) {
-        Some(time) => {
-            let begin = begin_of(rising);
-            time.since_midnight().max(begin) - begin
-        }
-        None => 0,
     }
 }
 

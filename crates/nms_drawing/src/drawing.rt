@@ -8,8 +8,9 @@ ghost use Rattle.nms_drawing.specs.Faults.{is_begun, is_of_input};
 use crate::axis::{Axis, Kind};
 use crate::day::{Day, concerns, day_of};
 use crate::drawing_fault::DrawingFault;
+use crate::hours::{Hours, Span, hours_over};
 use crate::judged::{Judged, judge_plan};
-use crate::marks::{Mark, Marked, marked_in};
+use crate::marks::{Mark, Marked, marked_in, times_of};
 use crate::picture::write_picture;
 use crate::words::Drawn;
 use nms_board::Boards;
@@ -18,7 +19,7 @@ use nms_files::read_changes;
 use nms_lines::read_plan;
 use nms_quote::{Change, Plan, Roster, Sym};
 use nms_show::Ending;
-use nms_times::Times;
+use nms_times::{Rising, TimeOfDay, Times};
 use std::alloc::{AllocError, Global};
 use std::io::{Read, Write};
 
@@ -33,6 +34,22 @@ pub struct Frame<'a> {
     pub own: bool,
     /// The times of the changes, for an axis of clock time. Those between the versions that are drawn may not fall.
     pub times: Option<&'a Times>,
+    /// The version before the symbol's first change, in a file sorted by symbol; else 0. It has no time.
+    pub opening: u64,
+    /// The time at which the picture begins, if one was given: executions before it are not drawn.
+    pub since: Option<TimeOfDay>,
+    /// The time at which it ends, if one was given: executions after it are not drawn.
+    pub until: Option<TimeOfDay>,
+}
+
+impl Frame<'_> {
+    /// The time of a version: that of its last change, if the symbol has one by then.
+    pub(crate) fn time_of(&self, version: u64) -> Option<TimeOfDay> {
+        match self.times {
+            Some(times) if version > self.opening => times.time_of(version),
+            Some(_) | None => None,
+        }
+    }
 }
 
 /// What is drawn.
@@ -111,7 +128,8 @@ pub fn draw_day<W: Write>(
         (option_copied frame.now.times) (option_copied plan.entry)) }
     ensures unwritten { IfErr result (λ fault. is_begun fault ≡ false → W.contents answers.new ≡ W.contents answers.old) }
 {
-    let axis = match axis_of(alloc, changes, frame, sym) {
+    let none: &[Mark] = &[];
+    let axis = match axis_of(alloc, changes, frame, sym, marks.unwrap_or(none)) {
         Ok(axis) => axis,
         Err(fault) => return Err(fault),
     };
@@ -145,12 +163,13 @@ pub fn draw_day<W: Write>(
     )
 }
 
-/// The axis of a frame.
+/// The axis of a frame, in which these executions are.
 fn axis_of<'a>(
     alloc: Global,
     changes: &[Change],
     frame: &Frame<'a>,
     sym: Sym,
+    marks: &[Mark],
 ) -> Result<Axis<'a>, DrawingFault>
     ensures fits { IfOk result (λ axis. Fits frame.now.from frame.now.to frame.now.own (option_copied frame.now.times) changes.now) }
     ensures ends { IfOk result (λ axis. (axis.from ≡ frame.now.from) × (axis.to ≡ last_drawn frame.now.to changes.now)) }
@@ -176,7 +195,8 @@ fn axis_of<'a>(
         match frame.times {
             Some(times) => {
                 times.check_len(changes.len())?;
-                Kind::Clock(times.rising_between(from as usize, to as usize)?)
+                let rising = times.rising_between(from as usize, to as usize)?;
+                Kind::Clock(hours_of(rising, frame, to, marks))
             }
             None => Kind::Versions,
         }
@@ -185,8 +205,29 @@ fn axis_of<'a>(
         from,
         to,
         versions,
+        since: frame.since,
+        until: frame.until,
         kind,
     })
+}
+
+/// The clock time of a frame, up to a version: from the first of the changes and executions that are drawn to the last. Without
+/// any it is the time of the first version.
+fn hours_of<'a>(rising: Rising<'a>, frame: &Frame<'_>, to: u64, marks: &[Mark]) -> Hours<'a> {
+    let changed = match (rising.times.first(), rising.times.last()) {
+        (Some(first), Some(last)) => Some(Span {
+            first: *first,
+            last: *last,
+        }),
+        (_, _) => None,
+    };
+    let traded = times_of(marks, (frame.from, to), (frame.since, frame.until));
+    let span = match (changed, traded) {
+        (Some(changed), Some(traded)) => Some(changed.with(traded)),
+        (Some(span), None) | (None, Some(span)) => Some(span),
+        (None, None) => frame.time_of(frame.from).map(Span::of),
+    };
+    hours_over(rising, span, frame.since, frame.until)
 }
 
 /// The versions after the changes of a symbol, beyond one version and up to another.

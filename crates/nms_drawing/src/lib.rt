@@ -9,6 +9,7 @@ mod day;
 mod drawing;
 mod drawing_fault;
 mod executions;
+mod hours;
 mod json_lines;
 mod judged;
 mod legs;

@@ -1,11 +1,14 @@
-//! Executions in a picture: a cross for each that traded through, a small circle for each other one, at its version and its
-//! price; and counts, if many are close together.
+//! Executions in a picture: a cross for each that traded through, a small circle for each other one, at its time or its version
+//! and at its price; and counts, if many are close together.
 ghost use Rattle.std.specs.Prelude.{◌≤◌};
 
 use crate::axis::Axis;
+use crate::clock::clock_of;
+use crate::hours::Span;
 use crate::picture::put;
 use crate::scale::{LEFT, Scale, TOP};
 use nms_show::{Item, ShowFault};
+use nms_times::TimeOfDay;
 use std::alloc::{AllocError, Global};
 use std::io::Write;
 
@@ -25,6 +28,8 @@ pub struct Mark {
     pub number: u64,
     /// The version on which it was judged.
     pub version: u64,
+    /// Its time of day, or that of its version; `None` if neither is known.
+    pub time: Option<TimeOfDay>,
     /// Its price in 1/1,000,000 dollar.
     pub millionths: u64,
     /// Whether it traded through a protected quotation.
@@ -56,9 +61,58 @@ pub(crate) struct Marked {
     pub(crate) through: u64,
 }
 
-/// Whether an execution stands in a picture.
-pub(crate) fn is_drawn(mark: &Mark, axis: &Axis<'_>) -> bool {
-    axis.from <= mark.version && mark.version <= axis.to
+/// Whether an execution is on one of these versions and between these times, where they are given. One whose time is not known
+/// is before each time.
+pub(crate) fn is_between(
+    mark: &Mark,
+    (from, to): (u64, u64),
+    (since, until): (Option<TimeOfDay>, Option<TimeOfDay>),
+) -> bool {
+    if mark.version < from || mark.version > to {
+        return false;
+    }
+    match mark.time {
+        Some(time) => is_at_or_after(time, since) && is_at_or_before(time, until),
+        None => since.is_none(),
+    }
+}
+
+/// Whether a time is not before another one, if there is one.
+fn is_at_or_after(time: TimeOfDay, since: Option<TimeOfDay>) -> bool {
+    match since {
+        Some(since) => since <= time,
+        None => true,
+    }
+}
+
+/// Whether a time is not after another one, if there is one.
+fn is_at_or_before(time: TimeOfDay, until: Option<TimeOfDay>) -> bool {
+    match until {
+        Some(until) => time <= until,
+        None => true,
+    }
+}
+
+/// The times of the executions that are drawn.
+pub(crate) fn times_of(
+    marks: &[Mark],
+    versions: (u64, u64),
+    ends: (Option<TimeOfDay>, Option<TimeOfDay>),
+) -> Option<Span> {
+    let mut span: Option<Span> = None;
+    for mark in marks {
+        if !is_between(mark, versions, ends) {
+            continue;
+        }
+        if let Some(time) = mark.time {
+            let own = Span::of(time);
+            span = Some(match span {
+                Some(span) => span.with(own),
+                None => own,
+            });
+        }
+    }
+    span
 }
 
 /// How many executions stand in a picture. There are no more than a number holds.
@@ -68,7 +122,7 @@ pub(crate) fn marked_in(marks: &[Mark], axis: &Axis<'_>) -> Option<Marked> {
         through: 0,
     };
     for mark in marks {
-        if is_drawn(mark, axis) {
+        if axis.has(mark) {
             marked.drawn = marked.drawn.checked_add(1)?;
             marked.through = marked.through.checked_add(u64::from(mark.through))?;
         }
@@ -103,7 +157,7 @@ fn write_singles<W: Write>(
 ) -> Result<(), ShowFault> {
     for through in [false, true] {
         for mark in marks {
-            if mark.through == through && is_drawn(mark, axis) {
+            if mark.through == through && axis.has(mark) {
                 write_single(mark, groups, axis, scale, answers)?;
             }
         }
@@ -119,7 +173,7 @@ fn write_single<W: Write>(
     scale: &Scale,
     answers: &mut W,
 ) -> Result<(), ShowFault> {
-    let x = scale.version(axis, mark.version);
+    let x = scale.mark(axis, mark);
     if group_at(groups, x).count > MOST_SINGLE {
         return Ok(());
     }
@@ -165,8 +219,8 @@ fn group_all(
     scale: &Scale,
 ) -> Result<(), AllocError> {
     for mark in marks {
-        if is_drawn(mark, axis) {
-            let place = place_of(scale.version(axis, mark.version));
+        if axis.has(mark) {
+            let place = place_of(scale.mark(axis, mark));
             if let Some(group) = groups.get_mut(place) {
                 add(group, mark)?;
             }
@@ -329,7 +383,7 @@ pub(crate) fn write_marked<W: Write>(marked: &Marked, answers: &mut W) -> Result
     put(
         answers,
         &[
-            Item::Text("Executions on the versions drawn: "),
+            Item::Text("Executions drawn: "),
             Item::Number(marked.drawn),
             Item::Text("; of these traded through a protected quotation: "),
             Item::Number(marked.through),
@@ -347,7 +401,7 @@ pub(crate) fn write_listed<W: Write>(
 ) -> Result<(), ShowFault> {
     let mut listed = 0;
     for mark in marks {
-        if listed < MOST_LISTED && mark.through && is_drawn(mark, axis) {
+        if listed < MOST_LISTED && mark.through && axis.has(mark) {
             listed += 1;
             write_through(mark, answers)?;
         }
@@ -360,11 +414,26 @@ pub(crate) fn write_listed<W: Write>(
 
 /// Writes in words that an execution traded through.
 fn write_through<W: Write>(mark: &Mark, answers: &mut W) -> Result<(), ShowFault> {
+    match mark.time {
+        Some(time) => write_through_at(mark, ", at ", clock_of(time, 1).bytes(), answers),
+        None => write_through_at(mark, "", &[], answers),
+    }
+}
+
+/// Writes the same, with a time and the words before it.
+fn write_through_at<W: Write>(
+    mark: &Mark,
+    before: &'static str,
+    time: &[u8],
+    answers: &mut W,
+) -> Result<(), ShowFault> {
     put(
         answers,
         &[
             Item::Text("The execution of record "),
             Item::Number(mark.number),
+            Item::Text(before),
+            Item::Bytes(time),
             Item::Text(", on version "),
             Item::Number(mark.version),
             Item::Text(", traded through."),

@@ -125,7 +125,7 @@ fn write_day<W: Write>(
 fn scale_of(subject: &Subject<'_>, day: &Day) -> Scale {
     let mut scale = Scale::of(day);
     for mark in subject.marks {
-        if subject.axis.from <= mark.version && mark.version <= subject.axis.to {
+        if subject.axis.has(mark) {
             scale.hold((mark.millionths / 100).max(1));
             scale.hold(mark.millionths.div_ceil(100));
         }

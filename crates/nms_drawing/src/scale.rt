@@ -4,6 +4,7 @@ ghost use Rattle.std.specs.Prelude.{◌<◌, ◌≤◌, ◌^◌};
 use crate::axis::Axis;
 use crate::day::{Day, Shown, Span};
 use crate::judged::Judged;
+use crate::marks::Mark;
 use nms_quote::{Plan, Side};
 
 /// The plot within a picture of 2,000 by 1,100: prices above, a strip of sizes below.
@@ -130,6 +131,14 @@ impl Scale {
         ensures right { result ≤ 1650 }
     {
         self.across(axis.place(version))
+    }
+
+    /// Where an execution that is drawn stands.
+    pub(crate) fn mark(&self, axis: &Axis<'_>, mark: &Mark) -> u64
+        ensures left { 150 ≤ result }
+        ensures right { result ≤ 1650 }
+    {
+        self.across(axis.place_of_mark(mark))
     }
 
     /// Where a column begins.

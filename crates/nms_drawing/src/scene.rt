@@ -78,9 +78,11 @@ impl Prices {
 const BEGIN: &[u8] = b"<svg ";
 /// Its end, and the end of its line.
 const END: &[u8] = b"</svg>\n";
-/// What comes after its beginning: its size, its words for those who can't see it, its ground and its axes.
+/// What comes after its beginning: its size, and its words for those who can't see it.
 const GROUND: &str = "xmlns=\"http://www.w3.org/2000/svg\" viewBox=\"0 0 720 250\" role=\"img\" \
-aria-label=\"best bid (solid), best offer (hollow) and the execution (cross), by version\" \
+aria-label=\"the execution of record ";
+/// What comes after the number of the record: its ground and its axes.
+const AXES: &str = " (cross), best bid (solid) and best offer (hollow), by version\" \
 font-family=\"sans-serif\" font-size=\"13\"><rect width=\"720\" height=\"250\" fill=\"#fff\"/>\
 <path fill=\"none\" stroke=\"#000\" d=\"M80 24V204H500\"/>";
 /// How the steps are drawn: the offer's hollow, so in two colours.
@@ -172,7 +174,14 @@ fn write_ground<W: Write>(scene: &Scene, prices: &Prices, answers: &mut W) -> Re
     ensures safe { Writes IsSafe (W.contents answers.old) (W.contents answers.new) result }
     ensures fault { IfErr result (λ fault. fault ≡ ShowFault.WriteFault) }
 {
-    line(answers, &[Item::Text(GROUND)])?;
+    line(
+        answers,
+        &[
+            Item::Text(GROUND),
+            Item::Number(scene.mark.number),
+            Item::Text(AXES),
+        ],
+    )?;
     write_end(prices.high, 29, answers)?;
     write_end(prices.low, 208, answers)?;
     write_steps(scene, answers)

@@ -1,9 +1,10 @@
 //! The words of a picture, for those who can't see it and for those who can: its title, its numbers, what was left out, the
 //! finding on a plan, and the executions.
 use crate::axis::{Axis, Kind};
-use crate::clock::clock_of;
+use crate::clock::{clock_of, time_at};
 use crate::day::{Day, NOTHING, Shown, Span, Stretch};
 use crate::drawing::Subject;
+use crate::hours::Hours;
 use crate::judged::{Judged, Passed, why_of};
 use crate::marks::{Marked, write_listed, write_marked};
 use crate::picture::put;
@@ -241,10 +242,29 @@ fn write_axis<W: Write>(axis: &Axis<'_>, answers: &mut W) -> Result<(), ShowFaul
                 Item::Text("."),
             ],
         ),
-        Kind::Clock(rising) => match (rising.times.first(), rising.times.last()) {
-            (Some(first), Some(last)) => write_times(*first, *last, answers),
-            _ => put(answers, &[Item::Text("There is no change and no time.")]),
-        },
+        Kind::Clock(hours) => write_hours(hours, answers),
+    }
+}
+
+/// Writes the times of the changes; without changes, where the axis begins.
+fn write_hours<W: Write>(hours: &Hours<'_>, answers: &mut W) -> Result<(), ShowFault> {
+    let times = hours.rising.times;
+    if let (Some(first), Some(last)) = (times.first(), times.last()) {
+        return write_times(*first, *last, answers);
+    }
+    match (hours.ends, time_at(hours.begin())) {
+        (Some(_), Some(begin)) => put(
+            answers,
+            &[
+                Item::Text("The axis has the time of day from "),
+                Item::Bytes(clock_of(begin, 1).bytes()),
+                Item::Text(" on. No change is drawn."),
+            ],
+        ),
+        (_, _) => put(
+            answers,
+            &[Item::Text("No change is drawn, and no time is known.")],
+        ),
     }
 }
 

@@ -28,3 +28,6 @@ name_plain name.Filled = refl
 name_plain name.Cost = refl
 name_plain name.Says = refl
 name_plain name.Value = refl
+name_plain name.Id = refl
+name_plain name.When = refl
+name_plain name.Flags = refl

@@ -1,6 +1,7 @@
 pub use Rattle.nms_lines.specs.FaultTable as FaultTable
 pub use Rattle.nms_lines.specs.Layout as Layout
 pub mod Counted
+pub mod ExecutionCodes
 pub mod Faults
 pub mod FieldNames
 pub mod FieldTable

@@ -22,6 +22,7 @@ use crate::places::{
 };
 use crate::record_source::{RecordSource, RecordText, next_record, open_source, record_of};
 use crate::refusal::{Refusal, tell_refusal};
+use crate::refusal_code::RefusalCode;
 use crate::remedies::remedy_in;
 use crate::span::{Point, Span, name_span, open_quote, point_at, span_of};
 use crate::tally::{Tally, tell_remark};
@@ -317,7 +318,7 @@ fn refusal_of<'a>(
         line,
         text,
         span: finding.span,
-        code: Code::of_line(fault),
+        code: RefusalCode::Record(Code::of_line(fault)),
         field: finding.field,
         found: finding.found,
         expected: finding.expected,
@@ -447,7 +448,7 @@ fn field_of<'a>(
 }
 
 /// Where the first name that is not on the roster stands, among those that a field joins.
-fn unknown_span(text: &[u8], field: Span, names: &[u8], roster: &Roster) -> Span {
+pub(crate) fn unknown_span(text: &[u8], field: Span, names: &[u8], roster: &Roster) -> Span {
     match unknown_name(names, roster) {
         Some(nth) => name_span(text, field, nth),
         None => field,

@@ -10,12 +10,13 @@ ghost use Rattle.nms_show.specs.Plain.{is_own_plain};
 ghost use Rattle.nms_show.specs.Safe.{IsSafe};
 ghost use Rattle.nms_show.specs.Written.{Writes};
 
-use crate::changes::{TOO_LONG, quote_at};
+use crate::changes::{TOO_LONG, quote_at, unknown_span};
 use crate::explain_fault::ExplainFault;
 use crate::hints::hint_of_kind;
 use crate::places::{FieldName, FieldPlace, Place, PlanDue, PlanTrouble, PlanWalk, text_at};
 use crate::record_source::{RecordSource, RecordText, next_record, open_source, record_of};
 use crate::refusal::{Refusal, tell_missing, tell_refusal};
+use crate::refusal_code::RefusalCode;
 use crate::span::{Point, Span, span_of};
 use crate::tally::{tell_count, tell_counts};
 use nms_codes::Code;
@@ -223,7 +224,8 @@ fn tell_sum<W: Write>(came: &Came, asked: &Asked<'_>, answers: &mut W) -> Result
         ..
     } = *asked;
     tell_counts(alloc, file, form, came.records, came.refused, answers)?;
-    tell_count(alloc, file, form, CODE, came.refused, answers)
+    let code = RefusalCode::Record(CODE);
+    tell_count(alloc, file, form, code, came.refused, answers)
 }
 
 /// Which record is missing at the end of a plan's records, if one is.
@@ -254,7 +256,7 @@ fn refusal_of<'a>(
         PlanTrouble::Wrong(Place::Field(at)) => (Some(at), expected_of(due, at.name)),
     };
     let span = match field {
-        Some(at) => span_of(text, at.place),
+        Some(at) => span_at(text, row, at, asked.roster),
         None => whole(text),
     };
     Refusal {
@@ -263,9 +265,9 @@ fn refusal_of<'a>(
         line,
         text,
         span,
-        code: CODE,
+        code: RefusalCode::Record(CODE),
         field,
-        found: found_at(row, field),
+        found: found_at(text, row, field, span),
         expected,
         hint: hint_for(due, number, text),
         remedy: CODE.remedy(),
@@ -273,11 +275,29 @@ fn refusal_of<'a>(
     }
 }
 
-/// What stands at a field; the number of fields if none is wrong.
-fn found_at<'a>(row: &'a ByteRecord, field: Option<FieldPlace>) -> Item<'a>
+/// Where a wrong field stands; of joined names the first that is not on the roster.
+fn span_at(text: &[u8], row: &ByteRecord, at: FieldPlace, roster: &Roster) -> Span {
+    let field = span_of(text, at.place);
+    if at.name == FieldName::Names {
+        unknown_span(text, field, text_at(row, at.place), roster)
+    } else {
+        field
+    }
+}
+
+/// What stands at a field, or at a span of joined names; the number of fields if none is wrong.
+fn found_at<'a>(
+    text: &'a [u8],
+    row: &'a ByteRecord,
+    field: Option<FieldPlace>,
+    span: Span,
+) -> Item<'a>
     ensures { is_own_plain result ≡ true }
 {
     match field {
+        Some(at) if at.name == FieldName::Names => {
+            Item::Bytes(text.get(span.start..span.end).unwrap_or(&[]))
+        }
         Some(at) => Item::Bytes(text_at(row, at.place)),
         None => Item::Number(row.len() as u64),
     }
@@ -339,6 +359,9 @@ fn expected_of(due: PlanDue, name: FieldName) -> &'static str {
         FieldName::Shares => expected_shares(due),
         FieldName::Filled
         // No record of a plan has one of these.
+        | FieldName::Id
+        | FieldName::When
+        | FieldName::Flags
         | FieldName::State
         | FieldName::Bid
         | FieldName::BidShares

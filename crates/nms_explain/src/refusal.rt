@@ -6,6 +6,7 @@ ghost use Rattle.nms_show.specs.Written.{Writes};
 
 use crate::line_count::LineCount;
 use crate::places::{FieldName, FieldPlace};
+use crate::refusal_code::RefusalCode;
 use crate::span::{Point, Span, point_at};
 use nms_codes::Code;
 use nms_show::{
@@ -29,7 +30,7 @@ pub(crate) struct Refusal<'a> {
     /// The part of it that is wrong.
     pub(crate) span: Span,
     /// The code of the refusal.
-    pub(crate) code: Code,
+    pub(crate) code: RefusalCode,
     /// The field that is wrong, if one is.
     pub(crate) field: Option<FieldPlace>,
     /// What stands there, or how many fields there are.

@@ -4,6 +4,7 @@ ghost use Rattle.nms_explain.specs.Counted.{IsWithin, publishes};
 ghost use Rattle.nms_show.specs.Safe.{IsSafe};
 ghost use Rattle.nms_show.specs.Written.{Writes};
 
+use crate::refusal_code::RefusalCode;
 use nms_codes::Code;
 use nms_lines::{Line, LineFault};
 use nms_show::{Form, Item, ShowFault, write_plain_line, write_plain_object};
@@ -102,7 +103,8 @@ impl Tally {
         tell_counts(alloc, file, form, self.records, self.refused, answers)?;
         for fault in FAULTS {
             let count = self.count(fault);
-            tell_count(alloc, file, form, Code::of_line(fault), count, answers)?;
+            let code = RefusalCode::Record(Code::of_line(fault));
+            tell_count(alloc, file, form, code, count, answers)?;
         }
         Ok(())
     }
@@ -177,7 +179,7 @@ pub(crate) fn tell_count<'a, W: Write>(
     alloc: Global,
     file: &'a str,
     form: Form,
-    code: Code,
+    code: RefusalCode,
     count: u64,
     answers: &mut W,
 ) -> Result<(), ShowFault>

@@ -22,8 +22,8 @@ use std::sync::Wait;
 
 /// Reads the records of a feed's stream as they come, and sends the change that each of them says, in order.
 ///
-/// Only whole lines are read (`WholeLines`). A record that is refused is passed over, counted, and reported to the
-/// watch; if `strict` is set it ends the reading. A feed may be read from several streams, one after another: the
+/// Only whole lines are read (`WholeLines`). A record that is refused is reported to the watch, passed over and counted;
+/// if `strict` is set it ends the reading. A feed may be read from several streams, one after another: the
 /// counts go on from one to the next. `Ok` is the end of the stream.
 ///
 /// It ends early on a failing stream, out of memory or at more than 2^40 records; the changes of the first records stay
@@ -131,12 +131,12 @@ fn send_record<W: Wait, O: FeedWatch>(
             Ok(())
         }
         Err(fault) => {
+            watch.refused(feed, number, fault, row);
             if strict {
                 return Err(FeedFault::Refused { number, fault });
             }
             counts.records = number;
             counts.refused += 1;
-            watch.refused(feed, number, fault);
             Ok(())
         }
     }

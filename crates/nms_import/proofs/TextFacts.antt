@@ -1,7 +1,7 @@
 -- What is written of the rows so far and of one more.
-use Rattle.std.proofs.Common.{ℕ, ◌≡◌, ◌+◌, Bool, true, false, List, [], ◌∷◌, ◌++◌, Option, Some, None, length, map, sym, ap, subst}
+use Rattle.std.proofs.Common.{ℕ, ◌≡◌, ◌+◌, Bool, true, false, List, [], ◌∷◌, ◌++◌, Option, Some, None, length, map, refl, sym, ap, subst}
 use Rattle.std.proofs.Common.{◌∙◌, append_assoc, arith, length-append}
-use Rattle.std.specs.Prelude.{filter, flat_map, Ok}
+use Rattle.std.specs.Prelude.{filter, flat_map, OnOk, Result, Ok, Err}
 use Rattle.std.proofs.lemmas.List.{append-nil, map-append}
 use Rattle.std.proofs.lemmas.List.Concat.{flat_map-append}
 use Rattle.std.proofs.lemmas.List.Elements.{filter-append, filter_map-append}
@@ -15,8 +15,8 @@ use Rattle.nms_import.specs.declared.column.Columns.{Columns}
 use Rattle.nms_import.specs.declared.entry.Entry.{Entry}
 use Rattle.nms_import.specs.declared.meanings.Meanings.{Meanings}
 use Rattle.nms_import.specs.Mapping.{entry_of}
-use Rattle.nms_import.specs.Imported.{accepted, entry_in, imported_changes, imported_times, line_of, numbered_entry, numbered_times}
-use Rattle.nms_import.specs.Imported.{one_sided, time_line, times_text, written_times}
+use Rattle.nms_import.specs.Imported.{Given, accepted, changes_given, entry_in, given_by, given_from, given_row, last_after, last_of}
+use Rattle.nms_import.specs.Imported.{line_of, numbered, one_sided, times_given}
 
 -- the entries of the rows and of one more
 entries_more : (columns : Columns) (mapping : Meanings) (roster : Listing) (rows : List Record) (row : Record)
@@ -24,74 +24,87 @@ entries_more : (columns : Columns) (mapping : Meanings) (roster : Listing) (rows
     ≡ accepted columns mapping roster rows ++ accepted columns mapping roster (row ∷ [])
 entries_more columns mapping roster rows row = filter_map-append (λ r. entry_in (entry_of columns mapping roster r)) rows (row ∷ [])
 
--- the text of the changes
-changes_more : (columns : Columns) (mapping : Meanings) (roster : Listing) (rows : List Record) (row : Record)
-    → imported_changes columns mapping roster rows ++ imported_changes columns mapping roster (row ∷ [])
-    ≡ imported_changes columns mapping roster (rows ++ row ∷ [])
-changes_more columns mapping roster rows row =
-    let before = accepted columns mapping roster rows in
-    let one = accepted columns mapping roster (row ∷ []) in
-    sym (ap (λ (es : List Entry). flat_map record_text (map (change_record roster) (map (λ entry. entry.change) es)))
-    (entries_more columns mapping roster rows row)
-    ∙ ap (λ cs. flat_map record_text (map (change_record roster) cs)) (map-append (λ (entry : Entry). entry.change) before one)
-    ∙ ap (flat_map record_text) (map-append (change_record roster) (map (λ entry. entry.change) before) (map (λ entry. entry.change) one))
-    ∙ flat_map-append record_text (map (change_record roster) (map (λ entry. entry.change) before))
-    (map (change_record roster) (map (λ entry. entry.change) one)))
+-- what the rows and one more give
+pub given_more : (columns : Columns) (mapping : Meanings) (roster : Listing) (last before : ℕ) (rows : List Record) (row : Record)
+    → given_from columns mapping roster last before (rows ++ row ∷ [])
+    ≡ given_from columns mapping roster last before rows
+    ++ given_row columns mapping roster (last_of columns mapping roster last rows) (before + length rows + 1) row
+given_more columns mapping roster last before [] row =
+    let same : before + 1 ≡ before + 0 + 1 = omega arith in
+    append-nil (given_row columns mapping roster last (before + 1) row)
+    ∙ ap (λ (n : ℕ). given_row columns mapping roster last n row) same
+given_more columns mapping roster last before (first ∷ rows) row =
+    let one : List Given = given_row columns mapping roster last (before + 1) first in
+    let next : ℕ = last_after last (given_by columns mapping roster last first) in
+    let counted : before + 1 + length rows + 1 ≡ before + length (first ∷ rows) + 1 = omega arith in
+    ap (λ (rest : List Given). one ++ rest) (given_more columns mapping roster next (before + 1) rows row)
+    ∙ ap (λ (n : ℕ). one ++ (given_from columns mapping roster next (before + 1) rows
+    ++ given_row columns mapping roster (last_of columns mapping roster next rows) n row)) counted
+    ∙ sym (append_assoc one (given_from columns mapping roster next (before + 1) rows)
+    (given_row columns mapping roster (last_of columns mapping roster next rows) (before + length (first ∷ rows) + 1) row))
 
--- the text of the times
-times_more : (columns : Columns) (mapping : Meanings) (roster : Listing) (rows : List Record) (row : Record)
-    → imported_times columns mapping roster rows ++ imported_times columns mapping roster (row ∷ [])
-    ≡ imported_times columns mapping roster (rows ++ row ∷ [])
-times_more columns mapping roster rows row =
-    let before = accepted columns mapping roster rows in
-    let one = accepted columns mapping roster (row ∷ []) in
-    sym (ap (λ (es : List Entry). times_text (map (λ entry. entry.time) es)) (entries_more columns mapping roster rows row)
-    ∙ ap times_text (map-append (λ (entry : Entry). entry.time) before one)
-    ∙ flat_map-append time_line (map (λ (entry : Entry). entry.time) before) (map (λ (entry : Entry). entry.time) one))
+-- the time of the last change
+pub last_more : (columns : Columns) (mapping : Meanings) (roster : Listing) (last : ℕ) (rows : List Record) (row : Record)
+    → last_of columns mapping roster last (rows ++ row ∷ [])
+    ≡ last_after (last_of columns mapping roster last rows)
+    (given_by columns mapping roster (last_of columns mapping roster last rows) row)
+last_more columns mapping roster last [] row = refl
+last_more columns mapping roster last (first ∷ rows) row =
+    last_more columns mapping roster (last_after last (given_by columns mapping roster last first)) rows row
+
+-- the text of the changes
+changes_more : (roster : Listing) (before more : List Given)
+    → changes_given roster before ++ changes_given roster more ≡ changes_given roster (before ++ more)
+changes_more roster before more =
+    sym (ap (λ cs. flat_map record_text (map (change_record roster) cs)) (map-append (λ (it : Given). it.entry.change) before more)
+    ∙ ap (flat_map record_text) (map-append (change_record roster) (map (λ it. it.entry.change) before) (map (λ it. it.entry.change) more))
+    ∙ flat_map-append record_text (map (change_record roster) (map (λ it. it.entry.change) before))
+    (map (change_record roster) (map (λ it. it.entry.change) more)))
 
 -- one row more was written
-pub changes_on : (columns : Columns) (mapping : Meanings) (roster : Listing) (rows : List Record) (row : Record)
-    (old now new : Option (List ℕ)) → Appends old now (imported_changes columns mapping roster rows)
-    → Appends now new (imported_changes columns mapping roster (row ∷ []))
-    → Appends old new (imported_changes columns mapping roster (rows ++ row ∷ []))
-changes_on columns mapping roster rows row old now new first next =
-    subst (Appends old new) (changes_more columns mapping roster rows row)
-    (appends-more old now new (imported_changes columns mapping roster rows)
-    (imported_changes columns mapping roster (row ∷ [])) first next)
+pub changes_on : (columns : Columns) (mapping : Meanings) (roster : Listing) (last before : ℕ) (rows : List Record) (row : Record)
+    (old now new : Option (List ℕ)) → Appends old now (changes_given roster (given_from columns mapping roster last before rows))
+    → Appends now new (changes_given roster
+    (given_row columns mapping roster (last_of columns mapping roster last rows) (before + length rows + 1) row))
+    → Appends old new (changes_given roster (given_from columns mapping roster last before (rows ++ row ∷ [])))
+changes_on columns mapping roster last before rows row old now new first next =
+    let had : List Given = given_from columns mapping roster last before rows in
+    let one : List Given = given_row columns mapping roster (last_of columns mapping roster last rows) (before + length rows + 1) row in
+    subst (Appends old new)
+    (changes_more roster had one ∙ ap (changes_given roster) (sym (given_more columns mapping roster last before rows row)))
+    (appends-more old now new (changes_given roster had) (changes_given roster one) first next)
 
--- the lines with the numbers of their rows
-numbered_more : (columns : Columns) (mapping : Meanings) (roster : Listing) (before : ℕ) (rows : List Record) (row : Record)
-    → numbered_times columns mapping roster before rows ++ numbered_times columns mapping roster (before + length rows) (row ∷ [])
-    ≡ numbered_times columns mapping roster before (rows ++ row ∷ [])
-numbered_more columns mapping roster before [] row =
-    let same : before + 0 ≡ before = omega arith in
-    ap (λ (n : ℕ). numbered_times columns mapping roster n (row ∷ [])) same
-numbered_more columns mapping roster before (first ∷ rows) row =
-    let line : List ℕ = numbered_entry (before + 1) (entry_in (entry_of columns mapping roster first)) in
-    let counted : before + length (first ∷ rows) ≡ before + 1 + length rows = omega arith in
-    append_assoc line (numbered_times columns mapping roster (before + 1) rows)
-    (numbered_times columns mapping roster (before + length (first ∷ rows)) (row ∷ []))
-    ∙ ap (λ (n : ℕ). line ++ (numbered_times columns mapping roster (before + 1) rows
-    ++ numbered_times columns mapping roster n (row ∷ [])))
-    counted
-    ∙ ap (λ (rest : List ℕ). line ++ rest) (numbered_more columns mapping roster (before + 1) rows row)
+-- with its times
+pub times_on : (numbers : Bool) (columns : Columns) (mapping : Meanings) (roster : Listing) (last before : ℕ) (rows : List Record)
+    (row : Record) (old now new : Option (List ℕ))
+    → Appends old now (times_given numbers (given_from columns mapping roster last before rows))
+    → Appends now new (times_given numbers
+    (given_row columns mapping roster (last_of columns mapping roster last rows) (before + length rows + 1) row))
+    → Appends old new (times_given numbers (given_from columns mapping roster last before (rows ++ row ∷ [])))
+times_on numbers columns mapping roster last before rows row old now new first next =
+    let had : List Given = given_from columns mapping roster last before rows in
+    let one : List Given = given_row columns mapping roster (last_of columns mapping roster last rows) (before + length rows + 1) row in
+    subst (Appends old new)
+    (sym (flat_map-append (λ (it : Given). line_of numbers it.row it.entry.time) had one)
+    ∙ ap (times_given numbers) (sym (given_more columns mapping roster last before rows row)))
+    (appends-more old now new (times_given numbers had) (times_given numbers one) first next)
 
--- either
-written_more : (numbers : Bool) (columns : Columns) (mapping : Meanings) (roster : Listing) (before : ℕ) (rows : List Record) (row : Record)
-    → written_times numbers columns mapping roster before rows
-    ++ written_times numbers columns mapping roster (before + length rows) (row ∷ [])
-    ≡ written_times numbers columns mapping roster before (rows ++ row ∷ [])
-written_more true columns mapping roster before rows row = numbered_more columns mapping roster before rows row
-written_more false columns mapping roster before rows row = times_more columns mapping roster rows row
+-- and counted
+pub given_count : (columns : Columns) (mapping : Meanings) (roster : Listing) (last before : ℕ) (rows : List Record) (row : Record)
+    → length (given_from columns mapping roster last before (rows ++ row ∷ []))
+    ≡ length (given_from columns mapping roster last before rows)
+    + length (given_row columns mapping roster (last_of columns mapping roster last rows) (before + length rows + 1) row)
+given_count columns mapping roster last before rows row =
+    ap length (given_more columns mapping roster last before rows row)
+    ∙ length-append (given_from columns mapping roster last before rows)
+    (given_row columns mapping roster (last_of columns mapping roster last rows) (before + length rows + 1) row)
 
-pub times_on : (numbers : Bool) (columns : Columns) (mapping : Meanings) (roster : Listing) (before : ℕ) (rows : List Record) (row : Record)
-    (old now new : Option (List ℕ)) → Appends old now (written_times numbers columns mapping roster before rows)
-    → Appends now new (written_times numbers columns mapping roster (before + length rows) (row ∷ []))
-    → Appends old new (written_times numbers columns mapping roster before (rows ++ row ∷ []))
-times_on numbers columns mapping roster before rows row old now new first next =
-    subst (Appends old new) (written_more numbers columns mapping roster before rows row)
-    (appends-more old now new (written_times numbers columns mapping roster before rows)
-    (written_times numbers columns mapping roster (before + length rows) (row ∷ [])) first next)
+-- the time of one entry was written
+pub one_time : (numbers : Bool) (number : ℕ) (entry : Entry) (old new : Option (List ℕ))
+    → Appends old new (line_of numbers number entry.time)
+    → Appends old new (times_given numbers (numbered number (Some entry)))
+one_time numbers number entry old new written =
+    subst (Appends old new) (sym (append-nil (line_of numbers number entry.time))) written
 
 -- and counted
 pub accepted_more : (columns : Columns) (mapping : Meanings) (roster : Listing) (rows : List Record) (row : Record)
@@ -116,19 +129,7 @@ pub none_written : (old : Option (List ℕ)) → Appends old old []
 none_written None = tt
 none_written (Some x) = sym (append-nil x)
 
--- no times were written
-pub no_times : (numbers : Bool) (columns : Columns) (mapping : Meanings) (roster : Listing) (before : ℕ) (old : Option (List ℕ))
-    → Appends old old (written_times numbers columns mapping roster before [])
-no_times true columns mapping roster before old = none_written old
-no_times false columns mapping roster before old = none_written old
-
--- the time of one row was written
-pub one_time : (numbers : Bool) (columns : Columns) (mapping : Meanings) (roster : Listing) (before number : ℕ) (row : Record)
-    (entry : Entry) → Ok entry ≡ entry_of columns mapping roster row → number ≡ before + 1 → (old new : Option (List ℕ))
-    → Appends old new (line_of numbers number entry.time)
-    → Appends old new (written_times numbers columns mapping roster before (row ∷ []))
-one_time true columns mapping roster before number row entry is counted old new written =
-    let line : Appends old new (line_of true (before + 1) entry.time) =
-    subst (λ (n : ℕ). Appends old new (line_of true n entry.time)) counted written in
-    rw (sym is) (subst (Appends old new) (sym (append-nil (line_of true (before + 1) entry.time))) line)
-one_time false columns mapping roster before number row entry is counted old new written = rw (sym is) written
+-- what holds whatever a result is, holds if it is fine
+pub always_on_ok : {A E P : Type 0} (r : Result A E) → P → OnOk r P
+always_on_ok (Ok x) p = p
+always_on_ok (Err e) p = tt

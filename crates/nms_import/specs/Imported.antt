@@ -10,7 +10,7 @@ use Rattle.nms_import.specs.declared.column.Columns.{Columns}
 use Rattle.nms_import.specs.declared.entry.Entry.{Entry}
 use Rattle.nms_import.specs.declared.meanings.Meanings.{Meanings}
 use Rattle.nms_import.specs.declared.tally.Tally.{Tally}
-use Rattle.nms_import.specs.Mapping.{entry_of}
+use Rattle.nms_import.specs.Mapping.{entry_of, left_by}
 
 -- an entry, if there is one
 abbrev pub entry_in : Result Entry Cause → Option Entry
@@ -20,10 +20,6 @@ entry_in (Err why) = None
 -- the entries of the rows that make one, in order
 abbrev pub accepted : Columns → Meanings → Listing → List Record → List Entry
 accepted columns mapping roster rows = filter_map (λ row. entry_in (entry_of columns mapping roster row)) rows
-
--- the text of their changes
-abbrev pub imported_changes : Columns → Meanings → Listing → List Record → List ℕ
-imported_changes columns mapping roster rows = changes_text roster (map (λ entry. entry.change) (accepted columns mapping roster rows))
 
 -- the last 15 digits of a number; of a time they are HHMMSSnnnnnnnnn
 abbrev pub fifteen_digits : ℕ → List ℕ
@@ -44,30 +40,52 @@ abbrev pub line_of : (numbers : Bool) → (row t : ℕ) → List ℕ
 line_of true row t = numbered_line row t
 line_of false row t = time_line t
 
--- times as text, a line each
-abbrev pub times_text : List ℕ → List ℕ
-times_text times = flat_map time_line times
+-- what a row gives: its own change, or what it leaves if it makes none
+abbrev pub entry_or : Columns → Meanings → Listing → (last : ℕ) → Record → Result Entry Cause → Option Entry
+entry_or columns mapping roster last row (Ok entry) = Some entry
+entry_or columns mapping roster last row (Err why) = left_by columns mapping roster last row why
 
--- the text of their times
-abbrev pub imported_times : Columns → Meanings → Listing → List Record → List ℕ
-imported_times columns mapping roster rows = times_text (map (λ entry. entry.time) (accepted columns mapping roster rows))
+abbrev pub given_by : Columns → Meanings → Listing → (last : ℕ) → Record → Option Entry
+given_by columns mapping roster last row = entry_or columns mapping roster last row (entry_of columns mapping roster row)
 
--- a row's line, if it makes a change
-abbrev pub numbered_entry : (row : ℕ) → Option Entry → List ℕ
-numbered_entry row None = []
-numbered_entry row (Some entry) = numbered_line row entry.time
+-- a change with its time, and the number of the row that gave it
+pub record Given : Type 0 where
+  pub row : ℕ
+  pub entry : Entry
 
--- the lines of rows, each with the number of its row; so many rows stand before them
-abbrev pub numbered_times : Columns → Meanings → Listing → (before : ℕ) → List Record → List ℕ
-numbered_times columns mapping roster before [] = []
-numbered_times columns mapping roster before (row ∷ rows) =
-    numbered_entry (before + 1) (entry_in (entry_of columns mapping roster row))
-    ++ numbered_times columns mapping roster (before + 1) rows
+abbrev pub numbered : (row : ℕ) → Option Entry → List Given
+numbered row None = []
+numbered row (Some entry) = record { row = row; entry = entry } ∷ []
+
+-- the time of the last change
+abbrev pub last_after : (last : ℕ) → Option Entry → ℕ
+last_after last None = last
+last_after last (Some entry) = entry.time
+
+-- what the row of a number gives; the last change before it had this time
+abbrev pub given_row : Columns → Meanings → Listing → (last number : ℕ) → Record → List Given
+given_row columns mapping roster last number row = numbered number (given_by columns mapping roster last row)
+
+-- what rows give, in order; so many rows stand before them
+abbrev pub given_from : Columns → Meanings → Listing → (last before : ℕ) → List Record → List Given
+given_from columns mapping roster last before [] = []
+given_from columns mapping roster last before (row ∷ rows) =
+    given_row columns mapping roster last (before + 1) row
+    ++ given_from columns mapping roster (last_after last (given_by columns mapping roster last row)) (before + 1) rows
+
+-- the time of the last change after rows
+abbrev pub last_of : Columns → Meanings → Listing → (last : ℕ) → List Record → ℕ
+last_of columns mapping roster last [] = last
+last_of columns mapping roster last (row ∷ rows) =
+    last_of columns mapping roster (last_after last (given_by columns mapping roster last row)) rows
+
+-- the text of the changes
+abbrev pub changes_given : Listing → List Given → List ℕ
+changes_given roster given = changes_text roster (map (λ it. it.entry.change) given)
 
 -- the text of their times, with the numbers of the rows or without
-abbrev pub written_times : (numbers : Bool) → Columns → Meanings → Listing → (before : ℕ) → List Record → List ℕ
-written_times true columns mapping roster before rows = numbered_times columns mapping roster before rows
-written_times false columns mapping roster before rows = imported_times columns mapping roster rows
+abbrev pub times_given : (numbers : Bool) → List Given → List ℕ
+times_given numbers given = flat_map (λ it. line_of numbers it.row it.entry.time) given
 
 -- how many of them have a condition that makes one side alone manual
 abbrev pub one_sided : Columns → Meanings → Listing → List Record → ℕ

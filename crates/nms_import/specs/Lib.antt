@@ -4,6 +4,7 @@ pub mod Rows
 pub mod Imported
 pub mod Examples
 pub mod Causes
+pub mod LastLines
 pub mod Noted
 pub mod Refusals
 pub mod Telling

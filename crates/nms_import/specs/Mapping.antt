@@ -1,9 +1,10 @@
 -- What a mapping makes of a row of a vendor's file: a change and its time, or the first cause why it makes none. This
 -- product's own rule.
 use Rattle.std.specs.Prelude.{ℕ, ◌*◌, ◌/◌, ◌%◌, ◌==◌, ◌&&◌, ◌||◌, Bool, true, false, List, [], ◌∷◌, length, map}
-use Rattle.std.specs.Prelude.{take, drop, position, slice_get}
+use Rattle.std.specs.Prelude.{not, take, drop, position, slice_get}
 use Rattle.std.specs.Prelude.{nat_le, nat_lt, Option, Some, None, option_map, Result, Ok, Err, if◌then◌else◌}
 use Rattle.std.specs.List.{list_any}
+use Rattle.std.specs.Option.{option_map_or}
 use Rattle.std.specs.Str.{bytes_eq}
 use Rattle.nms_units.specs.Digits.{number_in}
 use Rattle.nms_units.specs.Price.{price_number}
@@ -35,6 +36,7 @@ use Rattle.nms_import.specs.declared.meanings.Renamed.{Renamed}
 use Rattle.nms_import.specs.declared.meanings.Replaced.{Replaced}
 use Rattle.nms_import.specs.declared.meanings.Said.{Said}
 use Rattle.nms_import.specs.declared.meanings.Word.{Word}
+use Rattle.nms_import.specs.Causes.{is_skipped}
 use Rattle.nms_import.specs.Times.{clock_of}
 
 infixl 10 ◌>>=◌
@@ -91,11 +93,16 @@ abbrev pub shares_within : Side → Option ℕ → Result ℕ Cause
 shares_within side None = Err (cause.BadSize side)
 shares_within side (Some n) = if nat_le n MOST_SHARES then Ok n else Err (cause.BadSize side)
 
+-- the shares of a unit: those that the mapping says, or the round lot that the setup gives the symbol
+abbrev pub unit_for : Meanings → Listing → (sym : ℕ) → ℕ
+unit_for mapping roster sym =
+    if mapping.own_lots then option_map_or (λ entry. entry.1) (slice_get roster.syms sym) 1 else mapping.size_unit
+
 -- shares: the number times the shares of a unit; an empty field is 0
-abbrev pub shares_of : Meanings → Side → List ℕ → Result ℕ Cause
-shares_of mapping side text =
+abbrev pub shares_of : (unit : ℕ) → Side → List ℕ → Result ℕ Cause
+shares_of unit side text =
     if is_empty text then Ok 0
-    else shares_within side (option_map (λ n. n * mapping.size_unit) (number_in 9 text))
+    else shares_within side (option_map (λ n. n * unit) (number_in 9 text))
 
 abbrev pub quoted : Side → Option ℕ → ℕ → Result (Option Content) Cause
 quoted side None shares = Err (cause.HalfSide side)
@@ -106,10 +113,10 @@ abbrev pub side_from : Side → Option ℕ → ℕ → Result (Option Content) C
 side_from side price shares = if shares == 0 then Ok None else quoted side price shares
 
 -- a side: its price and its shares
-abbrev pub side_of : Meanings → Side → (price shares : List ℕ) → Result (Option Content) Cause
-side_of mapping side price shares = do
+abbrev pub side_of : Meanings → (unit : ℕ) → Side → (price shares : List ℕ) → Result (Option Content) Cause
+side_of mapping unit side price shares = do
   price ← price_of mapping side price
-  shares ← shares_of mapping side shares
+  shares ← shares_of unit side shares
   side_from side price shares
 
 -- ---- times
@@ -192,11 +199,11 @@ is_one_sided (meaning.ManualSide side) = true
 -- ---- rows
 
 -- both sides, as far as there is a quotation
-abbrev pub change_of : Columns → Meanings → Record → (part sym : ℕ) → Option QState → Result Change Cause
-change_of columns mapping line part sym None = Ok (change.Quote part sym Automated None None)
-change_of columns mapping line part sym (Some state) = do
-  bid ← side_of mapping Bid (column_text columns.bid line) (column_text columns.bid_size line)
-  offer ← side_of mapping Offer (column_text columns.offer line) (column_text columns.offer_size line)
+abbrev pub change_of : Columns → Meanings → (unit : ℕ) → Record → (part sym : ℕ) → Option QState → Result Change Cause
+change_of columns mapping unit line part sym None = Ok (change.Quote part sym Automated None None)
+change_of columns mapping unit line part sym (Some state) = do
+  bid ← side_of mapping unit Bid (column_text columns.bid line) (column_text columns.bid_size line)
+  offer ← side_of mapping unit Offer (column_text columns.offer line) (column_text columns.offer_size line)
   Ok (change.Quote part sym state bid offer)
 
 -- a row: a change with its time, or the first cause why it is none
@@ -210,5 +217,33 @@ entry_of columns mapping roster line = do
   sym ← or_stop (symbol_in mapping roster (column_text columns.symbol line)) (no_symbol mapping)
   means ← meaning_of mapping (column_text columns.source line) (column_text columns.condition line)
   state ← state_of mapping means
-  said ← change_of columns mapping line part sym state
+  said ← change_of columns mapping (unit_for mapping roster sym) line part sym state
   Ok (record { time = time; change = said; one_sided = is_one_sided means })
+
+-- ---- what a refused row leaves
+
+-- the row's time, or that of the last change if the row has none
+abbrev pub time_or : (last : ℕ) → Result ℕ Cause → ℕ
+time_or last (Err why) = last
+time_or last (Ok time) = time
+
+-- a participant shows nothing of a symbol, on either side
+abbrev pub withdrawal : (time part sym : ℕ) → Entry
+withdrawal time part sym = record { time = time; change = change.Quote part sym Automated None None; one_sided = false }
+
+-- the same, if both are known
+abbrev pub withdrawal_by : (time : ℕ) → Result ℕ Cause → Option ℕ → Option Entry
+withdrawal_by time (Err why) sym = None
+withdrawal_by time (Ok part) sym = option_map (withdrawal time part) sym
+
+-- the withdrawal of what the row's participant shows of the row's symbol
+abbrev pub withdrawal_of : Columns → Meanings → Listing → (last : ℕ) → Record → Option Entry
+withdrawal_of columns mapping roster last line =
+    withdrawal_by (time_or last (time_of mapping (column_text columns.time line)))
+    (participant_of mapping roster (column_text columns.participant line))
+    (symbol_in mapping roster (column_text columns.symbol line))
+
+-- what a row leaves that makes no change of its own: a refused one a withdrawal, unless the mapping keeps what stood before
+abbrev pub left_by : Columns → Meanings → Listing → (last : ℕ) → Record → Cause → Option Entry
+left_by columns mapping roster last line why =
+    if mapping.withdraws && not (is_skipped why) then withdrawal_of columns mapping roster last line else None

@@ -8,6 +8,11 @@ use Rattle.csv.specs.declared.parser.State.TheVariants as state
 use Rattle.csv.specs.declared.reader.Reader.{Reader}
 use Rattle.csv.specs.declared.reader.Trim.TheVariants as trim
 use Rattle.nms_lines.specs.Layout.{Record}
+use Rattle.nms_import.specs.declared.row_source.RowSource.{RowSource}
+
+-- what a source of rows has left: what the source below it has
+abbrev pub unread : {R : Type 0} → (R → Option (List ℕ)) → RowSource R → Option (List ℕ)
+unread remaining rows = remaining rows.source
 
 -- a delimiter, and whether a double quote quotes
 abbrev pub row_config : (delimiter : ℕ) → (quotes : Bool) → Config

@@ -14,6 +14,11 @@ pub enum Guard {
     NoWholeLot,
     /// I3: a time is before an earlier one, though the mapping says that none is.
     TimesFall,
+    /// I4: the last line of a file counts other rows than stand before it, or the file has none, though the mapping names the
+    /// count.
+    CutShort,
+    /// I5: no row made a change.
+    Nothing,
 }
 
 impl Guard {
@@ -27,6 +32,10 @@ impl Guard {
             Some(Guard::NoWholeLot)
         } else if notes.falls() {
             Some(Guard::TimesFall)
+        } else if notes.is_short() {
+            Some(Guard::CutShort)
+        } else if sums.changes == 0 {
+            Some(Guard::Nothing)
         } else {
             None
         }

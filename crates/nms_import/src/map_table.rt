@@ -68,6 +68,14 @@ impl<'a> MapTable<'a> {
         }
     }
 
+    /// Whether a key has this text.
+    pub(crate) fn says(self, key: &str, text: &str) -> bool {
+        match self.value(key) {
+            Some(value) => value.as_str() == Some(text),
+            None => false,
+        }
+    }
+
     /// The value at a key is not what is expected.
     pub fn bad(self, key: &str, expected: &'static str) -> MapFault
         ensures fault { result ≢ MapFault.NoMemory → refusal_of result ≡ bad_value (name_in self.entry) key.now expected.now }

@@ -20,6 +20,8 @@ pub struct FileForm {
     pub header: bool,
     /// Whether a double quote quotes; else it is a byte as any other.
     pub quotes: bool,
+    /// The place, from 0, of the field of a last line that counts the rows before it.
+    pub count: Option<u16>,
 }
 
 /// What a mapping says of the order of a file's rows.
@@ -111,6 +113,8 @@ impl Drop for Mapping {
 
 /// What is expected of a column's name.
 const A_COLUMN: &str = "the name of a column of the file's first line, letter for letter";
+
+const ONE_COLUMN: &str = "a name that the file's first line has once";
 
 impl Mapping {
     ghost use Rattle.std.specs.Prelude.{◌≡◌, IfErr, IfOk, true};
@@ -225,7 +229,7 @@ pub fn places_of(
 }
 
 /// Where the column of a key stands in a file whose first row is `names`. A row of at least `width` columns has it, so
-/// `width` grows with it. `NoColumn` if the row lacks its name.
+/// `width` grows with it. `NoColumn` if the row lacks its name, or has it twice.
 pub fn place_of(
     alloc: Global,
     source: &Source,
@@ -246,6 +250,9 @@ pub fn place_of(
         }
         Source::Fixed(text) => Ok(Column::Fixed(copied(alloc, text)?)),
         Source::Named(name) => match named(names, name) {
+            Some(place) if is_later(names, name, place) => Err(MapFault::no_column(
+                alloc, key, ONE_COLUMN,
+            )),
             Some(place) => {
                 *width = (*width).max(place + 1);
                 Ok(Column::At(place))
@@ -253,6 +260,18 @@ pub fn place_of(
             None => Err(MapFault::no_column(alloc, key, A_COLUMN)),
         },
     }
+}
+
+/// Whether a column after a place has that name.
+fn is_later(names: &ByteRecord, name: &[u8], place: usize) -> bool
+    requires { place < 18446744073709551615 }
+{
+    for later in place + 1..names.len() {
+        if names.get(later) == Some(name) {
+            return true;
+        }
+    }
+    false
 }
 
 /// The place of the first column of that name.

@@ -150,15 +150,43 @@ pub fn file_of(
     ensures delimiter { IfOk result (λ found. is_delimiter found.0.delimiter ≡ true) }
     ensures kind { IfErr result (λ fault. is_of_document fault ≡ true) }
 {
-    let table = MapTable::of(
-        alloc,
-        document,
-        "file",
-        &["kind", "delimiter", "header", "end", "quotes"],
-        "one of kind, delimiter, header, end, quotes",
-    )?;
+    let table = MapTable::of(alloc, document, "file", &[], "")?;
+    if let Some(members) = table.members() {
+        refuse_others_of(alloc, members, kind)?;
+    }
     check_kind(table, kind)?;
     layout_of(alloc, table)
+}
+
+/// Refuses a key that the table `file` of a mapping of this kind does not have: trades leave nothing that is kept.
+fn refuse_others_of(alloc: Global, members: &Table, kind: &'static str) -> Result<(), MapFault>
+    ensures kind { IfErr result (λ fault. is_of_document fault ≡ true) }
+{
+    if kind == "trades" {
+        refuse_others(
+            alloc,
+            "file",
+            members,
+            &["kind", "delimiter", "header", "end", "count", "quotes"],
+            "one of kind, delimiter, header, end, count, quotes",
+        )
+    } else {
+        refuse_others(
+            alloc,
+            "file",
+            members,
+            &[
+                "kind",
+                "delimiter",
+                "header",
+                "end",
+                "count",
+                "quotes",
+                "on_refused",
+            ],
+            "one of kind, delimiter, header, end, count, quotes, on_refused",
+        )
+    }
 }
 
 /// The layout of a file, and the words that a last line begins with.
@@ -167,6 +195,7 @@ fn layout_of(alloc: Global, table: MapTable<'_>) -> Result<(FileForm, Vec<Word>)
     ensures kind { IfErr result (λ fault. is_of_document fault ≡ true) }
 {
     let delimiter = delimiter_of(table)?;
+    let count = count_of(table)?;
     let ends = ends_of(alloc, table);
     let flags = flags_of(table);
     match both(ends, flags) {
@@ -176,6 +205,7 @@ fn layout_of(alloc: Global, table: MapTable<'_>) -> Result<(FileForm, Vec<Word>)
                 delimiter,
                 header,
                 quotes,
+                count,
             };
             Ok((file, ends))
         }
@@ -206,6 +236,21 @@ fn delimiter_of(table: MapTable<'_>) -> Result<u8, MapFault>
             [byte] if is_delimiter(*byte) => Ok(*byte),
             _ => Err(table.bad("delimiter", expected)),
         },
+    }
+}
+
+/// The place of the field of a last line that counts the rows before it.
+fn count_of(table: MapTable<'_>) -> Result<Option<u16>, MapFault>
+    ensures kind { IfErr result (λ fault. is_of_document fault ≡ true) }
+{
+    let expected = "the number of a field of the last line, 1 to 1000, next to end = \"TEXT\"";
+    match (
+        table.number("count", 1000, expected)?,
+        table.text("end", "a text, as \"END\"")?,
+    ) {
+        (None, _) => Ok(None),
+        (Some(number), Some(_)) => Ok(Some((number - 1) as u16)),
+        (Some(_), None) => Err(table.bad("count", expected)),
     }
 }
 

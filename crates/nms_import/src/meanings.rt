@@ -93,6 +93,8 @@ pub struct Meanings {
     pub no_price: Vec<Word>,
     /// The shares of a unit of size: 1, or those of a lot.
     pub size_unit: u32,
+    /// Whether a unit of size is the round lot that the setup gives the row's symbol; `size_unit` is not used then.
+    pub own_lots: bool,
     /// The participants that have another name on the roster.
     pub names: Vec<Renamed>,
     /// Whether any other participant has its own name.
@@ -105,6 +107,8 @@ pub struct Meanings {
     pub said: Vec<Said>,
     /// What becomes of a row of which one side alone is manual.
     pub half: Half,
+    /// Whether the participant of a refused row shows nothing of its symbol until its next row; else what stood before is kept.
+    pub withdraws: bool,
     /// The words that a last line begins with.
     pub ends: Vec<Word>,
     /// The words by which a row is skipped.
@@ -120,12 +124,14 @@ impl Drop for Meanings {
             price_unit: _,
             no_price: _,
             size_unit: _,
+            own_lots: _,
             names: _,
             same: _,
             replaced: _,
             skips_symbols: _,
             said: _,
             half: _,
+            withdraws: _,
             ends: _,
             skips: _,
         } = self;

@@ -32,29 +32,35 @@ pub(crate) fn meanings_of(
     let symbols = symbols_of(alloc, document);
     let states = states_of(alloc, document);
     let skips = skips_of(alloc, document);
+    let withdraws = withdraws_of(alloc, document);
     let units = both(prices, size);
     let named = both(names, symbols);
-    let said = both(states, skips);
+    let refusals = both(skips, withdraws);
+    let said = both(states, refusals);
     let texts = both(named, said);
     match both(units, texts) {
         Ok(found) => {
-            let ((prices, size_unit), ((names, symbols), (states, skips))) = found;
+            let ((prices, sizes), ((names, symbols), (states, refusals))) = found;
             let (price_unit, no_price) = prices;
+            let (size_unit, own_lots) = sizes;
             let (names, same) = names;
             let (replaced, skips_symbols) = symbols;
             let (said, half) = states;
+            let (skips, withdraws) = refusals;
             Ok(Meanings {
                 time_form,
                 zone,
                 price_unit,
                 no_price,
                 size_unit,
+                own_lots,
                 names,
                 same,
                 replaced,
                 skips_symbols,
                 said,
                 half,
+                withdraws,
                 ends,
                 skips,
             })
@@ -69,6 +75,19 @@ pub fn skips_of(alloc: Global, document: &Table) -> Result<Vec<Word>, MapFault>
 {
     let table = MapTable::of(alloc, document, "skip", &["words"], "words")?;
     table.words("words")
+}
+
+/// Whether the table `file` says that a refused row withdraws what its participant showed.
+fn withdraws_of(alloc: Global, document: &Table) -> Result<bool, MapFault>
+    ensures kind { IfErr result (λ fault. is_of_document fault ≡ true) }
+{
+    let table = MapTable::of(alloc, document, "file", &[], "")?;
+    let expected = "\"withdraw\" or \"keep\"";
+    match table.text("on_refused", expected)? {
+        None | Some("withdraw") => Ok(true),
+        Some("keep") => Ok(false),
+        Some(_) => Err(table.bad("on_refused", expected)),
+    }
 }
 
 /// The table `price`.
@@ -115,9 +134,10 @@ fn unit_named(text: &str) -> Option<PriceUnit>
     }
 }
 
-/// The table `size`: the shares of a unit. It has no default: a wrong one is wrong by a hundred, and looks right.
-fn size_of(alloc: Global, document: &Table) -> Result<u32, MapFault>
-    ensures range { IfOk result (λ unit. (0 < unit) × (unit ≤ MOST_LOT)) }
+/// The table `size`: the shares of a unit, and whether it is the setup's lot of each symbol. It has no default: a wrong one is
+/// wrong by a hundred, and looks right.
+fn size_of(alloc: Global, document: &Table) -> Result<(u32, bool), MapFault>
+    ensures range { IfOk result (λ unit. (0 < unit.0) × (unit.0 ≤ MOST_LOT)) }
     ensures kind { IfErr result (λ fault. is_of_document fault ≡ true) }
 {
     let table = MapTable::of(
@@ -127,15 +147,31 @@ fn size_of(alloc: Global, document: &Table) -> Result<u32, MapFault>
         &["unit", "lot"],
         "one of unit, lot",
     )?;
-    let expected = "\"shares\", or \"lots\" beside lot = 100";
-    let lot = table.number("lot", u32::from(MOST_LOT), "a whole number from 1 to 1000")?;
+    let expected = "\"shares\", or \"lots\" next to lot = \"setup\" or lot = 100";
+    let own_lots = table.says("lot", "setup");
+    let lot = lot_of(table, own_lots)?;
     let Some(text) = table.text("unit", expected)? else {
         return Err(MapFault::missing(alloc, "size", "unit", expected));
     };
     match shares_of(text, lot) {
-        Some(unit) => Ok(unit),
+        Some(unit) => Ok((unit, own_lots)),
         None => Err(table.bad("unit", expected)),
     }
+}
+
+/// The shares of a lot, if the key `lot` is there; 1 if it is the setup's lot of each symbol.
+fn lot_of(table: MapTable<'_>, own_lots: bool) -> Result<Option<u32>, MapFault>
+    ensures range { IfOk result (λ lot. IfSome lot (λ unit. (0 < unit) × (unit ≤ MOST_LOT))) }
+    ensures kind { IfErr result (λ fault. is_of_document fault ≡ true) }
+{
+    if own_lots {
+        return Ok(Some(1));
+    }
+    table.number(
+        "lot",
+        u32::from(MOST_LOT),
+        "a whole number from 1 to 1000, or \"setup\": the setup's lot of each symbol",
+    )
 }
 
 /// The shares of a unit that a text names: 1, or those of a lot.

@@ -1,10 +1,11 @@
 //! What is noted of the accepted rows: the span of each symbol, whether times fall, and whether any row shows a whole lot
 //! (`specs/Noted`).
-ghost use Rattle.std.specs.Prelude.{◌≡◌, None, IfOk, replicate, slice_get, slice_set, unwrap_or};
-ghost use Rattle.nms_import.specs.Noted.{bound_by, is_lot_shown, shares_shown, with_change};
+ghost use Rattle.std.specs.Prelude.{◌≡◌, ◌<◌, ◌-◌, ◌^◌, None, IfOk, replicate, slice_get, slice_set, unwrap_or};
+ghost use Rattle.nms_import.specs.Noted.{bound_by, is_lot_shown, is_outside, shares_shown, with_change, with_outside};
 
 use crate::entry::Entry;
 use crate::import_fault::ImportFault;
+use crate::last_lines::LastLines;
 use crate::mapping::Order;
 use csv::ByteRecord;
 use nms_quote::{Change, Roster, SideQuote, Sym};
@@ -29,13 +30,16 @@ pub struct Span {
 pub struct Notes {
     order: Order,
     changes: u64,
+    outside: u64,
     time: u64,
     falls: bool,
     shows_lot: bool,
     spans: Vec<Option<Span>>,
+    lasts: LastLines,
 }
 
 impl Model for Notes {
+    ghost use Rattle.std.specs.Prelude.{◌≤◌};
     ghost use Rattle.nms_import.specs.Noted.{Noted};
 
     ghost Value = { Noted };
@@ -43,36 +47,103 @@ impl Model for Notes {
     ghost view = { λ n. record {
       order = n.order;
       changes = n.changes;
+      outside = n.outside;
       time = n.time;
       falls = n.falls;
       shows_lot = n.shows_lot;
       spans = n.spans.items;
+      lasts = n.lasts;
     } };
+
+    ghost invariant = { λ n. n.outside ≤ n.changes };
 }
 
 impl Notes {
     ghost use Rattle.std.specs.Prelude.{◌≡◌, ◌<◌, ◌≤◌, ◌-◌, ◌^◌, ◌&&◌, not, length, None, IfErr, IfOk, OnErr, OnOk, slice_set};
-    ghost use Rattle.nms_import.specs.Noted.{after_entry, noted_nothing};
+    ghost use Rattle.csv.specs.Records.{fields_of};
+    ghost use Rattle.nms_import.specs.LastLines.{after_file, after_last, in_file};
+    ghost use Rattle.nms_import.specs.Noted.{after_entry, are_hours_odd, noted_nothing};
 
-    /// Of no rows.
-    pub fn new(alloc: Global, roster: &Roster, order: Order) -> Result<Notes, AllocError>
-        ensures { IfOk result (λ notes. notes ≡ noted_nothing order (length roster.now.syms)) }
+    /// Of no rows. `count` is the place of the count in the last line of a file, from 0.
+    pub fn new(
+        alloc: Global,
+        roster: &Roster,
+        order: Order,
+        count: Option<u16>,
+    ) -> Result<Notes, AllocError>
+        ensures { IfOk result (λ notes. notes ≡ noted_nothing order count (length roster.now.syms)) }
     {
-        Notes::of_symbols(alloc, roster.syms(), order)
+        Notes::of_symbols(alloc, roster.syms(), order, count)
     }
 
     /// Of no rows, with room for that many symbols.
-    pub fn of_symbols(alloc: Global, symbols: usize, order: Order) -> Result<Notes, AllocError>
-        ensures { IfOk result (λ notes. notes ≡ noted_nothing order symbols) }
+    pub fn of_symbols(
+        alloc: Global,
+        symbols: usize,
+        order: Order,
+        count: Option<u16>,
+    ) -> Result<Notes, AllocError>
+        ensures { IfOk result (λ notes. notes ≡ noted_nothing order count symbols) }
     {
         Ok(Notes {
             order,
             changes: 0,
+            outside: 0,
             time: 0,
             falls: false,
             shows_lot: false,
             spans: no_spans(alloc, symbols)?,
+            lasts: LastLines::new(count),
         })
+    }
+
+    /// How many changes there are, of accepted rows and of refused ones that withdraw.
+    pub fn changes(&self) -> u64
+        ensures { result ≡ self.now.changes }
+    {
+        self.changes
+    }
+
+    /// The time of the last change, 0 before the first.
+    pub fn time(&self) -> u64
+        ensures { result ≡ self.now.time }
+    {
+        self.time
+    }
+
+    /// Whether more than half of the changes are before 04:00 or after 20:00, when no market is open.
+    pub fn are_hours_odd(&self) -> bool
+        ensures { result ≡ are_hours_odd self.now }
+    {
+        self.outside > self.changes / 2
+    }
+
+    /// Whether the last line of a file counts other rows, or is absent, though the mapping names its count.
+    pub fn is_short(&self) -> bool
+        ensures { result ≡ self.now.lasts.short }
+    {
+        self.lasts.short
+    }
+
+    /// Begins a file, after that many rows of others.
+    pub fn begin_file(&mut self, rows: u64)
+        ensures { self.new ≡ record self.old { lasts = in_file self.old.lasts rows } }
+    {
+        self.lasts.begin_file(rows);
+    }
+
+    /// Notes the last line of a file, which is the row of this number.
+    pub fn note_last(&mut self, row: &ByteRecord, number: u64)
+        ensures { self.new ≡ record self.old { lasts = after_last self.old.lasts (fields_of row.now) number } }
+    {
+        self.lasts.note(row, number);
+    }
+
+    /// Ends a file, after that many rows of all files.
+    pub fn end_file(&mut self, rows: u64)
+        ensures { self.new ≡ record self.old { lasts = after_file self.old.lasts rows } }
+    {
+        self.lasts.end_file(rows);
     }
 
     /// Whether a time is before that of an earlier row, though the mapping says that none is.
@@ -103,7 +174,7 @@ impl Notes {
         put(&mut self.spans, 0, None);
     }
 
-    /// Notes an accepted row, and returns whether its time is the first that falls. `TooLong` comes after 2^64 - 1
+    /// Notes a change, and returns whether its time is the first that falls. `TooLong` comes after 2^64 - 1
     /// changes.
     pub fn note(&mut self, roster: &Roster, entry: &Entry) -> Result<bool, ImportFault>
         ensures noted { OnOk result (self.new ≡ after_entry roster.now self.old entry.now) }
@@ -114,7 +185,10 @@ impl Notes {
         let Some(version) = self.changes.checked_add(1) else {
             return Err(ImportFault::TooLong);
         };
+        let last = self.time;
         self.changes = version;
+        self.outside = with_outside(self.outside, entry.time);
+        self.time = entry.time;
         let Change::Quote {
             sym,
             bid,
@@ -126,11 +200,10 @@ impl Notes {
         };
         let place = usize::from(sym.get());
         let span = span_at(&self.spans, place);
-        let falls = entry.time < bound_by(self.order, self.time, &span);
+        let falls = entry.time < bound_by(self.order, last, &span);
         let is_first = !self.falls && falls;
         self.falls = self.falls || falls;
         self.shows_lot = self.shows_lot || is_lot_shown(roster, sym, &bid, &offer);
-        self.time = entry.time;
         put(
             &mut self.spans,
             place,
@@ -167,6 +240,21 @@ fn put(spans: &mut [Option<Span>], place: usize, span: Option<Span>)
     if place < spans.len() {
         spans[place] = span;
     }
+}
+
+/// A count, and one more if a time is before 04:00 or after 20:00.
+fn with_outside(count: u64, time: u64) -> u64
+    requires { count < 2 ^ 64 - 1 }
+    ensures { result ≡ with_outside count time }
+{
+    if is_outside(time) { count + 1 } else { count }
+}
+
+/// Whether a time is before 04:00 or after 20:00.
+fn is_outside(time: u64) -> bool
+    ensures { result ≡ is_outside time }
+{
+    time < 40_000_000_000_000 || time > 200_000_000_000_000
 }
 
 /// The time that a row may not be before, by that of the last row and the changes of its symbol.
@@ -221,14 +309,6 @@ fn shares_shown(side: &Option<SideQuote>) -> u32
 {
     match side {
         Some(quote) => quote.shares.get(),
-        None => 0,
-    }
-}
-
-/// The line on which a row begins, from 1.
-pub(crate) fn line_of(row: &ByteRecord) -> u64 {
-    match row.position() {
-        Some(position) => position.line(),
         None => 0,
     }
 }

@@ -9,17 +9,18 @@ use crate::words::is_listed;
 use nms_quote::{Side, SideQuote};
 use nms_units::{MOST_SHARES, Price, Shares, UnitFault, parse_digits};
 
-/// What a side quotes, `None` if it has no shares.
+/// What a side quotes, `None` if it has no shares. A size counts `unit` shares.
 pub(crate) fn side_in(
     meanings: &Meanings,
+    unit: u32,
     side: Side,
     price: &[u8],
     size: &[u8],
 ) -> Result<Option<SideQuote>, Cause>
-    ensures { result ≡ side_of meanings.now side price.now size.now }
+    ensures { result ≡ side_of meanings.now unit side price.now size.now }
 {
     let price = price_in(meanings, side, price)?;
-    let shares = shares_in(meanings, side, size)?;
+    let shares = shares_in(unit, side, size)?;
     if shares.get() == 0 {
         return Ok(None);
     }
@@ -71,9 +72,9 @@ fn dollars_in(text: &[u8]) -> Option<u64>
     }
 }
 
-/// The shares of a size; an empty field is 0.
-fn shares_in(meanings: &Meanings, side: Side, text: &[u8]) -> Result<Shares, Cause>
-    ensures { result ≡ shares_of meanings.now side text.now }
+/// The shares of a size, which counts `unit` shares; an empty field is 0.
+fn shares_in(unit: u32, side: Side, text: &[u8]) -> Result<Shares, Cause>
+    ensures { result ≡ shares_of unit side text.now }
 {
     if text.is_empty() {
         return shares_within(side, 0);
@@ -81,7 +82,7 @@ fn shares_in(meanings: &Meanings, side: Side, text: &[u8]) -> Result<Shares, Cau
     let Some(number) = parse_digits(text, 9) else {
         return Err(Cause::BadSize(side));
     };
-    shares_within(side, number * u64::from(meanings.size_unit))
+    shares_within(side, number * u64::from(unit))
 }
 
 /// A number of shares, if a side may have as many.

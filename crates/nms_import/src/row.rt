@@ -2,7 +2,7 @@
 ghost use Rattle.std.specs.Prelude.{◌≡◌, ◌<◌, true, length, map, IfOk, IfSome, OnOk};
 ghost use Rattle.csv.specs.Records.{fields_of};
 ghost use Rattle.nms_quote.specs.Roster.{Sizes, holds, sizes_of};
-ghost use Rattle.nms_import.specs.Mapping.{change_of, column_text, entry_of, half_state, is_one_sided, meaning_of, no_symbol, participant_of, replaced, state_of, symbol_in};
+ghost use Rattle.nms_import.specs.Mapping.{change_of, column_text, entry_of, half_state, is_one_sided, left_by, meaning_of, no_symbol, participant_of, replaced, state_of, symbol_in, unit_for, withdrawal, withdrawal_of};
 
 use crate::cause::Cause;
 use crate::column::Columns;
@@ -45,6 +45,86 @@ pub fn symbol_in(
 {
     replace(&meanings.replaced, text, scratch)?;
     Ok(roster.find_sym(scratch))
+}
+
+/// What a row leaves that makes no change of its own, for a cause. `last` is the time of the last change.
+pub fn left_in(
+    columns: &Columns,
+    meanings: &Meanings,
+    roster: &Roster,
+    row: &ByteRecord,
+    cause: Cause,
+    last: u64,
+    scratch: &mut Vec<u8>,
+) -> Result<Option<Entry>, AllocError>
+    ensures { IfOk result (λ left. left ≡ left_by columns.now meanings.now roster.now last (fields_of row.now) cause) }
+{
+    let sym = symbol_in(meanings, roster, columns.symbol.text(row), scratch)?;
+    Ok(left_with(columns, meanings, roster, row, cause, sym, last))
+}
+
+/// What a row leaves that makes no change of its own, for a cause. Its symbol was looked for on the roster by `symbol_in`, and
+/// `last` is the time of the last change.
+pub fn left_with(
+    columns: &Columns,
+    meanings: &Meanings,
+    roster: &Roster,
+    row: &ByteRecord,
+    cause: Cause,
+    sym: Option<Sym>,
+    last: u64,
+) -> Option<Entry>
+    ensures { sym ≡ symbol_in meanings.now roster.now (column_text columns.now.symbol (fields_of row.now))
+        → result ≡ left_by columns.now meanings.now roster.now last (fields_of row.now) cause }
+{
+    if meanings.withdraws && !cause.skips() {
+        withdrawal_with(columns, meanings, roster, row, sym, last)
+    } else {
+        None
+    }
+}
+
+/// The withdrawal of what the row's participant shows of a symbol, which was looked for on the roster by `symbol_in`. `last`
+/// is the time of the last change.
+fn withdrawal_with(
+    columns: &Columns,
+    meanings: &Meanings,
+    roster: &Roster,
+    row: &ByteRecord,
+    sym: Option<Sym>,
+    last: u64,
+) -> Option<Entry>
+    ensures { sym ≡ symbol_in meanings.now roster.now (column_text columns.now.symbol (fields_of row.now))
+        → result ≡ withdrawal_of columns.now meanings.now roster.now last (fields_of row.now) }
+{
+    let time = match time_in(meanings, columns.time.text(row)) {
+        Ok(time) => time,
+        Err(_) => last,
+    };
+    match (
+        participant_in(meanings, roster, columns.participant.text(row)),
+        sym,
+    ) {
+        (Ok(part), Some(sym)) => Some(withdrawal(time, part, sym)),
+        (Ok(_), None) | (Err(_), _) => None,
+    }
+}
+
+/// A participant shows nothing of a symbol.
+fn withdrawal(time: u64, part: Part, sym: Sym) -> Entry
+    ensures { result ≡ withdrawal time part sym }
+{
+    Entry {
+        time,
+        change: Change::Quote {
+            part,
+            sym,
+            state: QState::Automated,
+            bid: None,
+            offer: None,
+        },
+        one_sided: false,
+    }
 }
 
 /// A text with each byte that is replaced, in place of what `out` had.
@@ -103,7 +183,8 @@ pub fn entry_with(
         columns.condition.text(row),
     )?;
     let state = state_of(meanings, meaning)?;
-    let change = change_in(columns, meanings, row, part, sym, state)?;
+    let unit = unit_for(meanings, roster, sym);
+    let change = change_in(columns, meanings, unit, row, part, sym, state)?;
     Ok(Entry {
         time,
         change,
@@ -178,16 +259,30 @@ fn is_one_sided(meaning: Meaning) -> bool
     }
 }
 
-/// The change of a row whose sides are in this state; `None` is no quotation.
+/// The shares of a unit of size: those that the mapping says, or the round lot that the setup gives the symbol.
+fn unit_for(meanings: &Meanings, roster: &Roster, sym: Sym) -> u32
+    ensures { result ≡ unit_for meanings.now roster.now sym }
+{
+    if !meanings.own_lots {
+        meanings.size_unit
+    } else if roster.has_sym(sym) {
+        u32::from(roster.lot_of(sym).get())
+    } else {
+        1
+    }
+}
+
+/// The change of a row whose sides are in this state; `None` is no quotation. A size counts `unit` shares.
 fn change_in(
     columns: &Columns,
     meanings: &Meanings,
+    unit: u32,
     row: &ByteRecord,
     part: Part,
     sym: Sym,
     state: Option<QState>,
 ) -> Result<Change, Cause>
-    ensures change { result ≡ change_of columns.now meanings.now (fields_of row.now) part sym state }
+    ensures change { result ≡ change_of columns.now meanings.now unit (fields_of row.now) part sym state }
     ensures there { (sizes : Sizes) → part < sizes.parts → sym < length sizes.lots → IfOk result (λ change. holds sizes change ≡ true) }
 {
     match state {
@@ -201,12 +296,14 @@ fn change_in(
         Some(state) => {
             let bid = side_in(
                 meanings,
+                unit,
                 Side::Bid,
                 columns.bid.text(row),
                 columns.bid_size.text(row),
             )?;
             let offer = side_in(
                 meanings,
+                unit,
                 Side::Offer,
                 columns.offer.text(row),
                 columns.offer_size.text(row),

@@ -9,8 +9,9 @@ use crate::MOST_TOLD;
 use crate::cause::Cause;
 use crate::column::{Column, Columns};
 use crate::import_fault::ImportFault;
-use crate::meanings::Half;
-use crate::noting::{Notes, Span, line_of};
+use crate::left::Left;
+use crate::meanings::{Half, Meanings};
+use crate::noting::{Notes, Span};
 use crate::tally::{Sums, Tally};
 use csv::ByteRecord;
 use nms_quote::{Roster, Side, Sym};
@@ -23,6 +24,7 @@ pub struct Told<'a, E> {
     /// Where they are shown.
     pub errors: E,
     file: &'a str,
+    line: u64,
     left: u64,
 }
 
@@ -42,6 +44,7 @@ impl<'a, E: Write> Told<'a, E> {
         Told {
             errors,
             file: "",
+            line: 0,
             left: MOST_TOLD,
         }
     }
@@ -53,6 +56,23 @@ impl<'a, E: Write> Told<'a, E> {
         ensures left { left_of self.new ≡ left_of self.old }
     {
         self.file = file;
+    }
+
+    /// Goes on with the row that begins on a line, from 1.
+    pub fn at(&mut self, line: u64)
+        ensures writer { self.new.errors ≡ self.old.errors }
+        ensures file { file_of self.new ≡ file_of self.old }
+        ensures left { left_of self.new ≡ left_of self.old }
+    {
+        self.line = line;
+    }
+
+    /// Where the row begins.
+    fn place(&self) -> RowPlace<'a> {
+        RowPlace {
+            file: self.file,
+            line: self.line,
+        }
     }
 
     /// Shows a row that makes no change: its file, line, column and text, and the cause. The first 100 are shown. What
@@ -67,9 +87,10 @@ impl<'a, E: Write> Told<'a, E> {
             return;
         }
         self.left -= 1;
+        let place = self.place();
         show_row(
             &mut self.errors,
-            self.file,
+            place,
             row,
             column_of(columns, cause),
             outcome_of(cause),
@@ -88,13 +109,36 @@ impl<'a, E: Write> Told<'a, E> {
             return;
         }
         self.left -= 1;
+        let place = self.place();
         show_row(
             &mut self.errors,
-            self.file,
+            place,
             row,
             Some(&columns.symbol),
             "refused: ",
             "a symbol that comes back after its end",
+        );
+    }
+
+    /// Shows a row whose symbol has not the form of one, as `tell` shows others.
+    pub fn tell_unformed(&mut self, columns: &Columns, row: &ByteRecord, cause: Cause)
+        ensures safe { AddsPart IsSafe (E.contents self.old.errors) (E.contents self.new.errors) }
+        ensures few { left_of self.old ≡ 0 → self.new ≡ self.old }
+        ensures file { file_of self.new ≡ file_of self.old }
+        ensures left { left_of self.new ≡ left_of self.old - 1 }
+    {
+        if self.left == 0 {
+            return;
+        }
+        self.left -= 1;
+        let place = self.place();
+        show_row(
+            &mut self.errors,
+            place,
+            row,
+            Some(&columns.symbol),
+            outcome_of(cause),
+            "a symbol that is not 1 to 8 capital letters, digits and points",
         );
     }
 
@@ -105,9 +149,10 @@ impl<'a, E: Write> Told<'a, E> {
         ensures left { left_of self.new ≡ left_of self.old }
     {
         let sentence = "the first time that is before an earlier one";
+        let place = self.place();
         show_row(
             &mut self.errors,
-            self.file,
+            place,
             row,
             Some(&columns.time),
             "",
@@ -116,10 +161,19 @@ impl<'a, E: Write> Told<'a, E> {
     }
 }
 
+/// Where a row begins.
+#[derive(Clone, Copy)]
+pub struct RowPlace<'a> {
+    /// The name of its file.
+    pub file: &'a str,
+    /// Its line, from 1.
+    pub line: u64,
+}
+
 /// Shows a row: its file, line, column and text, and what is said of it. What the writer does not take is dropped.
 pub fn show_row<'x, E: Write>(
     errors: &mut E,
-    file: &'x str,
+    place: RowPlace<'x>,
     row: &'x ByteRecord,
     column: Option<&'x Column>,
     what: &'x str,
@@ -127,7 +181,7 @@ pub fn show_row<'x, E: Write>(
 )
     ensures safe { is_plain what.now ≡ true → is_plain sentence.now ≡ true → AddsPart IsSafe (E.contents errors.old) (E.contents errors.new) }
 {
-    let place = match column {
+    let at = match column {
         Some(Column::At(place)) if *place < row.len() => (*place + 1) as u64,
         Some(Column::At(_) | Column::Fixed(_)) | None => 0,
     };
@@ -136,17 +190,17 @@ pub fn show_row<'x, E: Write>(
         None => b"".as_slice(),
     };
     let items = [
-        Item::Bytes(file.as_bytes()),
+        Item::Bytes(place.file.as_bytes()),
         Item::Text(":"),
-        Item::Number(line_of(row)),
-        Item::Text(if_placed(place, ": column ")),
-        item_of_place(place),
+        Item::Number(place.line),
+        Item::Text(if_placed(at, ": column ")),
+        item_of_place(at),
         Item::Text(": "),
         Item::Text(what),
         Item::Text(sentence),
-        Item::Text(if_placed(place, ": `")),
+        Item::Text(if_placed(at, ": `")),
         Item::Bytes(text),
-        Item::Text(if_placed(place, "`")),
+        Item::Text(if_placed(at, "`")),
     ];
     let _ = line(errors, &items);
 }
@@ -219,17 +273,18 @@ fn sentence_of(cause: Cause) -> &'static str
     }
 }
 
-/// Writes the counts: a line for each cause that came, one for the changes that say less than their rows, and last the
-/// sum.
+/// Writes the counts: a line for each cause that came, one for the changes that say less than their rows, two for what refused
+/// rows left, and last the sum.
 pub fn write_tally<W: Write>(
     out: &mut W,
-    half: Half,
+    meanings: &Meanings,
     tally: &Tally,
     sums: &Sums,
+    left: &Left,
 ) -> Result<(), ImportFault>
     ensures safe { Writes IsSafe (W.contents out.old) (W.contents out.new) result }
 {
-    let counts = counts_of(half, tally);
+    let counts = counts_of(meanings, tally, left);
     write_counts(out, &counts)?;
     line(
         out,
@@ -247,7 +302,7 @@ pub fn write_tally<W: Write>(
 }
 
 /// The counts that have lines of their own, each with what is said of it.
-fn counts_of(half: Half, tally: &Tally) -> [(u64, &'static str); 14]
+fn counts_of(meanings: &Meanings, tally: &Tally, left: &Left) -> [(u64, &'static str); 16]
     ensures { list_all (λ count. is_plain count.1.now) result ≡ true }
 {
     [
@@ -264,7 +319,12 @@ fn counts_of(half: Half, tally: &Tally) -> [(u64, &'static str); 14]
         (tally.trailer, "skipped: last line of a file"),
         (tally.listed, "skipped: word to skip"),
         (tally.other_symbol, "skipped: other symbol"),
-        (tally.halves, halves_are(half)),
+        (tally.halves, halves_are(meanings.half)),
+        (
+            left.withdrawn,
+            "of the refused: the venue shows nothing until its next row that is read",
+        ),
+        (left.kept, kept_are(meanings.withdraws)),
     ]
 }
 
@@ -299,6 +359,17 @@ fn halves_are(half: Half) -> &'static str
         Half::Refuse => "changes: one side manual",
         Half::Manual => "changes: one side manual, both made manual",
         Half::Automated => "changes: one side manual, both made automated",
+    }
+}
+
+/// What became of the refused rows that withdrew nothing.
+fn kept_are(withdraws: bool) -> &'static str
+    ensures { is_plain result.now ≡ true }
+{
+    if withdraws {
+        "of the refused: venue or symbol not known, so an earlier quotation may still be shown"
+    } else {
+        "of the refused: an earlier quotation is still shown"
     }
 }
 

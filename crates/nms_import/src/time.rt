@@ -4,7 +4,7 @@ ghost use Rattle.nms_units.specs.Digits.{by_point, point_in};
 ghost use Rattle.nms_units.specs.Price.{both};
 ghost use Rattle.nms_import.specs.Mapping.{time_of};
 ghost use Rattle.nms_import.specs.Times.{after_seconds, clock_at, clock_digits, clock_number, clock_of, fraction, has_marks, hours_at, is_clock, iso_number, minutes_at, nanoseconds, only_if, point_and_fraction, seconds, second_at, seconds_and_fraction, seconds_at, seconds_number, two_at, whole_seconds, without_z};
-ghost use Rattle.nms_import.specs.Imported.{fifteen_digits, line_of, numbered_line, times_text};
+ghost use Rattle.nms_import.specs.Imported.{fifteen_digits, line_of, numbered_line, time_line};
 
 use crate::cause::Cause;
 use crate::meanings::{Meanings, TimeForm};
@@ -312,7 +312,7 @@ fn append_numbered(out: &mut Vec<u8>, row: u64, time: u64) -> Result<(), AllocEr
 
 /// Appends a time, or a number, as 15 digits and a line feed.
 fn append_time(out: &mut Vec<u8>, time: u64) -> Result<(), AllocError>
-    ensures { OnOk result (out.new.items ≡ out.old.items ++ times_text (time ∷ [])) }
+    ensures { OnOk result (out.new.items ≡ out.old.items ++ time_line time) }
 {
     append_clock(out, time)?;
     out.push(b'\n')?;

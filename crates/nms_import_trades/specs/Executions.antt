@@ -82,10 +82,11 @@ abbrev pub refused_in : TradeTally → ℕ
 refused_in tally =
     tally.too_few_columns + tally.bad_name + tally.bad_time + tally.unknown_participant + tally.unknown_symbol + tally.bad_price
     + tally.bad_shares + tally.unknown_side + tally.unknown_condition + tally.unknown_mark
+    + tally.unknown_word
 
 -- the rows that were skipped, of all causes
 abbrev pub skipped_in : TradeTally → ℕ
-skipped_in tally = tally.trailer + tally.listed + tally.other_symbol
+skipped_in tally = tally.trailer + tally.listed + tally.no_trade + tally.other_symbol
 
 -- all rows
 abbrev pub rows_in : TradeTally → ℕ

@@ -3,7 +3,7 @@ use Rattle.std.specs.Prelude.{Bool, true, false}
 use Rattle.nms_import_trades.specs.declared.trade_cause.TradeCause.{TradeCause}
 use Rattle.nms_import_trades.specs.declared.trade_cause.TradeCause.TheVariants as cause
 
--- the last line of a file, a word that the mapping skips, a symbol that it does not ask for
+-- the last line of a file, a word that the mapping skips, a row that is no trade, a symbol that it does not ask for
 abbrev pub is_skipped : TradeCause → Bool
 is_skipped cause.TooFewColumns = false
 is_skipped cause.BadName = false
@@ -15,6 +15,8 @@ is_skipped cause.BadShares = false
 is_skipped cause.UnknownSide = false
 is_skipped cause.UnknownCondition = false
 is_skipped cause.UnknownMark = false
+is_skipped cause.UnknownWord = false
 is_skipped cause.Trailer = true
 is_skipped cause.Listed = true
+is_skipped cause.NoTrade = true
 is_skipped cause.OtherSymbol = true

@@ -10,7 +10,7 @@ use Rattle.nms_import.specs.declared.map_table.MapTable.{MapTable}
 use Rattle.nms_import.specs.declared.meanings.Meanings.{Meanings}
 use Rattle.nms_import.specs.declared.meanings.PriceUnit.{PriceUnit}
 use Rattle.nms_import.specs.declared.meanings.TimeForm.{TimeForm}
-use Rattle.nms_import_trades.specs.TradeRow.{is_claim}
+use Rattle.nms_import_trades.specs.TradeRow.{has_letter, is_claim}
 use Rattle.nms_import_trades.specs.declared.claim.Claim.{Claim}
 use Rattle.nms_import_trades.specs.declared.claim.Flag.{Flag}
 use Rattle.nms_import_trades.specs.declared.claim.Flag.TheVariants as flag
@@ -61,10 +61,12 @@ all_flags =
     flag.NotRegular ∷ flag.SinglePriced ∷ flag.Sweep ∷ flag.Swept ∷ flag.Benchmark ∷ flag.Stopped ∷ flag.Contingent ∷ flag.Exempt
     ∷ flag.OutsideHours ∷ flag.OutOfSequence ∷ []
 
--- each flag has its letters, and a letter that claims nothing is none of them
-pub record AreClaims (claims : List Claim) (nothing : List ℕ) : Type 0 where
+-- each flag has its letters; no letter that claims nothing is one of them, and no letter of rows that are no trades is any of these
+pub record AreClaims (claims : List Claim) (nothing no_trade : List ℕ) : Type 0 where
   pub flags : map (λ it. it.flag) claims ≡ all_flags
   pub apart : list_any (is_claim claims) nothing ≡ false
+  pub unclaimed : list_any (is_claim claims) no_trade ≡ false
+  pub unlisted : list_any (has_letter nothing) no_trade ≡ false
 
 -- a column that has a number is one of the first 1,000
 abbrev pub are_within : TradeSources → Bool
@@ -78,4 +80,4 @@ pub record IsMappingOf (document : Members) (mapping : TradeMapping) : Type 0 wh
   pub delimiter : is_delimiter mapping.file.delimiter ≡ true
   pub within : are_within mapping.sources ≡ true
   pub common : AreReadOf document mapping.meanings.common
-  pub claims : AreClaims mapping.meanings.claims.items mapping.meanings.nothing.items
+  pub claims : AreClaims mapping.meanings.claims.items mapping.meanings.nothing.items mapping.meanings.no_trade.items

@@ -115,6 +115,14 @@ is_claim claims c = list_any (λ it. has_letter it.letters.items c) claims
 abbrev pub is_known : TradeMeanings → ℕ → Bool
 is_known mapping c = has_letter mapping.nothing.items c || is_claim mapping.claims.items c
 
+-- whether a letter of a condition says that its row is no trade
+abbrev pub is_no_trade : TradeMeanings → List ℕ → Bool
+is_no_trade mapping condition = list_any (has_letter mapping.no_trade.items) condition
+
+-- the mapping lists words of rows to keep, and this is none of them
+abbrev pub is_unknown_word : TradeMeanings → List ℕ → Bool
+is_unknown_word mapping text = not (length mapping.kept.items == 0) && not (is_listed mapping.kept.items text)
+
 -- whether a trade is marked exempt; an empty text says that it is not
 abbrev pub mark_of : TradeMeanings → List ℕ → Result Bool TradeCause
 mark_of mapping text =
@@ -166,6 +174,8 @@ trade_of columns mapping roster line = do
   inside ← stop_if (is_listed mapping.common.ends.items (field line 0)) cause.Trailer
   whole ← stop_if (nat_lt (length line) columns.width) cause.TooFewColumns
   wanted ← stop_if (is_listed mapping.common.skips.items (column_text columns.skip line)) cause.Listed
+  listed ← stop_if (is_unknown_word mapping (column_text columns.skip line)) cause.UnknownWord
+  traded ← stop_if (is_no_trade mapping (column_text columns.condition line)) cause.NoTrade
   named ← stop_if (not (has_name columns.id line)) cause.BadName
   time ← or_stop (clock_of mapping.common.time_form mapping.common.zone (column_text columns.time line)) cause.BadTime
   part ← venue_of mapping roster (column_text columns.participant line)

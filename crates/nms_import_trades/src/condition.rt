@@ -2,7 +2,7 @@
 ghost use Rattle.std.specs.Prelude.{◌≡◌, ◌++◌, ◌&&◌, OnOk, drop};
 ghost use Rattle.std.specs.List.{list_all, list_any};
 ghost use Rattle.nms_import_trades.specs.Executions.{flags_text, plus_flags};
-ghost use Rattle.nms_import_trades.specs.TradeRow.{claims_it, has_letter, is_claim, is_claimed, is_known, is_reason, lacks_reason};
+ghost use Rattle.nms_import_trades.specs.TradeRow.{claims_it, has_letter, is_claim, is_claimed, is_known, is_no_trade, is_reason, lacks_reason};
 
 use crate::claim::Claim;
 use crate::trade_meanings::TradeMeanings;
@@ -19,6 +19,20 @@ fn is_known(meanings: &TradeMeanings, c: u8) -> bool
     ensures { result ≡ is_known meanings.now c }
 {
     has_letter(&meanings.nothing, c) || is_claim(&meanings.claims, c)
+}
+
+/// Whether a letter of a condition says that its row is no trade.
+pub(crate) fn is_no_trade(meanings: &TradeMeanings, condition: &[u8]) -> bool
+    ensures { result ≡ is_no_trade meanings.now condition.now }
+{
+    any_stands(&meanings.no_trade, condition)
+}
+
+/// Whether any of these letters is one of those.
+pub(crate) fn any_stands(those: &[u8], these: &[u8]) -> bool
+    ensures { result ≡ list_any (has_letter those.now) these.now }
+{
+    these.iter().any(|c| has_letter(those, *c))
 }
 
 /// Whether any of the letters claims a flag.

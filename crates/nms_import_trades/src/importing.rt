@@ -5,18 +5,19 @@ ghost use Rattle.csv.specs.Records.{fields_of};
 ghost use Rattle.csv.specs.declared.parser.Config.{Config};
 ghost use Rattle.nms_lines.specs.Layout.{Record};
 ghost use Rattle.nms_lines.specs.Text.{text_of};
-ghost use Rattle.nms_import.specs.Rows.{AreAllRows, RowsFrom};
+ghost use Rattle.nms_import.specs.Rows.{AreAllRows, RowsFrom, unread};
 ghost use Rattle.nms_import_trades.specs.Executions.{execution_record, executions_text, records_from, rows_in};
 
 use crate::execution_writing::append_execution;
 use crate::trade::Trade;
+use crate::trade_cause::TradeCause;
 use crate::trade_columns::TradeColumns;
 use crate::trade_meanings::TradeMeanings;
 use crate::trade_row::read_trade;
 use crate::trade_tally::TradeTally;
 use crate::trade_telling::TradeTold;
 use csv::{ByteRecord, Reader};
-use nms_import::{ImportFault, MOST_ROWS, next_row};
+use nms_import::{ImportFault, LastLines, MOST_ROWS, RowSource, line_of, next_row};
 use nms_lines::write_text;
 use nms_quote::Roster;
 use std::alloc::Global;
@@ -27,6 +28,8 @@ use std::io::{Read, Write};
 pub struct TradeWork {
     /// The row at hand.
     pub row: ByteRecord,
+    /// What is known of the last lines of files.
+    pub lasts: LastLines,
     scratch: Vec<u8>,
     flags: Vec<u8>,
     text: Vec<u8>,
@@ -36,12 +39,14 @@ impl TradeWork {
     ghost use Rattle.std.specs.Prelude.{◌≡◌, []};
     ghost use Rattle.csv.specs.Records.{fields_of};
 
-    /// Room for a row. It takes no memory before the first.
-    pub fn new(alloc: Global) -> TradeWork
+    /// Room for a row. It takes no memory before the first. `count` is the place of the count in the last line of a file,
+    /// from 0.
+    pub fn new(alloc: Global, count: Option<u16>) -> TradeWork
         ensures { fields_of result.row ≡ [] }
     {
         TradeWork {
             row: ByteRecord::new(alloc),
+            lasts: LastLines::new(count),
             scratch: Vec::new(alloc),
             flags: Vec::new(alloc),
             text: Vec::new(alloc),
@@ -58,12 +63,12 @@ pub fn import_trades<R: Read, W: Write, E: Write>(
     meanings: &TradeMeanings,
     roster: &Roster,
     work: &mut TradeWork,
-    reader: &mut Reader<R>,
+    reader: &mut Reader<RowSource<R>>,
     executions: &mut W,
     told: &mut TradeTold<'_, E>,
     tally: &mut TradeTally,
 ) -> Result<(), ImportFault>
-    ensures written { (config : Config) (bytes : Option (List ℕ)) (seen : List Record) → RowsFrom config R.remaining reader.old bytes seen
+    ensures written { (config : Config) (bytes : Option (List ℕ)) (seen : List Record) → RowsFrom config (unread R.remaining) reader.old bytes seen
         → OnOk result ((rows : List Record) × AreAllRows config bytes (seen ++ rows)
         × Appends (W.contents executions.old) (W.contents executions.new) (executions_text columns.now meanings.now roster.now (rows_in tally.old + 1) rows)
         × (rows_in tally.new ≡ rows_in tally.old + length rows)
@@ -76,6 +81,7 @@ pub fn import_trades<R: Read, W: Write, E: Write>(
         if !next_row(reader, &mut work.row)? {
             return Ok(());
         }
+        told.at(line_of(reader, &work.row));
         import_trade(
             columns,
             meanings,
@@ -116,6 +122,9 @@ fn import_trade<W: Write, E: Write>(
         Err(cause) => {
             tally.count_cause(cause);
             told.tell(columns, &work.row, cause);
+            if matches!(cause, TradeCause::Trailer) {
+                work.lasts.note(&work.row, number);
+            }
             Ok(())
         }
     }

@@ -2,7 +2,7 @@
 ghost use Rattle.std.specs.Prelude.{◌≡◌};
 ghost use Rattle.nms_import_trades.specs.TradeCauses.{is_skipped};
 
-/// Why a row makes no execution: the first that holds, as `specs/TradeRow` orders them. The last three skip the row, the
+/// Why a row makes no execution: the first that holds, as `specs/TradeRow` orders them. The last four skip the row, the
 /// others refuse it.
 #[derive(Clone, Copy)]
 pub enum TradeCause {
@@ -26,10 +26,14 @@ pub enum TradeCause {
     UnknownCondition,
     /// The mapping lists no such mark of an exempt trade.
     UnknownMark,
+    /// The mapping lists words of rows to keep, and its word is neither among them nor among those to skip.
+    UnknownWord,
     /// The mapping's last line of the file, as `END|20240102|..`.
     Trailer,
     /// The mapping lists its word among those to skip.
     Listed,
+    /// A letter of its condition says that it is no trade.
+    NoTrade,
     /// The symbol is not on the roster, and the mapping skips such rows.
     OtherSymbol,
 }
@@ -49,8 +53,12 @@ impl TradeCause {
             | TradeCause::BadShares
             | TradeCause::UnknownSide
             | TradeCause::UnknownCondition
-            | TradeCause::UnknownMark => false,
-            TradeCause::Trailer | TradeCause::Listed | TradeCause::OtherSymbol => true,
+            | TradeCause::UnknownMark
+            | TradeCause::UnknownWord => false,
+            TradeCause::Trailer
+            | TradeCause::Listed
+            | TradeCause::NoTrade
+            | TradeCause::OtherSymbol => true,
         }
     }
 }

@@ -10,14 +10,14 @@ ghost use Rattle.nms_import_trades.specs.TradeMap.{AreClaims, AreReadOf, IsFormO
 ghost use Rattle.nms_import_trades.specs.TradePlacing.{IsIdPlaced, needed_by_id};
 
 use crate::claim::{Claim, Flag};
-use crate::condition::any_claims;
+use crate::condition::{any_claims, any_stands};
 use crate::trade_columns::TradeColumns;
 use crate::trade_meanings::TradeMeanings;
 use csv::ByteRecord;
 use nms_import::{
     Column, FileForm, Half, MapFault, MapTable, Meanings, PriceUnit, Source, TimeForm, Word, both,
-    document_of, file_of, form_of, keep, names_of, no_others, place_of, places_of, skips_of,
-    symbols_of, unit_of,
+    document_of, file_of, form_of, keep, names_of, no_others, place_of, places_of, symbols_of,
+    unit_of,
 };
 use std::alloc::Global;
 use toml::{Table, Value};
@@ -38,6 +38,8 @@ static TABLES: [&'static str; 10] = [
 
 const A_TABLE: &str =
     "one of file, column, price, time, participant, symbol, side, flags, exempt, skip";
+
+const IN_NO_OTHER: &str = "letters that stand in no other list";
 
 /// What a mapping says of the columns.
 #[derive(Drop)]
@@ -255,7 +257,7 @@ fn mapping_with(
 /// What the texts of a file mean.
 fn texts_of(alloc: Global, document: &Table, ends: Vec<Word>) -> Result<TradeMeanings, MapFault>
     ensures common { IfOk result (λ meanings. AreReadOf (table_view document.now) meanings.common) }
-    ensures claims { IfOk result (λ meanings. AreClaims meanings.claims.items meanings.nothing.items) }
+    ensures claims { IfOk result (λ meanings. AreClaims meanings.claims.items meanings.nothing.items meanings.no_trade.items) }
     ensures kind { IfErr result (λ fault. is_of_document fault ≡ true) }
 {
     let common = common_of(alloc, document, ends);
@@ -269,8 +271,10 @@ fn texts_of(alloc: Global, document: &Table, ends: Vec<Word>) -> Result<TradeMea
                 neither,
                 claims,
                 nothing,
+                no_trade,
                 marked,
                 unmarked,
+                kept,
             } = words;
             Ok(TradeMeanings {
                 common,
@@ -279,8 +283,10 @@ fn texts_of(alloc: Global, document: &Table, ends: Vec<Word>) -> Result<TradeMea
                 neither,
                 claims,
                 nothing,
+                no_trade,
                 marked,
                 unmarked,
+                kept,
             })
         }
         Err(fault) => Err(fault),
@@ -428,12 +434,14 @@ fn common_of(alloc: Global, document: &Table, ends: Vec<Word>) -> Result<Meaning
                 price_unit: units.price_unit,
                 no_price,
                 size_unit: 1,
+                own_lots: false,
                 names,
                 same,
                 replaced,
                 skips_symbols,
                 said,
                 half: Half::Refuse,
+                withdraws: false,
                 ends,
                 skips,
             })
@@ -474,8 +482,8 @@ fn units_of(alloc: Global, document: &Table) -> Result<Units, MapFault>
     })
 }
 
-/// What trades alone have: the words for a purchase, for a sale and for neither, the claims of letters, and the words of a
-/// trade that is marked exempt and of one that is not.
+/// What only trades have: the words for a purchase, for a sale and for neither, the claims of letters, the letters of rows
+/// that are no trades, the words of a trade that is marked exempt and of one that is not, and those of rows to keep.
 #[derive(Drop)]
 struct OwnWords {
     bought: Vec<Word>,
@@ -483,13 +491,15 @@ struct OwnWords {
     neither: Vec<Word>,
     claims: Vec<Claim>,
     nothing: Vec<u8>,
+    no_trade: Vec<u8>,
     marked: Vec<Word>,
     unmarked: Vec<Word>,
+    kept: Vec<Word>,
 }
 
-/// The tables `side`, `flags` and `exempt`.
+/// The tables `side`, `flags` and `exempt`, and the words of rows to keep.
 fn words_of(alloc: Global, document: &Table) -> Result<OwnWords, MapFault>
-    ensures claims { IfOk result (λ words. AreClaims words.claims.items words.nothing.items) }
+    ensures claims { IfOk result (λ words. AreClaims words.claims.items words.nothing.items words.no_trade.items) }
     ensures kind { IfErr result (λ fault. is_of_document fault ≡ true) }
 {
     let side = MapTable::of(
@@ -506,31 +516,74 @@ fn words_of(alloc: Global, document: &Table) -> Result<OwnWords, MapFault>
     let neither = side.words("neither");
     let marked = exempt.words("yes");
     let unmarked = exempt.words("no");
+    let kept = kept_of(alloc, document);
     let front = both(flags, bought);
     let middle = both(sold, neither);
-    let back = both(marked, unmarked);
+    let marks = both(marked, unmarked);
+    let back = both(marks, kept);
     let rest = both(middle, back);
     match both(front, rest) {
         Ok(found) => {
-            let ((flags, bought), ((sold, neither), (marked, unmarked))) = found;
-            let (claims, nothing) = flags;
+            let ((flags, bought), ((sold, neither), ((marked, unmarked), kept))) = found;
+            let Letters {
+                claims,
+                nothing,
+                no_trade,
+            } = flags;
             Ok(OwnWords {
                 bought,
                 sold,
                 neither,
                 claims,
                 nothing,
+                no_trade,
                 marked,
                 unmarked,
+                kept,
             })
         }
         Err(fault) => Err(fault),
     }
 }
 
-/// The table `flags`: each flag with its letters, and the letters that claim nothing.
-fn claims_of(alloc: Global, document: &Table) -> Result<(Vec<Claim>, Vec<u8>), MapFault>
-    ensures claims { IfOk result (λ found. AreClaims found.0.items found.1.items) }
+/// The table `skip`.
+fn skip_table(alloc: Global, document: &Table) -> Result<MapTable<'_>, MapFault>
+    ensures kind { IfErr result (λ fault. is_of_document fault ≡ true) }
+{
+    MapTable::of(
+        alloc,
+        document,
+        "skip",
+        &["words", "kept"],
+        "one of words, kept",
+    )
+}
+
+/// The words of rows to skip.
+fn skips_of(alloc: Global, document: &Table) -> Result<Vec<Word>, MapFault>
+    ensures kind { IfErr result (λ fault. is_of_document fault ≡ true) }
+{
+    skip_table(alloc, document)?.words("words")
+}
+
+/// The words of rows to keep.
+fn kept_of(alloc: Global, document: &Table) -> Result<Vec<Word>, MapFault>
+    ensures kind { IfErr result (λ fault. is_of_document fault ≡ true) }
+{
+    skip_table(alloc, document)?.words("kept")
+}
+
+/// What the letters of a condition say.
+#[derive(Drop)]
+struct Letters {
+    claims: Vec<Claim>,
+    nothing: Vec<u8>,
+    no_trade: Vec<u8>,
+}
+
+/// The table `flags`: each flag with its letters, the letters that claim nothing, and those of rows that are no trades.
+fn claims_of(alloc: Global, document: &Table) -> Result<Letters, MapFault>
+    ensures claims { IfOk result (λ found. AreClaims found.claims.items found.nothing.items found.no_trade.items) }
     ensures kind { IfErr result (λ fault. is_of_document fault ≡ true) }
 {
     let table = MapTable::of(
@@ -549,8 +602,9 @@ fn claims_of(alloc: Global, document: &Table) -> Result<(Vec<Claim>, Vec<u8>), M
             "outside_hours",
             "out_of_sequence",
             "nothing",
+            "no_trade",
         ],
-        "one of not_regular, single_priced, sweep, swept, benchmark, stopped, contingent, exempt, outside_hours, out_of_sequence, nothing",
+        "one of not_regular, single_priced, sweep, swept, benchmark, stopped, contingent, exempt, outside_hours, out_of_sequence, nothing, no_trade",
     )?;
     let flags = [
         ("not_regular", Flag::NotRegular),
@@ -566,29 +620,39 @@ fn claims_of(alloc: Global, document: &Table) -> Result<(Vec<Claim>, Vec<u8>), M
     ];
     let claims = claims_in(alloc, table, &flags);
     let nothing = letters_of(alloc, table, "nothing");
-    match both(claims, nothing) {
+    let no_trade = letters_of(alloc, table, "no_trade");
+    let others = both(nothing, no_trade);
+    match both(claims, others) {
         Ok(found) => {
-            let (claims, nothing) = found;
-            kept_apart(table, claims, nothing)
+            let (claims, (nothing, no_trade)) = found;
+            kept_apart(
+                table,
+                Letters {
+                    claims,
+                    nothing,
+                    no_trade,
+                },
+            )
         }
         Err(fault) => Err(fault),
     }
 }
 
-/// All flags with their letters, and the letters that claim nothing, if none of these claims a flag.
-fn kept_apart(
-    table: MapTable<'_>,
-    claims: Vec<Claim>,
-    nothing: Vec<u8>,
-) -> Result<(Vec<Claim>, Vec<u8>), MapFault>
-    requires { map (λ it. it.flag) claims.items ≡ all_flags }
-    ensures claims { IfOk result (λ found. AreClaims found.0.items found.1.items) }
+/// The letters, if none that claims nothing claims a flag, and none of rows that are no trades is any of these.
+fn kept_apart(table: MapTable<'_>, letters: Letters) -> Result<Letters, MapFault>
+    requires { map (λ it. it.flag) letters.claims.items ≡ all_flags }
+    ensures claims { IfOk result (λ found. AreClaims found.claims.items found.nothing.items found.no_trade.items) }
     ensures kind { IfErr result (λ fault. is_of_document fault ≡ true) }
 {
-    if any_claims(&claims, &nothing) {
-        return Err(table.bad("nothing", "letters that stand in no other list"));
+    if any_claims(&letters.claims, &letters.nothing) {
+        return Err(table.bad("nothing", IN_NO_OTHER));
     }
-    Ok((claims, nothing))
+    if any_claims(&letters.claims, &letters.no_trade)
+        || any_stands(&letters.nothing, &letters.no_trade)
+    {
+        return Err(table.bad("no_trade", IN_NO_OTHER));
+    }
+    Ok(letters)
 }
 
 /// Flags, each with the letters at its key.

@@ -18,6 +18,10 @@ pub struct TradeMeanings {
     pub claims: Vec<Claim>,
     /// The letters that claim nothing.
     pub nothing: Vec<u8>,
+    /// The letters of rows that are no trades, and are skipped.
+    pub no_trade: Vec<u8>,
+    /// The words of the column `skip` whose rows are kept; if there are none, all are kept that are not skipped.
+    pub kept: Vec<Word>,
     /// The words of a trade that is marked exempt.
     pub marked: Vec<Word>,
     /// The words of one that is not.

@@ -2,9 +2,9 @@
 ghost use Rattle.std.specs.Prelude.{◌≡◌, IfOk};
 ghost use Rattle.csv.specs.Records.{fields_of};
 ghost use Rattle.nms_import.specs.Mapping.{column_text, symbol_in};
-ghost use Rattle.nms_import_trades.specs.TradeRow.{deal_of, mark_of, no_symbol, trade_of, venue_of};
+ghost use Rattle.nms_import_trades.specs.TradeRow.{deal_of, is_unknown_word, mark_of, no_symbol, trade_of, venue_of};
 
-use crate::condition::are_known;
+use crate::condition::{are_known, is_no_trade};
 use crate::trade::Trade;
 use crate::trade_cause::TradeCause;
 use crate::trade_columns::{TradeColumns, has_name};
@@ -53,6 +53,12 @@ fn trade_with(
     if is_listed(&common.skips, columns.skip.text(row)) {
         return Err(TradeCause::Listed);
     }
+    if is_unknown_word(meanings, columns.skip.text(row)) {
+        return Err(TradeCause::UnknownWord);
+    }
+    if is_no_trade(meanings, columns.condition.text(row)) {
+        return Err(TradeCause::NoTrade);
+    }
     if !has_name(&columns.id, row) {
         return Err(TradeCause::BadName);
     }
@@ -83,6 +89,13 @@ fn trade_with(
         deal,
         marked,
     })
+}
+
+/// Whether the mapping lists words of rows to keep, and this is none of them.
+fn is_unknown_word(meanings: &TradeMeanings, text: &[u8]) -> bool
+    ensures { result ≡ is_unknown_word meanings.now text.now }
+{
+    !meanings.kept.is_empty() && !is_listed(&meanings.kept, text)
 }
 
 /// Where a trade was executed: `None` off an exchange.

@@ -30,10 +30,14 @@ pub struct TradeTally {
     pub unknown_condition: u64,
     /// Refused: a mark that the mapping does not list.
     pub unknown_mark: u64,
+    /// Refused: a word of the column `skip` that the mapping does not list.
+    pub unknown_word: u64,
     /// Skipped: the last line of a file.
     pub trailer: u64,
     /// Skipped: a word that the mapping lists.
     pub listed: u64,
+    /// Skipped: a row that is no trade.
+    pub no_trade: u64,
     /// Skipped: a symbol that is not on the roster.
     pub other_symbol: u64,
 }
@@ -69,8 +73,10 @@ impl TradeTally {
             unknown_side: 0,
             unknown_condition: 0,
             unknown_mark: 0,
+            unknown_word: 0,
             trailer: 0,
             listed: 0,
+            no_trade: 0,
             other_symbol: 0,
         }
     }
@@ -101,8 +107,10 @@ impl TradeTally {
             TradeCause::UnknownSide => self.unknown_side += 1,
             TradeCause::UnknownCondition => self.unknown_condition += 1,
             TradeCause::UnknownMark => self.unknown_mark += 1,
+            TradeCause::UnknownWord => self.unknown_word += 1,
             TradeCause::Trailer => self.trailer += 1,
             TradeCause::Listed => self.listed += 1,
+            TradeCause::NoTrade => self.no_trade += 1,
             TradeCause::OtherSymbol => self.other_symbol += 1,
         }
     }
@@ -125,8 +133,9 @@ impl TradeTally {
             self.unknown_side,
             self.unknown_condition,
             self.unknown_mark,
+            self.unknown_word,
         ])?;
-        let skipped = sum_of(&[self.trailer, self.listed, self.other_symbol])?;
+        let skipped = sum_of(&[self.trailer, self.listed, self.no_trade, self.other_symbol])?;
         let executions = self.executions;
         let rows = sum_of(&[executions, refused, skipped])?;
         Some(TradeSums {

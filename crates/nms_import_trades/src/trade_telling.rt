@@ -9,7 +9,7 @@ use crate::trade_cause::TradeCause;
 use crate::trade_columns::TradeColumns;
 use crate::trade_tally::{TradeSums, TradeTally};
 use csv::ByteRecord;
-use nms_import::{Column, MOST_TOLD, show_row};
+use nms_import::{Column, MOST_TOLD, RowPlace, show_row};
 use nms_show::{Form, Item, ShowFault, write_line};
 use std::io::Write;
 
@@ -19,6 +19,7 @@ pub struct TradeTold<'a, E> {
     /// Where they are shown.
     pub errors: E,
     file: &'a str,
+    line: u64,
     left: u64,
 }
 
@@ -36,6 +37,7 @@ impl<'a, E: Write> TradeTold<'a, E> {
         TradeTold {
             errors,
             file: "",
+            line: 0,
             left: MOST_TOLD,
         }
     }
@@ -47,6 +49,15 @@ impl<'a, E: Write> TradeTold<'a, E> {
         ensures left { left_of self.new ≡ left_of self.old }
     {
         self.file = file;
+    }
+
+    /// Goes on with the row that begins on a line, from 1.
+    pub(crate) fn at(&mut self, line: u64)
+        ensures writer { self.new.errors ≡ self.old.errors }
+        ensures file { file_of self.new ≡ file_of self.old }
+        ensures left { left_of self.new ≡ left_of self.old }
+    {
+        self.line = line;
     }
 
     /// Shows a row that makes no execution: its file, line, column and text, and the cause. The first 100 are shown. What
@@ -63,7 +74,10 @@ impl<'a, E: Write> TradeTold<'a, E> {
         };
         show_row(
             &mut self.errors,
-            self.file,
+            RowPlace {
+                file: self.file,
+                line: self.line,
+            },
             row,
             column_of(columns, cause),
             what,
@@ -83,9 +97,9 @@ fn column_of(columns: &TradeColumns, cause: TradeCause) -> Option<&Column> {
         TradeCause::BadPrice => Some(&columns.price),
         TradeCause::BadShares => Some(&columns.shares),
         TradeCause::UnknownSide => Some(&columns.side),
-        TradeCause::UnknownCondition => Some(&columns.condition),
+        TradeCause::UnknownCondition | TradeCause::NoTrade => Some(&columns.condition),
         TradeCause::UnknownMark => Some(&columns.exempt),
-        TradeCause::Listed => Some(&columns.skip),
+        TradeCause::UnknownWord | TradeCause::Listed => Some(&columns.skip),
     }
 }
 
@@ -104,8 +118,10 @@ fn sentence_of(cause: TradeCause) -> &'static str {
         TradeCause::UnknownSide => "a side that the mapping does not list",
         TradeCause::UnknownCondition => "a condition with a letter that the mapping does not list",
         TradeCause::UnknownMark => "a mark of an exempt trade that the mapping does not list",
+        TradeCause::UnknownWord => "a word that the mapping lists neither to skip nor to keep",
         TradeCause::Trailer => "the last line of the file",
         TradeCause::Listed => "a word that the mapping skips",
+        TradeCause::NoTrade => "a condition with a letter of rows that are no trades",
     }
 }
 
@@ -135,7 +151,7 @@ pub fn write_trade_tally<W: Write>(
 }
 
 /// The counts that have lines of their own, each with what is said of it.
-fn counts_of(tally: &TradeTally) -> [(u64, &'static str); 13]
+fn counts_of(tally: &TradeTally) -> [(u64, &'static str); 15]
     ensures { list_all (λ count. is_plain count.1.now) result ≡ true }
 {
     [
@@ -149,8 +165,10 @@ fn counts_of(tally: &TradeTally) -> [(u64, &'static str); 13]
         (tally.unknown_side, " refused: unknown side"),
         (tally.unknown_condition, " refused: unknown condition"),
         (tally.unknown_mark, " refused: unknown mark"),
+        (tally.unknown_word, " refused: unknown word"),
         (tally.trailer, " skipped: last line of a file"),
         (tally.listed, " skipped: word to skip"),
+        (tally.no_trade, " skipped: no trade"),
         (tally.other_symbol, " skipped: other symbol"),
     ]
 }

@@ -1,21 +1,28 @@
--- A table of names: where a name is found, before and after an entry more, and that names are text.
-use Rattle.std.proofs.Common.{◌≡◌, ℕ, zero, suc, ◌+◌, ◌<◌, ◌≤◌, Bool, true, false, cond, not, nat_lt, List, [], ◌∷◌, ◌++◌, map, slice_get, get_or}
+-- A table of names, as the entries of the map that holds it.
+use Rattle.std.proofs.Common.{◌≡◌, ℕ, zero, suc, ◌+◌, ◌<◌, Bool, true, false, cond, not, nat_lt, List, [], ◌∷◌, ◌++◌, map, slice_get}
 use Rattle.std.proofs.Common.{position, Option, Some, None, option_map, is_some, refl, sym, ap, subst, ◌∙◌, true≢false, lit<, arith, length}
 use Rattle.std.specs.Prelude.{unwrap_or}
-use Rattle.std.proofs.lemmas.Bool.{and_parts}
+use Rattle.std.proofs.lemmas.Bool.{and_parts, false_from_ne_true}
 use Rattle.std.proofs.lemmas.Bool.Decides.{nat_tests}
-use Rattle.std.proofs.lemmas.List.{length-append, length-map, map-append}
-use Rattle.std.proofs.lemmas.List.Folds.{position_or_len_push}
-use Rattle.std.proofs.lemmas.List.Sums.{prefix_len-le-length}
+use Rattle.std.proofs.lemmas.List.{length-map, map-append}
 use Rattle.std.proofs.lemmas.Option.{same_Some, none-some, slice_get-get_or, slice_get-map}
 use Rattle.std.proofs.lemmas.Slice.Eq.{bytes_eq-Decides}
-use Rattle.std.proofs.lemmas.Str.{IsUtf8-from_ascii}
-use Rattle.std.specs.List.{list_all, position_or_len}
+use Rattle.std.proofs.lemmas.Str.{IsUtf8-string_bytes, IsUtf8-from_ascii}
+use Rattle.std.specs.List.{list_all, position_or_len, IsDistinct}
+use Rattle.std.specs.Map.{keys_of, lookup}
 use Rattle.std.specs.Str.{bytes_eq, IsAscii, IsUtf8}
-use Rattle.std.specs.String.{string_bytes}
+use Rattle.std.specs.String.{string_bytes, string_eq, string_eq_equiv}
 use Rattle.std.specs.declared.string.String.{String}
+use Rattle.indexmap.specs.IndexMap.{IndexMap, insert_entry}
+use Rattle.indexmap.proofs.CallerLemmas.{insert_entry-new}
+use Rattle.indexmap.proofs.MapLemmas.{some_index, index-first}
+use Rattle.indexmap.proofs.RemoveLemmas.{own_first}
 use Rattle.nms_quote.specs.Names.{named}
 use Rattle.nms_quote.specs.Roster.{Name, place_in, is_name_char, is_symbol_char, is_name_of, is_part_name, is_symbol_name}
+
+none_from_is_some : {A : Type 0} (o : Option A) → is_some o ≡ false → o ≡ None
+none_from_is_some None h = refl
+none_from_is_some (Some x) h = absurd (true≢false h)
 
 module _ {X Y : Type 0} (passes : Y → Bool) (f : X → Y) where
   position_or_len-map : (xs : List X) → position_or_len passes (map f xs) ≡ position_or_len (λ x. passes (f x)) xs
@@ -27,79 +34,72 @@ module _ {X Y : Type 0} (passes : Y → Bool) (f : X → Y) where
   position-map xs =
       λ j. cond (nat_lt (position_or_len-map xs j) (length-map xs f j)) (Some (position_or_len-map xs j)) None
 
--- the first place that passes, in a list with one element more
-module _ {X : Type 0} (passes : X → Bool) (xs : List X) (last : X) where
-  pub position-kept : (place : ℕ) → position passes xs ≡ Some place → position passes (xs ++ last ∷ []) ≡ Some place
-  position-kept place h =
-      let within : position_or_len passes xs < length xs = some_within (position_or_len passes xs) (length xs) place h in
-      grind (arith, nat_tests, h, position_or_len_push passes xs last, length-append xs (last ∷ []), within)
-    where
-      some_within : (n most place : ℕ) → cond (nat_lt n most) (Some n) None ≡ Some place → n < most
-      some_within n most place h = grind (arith, nat_tests, h)
-
-  pub position-last : position passes xs ≡ None → position passes (xs ++ last ∷ []) ≡ cond (passes last) (Some (length xs)) None
-  position-last h = by (passes last) refl
-    where
-      none_end : (n most : ℕ) → n ≤ most → cond (nat_lt n most) (Some n) None ≡ None → n ≡ most
-      none_end n most le h = grind (arith, nat_tests, le, h)
-
-      end : position_or_len passes xs ≡ length xs
-      end = none_end (position_or_len passes xs) (length xs) (prefix_len-le-length (λ x. not (passes x)) xs) h
-
-      by : (b : Bool) → passes last ≡ b → position passes (xs ++ last ∷ []) ≡ cond (passes last) (Some (length xs)) None
-      by true e = grind (arith, nat_tests, e, end, position_or_len_push passes xs last, length-append xs (last ∷ []))
-      by false e = grind (arith, nat_tests, e, end, position_or_len_push passes xs last, length-append xs (last ∷ []))
-
--- what stands at a place of a list with one element more: what stood there, or the new one at the end
-at-added : {X C : Type 0} (xs : List X) (last x : X) (place : ℕ) → slice_get (xs ++ last ∷ []) place ≡ Some x
-    → (slice_get xs place ≡ Some x → C) → (place ≡ length xs → last ≡ x → C) → C
-at-added [] last x zero h within end = end refl (same_Some last x h)
-at-added [] last x (suc place) h within end = absurd (none-some x h)
-at-added (y ∷ ys) last x zero h within end = within h
-at-added (y ∷ ys) last x (suc place) h within end = at-added ys last x place h within (λ e. end (ap suc e))
-
 abbrev text_entry : {Y Z : Type 0} → String Y × Z → Name × Z
 text_entry entry = (string_bytes entry.0, entry.1)
 
 abbrev name_of : {Z : Type 0} → Option (Name × Z) → Option Name
 name_of entry = option_map (λ e. e.0) entry
 
--- a new name goes last, and each name is still found at its own place
-pub once-added : {Z : Type 0} (table : List (Name × Z)) (name : Name) (value : Z) → place_in table name ≡ None
-    → ((place : ℕ) (other : Name) → option_map (λ entry. entry.0) (slice_get table place) ≡ Some other → place_in table other ≡ Some place)
-    → (place : ℕ) (other : Name) → option_map (λ entry. entry.0) (slice_get (table ++ (name, value) ∷ []) place) ≡ Some other
-    → place_in (table ++ (name, value) ∷ []) other ≡ Some place
-once-added {Z = Z} table name value absent once place other at = by (slice_get (table ++ (name, value) ∷ []) place) refl
-  where
-    by : (entry : Option (Name × Z)) → slice_get (table ++ (name, value) ∷ []) place ≡ entry
-        → place_in (table ++ (name, value) ∷ []) other ≡ Some place
-    by None here = absurd (none-some other (ap name_of (sym here) ∙ at))
-    by (Some (text, v)) here =
-        let same : text ≡ other = same_Some text other (ap name_of (sym here) ∙ at) in
-        at-added table (name, value) (text, v) place here
-        (λ within. position-kept (λ entry. bytes_eq other entry.0) table (name, value) place
-        (once place other (ap name_of within ∙ ap Some same)))
-        (λ end is. let mine : name ≡ other = ap (λ e. e.0) is ∙ same in
-        position-last (λ entry. bytes_eq other entry.0) table (name, value) (ap (place_in table) (sym mine) ∙ absent)
-        ∙ ap (λ b. cond b (Some (length table)) None) ((bytes_eq-Decides other name).1 (sym mine))
-        ∙ ap Some (sym end))
-
 module _ {Y Z : Type 0} where
-  length-named : (entries : List (String Y × Z)) → length (named entries) ≡ length entries
-  length-named entries = length-map entries text_entry
+  -- a look-up by name looks at the keys' texts
+  pub place_in-named : (name : Name) (entries : List (String Y × Z))
+      → place_in (named entries) name ≡ position (λ key. bytes_eq name (string_bytes key)) (keys_of entries)
+  place_in-named name entries =
+      position-map (λ entry. bytes_eq name entry.0) (λ entry. (string_bytes entry.0, entry.1)) entries
+      ∙ sym (position-map (λ key. bytes_eq name (string_bytes key)) (λ entry. entry.0) entries)
 
-  -- an entry more is a name more
-  pub named-added : (entries after : List (String Y × Z)) (text : String Y) (value : Z) (name : Name) → string_bytes text ≡ name
-      → after ≡ entries ++ (text, value) ∷ [] → named after ≡ named entries ++ (name, value) ∷ []
-  named-added entries after text value name same added =
-      ap named added ∙ map-append text_entry entries ((text, value) ∷ []) ∙ ap (λ n. named entries ++ (n, value) ∷ []) same
+  lookup-not_utf8 : (name : Name) → (IsUtf8 name → ⊥) → (entries : List (String Y × Z))
+      → lookup (λ key. bytes_eq name (string_bytes key)) entries ≡ None
+  lookup-not_utf8 name invalid [] = refl
+  lookup-not_utf8 name invalid (entry ∷ entries) =
+      let other : bytes_eq name (string_bytes entry.0) ≡ false =
+      false_from_ne_true _ (λ same. invalid (subst IsUtf8 (sym ((bytes_eq-Decides name (string_bytes entry.0)).0 same))
+      (IsUtf8-string_bytes entry.0))) in
+      ap (λ b. cond b (Some entry.1) (lookup (λ key. bytes_eq name (string_bytes key)) entries)) other
+      ∙ lookup-not_utf8 name invalid entries
 
-  -- the name at a place of the table is the text of the entry there
-  pub name_at-named : (entries : List (String Y × Z)) (place : ℕ) (d : String Y × Z) → place < length (named entries)
-      → option_map (λ entry. entry.0) (slice_get (named entries) place) ≡ Some (string_bytes (get_or entries place d).0)
-  name_at-named entries place d within =
-      ap name_of (slice_get-map text_entry entries place
-      ∙ ap (option_map text_entry) (slice_get-get_or entries place d (omega (arith, within, length-named entries))))
+  -- bytes that are not text are no entry's name
+  pub place_in-not_utf8 : (name : Name) (entries : List (String Y × Z)) → (IsUtf8 name → ⊥) → place_in (named entries) name ≡ None
+  place_in-not_utf8 name entries invalid =
+      place_in-named name entries
+      ∙ none_from_is_some _ (some_index (λ key. bytes_eq name (string_bytes key)) entries
+      ∙ ap is_some (lookup-not_utf8 name invalid entries))
+
+  -- the name at a place is the text of the key there
+  pub name_at-named : (entries : List (String Y × Z)) (table : List (Name × Z)) → named entries ≡ table
+      → (place : ℕ) (key : String Y) (value : Z) → slice_get entries place ≡ Some (key, value)
+      → option_map (λ entry. entry.0) (slice_get table place) ≡ Some (string_bytes key)
+  name_at-named entries table is place key value at =
+      ap (λ t. name_of (slice_get t place)) (sym is) ∙ ap name_of (slice_get-map text_entry entries place ∙ ap (option_map text_entry) at)
+
+  -- and is found there
+  pub place_in-own : (entries : List (String Y × Z)) → IsDistinct string_eq (keys_of entries) → (table : List (Name × Z))
+      → named entries ≡ table → (place : ℕ) (name : Name) → option_map (λ entry. entry.0) (slice_get table place) ≡ Some name
+      → place_in table name ≡ Some place
+  place_in-own entries unique table is place name at = by (slice_get entries place) refl
+    where
+      by : (entry : Option (String Y × Z)) → slice_get entries place ≡ entry → place_in table name ≡ Some place
+      by None here = absurd (none-some name (ap (λ e. name_of (option_map text_entry e)) (sym here)
+          ∙ ap name_of (sym (slice_get-map text_entry entries place)) ∙ ap (λ t. name_of (slice_get t place)) is ∙ at))
+      by (Some (key, value)) here =
+          let same : string_bytes key ≡ name = same_Some _ _ (sym (name_at-named entries table is place key value here) ∙ at) in
+          ap (place_in table) (sym same) ∙ ap (λ t. place_in t (string_bytes key)) (sym is) ∙ place_in-named (string_bytes key) entries
+          ∙ index-first (string_eq key) entries place (own_first string_eq string_eq_equiv entries place key value unique here)
+
+-- a new name goes last
+pub named-insert_entry : {Y Z S : Type 0} (m : IndexMap (String Y) Z S) (table : List (Name × Z)) → named m.entries ≡ table
+    → (key : String Y) (value : Z) (name : Name) → string_bytes key ≡ name → place_in table name ≡ None → (entries : List (String Y × Z))
+    → entries ≡ insert_entry string_eq m.entries key value → named entries ≡ table ++ (name, value) ∷ []
+named-insert_entry m table is key value name same absent entries inserted =
+    let sought : place_in (named m.entries) (string_bytes key) ≡ None = ap (λ t. place_in t (string_bytes key)) is
+    ∙ ap (place_in table) same ∙ absent in
+    let nowhere : lookup (string_eq key) m.entries ≡ None =
+    none_from_is_some _ (sym (some_index (string_eq key) m.entries)
+    ∙ ap is_some (sym (place_in-named (string_bytes key) m.entries) ∙ sought)) in
+    ap named (inserted ∙ insert_entry-new string_eq m key value nowhere)
+    ∙ map-append text_entry m.entries ((key, value) ∷ [])
+    ∙ ap (λ t. t ++ (string_bytes key, value) ∷ []) is
+    ∙ ap (λ n. table ++ (n, value) ∷ []) same
 
 -- a test that every name passes, the name at a place passes
 pub passes_at : {Z : Type 0} (passes : Name → Bool) (entries : List (Name × Z)) (place : ℕ) (name : Name)

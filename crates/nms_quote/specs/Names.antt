@@ -1,11 +1,9 @@
 -- The entries of a table, each under a name, and names as numbers. This product's own rule.
-use Rattle.std.specs.Prelude.{ℕ, ◌≡◌, ◌+◌, ◌*◌, ◌&&◌, Bool, true, List, [], ◌∷◌, Option, Some, length, map, nat_eq, nat_le, nat_lt}
-use Rattle.std.specs.Prelude.{if◌then◌else◌, option_map, slice_get}
-use Rattle.std.specs.HashMap.{HashMap, get}
-use Rattle.std.specs.List.{list_all, position}
+use Rattle.std.specs.Prelude.{ℕ, ◌+◌, ◌*◌, ◌&&◌, Bool, List, [], ◌∷◌, length, map, nat_le, nat_lt, if◌then◌else◌}
+use Rattle.std.specs.List.{list_all}
 use Rattle.std.specs.String.{string_bytes}
 use Rattle.std.specs.declared.string.String.{String}
-use Rattle.nms_quote.specs.Roster.{Name, place_in}
+use Rattle.nms_quote.specs.Roster.{Name}
 
 -- a map's entries, each name as the bytes of its text
 abbrev pub named : {Y Z : Type 0} → List (String Y × Z) → List (Name × Z)
@@ -27,14 +25,3 @@ word_of text = if nat_le (length text) 8 && list_all is_digit text then number_a
 -- the words of the names
 abbrev pub words_of : {Z : Type 0} → List (Name × Z) → List ℕ
 words_of entries = map (λ entry. word_of entry.0) entries
-
--- the place of the first name that is this number
-abbrev pub place_of_word : {Z : Type 0} → List (Name × Z) → ℕ → Option ℕ
-place_of_word entries word = position (nat_eq word) (words_of entries)
-
--- a table whose names are numbers other than 0, each name once, beside these numbers and the place of each
-pub record IsIndexed {Z S : Type 0} (entries : List (Name × Z)) (numbers : List ℕ) (found : HashMap ℕ ℕ S) : Type 0 where
-  pub words : numbers ≡ words_of entries
-  pub worded : list_all (λ entry. nat_lt 0 (word_of entry.0)) entries ≡ true
-  pub once : (place : ℕ) (name : Name) → option_map (λ entry. entry.0) (slice_get entries place) ≡ Some name → place_in entries name ≡ Some place
-  pub placed : (word : ℕ) → get nat_eq found word ≡ place_of_word entries word

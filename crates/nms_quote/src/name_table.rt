@@ -1,34 +1,36 @@
 //! Entries under names, in order of adding: `specs/Names` and `specs/Roster`.
-ghost use Rattle.std.specs.Prelude.{◌≡◌, ℕ, List, Some, ◌<◌, [], ◌∷◌, ◌++◌, length, option_map, slice_get, true, IfSome, IfNone, IfErr, IfOk, OnOk, OnErr};
+ghost use Rattle.std.specs.Prelude.{◌≡◌, ℕ, List, Some, ◌<◌, [], ◌∷◌, ◌++◌, length, option_map, slice_get, true, IfSome, IfNone, IfErr, IfOk, MatchBool, OnOk, OnErr};
 ghost use Rattle.std.specs.Str.{IsUtf8};
-ghost use Rattle.std.specs.String.{string_bytes};
-ghost use Rattle.nms_quote.specs.Names.{place_of_word, word_of};
+ghost use Rattle.std.specs.String.{string_eq};
+ghost use Rattle.indexmap.specs.IndexMap.{IsUnique};
+ghost use Rattle.nms_quote.specs.Names.{named, word_of};
 ghost use Rattle.nms_quote.specs.Roster.{place_in, refusal_in};
 
 use crate::hints::Hints;
 use crate::roster_fault::RosterFault;
+use indexmap::IndexMap;
 use std::alloc::Global;
-use std::collections::HashMap;
 use std::marker::Model;
 
 /// Entries under names, each name once. An entry's place is the number of entries before it.
 #[derive(Drop)]
 pub(crate) struct NameTable<V: Copy> {
-    entries: Vec<(String, V)>,
+    entries: IndexMap<String, V>,
     words: Vec<u64>,
-    places: HashMap<u64, usize>,
     hints: Hints,
 }
 
 impl<V: Copy> Model for NameTable<V> {
-    ghost use Rattle.std.specs.Prelude.{List, ℕ};
-    ghost use Rattle.nms_quote.specs.Names.{IsIndexed, named};
+    ghost use Rattle.std.specs.Prelude.{List, ℕ, ◌≡◌};
+    ghost use Rattle.std.specs.String.{string_eq};
+    ghost use Rattle.indexmap.specs.IndexMap.{IsUnique};
+    ghost use Rattle.nms_quote.specs.Names.{named, words_of};
 
     ghost Value = { List (List ℕ × V) };
 
-    ghost view = { λ t. named t.entries.items };
+    ghost view = { λ t. named t.entries.entries };
 
-    ghost invariant = { λ t. IsIndexed (named t.entries.items) t.words.items t.places };
+    ghost invariant = { λ t. IsUnique string_eq t.entries × (t.words.items ≡ words_of (named t.entries.entries)) };
 }
 
 impl<V: Copy> NameTable<V> {
@@ -41,9 +43,8 @@ impl<V: Copy> NameTable<V> {
             return Err(RosterFault::NoMemory);
         };
         Ok(NameTable {
-            entries: Vec::new(alloc),
+            entries: IndexMap::new(alloc),
             words: Vec::new(alloc),
-            places: HashMap::new(alloc),
             hints,
         })
     }
@@ -65,19 +66,21 @@ impl<V: Copy> NameTable<V> {
         if word != 0 && place < self.words.len() && self.words[place] == word {
             Some(place)
         } else {
-            self.find_by_hash(word)
+            self.find_by_hash(name)
         }
     }
 
-    /// The place of the entry whose name is this number, without a hint.
+    /// As `find`, without a hint.
     #[cold]
     #[inline(never)]
-    fn find_by_hash(&self, word: u64) -> Option<usize>
-        ensures place { result ≡ place_of_word self.now word }
+    fn find_by_hash(&self, name: &[u8]) -> Option<usize>
+        ensures place { result ≡ place_in self.now name.now }
+        ensures within { IfSome result (λ place. place < length self.now) }
     {
-        match self.places.get(&word) {
-            Some(place) => Some(*place),
-            None => None,
+        let entries = &self.entries;
+        match std::str::from_utf8(name) {
+            Ok(text) => entries.get_index_of(text),
+            Err(_) => None,
         }
     }
 
@@ -88,7 +91,8 @@ impl<V: Copy> NameTable<V> {
         ensures found { place_in self.now result.now ≡ Some place }
         ensures once { (other : ℕ) → option_map (λ entry. entry.0) (slice_get self.now other) ≡ Some result.now → other ≡ place }
     {
-        self.entries[place].0.as_str()
+        let (name, _) = self.entries.get_index(place).unwrap();
+        name.as_str()
     }
 
     /// The value at a place.
@@ -96,7 +100,8 @@ impl<V: Copy> NameTable<V> {
         requires { place < length self.now }
         ensures { option_map (λ entry. entry.1) (slice_get self.now place) ≡ Some result }
     {
-        self.entries[place].1
+        let (_, value) = self.entries.get_index(place).unwrap();
+        *value
     }
 
     /// Why an entry may not be added, the first reason that holds: its name's form, its name is there already, or
@@ -126,40 +131,41 @@ impl<V: Copy> NameTable<V> {
     /// Adds an entry as the last one, under a new name. If memory is short, nothing changes.
     pub(crate) fn push(&mut self, name: &[u8], value: V) -> Result<(), RosterFault>
         requires text { IsUtf8 name.now }
-        requires worded { 0 < word_of name.now }
         requires absent { place_in self.old name.now ≡ None }
         ensures added { OnOk result (self.new ≡ self.old ++ (name.now, value) ∷ []) }
         ensures unchanged { OnErr result (self.new ≡ self.old) }
         ensures memory { IfErr result (λ fault. fault ≡ RosterFault.NoMemory) }
     {
         let word = word_of(name);
-        let place = self.len();
-        let Ok(()) = self.words.reserve(1) else {
+        let place = self.entries.len();
+        let Ok(_) = self.words.push(word) else {
             return Err(RosterFault::NoMemory);
         };
-        let Ok(()) = self.entries.reserve(1) else {
+        if !put_last(&mut self.entries, name, value) {
+            let _ = self.words.pop();
             return Err(RosterFault::NoMemory);
-        };
-        let Some(text) = text_of(*self.words.allocator(), name) else {
-            return Err(RosterFault::NoMemory);
-        };
-        let Ok(_) = self.places.insert(word, place) else {
-            return Err(RosterFault::NoMemory);
-        };
-        self.words.push_reserved(word);
-        self.entries.push_reserved((text, value));
+        }
         self.hints.set(word, place);
         Ok(())
     }
 }
 
-/// A name's bytes as a text of its own; `None` if there is no memory for it.
-fn text_of(alloc: Global, name: &[u8]) -> Option<String>
+/// Adds an entry under a new name. Returns whether there was memory for it.
+fn put_last<V: Copy>(entries: &mut IndexMap<String, V>, name: &[u8], value: V) -> bool
+    requires unique { IsUnique string_eq entries.old }
     requires text { IsUtf8 name.now }
-    ensures same { IfSome result (λ text. string_bytes text ≡ name.now) }
+    requires absent { place_in (named entries.old.entries) name.now ≡ None }
+    ensures added { MatchBool result (named entries.new.entries ≡ named entries.old.entries ++ (name.now, value) ∷ []) (entries.new.entries ≡ entries.old.entries) }
+    ensures unique { IsUnique string_eq entries.new }
 {
     let text = std::str::from_utf8(name).unwrap();
-    String::from_str(alloc, text).ok()
+    let Ok(owned) = String::from_str(*entries.allocator(), text) else {
+        return false;
+    };
+    let Ok(_) = entries.insert(owned, value) else {
+        return false;
+    };
+    true
 }
 
 /// A text of at most eight bytes, none of them 0, as one number; 0 for any other text.

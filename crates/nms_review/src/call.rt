@@ -68,8 +68,8 @@ pub(crate) fn feed_of(setup: &Setup, request: &Request<'_>) -> Result<Feed, Faul
     }
 }
 
-/// As `feed_of`, before a setup is known, with the most feeds that one may have.
-pub(crate) fn letter_of(request: &Request<'_>) -> Result<Feed, Fault> {
+/// The feed that `--feed` names, A if it is not given, among the most that a setup may have.
+fn letter_of(request: &Request<'_>) -> Result<Feed, Fault> {
     feed_named(request.feed.unwrap_or("A")).ok_or(no_feed())
 }
 

@@ -19,7 +19,7 @@ use nms_compare::{
 };
 use nms_fees::Setup;
 use nms_files::read_changes;
-use nms_import::MapFault;
+use nms_import::{MapFault, RowSource};
 use nms_quote::Change;
 use nms_show::Ending;
 use std::alloc::Global;
@@ -154,7 +154,7 @@ fn compare_open<T, W: Write>(
     names: &ByteRecord,
     changes: &[Change],
     keys: &[u64],
-    mut reader: Reader<Source<'_, T, T::File>>,
+    mut reader: Reader<RowSource<Source<'_, T, T::File>>>,
     answers: &mut W,
 ) -> Result<Ending, Fault>
 where
@@ -174,7 +174,7 @@ where
         &mut reader,
         answers,
     );
-    ended(&mut reader.into_inner(), compared)
+    ended(&mut reader.into_inner().into_source(), compared)
 }
 
 /// Compares the rows of a vendor's file by its names of columns.
@@ -186,7 +186,7 @@ fn compare_named<T, W: Write>(
     names: &ByteRecord,
     changes: &[Change],
     keys: &[u64],
-    reader: &mut Reader<Source<'_, T, T::File>>,
+    reader: &mut Reader<RowSource<Source<'_, T, T::File>>>,
     answers: &mut W,
 ) -> Result<Ending, Fault>
 where
@@ -209,7 +209,7 @@ fn compare_vendor<T, W: Write>(
     vendor: &Vendor<'_>,
     changes: &[Change],
     keys: &[u64],
-    reader: &mut Reader<Source<'_, T, T::File>>,
+    reader: &mut Reader<RowSource<Source<'_, T, T::File>>>,
     answers: &mut W,
 ) -> Result<Ending, Fault>
 where

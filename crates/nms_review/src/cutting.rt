@@ -3,18 +3,20 @@ ghost use Rattle.std.specs.Prelude.{◌≤◌};
 ghost use Rattle.nms_shards.specs.declared.TheConstants.{LEAST_LIMIT};
 
 use crate::answers::Answers;
-use crate::fault::{About, Fault};
+use crate::fault::{About, Fault, Output};
 use crate::files::word_at;
 use crate::importing::{
-    create, fault_in, flush, lacks_columns, no_memory, show_told, tell_counts, tell_map_fault,
+    fault_in, flush, lacks_columns, no_memory, rows_of, show_short, show_told, tell_counts,
+    tell_map_fault,
 };
+use crate::outputs::{SHARD, check_outputs, create, publish_shards, remove_parts};
 use crate::screen::Screen;
 use crate::source::Source;
 use crate::vendor::open_vendor;
 use crate::words::Request;
 use csv::{ByteRecord, Reader};
 use nms_fees::Setup;
-use nms_import::{Columns, ImportFault, MapFault, Mapping, Notes, Order, Tally, Told};
+use nms_import::{Columns, ImportFault, MapFault, Mapping, Notes, Order, RowSource, Tally, Told};
 use nms_shards::{
     Cutting, LEAST_LIMIT, Shard, begin_shard, import_shard, write_listed, write_setup,
 };
@@ -115,23 +117,31 @@ fn cut_with<T, W: Write>(
 where
     T: AllocGlobal + Clock + Eprint + Files,
 {
-    match begin_job(rt, request, mapping.order) {
-        Ok(mut job) => cut_all(
-            rt, screen, setup, request, mapping, cutting, &mut job, answers,
-        ),
-        Err(fault) => Err(fault),
+    check_outputs(rt, request, 1, &SHARD)?;
+    let (ended, shards) = match begin_job(rt, request, mapping) {
+        Ok(mut job) => {
+            let ended = cut_all(
+                rt, screen, setup, request, mapping, cutting, &mut job, answers,
+            );
+            (ended, job.shards)
+        }
+        Err(fault) => (Err(fault), 1),
+    };
+    for before in 0..shards {
+        remove_parts(rt, request, before + 1, &SHARD);
     }
+    ended
 }
 
 /// Begins the first shard.
 fn begin_job<'a, T: AllocGlobal + Files>(
     rt: &T,
     request: &Request<'a>,
-    order: Order,
+    mapping: &Mapping,
 ) -> Result<CutJob<'a, T::File>, Fault> {
     let alloc = rt.alloc();
     let files = create_files(rt, request, 1)?;
-    match Notes::of_symbols(alloc, 1, order) {
+    match Notes::of_symbols(alloc, 1, mapping.order, mapping.file.count) {
         Ok(notes) => Ok(CutJob {
             files,
             notes,
@@ -152,8 +162,8 @@ fn create_files<T: AllocGlobal + Files>(
     request: &Request<'_>,
     shard: u64,
 ) -> Result<ShardFiles<T::File>, Fault> {
-    let changes = create_in(rt, request, shard, ".changes")?;
-    match create_in(rt, request, shard, ".times") {
+    let changes = create(rt, request, shard, ".changes")?;
+    match create(rt, request, shard, ".times") {
         Ok(times) => Ok(ShardFiles { changes, times }),
         Err(fault) => Err(fault),
     }
@@ -179,8 +189,16 @@ where
         }
     }
     finish_shard(rt, setup, request, cutting, job)?;
+    publish_shards(rt, request, job.shards)?;
     tell_shards(job.shards, job.openings, answers)?;
-    tell_counts(mapping.meanings.half, &job.tally, &job.notes, answers)
+    tell_counts(
+        rt,
+        request,
+        &mapping.meanings,
+        &job.tally,
+        &job.notes,
+        answers,
+    )
 }
 
 /// Cuts the rows of one file. Returns whether it has the columns that the mapping names; if not, that is reported.
@@ -208,7 +226,7 @@ where
         cutting,
         job,
     );
-    let mut source = reader.into_inner();
+    let mut source = reader.into_inner().into_source();
     source.clear();
     show_told(rt, &mut job.told);
     cut
@@ -221,7 +239,7 @@ fn cut_columns<'a, T>(
     request: &Request<'a>,
     mapping: &Mapping,
     place: usize,
-    reader: &mut Reader<Source<'_, T, T::File>>,
+    reader: &mut Reader<RowSource<Source<'_, T, T::File>>>,
     cutting: &mut Cutting,
     job: &mut CutJob<'a, T::File>,
 ) -> Result<bool, Fault>
@@ -230,12 +248,18 @@ where
 {
     match mapping.columns(rt.alloc(), &job.row) {
         Ok(columns) => {
-            job.told.enter(word_at(request, place));
-            cut_rows(
+            let file = word_at(request, place);
+            job.told.enter(file);
+            let was_short = job.notes.is_short();
+            job.notes.begin_file(rows_of(&job.tally)?);
+            let cut = cut_rows(
                 rt, setup, request, mapping, &columns, place, reader, cutting, job,
-            )
+            )?;
+            job.notes.end_file(rows_of(&job.tally)?);
+            show_short(rt, file, was_short, job.notes.is_short())?;
+            Ok(cut)
         }
-        Err(fault) => lacks_columns(rt, word_at(request, place), &fault),
+        Err(fault) => lacks_columns(rt, word_at(request, place), &fault, &job.row),
     }
 }
 
@@ -247,7 +271,7 @@ fn cut_rows<'a, T>(
     mapping: &Mapping,
     columns: &Columns,
     place: usize,
-    reader: &mut Reader<Source<'_, T, T::File>>,
+    reader: &mut Reader<RowSource<Source<'_, T, T::File>>>,
     cutting: &mut Cutting,
     job: &mut CutJob<'a, T::File>,
 ) -> Result<bool, Fault>
@@ -274,7 +298,7 @@ where
         match stopped {
             Ok(Shard::GoesOn) => return Ok(true),
             Ok(Shard::Full) => next_shard(rt, setup, request, cutting, job)?,
-            Err(fault) => return Err(fault_in(fault, place)),
+            Err(fault) => return Err(in_shard(fault_in(fault, place), job.shards, "")),
         }
     }
     Err(fault_in(ImportFault::TooLong, place))
@@ -292,8 +316,10 @@ where
     T: AllocGlobal + Files,
 {
     finish_shard(rt, setup, request, cutting, job)?;
-    job.shards = sum_of(job.shards, 1)?;
-    job.files = create_files(rt, request, job.shards)?;
+    let shard = sum_of(job.shards, 1)?;
+    check_outputs(rt, request, shard, &SHARD)?;
+    job.shards = shard;
+    job.files = create_files(rt, request, shard)?;
     open_shard(setup, request, cutting, job)
 }
 
@@ -317,8 +343,13 @@ fn open_shard<F: Write>(
             job.openings = sum_of(job.openings, opened)?;
             Ok(())
         }
-        Err(fault) => Err(fault_in(fault, 0)),
+        Err(fault) => Err(in_shard(fault_in(fault, 0), job.shards, "")),
     }
+}
+
+/// A fault; E2 is about a file of a shard.
+fn in_shard(fault: Fault, shard: u64, end: &'static str) -> Fault {
+    fault.in_output(Output { shard, end })
 }
 
 /// The sum of two counts.
@@ -340,31 +371,37 @@ fn finish_shard<T>(
 where
     T: AllocGlobal + Files,
 {
-    flush(&mut job.files.changes)?;
-    flush(&mut job.files.times)?;
-    let symbols = create_in(rt, request, job.shards, ".symbols")?;
-    finish_symbols(symbols, cutting)?;
-    let text = create_in(rt, request, job.shards, ".toml")?;
-    finish_setup(text, setup, cutting)
+    let shard = job.shards;
+    flush(&mut job.files.changes, shard, ".changes")?;
+    flush(&mut job.files.times, shard, ".times")?;
+    let symbols = create(rt, request, shard, ".symbols")?;
+    finish_symbols(symbols, shard, cutting)?;
+    let text = create(rt, request, shard, ".toml")?;
+    finish_setup(text, shard, setup, cutting)
 }
 
 /// Writes the symbols of a shard to its file.
-fn finish_symbols<F: Write + Drop>(mut file: Answers<F>, cutting: &Cutting) -> Result<(), Fault> {
+fn finish_symbols<F: Write + Drop>(
+    mut file: Answers<F>,
+    shard: u64,
+    cutting: &Cutting,
+) -> Result<(), Fault> {
     match write_listed(&mut file, cutting) {
-        Ok(()) => flush(&mut file),
-        Err(fault) => Err(fault_in(fault, 0)),
+        Ok(()) => flush(&mut file, shard, ".symbols"),
+        Err(fault) => Err(in_shard(fault_in(fault, 0), shard, ".symbols")),
     }
 }
 
 /// Writes the setup of a shard to its file.
 fn finish_setup<F: Write + Drop>(
     mut file: Answers<F>,
+    shard: u64,
     setup: &Setup,
     cutting: &Cutting,
 ) -> Result<(), Fault> {
     match write_setup(&mut file, setup, cutting) {
-        Ok(()) => flush(&mut file),
-        Err(fault) => Err(fault_in(fault, 0)),
+        Ok(()) => flush(&mut file, shard, ".toml"),
+        Err(fault) => Err(in_shard(fault_in(fault, 0), shard, ".toml")),
     }
 }
 
@@ -381,17 +418,4 @@ fn tell_shards<W: Write>(shards: u64, openings: u64, answers: &mut W) -> Result<
         ],
     )?;
     Ok(())
-}
-
-/// A new file with the name that `--out` gives, the number of a shard and this end.
-fn create_in<T: AllocGlobal + Files>(
-    rt: &T,
-    request: &Request<'_>,
-    shard: u64,
-    end: &str,
-) -> Result<Answers<T::File>, Fault> {
-    match format!(in rt.alloc(); ".{shard}{end}") {
-        Ok(end) => create(rt, request, end.as_str()),
-        Err(_) => Err(no_memory()),
-    }
 }

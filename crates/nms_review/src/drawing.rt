@@ -188,11 +188,20 @@ fn frame_of<'a, T: AllocGlobal + Files>(
     if to.is_some_and(|to| from > to) {
         return Err(Fault::usage(About::Nothing, "--from is a version after that of --to"));
     }
+    let (since, until) = (time_given(request.from), time_given(request.to));
+    if let (Some(since), Some(until)) = (since, until) {
+        if since > until {
+            return Err(Fault::usage(About::Nothing, "--from is a time after that of --to"));
+        }
+    }
     Ok(Frame {
         from: from.max(first).min(last.unwrap_or(u64::MAX)),
         to: sooner(to, last),
         own: request.own,
         times,
+        opening: first,
+        since,
+        until,
     })
 }
 
@@ -208,6 +217,11 @@ fn end_of<T: AllocGlobal + Files>(
         Some(word) => Ok(Some(version_given(rt, request, times, word, about)?)),
         None => Ok(None),
     }
+}
+
+/// The time that a word names by `@`, if it was given.
+fn time_given(word: Option<&str>) -> Option<TimeOfDay> {
+    TimeOfDay::parse(word?.strip_prefix('@')?.as_bytes())
 }
 
 /// The sooner of two versions, or the one that there is.

@@ -48,6 +48,19 @@ pub(crate) enum About {
     To,
     /// The value of `--trades`.
     Trades,
+    /// The value of `--html`.
+    Html,
+    /// A file that is written under the value of `--out`.
+    Out(Output),
+}
+
+/// A file that is written: `NAME` of `--out`, the number of its shard and an end.
+#[derive(Clone, Copy)]
+pub(crate) struct Output {
+    /// The number of its shard, 0 if there are no shards.
+    pub(crate) shard: u64,
+    /// What its name ends with; nothing if it is one of several.
+    pub(crate) end: &'static str,
 }
 
 impl Fault {
@@ -81,6 +94,28 @@ impl Fault {
         Fault {
             cause: Some(error),
             ..Fault::of(Code::E1, about)
+        }
+    }
+
+    /// E2: an output could not be written.
+    pub(crate) fn unwritten(output: Output) -> Self {
+        Fault::of(Code::E2, About::Nothing).in_output(output)
+    }
+
+    /// E4: out of memory.
+    pub(crate) fn no_memory() -> Self {
+        Fault::of(Code::E4, About::Nothing)
+    }
+
+    /// The same fault; E2 is about this output.
+    pub(crate) fn in_output(self, output: Output) -> Self {
+        if self.code == Code::E2 {
+            Fault {
+                about: About::Out(output),
+                ..self
+            }
+        } else {
+            self
         }
     }
 

@@ -25,16 +25,35 @@ pub(crate) fn open_word<T: Files>(
     fs::open(rt, word_at(request, place)).map_err(|error| Fault::unread(error, About::Word(place)))
 }
 
-/// A new file at a path. A file that the request reads is never overwritten, by any name or link that leads to it.
+/// A new file at the path of `--html` or of `--out`. A file that the request reads is never overwritten, by any name or link that
+/// leads to it. E2 is about the path of `--html`.
 pub(crate) fn create_file<T: Files>(
     rt: &T,
     request: &Request<'_>,
     path: &str,
 ) -> Result<T::File, Fault> {
-    if let Some(about) = input_at(rt, request, path) {
-        return Err(Fault::usage(about, "it is read here, and would be overwritten"));
+    refuse_input(rt, request, path)?;
+    fs::create(rt, path).map_err(|_| Fault {
+        about: About::Html,
+        ..Fault::of(Code::E2, About::Nothing)
+    })
+}
+
+/// Refuses a path that leads to a file that the request reads.
+pub(crate) fn refuse_input<T: Files>(
+    rt: &T,
+    request: &Request<'_>,
+    path: &str,
+) -> Result<(), Fault> {
+    match input_at(rt, request, path) {
+        Some(about) => Err(Fault::usage(about, "it is read here, and would be overwritten")),
+        None => Ok(()),
     }
-    fs::create(rt, path).map_err(|_| Fault::of(Code::E2, About::Nothing))
+}
+
+/// Whether there is a plain file at a path.
+pub(crate) fn is_file<T: Files>(rt: &T, path: &str) -> bool {
+    identity_of(rt, path).is_some()
 }
 
 /// The file at a path that the request reads, if there is one.

@@ -1,20 +1,22 @@
 //! The subcommand `import`: opens a vendor's files one after another, and writes their changes to three files.
 use crate::answers::Answers;
 use crate::cutting::cut_files;
-use crate::fault::{About, Fault};
-use crate::files::{create_file, read_file, word_at};
+use crate::fault::{About, Fault, Output};
+use crate::files::{read_file, word_at};
 use crate::importing_trades::{is_trade_map, serve_import_trades};
+use crate::outputs::{QUOTES, check_outputs, create, publish, remove_parts};
 use crate::screen::Screen;
 use crate::source::Source;
 use crate::vendor::open_vendor;
 use crate::words::Request;
-use csv::Reader;
+use csv::{ByteRecord, Reader};
 use nms_codes::Code;
 use nms_fees::Setup;
 use nms_import::{
-    Columns, Guard, Half, ImportFault, MapFault, Mapping, Notes, Tally, Told, Work, import_rows,
-    read_mapping, write_symbols, write_tally,
+    Columns, Guard, ImportFault, Left, MapFault, Mapping, Meanings, Notes, RowSource, Sums, Tally,
+    Told, Work, import_rows, read_mapping, write_symbols, write_tally,
 };
+use nms_lines::field_at;
 use nms_show::{Ending, Form, Item, write_line};
 use std::alloc::Global;
 use std::io::{Read, Write};
@@ -24,8 +26,11 @@ use std::time::Clock;
 
 /// The place of the first file's word: the mapping stands before it.
 const FILES: usize = 1;
+/// The most names of columns that are shown.
+const MOST_NAMES: usize = 40;
 
-/// Makes changes of a vendor's files. The written files are whole also if a guard reports a doubt.
+/// Makes changes of a vendor's files. The written files are whole also if a guard reports a doubt. After a failure the files of an
+/// earlier import are as they were.
 pub(crate) fn serve_import<T, W: Write>(
     rt: &T,
     screen: Screen,
@@ -118,10 +123,13 @@ fn import_files<T, W: Write>(
 where
     T: AllocGlobal + Clock + Eprint + Files,
 {
-    match begin_job(rt, setup, request, mapping) {
+    check_outputs(rt, request, 0, &QUOTES)?;
+    let ended = match begin_job(rt, setup, request, mapping) {
         Ok(mut job) => import_all(rt, screen, setup, request, mapping, &mut job, answers),
         Err(fault) => Err(fault),
-    }
+    };
+    remove_parts(rt, request, 0, &QUOTES);
+    ended
 }
 
 /// Makes the files that are written.
@@ -133,7 +141,7 @@ fn begin_job<'a, T: AllocGlobal + Files>(
 ) -> Result<Job<'a, T::File>, Fault> {
     let alloc = rt.alloc();
     let files = create_files(rt, request)?;
-    match Notes::new(alloc, setup.roster(), mapping.order) {
+    match Notes::new(alloc, setup.roster(), mapping.order, mapping.file.count) {
         Ok(notes) => Ok(Job {
             files,
             work: Work::new(alloc),
@@ -150,9 +158,9 @@ fn create_files<T: AllocGlobal + Files>(
     rt: &T,
     request: &Request<'_>,
 ) -> Result<Written<T::File>, Fault> {
-    let changes = create(rt, request, ".changes")?;
-    let times = create(rt, request, ".times")?;
-    match create(rt, request, ".symbols") {
+    let changes = create(rt, request, 0, ".changes")?;
+    let times = create(rt, request, 0, ".times")?;
+    match create(rt, request, 0, ".symbols") {
         Ok(symbols) => Ok(Written {
             changes,
             times,
@@ -180,7 +188,7 @@ where
             return Ok(Ending::SetupRefused);
         }
     }
-    finish(setup, mapping.meanings.half, job, answers)
+    finish(rt, setup, request, &mapping.meanings, job, answers)
 }
 
 /// Makes changes of one file. Returns whether it has the columns that the mapping names; if not, that is reported.
@@ -198,7 +206,7 @@ where
 {
     let mut reader = open_vendor(rt, screen, request, place, mapping.file, &mut job.work.row)?;
     let imported = import_columns(rt, setup, request, mapping, place, &mut reader, job);
-    let mut source = reader.into_inner();
+    let mut source = reader.into_inner().into_source();
     source.clear();
     show_told(rt, &mut job.told);
     imported
@@ -211,7 +219,7 @@ fn import_columns<'a, T>(
     request: &Request<'a>,
     mapping: &Mapping,
     place: usize,
-    reader: &mut Reader<Source<'_, T, T::File>>,
+    reader: &mut Reader<RowSource<Source<'_, T, T::File>>>,
     job: &mut Job<'a, T::File>,
 ) -> Result<bool, Fault>
 where
@@ -219,10 +227,16 @@ where
 {
     match mapping.columns(rt.alloc(), &job.work.row) {
         Ok(columns) => {
-            job.told.enter(word_at(request, place));
-            import_placed(setup, request, mapping, &columns, place, reader, job)
+            let file = word_at(request, place);
+            job.told.enter(file);
+            let was_short = job.notes.is_short();
+            job.notes.begin_file(rows_of(&job.tally)?);
+            let imported = import_placed(setup, request, mapping, &columns, place, reader, job)?;
+            job.notes.end_file(rows_of(&job.tally)?);
+            show_short(rt, file, was_short, job.notes.is_short())?;
+            Ok(imported)
         }
-        Err(fault) => lacks_columns(rt, word_at(request, place), &fault),
+        Err(fault) => lacks_columns(rt, word_at(request, place), &fault, &job.work.row),
     }
 }
 
@@ -233,7 +247,7 @@ fn import_placed<T, F>(
     mapping: &Mapping,
     columns: &Columns,
     place: usize,
-    reader: &mut Reader<Source<'_, T, F>>,
+    reader: &mut Reader<RowSource<Source<'_, T, F>>>,
     job: &mut Job<'_, F>,
 ) -> Result<bool, Fault>
 where
@@ -255,71 +269,164 @@ where
     );
     match imported {
         Ok(()) => Ok(true),
-        Err(fault) => Err(fault_in(fault, place)),
+        Err(fault) => Err(fault_in(fault, place).in_output(Output { shard: 0, end: "" })),
     }
 }
 
-/// Reports a file without the columns that its mapping names, and returns false.
-pub(crate) fn lacks_columns<T>(rt: &T, file: &str, fault: &MapFault) -> Result<bool, Fault>
+/// How many rows were imported so far.
+pub(crate) fn rows_of(tally: &Tally) -> Result<u64, Fault> {
+    Ok(sums_of(tally)?.rows)
+}
+
+/// The sums of the rows that were imported so far.
+fn sums_of(tally: &Tally) -> Result<Sums, Fault> {
+    match tally.sums() {
+        Some(sums) => Ok(sums),
+        None => Err(fault_in(ImportFault::TooLong, FILES)),
+    }
+}
+
+/// Shows the first file without a last line that counts its rows, if the mapping names the count.
+pub(crate) fn show_short<T>(
+    rt: &T,
+    file: &str,
+    was_short: bool,
+    is_short: bool,
+) -> Result<(), Fault>
 where
     T: AllocGlobal + Eprint,
 {
-    match tell_map_fault(rt, file, fault) {
-        Ok(_) => Ok(false),
-        Err(fault) => Err(fault),
+    if was_short || !is_short {
+        return Ok(());
     }
+    show_line(
+        rt,
+        &[
+            Item::Bytes(file.as_bytes()),
+            Item::Text(": the first file whose last line is absent or counts other rows"),
+        ],
+    )
+}
+
+/// Reports a file without the columns that its mapping names, and those that its first line has. Returns false.
+pub(crate) fn lacks_columns<T>(
+    rt: &T,
+    file: &str,
+    fault: &MapFault,
+    names: &ByteRecord,
+) -> Result<bool, Fault>
+where
+    T: AllocGlobal + Eprint,
+{
+    let _ = tell_map_fault(rt, file, fault)?;
+    let mut items = Vec::new(rt.alloc());
+    items
+        .push(Item::Text("nms_review: its first line has"))
+        .map_err(|_| no_memory())?;
+    for place in 0..names.len().min(MOST_NAMES) {
+        let mark = if place == 0 { " `" } else { "`, `" };
+        items.push(Item::Text(mark)).map_err(|_| no_memory())?;
+        items
+            .push(Item::Bytes(field_at(names, place)))
+            .map_err(|_| no_memory())?;
+    }
+    let end = if names.is_empty() { " nothing" } else { "`" };
+    items.push(Item::Text(end)).map_err(|_| no_memory())?;
+    show_line(rt, &items)?;
+    Ok(false)
 }
 
 /// Writes the rest, the symbols and the counts, and reports the doubts about the import.
-fn finish<F: Write, W: Write>(
+fn finish<T, W: Write>(
+    rt: &T,
     setup: &Setup,
-    half: Half,
-    job: &mut Job<'_, F>,
+    request: &Request<'_>,
+    meanings: &Meanings,
+    job: &mut Job<'_, T::File>,
     answers: &mut W,
-) -> Result<Ending, Fault> {
+) -> Result<Ending, Fault>
+where
+    T: AllocGlobal + Eprint + Files,
+{
     if let Err(fault) = write_symbols(&mut job.files.symbols, setup.roster(), &job.notes) {
-        return Err(fault_in(fault, 0));
+        return Err(fault_in(fault, 0).in_output(Output {
+            shard: 0,
+            end: ".symbols",
+        }));
     }
-    flush(&mut job.files.changes)?;
-    flush(&mut job.files.times)?;
-    flush(&mut job.files.symbols)?;
-    tell_counts(half, &job.tally, &job.notes, answers)
+    flush(&mut job.files.changes, 0, ".changes")?;
+    flush(&mut job.files.times, 0, ".times")?;
+    flush(&mut job.files.symbols, 0, ".symbols")?;
+    publish(rt, request, &QUOTES)?;
+    tell_counts(rt, request, meanings, &job.tally, &job.notes, answers)
 }
 
 /// Reports the counts, and the doubts about the import.
-pub(crate) fn tell_counts<W: Write>(
-    half: Half,
+pub(crate) fn tell_counts<T, W: Write>(
+    rt: &T,
+    request: &Request<'_>,
+    meanings: &Meanings,
     tally: &Tally,
     notes: &Notes,
     answers: &mut W,
-) -> Result<Ending, Fault> {
-    let Some(sums) = tally.sums() else {
+) -> Result<Ending, Fault>
+where
+    T: AllocGlobal + Eprint,
+{
+    let sums = sums_of(tally)?;
+    let Some(left) = Left::of(&sums, notes) else {
         return Err(fault_in(ImportFault::TooLong, FILES));
     };
-    write_tally(answers, half, tally, &sums).map_err(|fault| fault_in(fault, 0))?;
+    write_tally(answers, meanings, tally, &sums, &left).map_err(|fault| fault_in(fault, 0))?;
+    if tally.unknown_participant > 0 || tally.unknown_symbol > 0 || tally.other_symbol > 0 {
+        name_built_in(rt, request)?;
+    }
+    if notes.are_hours_odd() {
+        warn_of_hours(rt)?;
+    }
     match Guard::of(&sums, notes) {
         Some(guard) => Err(Fault::of(code_of_guard(guard), About::Nothing)),
         None => Ok(Ending::Done),
     }
 }
 
-/// A new file with the name that `--out` gives, and this end.
-pub(crate) fn create<T: AllocGlobal + Files>(
-    rt: &T,
-    request: &Request<'_>,
-    end: &str,
-) -> Result<Answers<T::File>, Fault> {
-    let name = request.out.unwrap_or("");
-    let Ok(path) = format!(in rt.alloc(); "{name}{end}") else {
-        return Err(no_memory());
-    };
-    let file = create_file(rt, request, path.as_str())?;
-    Answers::new(rt.alloc(), file, false).map_err(|_| no_memory())
+/// Says that the setup is the built-in one, if no other was named: rows of names that are not on its roster made nothing.
+pub(crate) fn name_built_in<T>(rt: &T, request: &Request<'_>) -> Result<(), Fault>
+where
+    T: AllocGlobal + Eprint,
+{
+    if request.setup.is_some() {
+        return Ok(());
+    }
+    let text =
+        "nms_review: no --setup was given: the built-in setup has only N, P, Y, Z and ABC, PNY";
+    show_line(rt, &[Item::Text(text)])
+}
+
+/// Warns of times at which no market is open.
+fn warn_of_hours<T: AllocGlobal + Eprint>(rt: &T) -> Result<(), Fault> {
+    let text =
+        "nms_review: most changes are before 04:00 or after 20:00: are time.form and time.zone_offset right?";
+    show_line(rt, &[Item::Text(text)])
+}
+
+/// Shows a line on standard error.
+fn show_line<T: AllocGlobal + Eprint>(rt: &T, items: &[Item<'_>]) -> Result<(), Fault> {
+    let mut text = Vec::new(rt.alloc());
+    match write_line(&mut text, Form::Text { colours: false }, items) {
+        Ok(()) => {
+            show_text(rt, &text);
+            Ok(())
+        }
+        Err(_) => Err(no_memory()),
+    }
 }
 
 /// Writes out what is kept back.
-pub(crate) fn flush<W: Write>(writer: &mut W) -> Result<(), Fault> {
-    writer.flush().map_err(|_| unwritten())
+pub(crate) fn flush<W: Write>(writer: &mut W, shard: u64, end: &'static str) -> Result<(), Fault> {
+    writer
+        .flush()
+        .map_err(|_| Fault::unwritten(Output { shard, end }))
 }
 
 /// Shows the rows that were refused or skipped, on standard error.
@@ -417,6 +524,8 @@ fn code_of_guard(guard: Guard) -> Code {
         Guard::MostRefused => Code::I1,
         Guard::NoWholeLot => Code::I2,
         Guard::TimesFall => Code::I3,
+        Guard::CutShort => Code::I4,
+        Guard::Nothing => Code::I5,
     }
 }
 
@@ -433,9 +542,5 @@ fn code_of_map(fault: &MapFault) -> Code {
 }
 
 pub(crate) fn no_memory() -> Fault {
-    Fault::of(Code::E4, About::Nothing)
-}
-
-fn unwritten() -> Fault {
-    Fault::of(Code::E2, About::Nothing)
+    Fault::no_memory()
 }

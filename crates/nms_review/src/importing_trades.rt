@@ -1,9 +1,12 @@
 //! The subcommand `import` with a mapping of trades: opens a vendor's files one after another, and writes their executions to
 //! one file.
 use crate::answers::Answers;
-use crate::fault::{About, Fault};
+use crate::fault::{About, Fault, Output};
 use crate::files::word_at;
-use crate::importing::{create, fault_in, flush, lacks_columns, show_text, tell_map_fault};
+use crate::importing::{
+    fault_in, flush, lacks_columns, name_built_in, show_short, show_text, tell_map_fault,
+};
+use crate::outputs::{TRADES, check_outputs, create, publish, remove_parts};
 use crate::screen::Screen;
 use crate::source::Source;
 use crate::vendor::open_vendor;
@@ -11,10 +14,10 @@ use crate::words::Request;
 use csv::Reader;
 use nms_codes::Code;
 use nms_fees::Setup;
-use nms_import::{ImportFault, MapFault, document_of};
+use nms_import::{ImportFault, MapFault, RowSource, document_of};
 use nms_import_trades::{
-    TradeColumns, TradeMapping, TradeTally, TradeTold, TradeWork, import_trades, is_of_trades,
-    read_trade_mapping, write_trade_tally,
+    TradeColumns, TradeMapping, TradeSums, TradeTally, TradeTold, TradeWork, import_trades,
+    is_of_trades, read_trade_mapping, write_trade_tally,
 };
 use nms_show::Ending;
 use std::alloc::Global;
@@ -90,14 +93,31 @@ fn import_trade_files<T, W: Write>(
 where
     T: AllocGlobal + Clock + Eprint + Files,
 {
-    let alloc = rt.alloc();
-    let mut job = TradeJob {
-        executions: create(rt, request, ".executions")?,
-        work: TradeWork::new(alloc),
-        told: TradeTold::new(Vec::new(alloc)),
-        tally: TradeTally::none(),
+    check_outputs(rt, request, 0, &TRADES)?;
+    let ended = match begin_job(rt, request, mapping) {
+        Ok(mut job) => import_all(rt, screen, setup, request, mapping, &mut job, answers),
+        Err(fault) => Err(fault),
     };
-    import_all(rt, screen, setup, request, mapping, &mut job, answers)
+    remove_parts(rt, request, 0, &TRADES);
+    ended
+}
+
+/// Makes the file that is written.
+fn begin_job<'a, T: AllocGlobal + Files>(
+    rt: &T,
+    request: &Request<'a>,
+    mapping: &TradeMapping,
+) -> Result<TradeJob<'a, T::File>, Fault> {
+    let alloc = rt.alloc();
+    match create(rt, request, 0, ".executions") {
+        Ok(executions) => Ok(TradeJob {
+            executions,
+            work: TradeWork::new(alloc, mapping.file.count),
+            told: TradeTold::new(Vec::new(alloc)),
+            tally: TradeTally::none(),
+        }),
+        Err(fault) => Err(fault),
+    }
 }
 
 /// Makes executions of all files, and reports the counts.
@@ -118,7 +138,7 @@ where
             return Ok(Ending::SetupRefused);
         }
     }
-    finish(job, answers)
+    finish(rt, request, job, answers)
 }
 
 /// Makes executions of one file. Returns whether it has the columns that the mapping names; if not, that is reported.
@@ -136,7 +156,7 @@ where
 {
     let mut reader = open_vendor(rt, screen, request, place, mapping.file, &mut job.work.row)?;
     let imported = import_columns(rt, setup, request, mapping, place, &mut reader, job);
-    let mut source = reader.into_inner();
+    let mut source = reader.into_inner().into_source();
     source.clear();
     show_told(rt, &mut job.told);
     imported
@@ -149,7 +169,7 @@ fn import_columns<'a, T>(
     request: &Request<'a>,
     mapping: &TradeMapping,
     place: usize,
-    reader: &mut Reader<Source<'_, T, T::File>>,
+    reader: &mut Reader<RowSource<Source<'_, T, T::File>>>,
     job: &mut TradeJob<'a, T::File>,
 ) -> Result<bool, Fault>
 where
@@ -157,10 +177,18 @@ where
 {
     match mapping.columns(rt.alloc(), &job.work.row) {
         Ok(columns) => {
-            job.told.enter(word_at(request, place));
-            import_placed(setup, mapping, &columns, place, reader, job)
+            let file = word_at(request, place);
+            job.told.enter(file);
+            let was_short = job.work.lasts.short;
+            let before = sums_of(job)?.rows;
+            job.work.lasts.begin_file(before);
+            let imported = import_placed(setup, mapping, &columns, place, reader, job)?;
+            let rows = sums_of(job)?.rows;
+            job.work.lasts.end_file(rows);
+            show_short(rt, file, was_short, job.work.lasts.short)?;
+            Ok(imported)
         }
-        Err(fault) => lacks_columns(rt, word_at(request, place), &fault),
+        Err(fault) => lacks_columns(rt, word_at(request, place), &fault, &job.work.row),
     }
 }
 
@@ -170,7 +198,7 @@ fn import_placed<T, F>(
     mapping: &TradeMapping,
     columns: &TradeColumns,
     place: usize,
-    reader: &mut Reader<Source<'_, T, F>>,
+    reader: &mut Reader<RowSource<Source<'_, T, F>>>,
     job: &mut TradeJob<'_, F>,
 ) -> Result<bool, Fault>
 where
@@ -189,21 +217,57 @@ where
     );
     match imported {
         Ok(()) => Ok(true),
-        Err(fault) => Err(fault_in(fault, place)),
+        Err(fault) => Err(fault_in(fault, place).in_output(Output {
+            shard: 0,
+            end: ".executions",
+        })),
     }
 }
 
-/// Writes the rest and the counts, and returns whether most rows were refused.
-fn finish<F: Write, W: Write>(job: &mut TradeJob<'_, F>, answers: &mut W) -> Result<Ending, Fault> {
-    flush(&mut job.executions)?;
-    let Some(sums) = job.tally.sums() else {
-        return Err(fault_in(ImportFault::TooLong, FILES));
-    };
-    write_trade_tally(answers, &job.tally, &sums)?;
-    if sums.refused > sums.rows / 2 {
-        return Err(Fault::of(Code::I1, About::Nothing));
+/// The sums of the rows that were imported so far.
+fn sums_of<F>(job: &TradeJob<'_, F>) -> Result<TradeSums, Fault> {
+    match job.tally.sums() {
+        Some(sums) => Ok(sums),
+        None => Err(fault_in(ImportFault::TooLong, FILES)),
     }
-    Ok(Ending::Done)
+}
+
+/// Writes the rest and the counts, and reports the doubts about the import.
+fn finish<T, W: Write>(
+    rt: &T,
+    request: &Request<'_>,
+    job: &mut TradeJob<'_, T::File>,
+    answers: &mut W,
+) -> Result<Ending, Fault>
+where
+    T: AllocGlobal + Eprint + Files,
+{
+    flush(&mut job.executions, 0, ".executions")?;
+    publish(rt, request, &TRADES)?;
+    let sums = sums_of(job)?;
+    let tally = &job.tally;
+    write_trade_tally(answers, tally, &sums)?;
+    if tally.unknown_participant > 0 || tally.unknown_symbol > 0 || tally.other_symbol > 0 {
+        name_built_in(rt, request)?;
+    }
+    match doubt_of(&sums, job.work.lasts.short) {
+        Some(code) => Err(Fault::of(code, About::Nothing)),
+        None => Ok(Ending::Done),
+    }
+}
+
+/// What the import is doubted for, the first that holds: most rows were refused, a last line is absent or counts other rows, or no
+/// row made an execution.
+fn doubt_of(sums: &TradeSums, is_short: bool) -> Option<Code> {
+    if sums.refused > sums.rows / 2 {
+        Some(Code::I1)
+    } else if is_short {
+        Some(Code::I4)
+    } else if sums.executions == 0 {
+        Some(Code::I5)
+    } else {
+        None
+    }
 }
 
 /// Shows the rows that were refused or skipped, on standard error.

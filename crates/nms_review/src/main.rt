@@ -11,6 +11,7 @@ mod fault;
 mod files;
 mod importing;
 mod importing_trades;
+mod outputs;
 mod paging;
 mod progress;
 mod screen;
@@ -27,7 +28,7 @@ use crate::words::{Request, WordsFault, read_words};
 use answers::Answers;
 use fault::Fault;
 use nms_codes::Code;
-use nms_show::{Ending, Form, Item, write_line};
+use nms_show::{Ending, Form, Item, open_closed_streams, write_line};
 use screen::Screen;
 use serving::serve;
 use std::alloc::Global;
@@ -40,6 +41,13 @@ pub use tape::{taken_by_script, write_tape};
 use telling::tell_fault;
 
 fn main(rt: HostRuntime) -> ExitCode {
+    if open_closed_streams(&rt).is_err() {
+        return ExitCode::from(tell_early(
+            &mut rt.stderr(),
+            Code::E1,
+            "/dev/null could not be opened",
+        ));
+    }
     let screen = Screen {
         answers: rt.stdout().is_terminal(),
         errors: rt.stderr().is_terminal(),

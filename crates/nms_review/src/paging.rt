@@ -44,6 +44,11 @@ where
     let named = Named {
         changes: word_at(request, CHANGES).as_bytes(),
         executions: word_at(request, EXECUTIONS).as_bytes(),
+        before: request.before,
+        window: match timing {
+            Some(timing) if request.window.is_some() => Some(timing.window),
+            Some(_) | None => None,
+        },
     };
     let layout = if request.table {
         Layout::Table

@@ -33,15 +33,38 @@ pub(crate) fn serve<T, W: Write>(
 where
     T: AllocGlobal + Clock + Eprint + Files,
 {
-    // The explanation of a setup needs no setup, nor do times.
-    if request.command == Sub::Explain {
-        return serve_explain(rt, screen, request, answers);
-    }
-    if request.command == Sub::When {
-        return serve_when(rt, screen, request, answers);
-    }
+    let command = match request.command {
+        // The explanation of a setup needs no setup, nor do times.
+        Sub::Explain => return serve_explain(rt, screen, request, answers),
+        Sub::When => return serve_when(rt, screen, request, answers),
+        Sub::Tape => Under::Tape,
+        Sub::At => Under::At,
+        Sub::Opening => Under::Opening,
+        Sub::Stream => Under::Stream,
+        Sub::Check => Under::Check,
+        Sub::Why => Under::Why,
+        Sub::Draw => Under::Draw,
+        Sub::Import => Under::Import,
+        Sub::Trades => Under::Trades,
+        Sub::Compare => Under::Compare,
+    };
     let setup = setup_of(rt, request)?;
-    serve_under(rt, screen, &setup, request, answers)
+    serve_under(rt, screen, &setup, command, request, answers)
+}
+
+/// The subcommands that are served under a setup.
+#[derive(Clone, Copy)]
+enum Under {
+    Tape,
+    At,
+    Opening,
+    Stream,
+    Check,
+    Why,
+    Draw,
+    Import,
+    Trades,
+    Compare,
 }
 
 /// Serves a request under a setup.
@@ -49,25 +72,24 @@ fn serve_under<T, W: Write>(
     rt: &T,
     screen: Screen,
     setup: &Setup,
+    command: Under,
     request: &Request<'_>,
     answers: &mut W,
 ) -> Result<Ending, Fault>
 where
     T: AllocGlobal + Clock + Eprint + Files,
 {
-    match request.command {
-        Sub::Explain => serve_explain(rt, screen, request, answers),
-        Sub::Tape => serve_tape(rt, screen, setup, request, answers),
-        Sub::At => serve_at(rt, screen, setup, request, answers),
-        Sub::Opening => serve_opening(rt, screen, setup, request, answers),
-        Sub::Stream => serve_stream(rt, screen, setup, request, answers),
-        Sub::Check => serve_check(rt, screen, setup, request, answers),
-        Sub::Why => serve_why(rt, screen, setup, request, answers),
-        Sub::Draw => serve_draw(rt, screen, setup, request, answers),
-        Sub::Import => serve_import(rt, screen, setup, request, answers),
-        Sub::When => serve_when(rt, screen, request, answers),
-        Sub::Trades => serve_trades(rt, screen, setup, request, answers),
-        Sub::Compare => serve_compare(rt, screen, setup, request, answers),
+    match command {
+        Under::Tape => serve_tape(rt, screen, setup, request, answers),
+        Under::At => serve_at(rt, screen, setup, request, answers),
+        Under::Opening => serve_opening(rt, screen, setup, request, answers),
+        Under::Stream => serve_stream(rt, screen, setup, request, answers),
+        Under::Check => serve_check(rt, screen, setup, request, answers),
+        Under::Why => serve_why(rt, screen, setup, request, answers),
+        Under::Draw => serve_draw(rt, screen, setup, request, answers),
+        Under::Import => serve_import(rt, screen, setup, request, answers),
+        Under::Trades => serve_trades(rt, screen, setup, request, answers),
+        Under::Compare => serve_compare(rt, screen, setup, request, answers),
     }
 }
 

@@ -25,9 +25,13 @@ fn write_fault<E: Write>(
         Some(line) => (": line ", Item::Number(line)),
         None => ("", Item::Absent),
     };
+    let (point, shard, end) = end_of(fault.about);
     let items = [
         Item::Text("nms_review: "),
         Item::Bytes(name.as_bytes()),
+        Item::Text(point),
+        shard,
+        Item::Text(end),
         Item::Text(colon),
         Item::Text(fault.code.text()),
         Item::Text(": "),
@@ -100,7 +104,9 @@ fn kind_of_records(about: About, command: Sub) -> Option<&'static str> {
         | About::Map
         | About::From
         | About::To
-        | About::Trades => None,
+        | About::Trades
+        | About::Html
+        | About::Out(_) => None,
     }
 }
 
@@ -131,8 +137,32 @@ fn word_of<'a>(about: About, request: &Request<'a>) -> &'a str {
         About::From => request.from,
         About::To => request.to,
         About::Trades => request.trades,
+        About::Html => request.html,
+        About::Out(_) => request.out,
     };
     word.unwrap_or("")
+}
+
+/// What stands after the word that a fault is about: a point, the number of a shard, and the end of a file's name.
+fn end_of(about: About) -> (&'static str, Item<'static>, &'static str) {
+    match about {
+        About::Out(output) if output.shard > 0 => (".", Item::Number(output.shard), output.end),
+        About::Out(output) => ("", Item::Absent, output.end),
+        About::Nothing
+        | About::Word(_)
+        | About::Setup
+        | About::Feed
+        | About::Plan
+        | About::Times
+        | About::Symbols
+        | About::Symbol
+        | About::Version
+        | About::Map
+        | About::From
+        | About::To
+        | About::Trades
+        | About::Html => ("", Item::Absent, ""),
+    }
 }
 
 /// The sentence for a fault.

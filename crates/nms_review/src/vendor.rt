@@ -5,7 +5,7 @@ use crate::screen::Screen;
 use crate::source::{Source, open_source};
 use crate::words::Request;
 use csv::{ByteRecord, Reader};
-use nms_import::{FileForm, next_row, open_rows};
+use nms_import::{FileForm, RowSource, next_row, open_rows};
 use std::rt::Files;
 use std::time::Clock;
 
@@ -17,7 +17,7 @@ pub(crate) fn open_vendor<'a, T>(
     place: usize,
     form: FileForm,
     names: &mut ByteRecord,
-) -> Result<Reader<Source<'a, T, T::File>>, Fault>
+) -> Result<Reader<RowSource<Source<'a, T, T::File>>>, Fault>
 where
     T: AllocGlobal + Clock + Eprint + Files,
 {

@@ -1,8 +1,10 @@
 //! What breaks a plan.
 use nms_quote::Part;
+use std::fmt;
+use thiserror::Error;
 
 /// What breaks a plan, least number first. Only the first that holds is reported.
-#[derive(Clone, Copy, Debug, PartialEq, Eq)]
+#[derive(Clone, Copy, Debug, PartialEq, Eq, Error)]
 pub enum Breach {
     /// P1: the plan is of another version than the view.
     OtherVersion,
@@ -57,5 +59,24 @@ impl Breach {
             Breach::FilledWrong => "P11",
             Breach::CostWrong => "P12",
         }
+    }
+}
+
+impl fmt::Display for Breach {
+    fn fmt<W: fmt::Write>(&self, f: &mut fmt::Formatter<W>) -> fmt::Result {
+        f.write_str(match self {
+            Breach::OtherVersion => "P1: another version",
+            Breach::OtherOrder => "P2: another order",
+            Breach::NoSuchQuotation => "P3: no such quotation",
+            Breach::PriceDiffers => "P4: not the quotation's price",
+            Breach::ZeroLeg => "P5: a leg of no shares",
+            Breach::OverSize => "P6: more shares than are displayed",
+            Breach::Repeated => "P7: two legs to one participant",
+            Breach::BeyondLimit => "P8: beyond the limit",
+            Breach::OverAsked => "P9: more shares than were asked for",
+            Breach::TradedThrough { .. } => "P10: a protected quotation is traded through",
+            Breach::FilledWrong => "P11: the shares are summed wrongly",
+            Breach::CostWrong => "P12: the cost is summed wrongly",
+        })
     }
 }

@@ -1,17 +1,19 @@
 //! The serving program: a board that runs beside routers, on the process's own words, files and streams.
 #![tactic(auto)]
 
+mod call_streams;
 mod opening;
 mod program_fault;
+mod refusal;
+mod running;
 mod setting_up;
 mod tape_paths;
 mod telling;
 mod words;
 
-use nms_serving::{Run, Ways};
-use opening::serve_request;
+use nms_show::open_closed_streams;
 use program_fault::ProgramFault;
-use setting_up::read_setup_of;
+use running::run_request;
 use std::alloc::Global;
 use std::env;
 use std::io::ErrorKind;
@@ -22,11 +24,17 @@ use telling::{tell_fault, tell_help};
 pub use words::{ClientPaths, FeedPath, Request, WordsFault, read_words};
 
 fn main(rt: HostRuntime) -> ExitCode {
-    ExitCode::from(answer_words(&rt, &rt))
+    match open_closed_streams(&rt) {
+        Ok(()) => ExitCode::from(answer_words(&rt, &rt)),
+        Err(_) => ExitCode::from(tell_fault(&rt, &ProgramFault::NoNull)),
+    }
 }
 
 /// Serves the process's own words, and gives the exit status.
-fn answer_words<R: Threads + Wait + Sync>(rt: &R, host: &HostRuntime) -> u8 {
+fn answer_words<R: Threads + Wait + Sync + Copy + Send + 'static>(
+    rt: &R,
+    host: &HostRuntime,
+) -> u8 {
     let own = match own_words(host) {
         Ok(own) => own,
         Err(fault) => return tell_fault(host, &fault),
@@ -38,30 +46,18 @@ fn answer_words<R: Threads + Wait + Sync>(rt: &R, host: &HostRuntime) -> u8 {
 }
 
 /// Serves these words, and gives the exit status.
-fn answer<R: Threads + Wait + Sync>(rt: &R, host: &HostRuntime, words: &[&str]) -> u8 {
+fn answer<R: Threads + Wait + Sync + Copy + Send + 'static>(
+    rt: &R,
+    host: &HostRuntime,
+    words: &[&str],
+) -> u8 {
     match read_words(host.alloc(), words) {
-        Ok(request) => answer_request(rt, host, &request),
+        Ok(request) => match run_request(rt, host, request) {
+            Ok(status) => status,
+            Err(fault) => tell_fault(host, &fault),
+        },
         Err(WordsFault::Parser { text, help: true }) => tell_help(host, text.as_str()),
         Err(fault) => tell_fault(host, &ProgramFault::Words(fault)),
-    }
-}
-
-/// Serves a request, and gives the exit status.
-fn answer_request<R: Threads + Wait + Sync>(rt: &R, host: &HostRuntime, request: &Request) -> u8 {
-    let setup = match read_setup_of(host, request) {
-        Ok(setup) => setup,
-        Err(fault) => return tell_fault(host, &fault),
-    };
-    let ways = Ways {
-        strict: request.strict,
-        keep: request.keep,
-        wait: request.wait,
-        stale: request.stale,
-    };
-    let run = Run::new(&setup, ways);
-    match serve_request(rt, host, &run, &setup, request) {
-        Ok(status) => status,
-        Err(fault) => tell_fault(host, &fault),
     }
 }
 

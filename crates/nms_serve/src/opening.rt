@@ -1,86 +1,123 @@
 //! The service of a request: its files are opened, the board is opened, and the run is made.
+use crate::call_streams::check_streams;
 use crate::program_fault::ProgramFault;
-use crate::tape_paths::TapePaths;
-use crate::telling::{tell_client, tell_feed, tell_tape};
+use crate::refusal::Refusal;
+use crate::setting_up::read_setup_of;
+use crate::tape_paths::{TapePaths, check_folder};
+use crate::telling::TapeNotice;
 use crate::words::{ClientPaths, FeedPath, Request};
 use nms_fees::Setup;
 use nms_serving::{
-    ClientStreams, Door, Doors, Means, Run, ServeFault, Served, has_room_for_epochs, serve,
+    ClientStreams, Door, Doors, Means, Run, Served, Teller, Text, Ways, has_room_for_epochs,
+    least_tape_limit, serve,
 };
 use std::alloc::{AllocError, Global};
 use std::sync::Wait;
 use std::thread::Threads;
 
-/// Serves a request under its setup, and gives the exit status: 0, or 6 if a record of a feed was refused.
+/// Serves a request. Its exit status and the line of its fault, if any, go to the teller.
 pub(crate) fn serve_request<R: Threads + Wait + Sync>(
     rt: &R,
     host: &HostRuntime,
-    run: &Run<'_>,
-    setup: &Setup,
+    teller: &Teller,
     request: &Request,
-) -> Result<u8, ProgramFault> {
-    if !are_all_feeds(setup, &request.feeds) {
-        return Err(ProgramFault::WrongFeeds);
+) {
+    match answer_request(rt, host, teller, request) {
+        Ok(status) => teller.end(status),
+        Err(Refusal { status, line }) => {
+            teller.fail(status, line);
+            teller.end(status);
+        }
     }
-    if request.clients.len() > usize::from(setup.desks()) {
-        return Err(ProgramFault::MoreClients);
-    }
-    if !has_room_for_epochs(setup) {
-        return Err(ProgramFault::ShortTape);
-    }
+}
+
+/// Serves a request under its setup, and gives the exit status: that of the fault that ended the run, 6 if a record of a feed was
+/// refused, or 0. It fails if no run begins.
+fn answer_request<R: Threads + Wait + Sync>(
+    rt: &R,
+    host: &HostRuntime,
+    teller: &Teller,
+    request: &Request,
+) -> Result<u8, Refusal> {
+    let setup = match read_setup_of(host, request) {
+        Ok(setup) => setup,
+        Err(refusal) => return Err(refusal),
+    };
+    check_request(&setup, request)?;
     let alloc = host.alloc();
-    let (Ok(feeds), Ok(clients)) = (
+    let (Ok(feeds), Ok(clients), Ok(lengths)) = (
         doors_of(alloc, setup.feeds(), &request.feeds),
         streams_of(alloc, &request.clients),
+        format!(in alloc; "{}.published", request.tape),
     ) else {
-        return Err(no_memory());
+        return Err(Refusal::no_memory());
     };
+    check_folder(host, alloc, request.tape.as_str())?;
+    check_streams(host, alloc, request, lengths.as_str())?;
+    let run = Run::new(&setup, ways_of(request), teller);
     let means = Means {
         rt,
         host,
         alloc,
-        run,
+        run: &run,
     };
     let doors = Doors {
         feeds: &feeds,
         clients: &clients,
     };
-    serve_streams(&means, &doors, request.tape.as_str())
+    serve_streams(&means, &doors, request.tape.as_str(), lengths.as_str())
 }
 
-/// Opens the files, serves the streams, and reports their results.
+/// Refuses a request that its setup does not allow.
+fn check_request(setup: &Setup, request: &Request) -> Result<(), Refusal> {
+    if !are_all_feeds(setup, &request.feeds) {
+        return Err(Refusal::of(ProgramFault::WrongFeeds));
+    }
+    if request.clients.len() > usize::from(setup.desks()) {
+        return Err(Refusal::of(ProgramFault::MoreClients));
+    }
+    if !has_room_for_epochs(setup) {
+        return Err(Refusal::of(ProgramFault::ShortTape(least_tape_limit(setup))));
+    }
+    Ok(())
+}
+
+/// How a request goes on.
+fn ways_of(request: &Request) -> Ways {
+    Ways {
+        strict: request.strict,
+        keep: request.keep,
+        wait: request.wait,
+        stale: request.stale,
+    }
+}
+
+/// Opens the files, serves the streams, and reports the end of the tape.
 fn serve_streams<R: Threads + Wait + Sync>(
     means: &Means<'_, R>,
     doors: &Doors<'_>,
     path: &str,
-) -> Result<u8, ProgramFault> {
+    lengths: &str,
+) -> Result<u8, Refusal> {
     let paths = TapePaths {
         host: means.host,
         alloc: means.alloc,
         run: means.run,
         path,
     };
-    let (tape, lengths) = paths.open_first()?;
+    let (tape, lengths) = paths.open_first(lengths)?;
     let served = match serve(means, doors, tape, lengths, &paths) {
         Ok(served) => served,
-        Err(fault) => return Err(ProgramFault::Serving(fault)),
+        Err(fault) => return Err(Refusal::of(ProgramFault::Serving(fault))),
     };
-    tell_served(means.host, &served);
-    match means.run.fault() {
-        Some(fault) => Err(ProgramFault::Serving(fault)),
-        None => Ok(status_of(&served)),
-    }
-}
-
-/// Reports the results of each feed, each client and the tape.
-fn tell_served(host: &HostRuntime, served: &Served) {
-    for end in &served.feeds {
-        tell_feed(host, end);
-    }
-    for end in &served.clients {
-        tell_client(host, end);
-    }
-    tell_tape(host, served.changes, served.publishings, served.epochs);
+    means
+        .run
+        .teller()
+        .keep(means.rt, Text::of(TapeNotice::of(&served)));
+    Ok(match means.run.fault() {
+        Some(fault) => fault.status(),
+        None => status_of(&served),
+    })
 }
 
 /// The exit status of a run that ended without a fault.
@@ -128,9 +165,4 @@ fn streams_of<'a>(
         streams.push(ClientStreams::Standard)?;
     }
     Ok(streams)
-}
-
-/// The fault of out of memory.
-fn no_memory() -> ProgramFault {
-    ProgramFault::Serving(ServeFault::NoMemory)
 }

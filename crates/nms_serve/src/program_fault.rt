@@ -12,6 +12,8 @@ pub(crate) enum ProgramFault {
     Words(WordsFault),
     /// A word is not UTF-8.
     NoText,
+    /// A standard stream is closed, and nothing could stand in for it.
+    NoNull,
     /// The paths are not those of the setup's feeds.
     WrongFeeds,
     /// There are more clients than desks.
@@ -20,10 +22,14 @@ pub(crate) enum ProgramFault {
     NoSetup,
     /// The setup is refused.
     Setup(SetupFault),
-    /// One of the tape's files is not empty.
+    /// There is a file of the tape.
     TapeThere,
-    /// The tape of the setup has no room for epochs.
-    ShortTape,
+    /// Two paths of the call name one file.
+    OneFile,
+    /// The tape of the setup has no room for epochs. The least `tape_limit` that has it.
+    ShortTape(u64),
+    /// A thread of the process could not be started.
+    NoThread,
     /// The run ended early, or did not begin.
     Serving(ServeFault),
 }
@@ -36,9 +42,11 @@ impl ProgramFault {
             ProgramFault::NoText
             | ProgramFault::WrongFeeds
             | ProgramFault::MoreClients
-            | ProgramFault::TapeThere => 2,
-            ProgramFault::NoSetup => 1,
-            ProgramFault::ShortTape => 3,
+            | ProgramFault::TapeThere
+            | ProgramFault::OneFile => 2,
+            ProgramFault::NoSetup | ProgramFault::NoNull => 1,
+            ProgramFault::ShortTape(_) => 3,
+            ProgramFault::NoThread => ServeFault::NotBegun.status(),
             ProgramFault::Setup(fault) => fault.status(),
             ProgramFault::Serving(fault) => fault.status(),
         }
@@ -49,6 +57,7 @@ impl fmt::Display for ProgramFault {
     fn fmt<W: fmt::Write>(&self, f: &mut fmt::Formatter<W>) -> fmt::Result {
         match self {
             ProgramFault::Words(fault) => fmt::Display::fmt(fault, f),
+            ProgramFault::NoNull => f.write_str("E1: /dev/null could not be opened"),
             ProgramFault::NoText => f.write_str("usage: a word of the call is no UTF-8"),
             ProgramFault::WrongFeeds => f.write_str(
                 "usage: --feed has to name each feed of the setup, and no other",
@@ -58,11 +67,16 @@ impl fmt::Display for ProgramFault {
             ),
             ProgramFault::NoSetup => f.write_str("E1: the setup could not be read"),
             ProgramFault::Setup(fault) => fmt::Display::fmt(fault, f),
-            ProgramFault::TapeThere => f.write_str(
-                "usage: there is something in the tape's file, or in FILE.published or FILE.1, already",
+            ProgramFault::TapeThere => f.write_str("usage: a file of the tape is there already"),
+            ProgramFault::OneFile => f.write_str("usage: two paths name one file"),
+            ProgramFault::ShortTape(least) => write!(
+                f,
+                "E6: tape_limit has to be {least} at least: twice the most opening changes, 2 a participant and 1, for each symbol"
             ),
-            ProgramFault::ShortTape => f.write_str(
-                "E6: tape_limit has no room for twice the most opening changes: 2 a participant and 1, for each symbol",
+            ProgramFault::NoThread => write!(
+                f,
+                "{}: a thread could not be started",
+                ServeFault::NotBegun
             ),
             ProgramFault::Serving(fault) => fmt::Display::fmt(fault, f),
         }

@@ -1,9 +1,18 @@
 //! The files of a run's tape, an epoch after another.
 use crate::program_fault::ProgramFault;
-use nms_serving::{EpochFiles, Guarded, Run, ServeFault, Stream};
+use crate::refusal::Refusal;
+use nms_serving::{EpochFiles, Guarded, Named, Run, ServeFault, Stream};
 use std::alloc::Global;
-use std::fs;
 use std::fs::{File, OpenOptions};
+use std::io::ErrorKind;
+use std::os::unix::fs::FileTypeExt;
+use std::{fs, io};
+
+/// The end of the name of a file of lengths.
+const PUBLISHED: &str = ".published";
+
+/// The two files of an epoch: its tape, and its lengths.
+pub(crate) type TwoFiles<'a> = (Guarded<'a, File>, Guarded<'a, File>);
 
 /// Opens the files of the tape: PATH and PATH.published, then PATH.1 and PATH.1.published, and so on.
 #[derive(Drop)]
@@ -14,45 +23,59 @@ pub(crate) struct TapePaths<'a> {
     pub(crate) path: &'a str,
 }
 
+/// Why a file of the tape was not opened.
+enum Unopened {
+    /// There is something at its path.
+    There,
+    /// It could not be opened.
+    Failed(io::Error),
+}
+
 impl<'a> TapePaths<'a> {
-    /// Opens the files of the first epoch. They have to be empty or missing, and so have those of the next.
-    pub(crate) fn open_first(
-        &self,
-    ) -> Result<(Guarded<'a, File>, Guarded<'a, File>), ProgramFault> {
-        let (Ok(next), Ok(next_lengths), Ok(lengths)) = (
-            format!(in self.alloc; "{}.1", self.path),
-            format!(in self.alloc; "{}.1.published", self.path),
-            format!(in self.alloc; "{}.published", self.path),
-        ) else {
-            return Err(ProgramFault::Serving(ServeFault::NoMemory));
+    /// Opens the files of the first epoch, which have to be new.
+    pub(crate) fn open_first(&self, lengths: &str) -> Result<TwoFiles<'a>, Refusal> {
+        let tape = match open_new(self.host, self.path) {
+            Ok(file) => file,
+            Err(why) => return Err(refused(why, Stream::Tape, self.path)),
         };
-        let paths = [
-            self.path,
-            lengths.as_str(),
-            next.as_str(),
-            next_lengths.as_str(),
-        ];
-        if paths.iter().any(|path| has_something(self.host, *path)) {
-            return Err(ProgramFault::TapeThere);
-        }
-        match self.open_both(self.path, lengths.as_str()) {
-            Ok(files) => Ok(files),
-            Err(fault) => Err(ProgramFault::Serving(fault)),
+        match open_new(self.host, lengths) {
+            Ok(file) => Ok(self.guarded(tape, file, 0)),
+            Err(why) => Err(refused(why, Stream::Lengths, lengths)),
         }
     }
 
-    /// Opens two files.
-    fn open_both(
-        &self,
-        tape: &str,
-        lengths: &str,
-    ) -> Result<(Guarded<'a, File>, Guarded<'a, File>), ServeFault> {
-        let tape = open_empty(self.host, tape, Stream::Tape)?;
-        let lengths = open_empty(self.host, lengths, Stream::Lengths)?;
-        Ok((
-            Guarded::new(tape, self.run),
-            Guarded::new(lengths, self.run),
-        ))
+    /// The two files of an epoch as streams of the run.
+    fn guarded(&self, tape: File, lengths: File, epoch: u64) -> TwoFiles<'a> {
+        (
+            Guarded::new(tape, self.run, self.named(Stream::Tape, epoch)),
+            Guarded::new(lengths, self.run, self.named(Stream::Lengths, epoch)),
+        )
+    }
+
+    /// The name of a file of an epoch.
+    fn named(&self, stream: Stream, epoch: u64) -> Named<'a> {
+        Named {
+            stream,
+            path: self.path,
+            epoch,
+        }
+    }
+
+    /// Opens a file of a later epoch, which has to be new. A fault ends the run.
+    fn open_later(&self, path: &str, stream: Stream, epoch: u64) -> Result<File, ServeFault> {
+        match open_new(self.host, path) {
+            Ok(file) => Ok(file),
+            Err(Unopened::There) => {
+                let fault = ServeFault::NotEmpty(stream);
+                self.run.fail_at_path(fault, path);
+                Err(fault)
+            }
+            Err(Unopened::Failed(error)) => {
+                let fault = ServeFault::NotOpened(stream);
+                self.run.fail_at(fault, self.named(stream, epoch), &error);
+                Err(fault)
+            }
+        }
     }
 }
 
@@ -60,29 +83,102 @@ impl<'a> EpochFiles<Guarded<'a, File>, Guarded<'a, File>> for TapePaths<'a> {
     fn open(&self, epoch: u64) -> Result<(Guarded<'a, File>, Guarded<'a, File>), ServeFault> {
         let (Ok(tape), Ok(lengths)) = (
             format!(in self.alloc; "{}.{epoch}", self.path),
-            format!(in self.alloc; "{}.{epoch}.published", self.path),
+            format!(in self.alloc; "{}.{epoch}{PUBLISHED}", self.path),
         ) else {
             return Err(ServeFault::NoMemory);
         };
-        self.open_both(tape.as_str(), lengths.as_str())
+        let tape = self.open_later(tape.as_str(), Stream::Tape, epoch)?;
+        let lengths = self.open_later(lengths.as_str(), Stream::Lengths, epoch)?;
+        Ok(self.guarded(tape, lengths, epoch))
     }
 }
 
-/// Whether there is a file at a path that is not empty.
-fn has_something(host: &HostRuntime, path: &str) -> bool {
-    match fs::metadata(host, path) {
-        Ok(found) => found.len() > 0,
+/// The refusal of a file of the first epoch.
+fn refused(why: Unopened, stream: Stream, path: &str) -> Refusal {
+    match why {
+        Unopened::There => Refusal::at(ProgramFault::TapeThere, path),
+        Unopened::Failed(error) => Refusal::of_stream(stream, path, &error),
+    }
+}
+
+/// Opens a file to write it, which has to be new: so no two runs have one file. A FIFO or a device that is there is opened as it
+/// is, since it holds nothing that could be overwritten.
+fn open_new(host: &HostRuntime, path: &str) -> Result<File, Unopened> {
+    match OpenOptions::new()
+        .write(true)
+        .create_new(true)
+        .open(host, path)
+    {
+        Ok(file) => Ok(file),
+        Err(error) if error.kind() == ErrorKind::AlreadyExists => open_device(host, path),
+        Err(error) => Err(Unopened::Failed(error)),
+    }
+}
+
+/// Opens a FIFO or a device to write to it. What the path names is looked up once more after the opening.
+fn open_device(host: &HostRuntime, path: &str) -> Result<File, Unopened> {
+    if !is_device(fs::metadata(host, path)) {
+        return Err(Unopened::There);
+    }
+    match OpenOptions::new().write(true).open(host, path) {
+        Ok(file) if is_device(file.metadata()) => Ok(file),
+        Ok(_) => Err(Unopened::There),
+        Err(error) => Err(Unopened::Failed(error)),
+    }
+}
+
+/// Whether what was found is a FIFO or a character device.
+fn is_device(found: io::Result<fs::Metadata>) -> bool {
+    match found {
+        Ok(found) => found.file_type().is_fifo() || found.file_type().is_char_device(),
         Err(_) => false,
     }
 }
 
-/// Opens a file to write it, which has to be empty or missing.
-fn open_empty(host: &HostRuntime, path: &str, stream: Stream) -> Result<File, ServeFault> {
-    if has_something(host, path) {
-        return Err(ServeFault::NotEmpty(stream));
+/// Refuses a tape of which there is a file already, of any epoch. The names in its folder are looked through.
+pub(crate) fn check_folder(host: &HostRuntime, alloc: Global, path: &str) -> Result<(), Refusal> {
+    let (folder, base) = parts_of(path);
+    let listing = match fs::read_dir(host, if folder.is_empty() { "." } else { folder }) {
+        Ok(listing) => listing,
+        Err(error) => return Err(Refusal::of_stream(Stream::Tape, path, &error)),
+    };
+    for entry in listing {
+        let entry = match entry {
+            Ok(entry) => entry,
+            // A name that is not UTF-8 is none of the tape's.
+            Err(error) if error.kind() == ErrorKind::InvalidFilename => continue,
+            Err(error) => return Err(Refusal::of_stream(Stream::Tape, path, &error)),
+        };
+        let name = entry.file_name();
+        if is_of_tape(base, name) && !is_device(fs::metadata(host, entry.path())) {
+            let Ok(there) = format!(in alloc; "{folder}{name}") else {
+                return Err(Refusal::no_memory());
+            };
+            return Err(Refusal::at(ProgramFault::TapeThere, there.as_str()));
+        }
     }
-    match OpenOptions::new().write(true).create(true).open(host, path) {
-        Ok(file) => Ok(file),
-        Err(_) => Err(ServeFault::NotOpened(stream)),
+    Ok(())
+}
+
+/// The folder of a path with its last slash, and the name in it.
+fn parts_of(path: &str) -> (&str, &str) {
+    let Some((_, base)) = path.rsplit_once('/') else {
+        return ("", path);
+    };
+    match path.strip_suffix(base) {
+        Some(folder) => (folder, base),
+        None => ("", path),
+    }
+}
+
+/// Whether a name is that of a file of a tape, of any epoch.
+fn is_of_tape(base: &str, name: &str) -> bool {
+    let Some(rest) = name.strip_prefix(base) else {
+        return false;
+    };
+    let epoch = rest.strip_suffix(PUBLISHED).unwrap_or(rest);
+    match epoch.strip_prefix('.') {
+        Some(digits) => !digits.is_empty() && digits.bytes().all(|byte| byte.is_ascii_digit()),
+        None => epoch.is_empty(),
     }
 }

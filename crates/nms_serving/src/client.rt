@@ -4,10 +4,13 @@ ghost use Rattle.nms_quote.specs.Roster.{sizes_of};
 
 use crate::door::Door;
 use crate::guarded::Guarded;
+use crate::named::Named;
+use crate::report::ClientNotice;
 use crate::run::Run;
 use crate::serve_fault::ServeFault;
 use crate::serving::Means;
 use crate::stream::Stream;
+use crate::text::Text;
 use nms_answers::{EpochDesk, LaterDesks, RequestCounts, answer_stream};
 use nms_versions::Desk;
 use std::fs::File;
@@ -39,7 +42,8 @@ pub struct ClientEnd {
     pub counts: Option<RequestCounts>,
 }
 
-/// Answers the requests of the client of this number, from 1, to the end of their stream. A fault ends the run.
+/// Answers the requests of the client of this number, from 1, to the end of their stream. Its end is reported. A fault ends the
+/// run.
 pub(crate) fn serve_client<R: Threads + Wait + Sync, L: LaterDesks>(
     means: &Means<'_, R>,
     number: u8,
@@ -58,8 +62,10 @@ pub(crate) fn serve_client<R: Threads + Wait + Sync, L: LaterDesks>(
             None
         }
     };
+    let end = ClientEnd { number, counts };
+    means.run.teller.keep(means.rt, Text::of(ClientNotice(end)));
     means.run.end_client();
-    ClientEnd { number, counts }
+    end
 }
 
 /// Opens a client's streams, and answers its requests.
@@ -73,20 +79,42 @@ fn answer_client<R: Threads + Wait + Sync, L: LaterDesks>(
     requires house { L.sizes ≡ sizes_of means.now.run.now.setup.now.roster }
     requires sizes { desk.old.desk.sizes ≡ sizes_of means.now.run.now.setup.now.roster }
 {
-    let host = means.host;
+    let (host, run) = (means.host, means.run);
+    let (asks, told) = names_of(streams, number);
     match streams {
         ClientStreams::Standard => answer_from(
             means,
             number,
             desk,
             later,
-            host.stdin(),
-            host.stdout(),
+            Guarded::new(host.stdin(), run, asks),
+            Guarded::new(host.stdout(), run, told),
         ),
         ClientStreams::Paths { input, output } => {
             let (requests, answers) = open_both(means, number, input, output);
-            answer_from(means, number, desk, later, requests?, answers?)
+            answer_from(
+                means,
+                number,
+                desk,
+                later,
+                Guarded::new(requests?, run, asks),
+                Guarded::new(answers?, run, told),
+            )
         }
+    }
+}
+
+/// The names of a client's streams: that of its requests, and that of its answers.
+fn names_of<'a>(streams: &ClientStreams<'a>, number: u8) -> (Named<'a>, Named<'a>) {
+    match streams {
+        ClientStreams::Standard => (
+            Door::new("standard input").named(Stream::Requests(number)),
+            Door::new("standard output").named(Stream::Answers(number)),
+        ),
+        ClientStreams::Paths { input, output } => (
+            input.named(Stream::Requests(number)),
+            output.named(Stream::Answers(number)),
+        ),
     }
 }
 
@@ -101,23 +129,31 @@ fn open_both<R: Threads + Wait + Sync>(
     let (host, run) = (means.host, means.run);
     thread::join(
         means.rt,
-        || opened(run, input.open_to_read(host, run), Stream::Requests(number)),
         || opened(
             run,
-            output.open_to_write(host, run),
+            input,
+            Stream::Requests(number),
+            input.open_to_read(host, run),
+        ),
+        || opened(
+            run,
+            output,
             Stream::Answers(number),
+            output.open_to_write(host, run),
         ),
     )
 }
 
-/// A stream that was opened, or the fault that ends the run.
-fn opened(run: &Run<'_>, outcome: io::Result<File>, stream: Stream) -> Result<File, ServeFault> {
+/// A stream that was opened at a door, or the fault that ends the run.
+fn opened(
+    run: &Run<'_>,
+    door: &Door<'_>,
+    stream: Stream,
+    outcome: io::Result<File>,
+) -> Result<File, ServeFault> {
     match outcome {
         Ok(file) => Ok(file),
-        Err(_) => {
-            run.fail(ServeFault::NotOpened(stream));
-            Err(ServeFault::NotOpened(stream))
-        }
+        Err(error) => Err(door.refuse(run, stream, &error)),
     }
 }
 
@@ -135,15 +171,8 @@ fn answer_from<R: Wait, S: Read + Drop, W: Write + Drop, L: LaterDesks>(
 {
     let run = means.run;
     run.pass_gate(means.rt);
-    let mut answers = Guarded::new(answers, run);
-    match answer_stream(
-        means.alloc,
-        run.setup,
-        desk,
-        later,
-        Guarded::new(requests, run),
-        &mut answers,
-    ) {
+    let mut answers = answers;
+    match answer_stream(means.alloc, run.setup, desk, later, requests, &mut answers) {
         Ok(counts) => Ok(counts),
         Err(fault) => Err(ServeFault::of_client(number, fault)),
     }

@@ -2,7 +2,10 @@
 ghost use Rattle.std.specs.Prelude.{◌≡◌};
 ghost use Rattle.nms_serving.specs.Streams.{path_of};
 
+use crate::named::Named;
 use crate::run::Run;
+use crate::serve_fault::ServeFault;
+use crate::stream::Stream;
 use std::alloc::Global;
 use std::fs::{File, OpenOptions};
 use std::io::{ErrorKind, Read, Write};
@@ -43,9 +46,25 @@ impl<'a> Door<'a> {
         self.open(files, run, OpenOptions::new().read(true))
     }
 
-    /// Opens the path to append to its file. It makes a file that is missing.
+    /// Opens the path to append to its file, which has to be there.
     pub(crate) fn open_to_write(&self, files: &HostRuntime, run: &Run<'_>) -> io::Result<File> {
-        self.open(files, run, OpenOptions::new().append(true).create(true))
+        self.open(files, run, OpenOptions::new().append(true))
+    }
+
+    /// The name of the stream that is opened here.
+    pub(crate) fn named(&self, stream: Stream) -> Named<'a> {
+        Named {
+            stream,
+            path: self.path,
+            epoch: 0,
+        }
+    }
+
+    /// Ends the run, since a stream could not be opened here, and gives the fault.
+    pub(crate) fn refuse(&self, run: &Run<'_>, stream: Stream, error: &io::Error) -> ServeFault {
+        let fault = ServeFault::NotOpened(stream);
+        run.fail_at(fault, self.named(stream), error);
+        fault
     }
 
     /// Opens the path, unless a fault has ended the run.

@@ -4,10 +4,12 @@ ghost use Rattle.nms_feeds.specs.Streams.{IsCounted};
 
 use crate::door::{Door, is_open_fifo};
 use crate::guarded::Guarded;
+use crate::report::FeedNotice;
 use crate::run::Run;
 use crate::serve_fault::ServeFault;
 use crate::serving::Means;
 use crate::stream::Stream;
+use crate::text::Text;
 use crate::watcher::Watcher;
 use nms_feed::Sender;
 use nms_feeds::{FeedCounts, send_stream};
@@ -29,8 +31,9 @@ pub struct FeedEnd {
     pub counts: FeedCounts,
 }
 
-/// Reads the feed of a sender from its path to the end of the stream, and sends its changes. A fault ends the run.
-pub(crate) fn feed_all<R: Wait>(
+/// Reads the feed of a sender from its path to the end of the stream, and sends its changes. Its end is reported. A fault ends the
+/// run.
+pub(crate) fn feed_all<R: Wait + Sync>(
     means: &Means<'_, R>,
     door: &Door<'_>,
     mut sender: Sender,
@@ -43,14 +46,19 @@ pub(crate) fn feed_all<R: Wait>(
         Ok(()) => {}
         Err(fault) => means.run.fail(fault),
     }
+    let end = FeedEnd { feed, counts };
+    means
+        .run
+        .teller
+        .keep(means.rt, Text::of(FeedNotice::Ended(end)));
     means.run.end_feed(feed);
-    FeedEnd { feed, counts }
+    end
 }
 
 /// Opens a feed's path, and sends the changes of its stream. If the run reads on, a FIFO whose writer left is read on: this end
 /// stays open, so that no writer finds it closed. A last record without its line feed is refused before. A FIFO that was
 /// removed and made again is opened anew.
-fn read_feed<R: Wait>(
+fn read_feed<R: Wait + Sync>(
     means: &Means<'_, R>,
     door: &Door<'_>,
     feed: Feed,
@@ -60,18 +68,23 @@ fn read_feed<R: Wait>(
     requires counted { IsCounted sender.old.sent counts.old }
 {
     let run = means.run;
-    let Ok(mut file) = door.open_to_read(means.host, run) else {
-        return Err(ServeFault::NotOpened(Stream::Feed(feed)));
+    let mut file = match door.open_to_read(means.host, run) {
+        Ok(file) => file,
+        Err(error) => return Err(door.refuse(run, Stream::Feed(feed), &error)),
     };
     let is_kept = run.ways.keep && is_open_fifo(&file);
-    let watcher = Watcher::new(means.host, run);
+    let watcher = Watcher::new(means.rt, means.host, run);
     for _ in 0..u64::MAX {
         // The clients are checked before the stream: changes written before they ended are still read.
         let is_last = !is_kept || run.is_closing();
-        read_writer(means, &mut file, &watcher, counts, sender)?;
+        read_writer(means, door, &mut file, &watcher, counts, sender)?;
         if is_last {
             return Ok(());
         }
+        watcher.note_left(FeedEnd {
+            feed,
+            counts: *counts,
+        });
         if door.is_renewed(means.host, &file) {
             match door.open_anew(means.host, means.alloc, run) {
                 Ok(Some(again)) => {
@@ -80,7 +93,7 @@ fn read_feed<R: Wait>(
                 }
                 // It was removed once more.
                 Ok(None) => {}
-                Err(_) => return Err(ServeFault::NotOpened(Stream::Feed(feed))),
+                Err(error) => return Err(door.refuse(run, Stream::Feed(feed), &error)),
             }
         }
         thread::sleep(means.host, Duration::from_millis(REST));
@@ -89,10 +102,11 @@ fn read_feed<R: Wait>(
 }
 
 /// Sends the changes of a stream until its writers have left.
-fn read_writer<R: Wait>(
+fn read_writer<R: Wait + Sync>(
     means: &Means<'_, R>,
+    door: &Door<'_>,
     file: &mut File,
-    watcher: &Watcher<'_>,
+    watcher: &Watcher<'_, R>,
     counts: &mut FeedCounts,
     sender: &mut Sender,
 ) -> Result<(), ServeFault>
@@ -105,7 +119,7 @@ fn read_writer<R: Wait>(
         means.alloc,
         run.setup,
         run.ways.strict,
-        Guarded::new(file, run),
+        Guarded::new(file, run, door.named(Stream::Feed(feed))),
         watcher,
         counts,
         sender,

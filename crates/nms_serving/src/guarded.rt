@@ -4,23 +4,36 @@ ghost use Rattle.std.specs.Io.{ReadsAtMost};
 ghost use Rattle.std.specs.Io.KnownBytes.{ReadConsumes};
 ghost use Rattle.nms_serving.specs.Streams.{GivesOrEnds, stream_of};
 
+use crate::named::Named;
 use crate::run::Run;
+use crate::serve_fault::ServeFault;
 use std::io;
 use std::io::{ErrorKind, Read, Write};
 
-/// A stream of a run. After a fault has ended the run, a reader is at its end, and a writer fails.
+/// A stream of a run. A read or a write that fails ends the run. After a fault has ended it, a reader is at its end, and a writer
+/// fails.
 #[derive(Drop)]
 pub struct Guarded<'a, F> {
     stream: F,
     run: &'a Run<'a>,
+    named: Named<'a>,
 }
 
 impl<'a, F> Guarded<'a, F> {
-    /// Over a stream of the run.
-    pub fn new(stream: F, run: &'a Run<'a>) -> Self
+    /// Over a stream of the run, with the name by which a fault reports it.
+    pub fn new(stream: F, run: &'a Run<'a>, named: Named<'a>) -> Self
         ensures { stream_of result ≡ stream }
     {
-        Guarded { stream, run }
+        Guarded { stream, run, named }
+    }
+
+    /// Ends the run if a read or a write has failed. An interrupted one is repeated.
+    fn note(&self, fault: ServeFault, outcome: &io::Result<usize>) {
+        if let Err(error) = outcome
+            && error.kind() != ErrorKind::Interrupted
+        {
+            self.run.fail_at(fault, self.named, error);
+        }
     }
 }
 
@@ -35,7 +48,11 @@ impl<F: Read> Read for Guarded<'_, F> {
         }
         let read = self.stream.read(buf);
         // The line feed that woke the thread is no part of the stream.
-        if self.run.is_stopped() { Ok(0) } else { read }
+        if self.run.is_stopped() {
+            return Ok(0);
+        }
+        self.note(ServeFault::NotRead(self.named.stream), &read);
+        read
     }
 }
 
@@ -48,7 +65,9 @@ impl<F: Write> Write for Guarded<'_, F> {
         if self.run.is_stopped() {
             return Err(io::Error::from(ErrorKind::BrokenPipe));
         }
-        self.stream.write(buf)
+        let written = self.stream.write(buf);
+        self.note(ServeFault::NotWritten(self.named.stream), &written);
+        written
     }
 
     fn flush(&mut self) -> io::Result<()> {

@@ -1,45 +1,134 @@
-//! The reports about a feed while it is read.
+//! The reports about a run while it goes on, each a line on standard error.
+use crate::client::ClientEnd;
+use crate::feeding::FeedEnd;
 use crate::silence::Notice;
 use crate::stream::letter_of;
-use nms_lines::LineFault;
+use crate::text::Text;
+use arrayvec::ArrayVec;
+use nms_lines::{ByteRecord, LineFault};
 use nms_quote::Feed;
-use std::fmt;
+use std::io::Write;
+use std::{fmt, io};
 
-/// A refused record, as it is reported: `A:17: L6`.
+/// The most bytes of a refused record that are shown. This product's own rule.
+const MOST_SHOWN: usize = 200;
+
+/// The line of a refused record: `A:17: L6: ` and the record, with escapes for what is not safe to show.
+pub(crate) fn refused_line(feed: Feed, number: u64, fault: LineFault, record: &ByteRecord) -> Text {
+    let mut shown = ArrayVec::<u8, MOST_SHOWN>::new();
+    let is_cut = write_record(&mut shown, record).is_err();
+    let line = Text::of(Refused {
+        feed,
+        number,
+        fault,
+    })
+    .and_shown(shown.as_slice());
+    if is_cut { line.with("..") } else { line }
+}
+
+/// Writes the fields of a record with commas between them.
+fn write_record<W: Write>(to: &mut W, record: &ByteRecord) -> io::Result<()> {
+    for place in 0..record.len() {
+        if place > 0 {
+            to.write_all(b",")?;
+        }
+        if let Some(field) = record.get(place) {
+            to.write_all(field)?;
+        }
+    }
+    Ok(())
+}
+
+/// A refused record: `A:17: L6`.
 #[derive(Clone, Copy)]
-pub struct Refused {
+struct Refused {
     /// The feed.
-    pub feed: Feed,
+    feed: Feed,
     /// The record's number in its feed, from 1.
-    pub number: u64,
+    number: u64,
     /// Its fault.
-    pub fault: LineFault,
+    fault: LineFault,
 }
 
 impl fmt::Display for Refused {
     fn fmt<W: fmt::Write>(&self, f: &mut fmt::Formatter<W>) -> fmt::Result {
         let (feed, number, fault) = (letter_of(self.feed), self.number, self.fault.code());
-        write!(f, "nms_serve: {feed}:{number}: {fault}")
+        write!(f, "{feed}:{number}: {fault}")
     }
 }
 
-/// A silent feed, as it is reported: `feed A: silent for 5 s`.
+/// A silent feed: `feed A: silent for 5 s`.
 #[derive(Clone, Copy)]
-pub struct Heard {
+pub(crate) struct Heard {
     /// The feed.
-    pub feed: Feed,
+    pub(crate) feed: Feed,
     /// After how many seconds a feed is reported as silent.
-    pub seconds: u32,
+    pub(crate) seconds: u32,
     /// What is reported of it.
-    pub notice: Notice,
+    pub(crate) notice: Notice,
 }
 
 impl fmt::Display for Heard {
     fn fmt<W: fmt::Write>(&self, f: &mut fmt::Formatter<W>) -> fmt::Result {
         let (feed, seconds) = (letter_of(self.feed), self.seconds);
         match self.notice {
-            Notice::Silent => write!(f, "nms_serve: feed {feed}: silent for {seconds} s"),
-            Notice::SpeaksAgain => write!(f, "nms_serve: feed {feed}: speaks again"),
+            Notice::Silent => write!(f, "feed {feed}: silent for {seconds} s"),
+            Notice::SpeaksAgain => write!(f, "feed {feed}: speaks again"),
         }
+    }
+}
+
+/// What a feed has come to.
+#[derive(Clone, Copy)]
+pub(crate) enum FeedNotice {
+    /// It has ended.
+    Ended(FeedEnd),
+    /// Its writer has left, and the FIFO is read on.
+    Left(FeedEnd),
+}
+
+impl fmt::Display for FeedNotice {
+    fn fmt<W: fmt::Write>(&self, f: &mut fmt::Formatter<W>) -> fmt::Result {
+        let (end, what) = match self {
+            FeedNotice::Ended(end) => (end, "ended"),
+            FeedNotice::Left(end) => (end, "its writer has left"),
+        };
+        let (records, refused) = (end.counts.records, end.counts.refused);
+        let feed = letter_of(end.feed);
+        write!(
+            f,
+            "feed {feed}: {what}: {records} records, {refused} refused"
+        )
+    }
+}
+
+/// The end of a client.
+#[derive(Clone, Copy)]
+pub(crate) struct ClientNotice(pub(crate) ClientEnd);
+
+impl fmt::Display for ClientNotice {
+    fn fmt<W: fmt::Write>(&self, f: &mut fmt::Formatter<W>) -> fmt::Result {
+        let number = self.0.number;
+        match self.0.counts {
+            Some(counts) => {
+                let (requests, refused) = (counts.requests, counts.refused);
+                write!(
+                    f,
+                    "client {number}: ended: {requests} requests, {refused} refused"
+                )
+            }
+            None => write!(f, "client {number}: not served to its end"),
+        }
+    }
+}
+
+/// How many reports were dropped.
+#[derive(Clone, Copy)]
+pub(crate) struct Dropped(pub(crate) u64);
+
+impl fmt::Display for Dropped {
+    fn fmt<W: fmt::Write>(&self, f: &mut fmt::Formatter<W>) -> fmt::Result {
+        let count = self.0;
+        write!(f, "{count} reports were dropped")
     }
 }

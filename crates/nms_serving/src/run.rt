@@ -1,10 +1,14 @@
 //! What all threads of a run share.
 ghost use Rattle.std.specs.Prelude.{◌≡◌};
 
+use crate::named::Named;
 use crate::serve_fault::ServeFault;
+use crate::teller::Teller;
+use crate::text::Text;
 use crate::voice::Voices;
 use nms_fees::Setup;
 use nms_quote::Feed;
+use std::io;
 use std::sync::atomic::{AtomicBool, AtomicU64, Ordering};
 use std::sync::{OnceLock, Wait};
 use std::thread::Parker;
@@ -29,6 +33,8 @@ pub struct Ways {
 pub struct Run<'a> {
     pub(crate) setup: &'a Setup,
     pub(crate) ways: Ways,
+    /// Where its lines go.
+    pub(crate) teller: &'a Teller,
     /// How many feeds and clients have begun and not ended.
     left: AtomicU64,
     /// How many of them are clients.
@@ -49,12 +55,13 @@ pub struct Run<'a> {
 
 impl<'a> Run<'a> {
     /// A run in which nothing has begun.
-    pub fn new(setup: &'a Setup, ways: Ways) -> Self
+    pub fn new(setup: &'a Setup, ways: Ways, teller: &'a Teller) -> Self
         ensures { (result.setup.now ≡ setup.now) × (result.ways ≡ ways) }
     {
         Run {
             setup,
             ways,
+            teller,
             left: AtomicU64::new(0),
             clients: AtomicU64::new(0),
             unheard: AtomicU64::new(0),
@@ -68,14 +75,42 @@ impl<'a> Run<'a> {
         }
     }
 
+    /// Where its lines go.
+    pub fn teller(&self) -> &'a Teller {
+        self.teller
+    }
+
     /// The first fault, if there was one.
     pub fn fault(&self) -> Option<ServeFault> {
         self.fault.get().copied()
     }
 
-    /// Ends the run for a fault: every thread ends at its next look at a stream.
+    /// Ends the run for a fault: every thread ends at its next look at a stream. The first fault is printed at once.
     pub(crate) fn fail(&self, fault: ServeFault) {
-        let _first = self.fault.try_set(fault);
+        self.end_for(fault, Text::of(fault));
+    }
+
+    /// As `fail`, for a stream that could not be opened, read or written: its path and the reason are printed too.
+    pub fn fail_at(&self, fault: ServeFault, named: Named<'_>, error: &io::Error) {
+        self.end_for(fault, named.after(Text::of(fault)).and(error));
+    }
+
+    /// As `fail`, for a path where there is something: it is printed too.
+    pub fn fail_at_path(&self, fault: ServeFault, path: &str) {
+        self.end_for(fault, Text::of(fault).and_shown(path.as_bytes()));
+    }
+
+    /// As `fail`, since a thread could not be started, which is printed too.
+    pub(crate) fn fail_to_start(&self) {
+        let fault = ServeFault::NotBegun;
+        self.end_for(fault, Text::of(fault).and("a thread could not be started"));
+    }
+
+    /// Ends the run for a fault, which is printed as this line if it is the first.
+    fn end_for(&self, fault: ServeFault, line: Text) {
+        if self.fault.try_set(fault).is_ok() {
+            self.teller.fail(fault.status(), line);
+        }
         self.is_stopped.store(true, Ordering::SeqCst);
         self.open_gate();
         self.bell.unpark();

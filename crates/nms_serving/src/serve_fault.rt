@@ -8,10 +8,11 @@ use nms_feeds::FeedFault;
 use nms_lines::LineFault;
 use nms_quote::Feed;
 use std::fmt;
+use thiserror::Error;
 
-/// Why a run ended early. All its threads have ended. The tape's file has whole batches, in order; only the last write to a
+/// Why a run ended early. The tape's file has whole batches, in order; only the last write to a
 /// stream that fails may have left a first part.
-#[derive(Clone, Copy, Debug, PartialEq, Eq)]
+#[derive(Clone, Copy, Debug, PartialEq, Eq, Error)]
 pub enum ServeFault {
     /// E1: a stream could not be opened.
     NotOpened(Stream),

@@ -13,6 +13,7 @@ use crate::keeper::Keeper;
 use crate::run::Run;
 use crate::serve_fault::ServeFault;
 use crate::taking::{Doors, take_all};
+use crate::text::Text;
 use crate::watching::watch_feeds;
 use nms_answers::LaterDesks;
 use nms_board::Boards;
@@ -207,6 +208,9 @@ fn run_threads<
     start_clients(scope, means, doors.clients, next.slots, desks, &mut clients);
     start_feeds(scope, means, doors.feeds, senders, &mut feeds);
     start_watch(scope, means);
+    if !means.run.is_stopped() {
+        means.run.teller.keep(means.rt, Text::of("serving"));
+    }
     take_all(means, doors, next, epochs, &mut taker);
     means.run.finish();
     Served {
@@ -315,7 +319,7 @@ fn start_watch<'s, E, R: Wait + Sync>(scope: &'s Scope<'s, E>, means: &'s Means<
         return;
     };
     if scope.spawn(move || watch_feeds(means, seconds)).is_err() {
-        means.run.fail(ServeFault::NotBegun);
+        means.run.fail_to_start();
     }
 }
 
@@ -327,7 +331,7 @@ fn keep<T: Drop>(run: &Run<'_>, started: Option<JoinHandle<T>>, handles: &mut Ve
         },
         None => {
             run.end_stream();
-            run.fail(ServeFault::NotBegun);
+            run.fail_to_start();
         }
     }
 }

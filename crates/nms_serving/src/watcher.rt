@@ -1,38 +1,57 @@
 //! The watcher of a feed: it wakes the taker, and reports refused records.
-use crate::report::Refused;
+use crate::feeding::FeedEnd;
+use crate::report::{FeedNotice, refused_line};
 use crate::run::Run;
+use crate::text::Text;
 use nms_feeds::FeedWatch;
-use nms_lines::LineFault;
+use nms_lines::{ByteRecord, LineFault};
 use nms_quote::Feed;
+use std::sync::Wait;
 use std::sync::atomic::{AtomicU64, Ordering};
 use std::time::Clock;
 
-/// The most refused records of a feed that are reported in a second. This product's own rule.
+/// The most reports about a feed's records and writers in a second. This product's own rule.
 const MOST_REPORTS: u64 = 10;
 
-/// Wakes the taker for each change of a feed that was sent, notes that the feed sends, and reports refused records on standard
-/// error, at most 10 in a second of the clock. No proof rests on it.
+/// Wakes the taker for each change of a feed that was sent, notes that the feed sends, and reports refused records and writers
+/// that left, at most 10 in a second of the clock. No proof rests on it.
 #[derive(Drop)]
-pub(crate) struct Watcher<'a> {
+pub(crate) struct Watcher<'a, R> {
+    rt: &'a R,
     host: &'a HostRuntime,
     run: &'a Run<'a>,
-    /// The second in which a record was reported last, and how many were in that second.
+    /// The second of the last report, and how many there were in that second.
     second: AtomicU64,
     reports: AtomicU64,
+    /// After how many records it was last reported that the writer had left; `u64::MAX` before.
+    left: AtomicU64,
 }
 
-impl<'a> Watcher<'a> {
+impl<'a, R: Wait> Watcher<'a, R> {
     /// For a feed that sent nothing yet.
-    pub(crate) fn new(host: &'a HostRuntime, run: &'a Run<'a>) -> Self {
+    pub(crate) fn new(rt: &'a R, host: &'a HostRuntime, run: &'a Run<'a>) -> Self {
         Watcher {
+            rt,
             host,
             run,
             second: AtomicU64::new(0),
             reports: AtomicU64::new(0),
+            left: AtomicU64::new(u64::MAX),
         }
     }
 
-    /// Whether one more record may be reported in this second.
+    /// The feed has no writer now. That is reported, unless it was and no record came since.
+    pub(crate) fn note_left(&self, so_far: FeedEnd) {
+        if self.left.load(Ordering::SeqCst) == so_far.counts.records || !self.may_report() {
+            return;
+        }
+        self.left.store(so_far.counts.records, Ordering::SeqCst);
+        self.run
+            .teller
+            .tell(self.rt, Text::of(FeedNotice::Left(so_far)));
+    }
+
+    /// Whether one more report may be made in this second.
     fn may_report(&self) -> bool {
         let Ok(now) = self.host.monotonic() else {
             return false;
@@ -44,19 +63,17 @@ impl<'a> Watcher<'a> {
     }
 }
 
-impl FeedWatch for Watcher<'_> {
+impl<R: Wait + Sync> FeedWatch for Watcher<'_, R> {
     fn sent(&self, feed: Feed) {
         self.run.note_change(feed);
     }
 
-    fn refused(&self, feed: Feed, number: u64, fault: LineFault) {
+    fn refused(&self, feed: Feed, number: u64, fault: LineFault, record: &ByteRecord) {
         self.run.voices.of(feed).speak();
         if self.may_report() {
-            let _ = self.host.eprintln(Refused {
-                feed,
-                number,
-                fault,
-            });
+            self.run
+                .teller
+                .tell(self.rt, refused_line(feed, number, fault, record));
         }
     }
 }

@@ -2,6 +2,7 @@
 use crate::report::Heard;
 use crate::serving::Means;
 use crate::silence::{Notice, Silence};
+use crate::text::Text;
 use nms_quote::{Feed, MOST_FEEDS};
 use std::sync::Wait;
 use std::time::{Clock, Duration};
@@ -27,7 +28,7 @@ pub(crate) fn watch_feeds<R: Wait>(means: &Means<'_, R>, seconds: u32) {
 }
 
 /// Looks at each feed once.
-fn look_at_all<R>(means: &Means<'_, R>, seconds: u32, silences: &mut [Silence]) {
+fn look_at_all<R: Wait>(means: &Means<'_, R>, seconds: u32, silences: &mut [Silence]) {
     let now = now_of(means.host);
     for place in 0..means.run.setup.feeds() {
         if let (Some(feed), Some(silence)) = (
@@ -40,7 +41,13 @@ fn look_at_all<R>(means: &Means<'_, R>, seconds: u32, silences: &mut [Silence]) 
 }
 
 /// Looks at a feed, and writes the report, if any.
-fn look_at<R>(means: &Means<'_, R>, feed: Feed, seconds: u32, now: u64, silence: &mut Silence) {
+fn look_at<R: Wait>(
+    means: &Means<'_, R>,
+    feed: Feed,
+    seconds: u32,
+    now: u64,
+    silence: &mut Silence,
+) {
     let voice = means.run.voices.of(feed);
     // The end is checked first: a record that came before it is still noticed.
     let has_ended = voice.has_ended();
@@ -49,17 +56,18 @@ fn look_at<R>(means: &Means<'_, R>, feed: Feed, seconds: u32, now: u64, silence:
         return;
     }
     if let Some(notice) = silence.look(now, has_spoken, u64::from(seconds) * SECOND) {
-        report(means.host, feed, seconds, notice);
+        report(means, feed, seconds, notice);
     }
 }
 
-/// Reports a notice on standard error.
-fn report(host: &HostRuntime, feed: Feed, seconds: u32, notice: Notice) {
-    let _ = host.eprintln(Heard {
+/// Reports a notice.
+fn report<R: Wait>(means: &Means<'_, R>, feed: Feed, seconds: u32, notice: Notice) {
+    let heard = Heard {
         feed,
         seconds,
         notice,
-    });
+    };
+    means.run.teller.tell(means.rt, Text::of(heard));
 }
 
 /// The time of the clock, in milliseconds; 0 if it can't be read.

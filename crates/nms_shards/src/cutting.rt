@@ -10,7 +10,7 @@ use crate::rosters::{bare_roster, lot_lent, own_roster};
 use csv::ByteRecord;
 use nms_board::Boards;
 use nms_fees::Setup;
-use nms_import::{Cause, Columns, Entry, ImportFault, Meanings, entry_with, symbol_in};
+use nms_import::{Cause, Columns, Entry, ImportFault, Meanings, entry_with, left_with, symbol_in};
 use nms_lines::name_of_sym;
 use nms_opening::{OpeningChanges, opening_of, reopened};
 use nms_quote::{Change, MOST_SYMBOLS, Roster, Sym, is_symbol_name};
@@ -30,15 +30,19 @@ pub struct Listed {
     pub first: u64,
     /// The version after its last change.
     pub last: u64,
+    /// The time of its first change after the cut that the shard begins at, as the digits HHMMSSnnnnnnnnn, if it goes on with the symbol.
+    pub from: Option<u64>,
+    /// The time of the first change of the next shard, likewise, if that goes on with the symbol.
+    pub until: Option<u64>,
 }
 
 /// What a row of a market says.
 #[derive(Clone, Copy)]
 pub(crate) enum Said {
-    /// One more change of the current symbol.
-    More(Entry),
-    /// The first change of another symbol.
-    Begins(Entry),
+    /// One more change of the current symbol, with the cause if the row was refused.
+    More(Entry, Option<Cause>),
+    /// The first change of another symbol, with the cause if the row was refused.
+    Begins(Entry, Option<Cause>),
     /// A change of a symbol that has ended.
     Returned,
     /// No change.
@@ -60,7 +64,7 @@ pub struct Cutting {
     opened: u64,
     time: u64,
     number: u64,
-    splits: bool,
+    cut: Option<u64>,
     scratch: Vec<u8>,
 }
 
@@ -101,7 +105,7 @@ impl Cutting {
                 opened: 0,
                 time: 0,
                 number: 0,
-                splits: false,
+                cut: None,
                 scratch: Vec::new(alloc),
             }),
             Err(fault) => Err(fault),
@@ -132,6 +136,11 @@ impl Cutting {
         self.opened
     }
 
+    /// The allocator.
+    pub(crate) fn alloc(&self) -> Global {
+        self.alloc
+    }
+
     /// The roster of the current symbol.
     pub(crate) fn own(&self) -> &Roster {
         &self.own
@@ -149,7 +158,12 @@ impl Cutting {
     {
         let text = columns.symbol.text(row);
         match symbol_in(meanings, &self.own, text, &mut self.scratch)? {
-            Some(sym) => Ok(more_of(entry_with(columns, meanings, &self.own, row, Some(sym)))),
+            Some(sym) => {
+                match entry_with(columns, meanings, &self.own, row, Some(sym)) {
+                    Ok(entry) => Ok(Said::More(entry, None)),
+                    Err(cause) => Ok(self.left_more(columns, meanings, row, cause, sym)),
+                }
+            }
             None => self.read_other(columns, meanings, lent, row),
         }
     }
@@ -165,15 +179,59 @@ impl Cutting {
         ensures stays { self.new ≡ self.old }
     {
         if !is_symbol_name(&self.scratch) {
-            return Ok(begins(entry_with(columns, meanings, &self.bare, row, None)));
+            // It is of no symbol, and a refused one leaves nothing.
+            return match entry_with(columns, meanings, &self.bare, row, None) {
+                Ok(_) => Ok(Said::Returned),
+                Err(cause) => Ok(Said::Nothing(cause)),
+            };
         }
         self.next = own_roster(self.alloc, lent, &self.scratch)?;
         let sym = self.next.find_sym(&self.scratch);
-        let entry = entry_with(columns, meanings, &self.next, row, sym);
-        if entry.is_ok() && self.begun.contains(name_of_sym(&self.next, first_sym())) {
-            return Ok(Said::Returned);
+        let is_over = self.begun.contains(name_of_sym(&self.next, first_sym()));
+        match entry_with(columns, meanings, &self.next, row, sym) {
+            Ok(_) if is_over => Ok(Said::Returned),
+            Err(cause) if is_over => Ok(Said::Nothing(cause)),
+            Ok(entry) => Ok(Said::Begins(entry, None)),
+            Err(cause) => Ok(self.left_first(columns, meanings, row, cause)),
         }
-        Ok(begins(entry))
+    }
+
+    /// What a refused or skipped row of the current symbol says.
+    fn left_more(
+        &self,
+        columns: &Columns,
+        meanings: &Meanings,
+        row: &ByteRecord,
+        cause: Cause,
+        sym: Sym,
+    ) -> Said {
+        match left_with(
+            columns,
+            meanings,
+            &self.own,
+            row,
+            cause,
+            Some(sym),
+            self.time,
+        ) {
+            Some(left) => Said::More(left, Some(cause)),
+            None => Said::Nothing(cause),
+        }
+    }
+
+    /// What a refused or skipped row of a symbol that has not begun says.
+    fn left_first(
+        &self,
+        columns: &Columns,
+        meanings: &Meanings,
+        row: &ByteRecord,
+        cause: Cause,
+    ) -> Said {
+        let sym = self.next.find_sym(&self.scratch);
+        match left_with(columns, meanings, &self.next, row, cause, sym, self.time) {
+            Some(left) => Said::Begins(left, Some(cause)),
+            None => Said::Nothing(cause),
+        }
     }
 
     /// Whether the shard has room for one more change of the current symbol.
@@ -190,11 +248,12 @@ impl Cutting {
         self.listed.len() < usize::from(MOST_SYMBOLS) && self.count < self.limit / 2
     }
 
-    /// Sets whether the next shard goes on with the current symbol.
-    pub(crate) fn split(&mut self, splits: bool)
+    /// Sets that the next shard goes on with the current symbol, whose next change has this time; with none it begins with another.
+    pub(crate) fn split(&mut self, cut: Option<u64>)
         ensures stays { self.new ≡ self.old }
     {
-        self.splits = splits;
+        self.cut = cut;
+        set_until(&mut self.listed, cut);
     }
 
     /// Begins with the symbol that was read last, which is another.
@@ -210,7 +269,14 @@ impl Cutting {
         let board = new_board(self.alloc, &self.next)?;
         mem::swap(&mut self.own, &mut self.next);
         self.board = board;
-        let listed = listed_symbol(self.alloc, &self.own, lent, self.count + 1, self.count)?;
+        let listed = listed_symbol(
+            self.alloc,
+            &self.own,
+            lent,
+            self.count + 1,
+            self.count,
+            None,
+        )?;
         match self.listed.push(listed) {
             Ok(()) => Ok(()),
             Err(_) => Err(ImportFault::NoMemory),
@@ -245,14 +311,15 @@ impl Cutting {
         self.listed.clear();
         self.count = 0;
         self.opened = 0;
-        if !self.splits || !self.board.has_sym(first_sym()) {
+        let from = self.cut;
+        self.cut = None;
+        if from.is_none() || !self.board.has_sym(first_sym()) {
             return Ok(None);
         }
-        self.splits = false;
         let opening = opening_of(&self.board, first_sym());
         let changes = opening.as_slice().len() as u64;
         self.board = reopen(self.alloc, &self.own, &self.board)?;
-        let listed = listed_symbol(self.alloc, &self.own, lent, 1, changes)?;
+        let listed = listed_symbol(self.alloc, &self.own, lent, 1, changes, from)?;
         match self.listed.push(listed) {
             Ok(()) => {}
             Err(_) => return Err(ImportFault::NoMemory),
@@ -317,29 +384,14 @@ fn first_sym() -> Sym
     Sym::new(0).unwrap()
 }
 
-/// What a row of the current symbol says.
-fn more_of(entry: Result<Entry, Cause>) -> Said {
-    match entry {
-        Ok(entry) => Said::More(entry),
-        Err(cause) => Said::Nothing(cause),
-    }
-}
-
-/// What a row of a symbol that has not begun says.
-fn begins(entry: Result<Entry, Cause>) -> Said {
-    match entry {
-        Ok(entry) => Said::Begins(entry),
-        Err(cause) => Said::Nothing(cause),
-    }
-}
-
-/// The only symbol of a roster, with the versions of its changes.
+/// The only symbol of a roster, with the versions of its changes, and the time of the first one after a cut.
 fn listed_symbol(
     alloc: Global,
     own: &Roster,
     lent: &Roster,
     first: u64,
     last: u64,
+    from: Option<u64>,
 ) -> Result<Listed, ImportFault> {
     let name = name_of_sym(own, first_sym());
     let lot = lot_lent(lent, name.as_bytes());
@@ -349,8 +401,19 @@ fn listed_symbol(
             lot,
             first,
             last,
+            from,
+            until: None,
         }),
         Err(_) => Err(ImportFault::NoMemory),
+    }
+}
+
+/// Sets the time of the first change of the last symbol in the next shard.
+fn set_until(listed: &mut Vec<Listed>, until: Option<u64>)
+    ensures { length listed.new.items ≡ length listed.old.items }
+{
+    if let Some(symbol) = listed.last_mut() {
+        symbol.until = until;
     }
 }
 

@@ -8,30 +8,83 @@ ghost use Rattle.nms_show.specs.Written.{Writes};
 use crate::cutting::{Cutting, Listed};
 use nms_fee_book::Caps;
 use nms_fees::Setup;
-use nms_import::ImportFault;
+use nms_import::{ImportFault, append_clock};
 use nms_quote::{Feed, OrderSide, Part};
 use nms_show::{Form, Item, ShowFault, write_line};
 use nms_units::Price;
 use std::io::Write;
 
-/// Writes a line for each symbol of the shard: its name, and the versions after its first and its last change. What is written
-/// is safe to show on a terminal.
+/// Writes a line for each symbol of the shard: its name, and the versions after its first and its last change. For a symbol that is cut
+/// one more follows for each cut, where ` from ` or ` until ` and the time of the first change after the cut stand after the name. What
+/// is written is safe to show on a terminal.
 pub fn write_listed<W: Write>(out: &mut W, cutting: &Cutting) -> Result<(), ImportFault>
     ensures safe { Writes IsSafe (W.contents out.old) (W.contents out.new) result }
 {
+    let mut time = Vec::new(cutting.alloc());
     for listed in cutting.listed() {
-        line(
-            out,
-            &[
-                Item::Bytes(listed.name.as_bytes()),
-                Item::Text(","),
-                Item::Number(listed.first),
-                Item::Text(","),
-                Item::Number(listed.last),
-            ],
-        )?;
+        write_lines(out, &mut time, listed)?;
     }
     Ok(())
+}
+
+/// Writes the lines of a symbol.
+fn write_lines<W: Write>(
+    out: &mut W,
+    time: &mut Vec<u8>,
+    listed: &Listed,
+) -> Result<(), ImportFault>
+    ensures { Writes IsSafe (W.contents out.old) (W.contents out.new) result }
+{
+    let none: &[u8] = &[];
+    versions_line(out, listed, "", none)?;
+    cut_line(out, time, listed, " from ", listed.from)?;
+    cut_line(out, time, listed, " until ", listed.until)
+}
+
+/// Writes the line of a cut, if there is one.
+fn cut_line<W: Write>(
+    out: &mut W,
+    time: &mut Vec<u8>,
+    listed: &Listed,
+    word: &str,
+    cut: Option<u64>,
+) -> Result<(), ImportFault>
+    ensures { is_plain word.now ≡ true → Writes IsSafe (W.contents out.old) (W.contents out.new) result }
+{
+    let Some(cut) = cut else {
+        return Ok(());
+    };
+    time.clear();
+    match append_clock(time, cut) {
+        Ok(()) => {
+            let digits = time.as_slice();
+            versions_line(out, listed, word, digits)
+        }
+        Err(_) => Err(ImportFault::NoMemory),
+    }
+}
+
+/// Writes the name of a symbol, a word and a time, and the versions after its first and its last change.
+fn versions_line<'x, W: Write>(
+    out: &mut W,
+    listed: &'x Listed,
+    word: &'x str,
+    time: &'x [u8],
+) -> Result<(), ImportFault>
+    ensures { is_plain word.now ≡ true → Writes IsSafe (W.contents out.old) (W.contents out.new) result }
+{
+    line(
+        out,
+        &[
+            Item::Bytes(listed.name.as_bytes()),
+            Item::Text(word),
+            Item::Bytes(time),
+            Item::Text(","),
+            Item::Number(listed.first),
+            Item::Text(","),
+            Item::Number(listed.last),
+        ],
+    )
 }
 
 /// Writes the setup of the shard: the given one with the shard's symbols in place of its own. A comment at its start says how

@@ -3,7 +3,7 @@ ghost use Rattle.std.specs.Prelude.{◌≡◌, ℕ, ◌<◌, ◌≤◌, ◌+◌,
 ghost use Rattle.csv.specs.declared.parser.Config.{Config};
 ghost use Rattle.nms_lines.specs.Layout.{Record};
 ghost use Rattle.nms_import.specs.Imported.{changes_in, rows_in};
-ghost use Rattle.nms_import.specs.Rows.{AreAllRows, RowsFrom};
+ghost use Rattle.nms_import.specs.Rows.{AreAllRows, RowsFrom, unread};
 ghost use Rattle.nms_opening.specs.declared.TheConstants.{MOST_OPENING};
 ghost use Rattle.nms_shards.specs.Shard.{AreRead, waiting, waiting_after};
 
@@ -11,8 +11,8 @@ use crate::cutting::{Cutting, Said};
 use csv::{ByteRecord, Reader};
 use nms_change_text::append_changes;
 use nms_import::{
-    Columns, Entry, ImportFault, MOST_ROWS, Meanings, Notes, Tally, Told, append_line, give,
-    next_row, write_entry,
+    Cause, Columns, Entry, ImportFault, MOST_ROWS, Meanings, Notes, RowSource, Tally, Told,
+    append_line, give, line_of, next_row, note_cause, write_entry,
 };
 use nms_quote::{Change, Roster};
 use std::alloc::AllocError;
@@ -28,7 +28,8 @@ pub enum Shard {
 }
 
 /// Imports the rows that a reader still has until the shard is full. With `waits` the current row comes first. Changes are
-/// written with their times, in order, and every outcome is counted.
+/// written with their times, in order, and every outcome is counted. As in a plain import a refused row withdraws what its
+/// participant showed, unless the mapping keeps it.
 ///
 /// An error leaves a first part of both texts written. The writers are not flushed.
 pub fn import_shard<R: Read, C: Write, T: Write, E: Write>(
@@ -40,17 +41,18 @@ pub fn import_shard<R: Read, C: Write, T: Write, E: Write>(
     cutting: &mut Cutting,
     row: &mut ByteRecord,
     text: &mut Vec<u8>,
-    reader: &mut Reader<R>,
+    reader: &mut Reader<RowSource<R>>,
     changes: &mut C,
     times: &mut T,
     notes: &mut Notes,
     told: &mut Told<'_, E>,
     tally: &mut Tally,
 ) -> Result<Shard, ImportFault>
-    ensures rows { (config : Config) (bytes : Option (List ℕ)) (seen : List Record) → RowsFrom config R.remaining reader.old bytes seen
-        → IfOk result (λ shard. (rows : List Record) × AreRead config R.remaining reader.new bytes (seen ++ rows) shard
+    ensures rows { (config : Config) (bytes : Option (List ℕ)) (seen : List Record) → RowsFrom config (unread R.remaining) reader.old bytes seen
+        → IfOk result (λ shard. (rows : List Record) × AreRead config (unread R.remaining) reader.new bytes (seen ++ rows) shard
         × (rows_in tally.new + waiting_after shard ≡ rows_in tally.old + waiting waits + length rows)) }
-    ensures changes { OnOk result (changes_in tally.new + cutting.old.changes ≡ changes_in tally.old + cutting.new.changes) }
+    ensures changes { OnOk result (notes.new.changes + cutting.old.changes ≡ notes.old.changes + cutting.new.changes) }
+    ensures own { OnOk result (changes_in tally.new + cutting.old.changes ≤ changes_in tally.old + cutting.new.changes) }
     ensures opened { OnOk result (cutting.new.opened ≡ cutting.old.opened) }
     ensures limit { OnOk result (cutting.new.limit ≡ cutting.old.limit) }
 {
@@ -62,6 +64,7 @@ pub fn import_shard<R: Read, C: Write, T: Write, E: Write>(
         if !fetch_row(at_hand, reader, row)? {
             return Ok(Shard::GoesOn);
         }
+        told.at(line_of(reader, row));
         at_hand = false;
         let is_taken = import_row(
             columns,
@@ -88,14 +91,14 @@ pub fn import_shard<R: Read, C: Write, T: Write, E: Write>(
 /// Reads the next row, unless one waits. Returns whether there is one.
 fn fetch_row<R: Read>(
     at_hand: bool,
-    reader: &mut Reader<R>,
+    reader: &mut Reader<RowSource<R>>,
     row: &mut ByteRecord,
 ) -> Result<bool, ImportFault>
     ensures found { (config : Config) (bytes : Option (List ℕ)) (seen : List Record)
-        → RowsFrom config R.remaining reader.old bytes seen → result ≡ Ok true
-        → (rows : List Record) × RowsFrom config R.remaining reader.new bytes (seen ++ rows) × (length rows + waiting at_hand ≡ 1) }
+        → RowsFrom config (unread R.remaining) reader.old bytes seen → result ≡ Ok true
+        → (rows : List Record) × RowsFrom config (unread R.remaining) reader.new bytes (seen ++ rows) × (length rows + waiting at_hand ≡ 1) }
     ensures end { (config : Config) (bytes : Option (List ℕ)) (seen : List Record)
-        → RowsFrom config R.remaining reader.old bytes seen → result ≡ Ok false
+        → RowsFrom config (unread R.remaining) reader.old bytes seen → result ≡ Ok false
         → AreAllRows config bytes seen × (waiting at_hand ≡ 0) }
 {
     if at_hand {
@@ -122,14 +125,16 @@ fn import_row<C: Write, T: Write, E: Write>(
 ) -> Result<bool, ImportFault>
     requires few { rows_in tally.old < 1000000000000 }
     ensures rows { IfOk result (λ taken. rows_in tally.new ≡ rows_in tally.old + (if taken then 1 else 0)) }
-    ensures changes { OnOk result (changes_in tally.new + cutting.old.changes ≡ changes_in tally.old + cutting.new.changes) }
+    ensures changes { OnOk result (notes.new.changes + cutting.old.changes ≡ notes.old.changes + cutting.new.changes) }
+    ensures own { OnOk result (changes_in tally.new + cutting.old.changes ≤ changes_in tally.old + cutting.new.changes) }
     ensures opened { OnOk result (cutting.new.opened ≡ cutting.old.opened) }
     ensures limit { OnOk result (cutting.new.limit ≡ cutting.old.limit) }
 {
     match cutting.read(columns, meanings, lent, row)? {
         Said::Nothing(cause) => {
             tally.count_cause(cause);
-            told.tell(columns, row, cause);
+            tell_cause(columns, row, cause, told);
+            note_cause(cause, row, number, notes);
             Ok(true)
         }
         Said::Returned => {
@@ -137,39 +142,58 @@ fn import_row<C: Write, T: Write, E: Write>(
             told.tell_returned(columns, row);
             Ok(true)
         }
-        Said::Begins(entry) => {
+        Said::Begins(entry, cause) => {
             if !cutting.takes_symbol() {
-                cutting.split(false);
+                cutting.split(None);
                 return Ok(false);
             }
             cutting.begin_symbol(lent)?;
             notes.begin_symbol();
             import_entry(
-                columns, numbers, number, &entry, cutting, row, text, changes, times, notes, told,
-                tally,
+                columns, numbers, number, &entry, cause, cutting, row, text, changes, times, notes,
+                told, tally,
             )?;
             Ok(true)
         }
-        Said::More(entry) => {
+        Said::More(entry, cause) => {
             if !cutting.has_room(&entry.change) {
-                cutting.split(true);
+                cutting.split(Some(entry.time));
                 return Ok(false);
             }
             import_entry(
-                columns, numbers, number, &entry, cutting, row, text, changes, times, notes, told,
-                tally,
+                columns, numbers, number, &entry, cause, cutting, row, text, changes, times, notes,
+                told, tally,
             )?;
             Ok(true)
         }
     }
 }
 
-/// Writes the change that a row makes for the current symbol, and counts it.
+/// Shows a row that makes no change. A market has no roster of symbols, so that only the form of one can be wrong.
+fn tell_cause<E: Write>(columns: &Columns, row: &ByteRecord, cause: Cause, told: &mut Told<'_, E>) {
+    match cause {
+        Cause::UnknownSymbol | Cause::OtherSymbol => told.tell_unformed(columns, row, cause),
+        Cause::TooFewColumns
+        | Cause::BadTime
+        | Cause::UnknownParticipant
+        | Cause::UnknownCondition
+        | Cause::OneSided(_)
+        | Cause::BadPrice(_)
+        | Cause::BadSize(_)
+        | Cause::HalfSide(_)
+        | Cause::Trailer
+        | Cause::Listed => told.tell(columns, row, cause),
+    }
+}
+
+/// Writes the change that a row gives for the current symbol, and counts it. `cause` is why the row was refused, if it was: its
+/// change is a withdrawal.
 fn import_entry<C: Write, T: Write, E: Write>(
     columns: &Columns,
     numbers: bool,
     number: u64,
     entry: &Entry,
+    cause: Option<Cause>,
     cutting: &mut Cutting,
     row: &ByteRecord,
     text: &mut Vec<u8>,
@@ -182,18 +206,41 @@ fn import_entry<C: Write, T: Write, E: Write>(
     requires few { rows_in tally.old < 1000000000000 }
     requires room { cutting.old.changes < cutting.old.limit }
     ensures rows { OnOk result (rows_in tally.new ≡ rows_in tally.old + 1) }
-    ensures changes { OnOk result (changes_in tally.new ≡ changes_in tally.old + 1) }
+    ensures changes { OnOk result (changes_in tally.new ≤ changes_in tally.old + 1) }
+    ensures noted { OnOk result (notes.new.changes ≡ notes.old.changes + 1) }
     ensures shard { OnOk result (cutting.new.changes ≡ cutting.old.changes + 1) }
     ensures opened { OnOk result (cutting.new.opened ≡ cutting.old.opened) }
     ensures limit { OnOk result (cutting.new.limit ≡ cutting.old.limit) }
 {
-    tally.count_change(entry.one_sided);
+    count_row(columns, entry, cause, row, told, tally);
     write_entry(cutting.own(), entry, numbers, number, text, changes, times)?;
     cutting.count(number, entry);
     if notes.note(cutting.own(), entry)? {
         told.tell_fall(columns, row);
     }
     Ok(())
+}
+
+/// Counts a row that gives a change: one of its own, or a withdrawal if it was refused.
+fn count_row<E: Write>(
+    columns: &Columns,
+    entry: &Entry,
+    cause: Option<Cause>,
+    row: &ByteRecord,
+    told: &mut Told<'_, E>,
+    tally: &mut Tally,
+)
+    requires few { rows_in tally.old < 1000000000000 }
+    ensures rows { rows_in tally.new ≡ rows_in tally.old + 1 }
+    ensures changes { changes_in tally.new ≤ changes_in tally.old + 1 }
+{
+    match cause {
+        None => tally.count_change(entry.one_sided),
+        Some(cause) => {
+            tally.count_cause(cause);
+            told.tell(columns, row, cause);
+        }
+    }
 }
 
 /// Begins the next shard. If it goes on with a symbol, that symbol's opening changes come first, all at the time of the last

@@ -2,6 +2,7 @@
 //! reaches a terminal.
 #![tactic(auto)]
 
+mod closed_streams;
 mod columns;
 mod ending;
 mod form;
@@ -14,6 +15,7 @@ mod shown;
 mod under;
 mod written;
 
+pub use closed_streams::open_closed_streams;
 pub use ending::Ending;
 pub use form::Form;
 pub use item::{Column, Item};
@@ -24,4 +26,5 @@ pub use report::{
     write_found, write_place, write_plain_line, write_plain_object, write_refused,
 };
 pub use show_fault::ShowFault;
+pub use shown::write_shown;
 pub use under::write_under;

@@ -7,8 +7,11 @@ mod OrderFacts
 mod OwnFacts
 mod PartFacts
 mod PowerFacts
+mod QuotedFacts
 mod RankFacts
 mod StandingFacts
+mod StretchFacts
+mod BelowFacts
 mod SumFacts
 mod TrackFacts
 mod TurnFacts

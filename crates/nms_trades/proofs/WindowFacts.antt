@@ -7,6 +7,7 @@ use Rattle.nms_times.specs.Times.{version_at, version_before}
 use Rattle.nms_times.specs.declared.rising.Rising.{Rising}
 use Rattle.nms_trades.specs.When.{IsWithin, timed, version_by}
 use Rattle.nms_trades.specs.declared.clock.Clock.{Clock}
+use Rattle.nms_trades.specs.declared.stretch.Stretch.{Stretch}
 
 -- hours, minutes, seconds and nanoseconds as one number order times as the nanoseconds since midnight do
 parts_order : (h m s n h' m' s' n' : ℕ) → m < 60 → s < 60 → n < 1000000000 → m' < 60 → s' < 60 → n' < 1000000000
@@ -87,12 +88,12 @@ rises true rising t u at earlier within = omega (arith, earlier within)
 rises false rising t u at earlier within = omega (arith, at within)
 
 -- the version at a time lies within its window
-pub timed_within : (clock : Clock) (rising : Rising) (t : ℕ)
+pub timed_within : (clock : Clock) (stretch : Stretch) (rising : Rising) (t : ℕ)
     → ((times : List ℕ) (t u : ℕ) → t ≤ u → version_at times t ≤ version_at times u)
     → ((times : List ℕ) (t u : ℕ) → t ≤ u → version_before times t ≤ version_before times u)
     → is_clock t ≡ true
-    → IsWithin (timed clock rising t).first (timed clock rising t).version (timed clock rising t).last
-timed_within clock rising t at earlier valid =
+    → IsWithin (timed clock stretch rising t).first (timed clock stretch rising t).version (timed clock stretch rising t).last
+timed_within clock stretch rising t at earlier valid =
     let low = earlier_by clock.window t in
     let high = later_by clock.window t in
     let times = rising.times.now in (

@@ -9,7 +9,7 @@ use Rattle.nms_lines.specs.Text.{text_of}
 use Rattle.nms_show.specs.declared.form.Form.{Form}
 use Rattle.nms_show.specs.declared.form.Form.TheVariants as form
 use Rattle.nms_show.specs.declared.show_fault.ShowFault.{ShowFault}
-use Rattle.nms_trades.specs.Lines.{clean_record, refusal_record, through_records}
+use Rattle.nms_trades.specs.Lines.{other_record, quiet_record, refusal_record, through_records}
 use Rattle.nms_trades.specs.Sums.{sums_found}
 use Rattle.nms_trades.specs.declared.execution.Execution.{Execution}
 use Rattle.nms_trades.specs.declared.execution_file.Refusal.{Refusal}
@@ -58,16 +58,19 @@ in_order found place (execution ∷ rest) refused =
     map Refused (take (count_before (Some execution.number) refused) refused)
     ++ Judged execution (found_at found place) ∷ in_order found (suc place) rest (refused_left (Some execution.number) refused)
 
--- the records of an execution that traded through, or those of a clean one
-abbrev pub by_standing : Standing → (clean through : List Record) → List Record
-by_standing standing.Clean clean through = clean
-by_standing standing.Perhaps clean through = through
-by_standing standing.Through clean through = through
+-- the records of an execution that traded through, those of one that did not, or those of one that is not judged here
+abbrev pub by_standing : Standing → (quiet through other : List Record) → List Record
+by_standing standing.Clean quiet through other = quiet
+by_standing standing.Unquoted quiet through other = quiet
+by_standing standing.Perhaps quiet through other = through
+by_standing standing.Through quiet through other = through
+by_standing standing.Other quiet through other = other
 
 -- what is written of an execution
 abbrev pub found_records : Listing → Execution → Finding → List Record
 found_records roster execution finding =
-    by_standing finding.standing (clean_record execution ∷ []) (through_records roster execution finding (sums_found execution finding))
+    by_standing finding.standing (quiet_record finding.standing execution ∷ [])
+    (through_records roster execution finding (sums_found execution finding)) (other_record execution ∷ [])
 
 -- what is written of an answer
 abbrev pub answer_records : Listing → Answer → List Record

@@ -1,14 +1,20 @@
--- Worked examples of what is written of executions. The right-hand sides are worked out by hand.
-use Rattle.std.specs.Prelude.{ℕ, ◌≡◌, true, false, [], ◌∷◌, codes, map, pos}
+-- Worked examples of what is found and written of executions. The right-hand sides are worked out by hand.
+use Rattle.std.specs.Prelude.{ℕ, ◌≡◌, true, false, [], ◌∷◌, codes, map, pos, Option, Some, None}
 use Rattle.nms_quote.specs.Members.{nobody}
+use Rattle.nms_quote.specs.Tape.{Tape}
+use Rattle.nms_quote.specs.declared.change.Change.TheVariants as change
+use Rattle.nms_quote.specs.declared.side_quote.QState.TheVariants.{Automated}
 use Rattle.nms_show.specs.declared.ending.Ending.TheVariants as ending
 use Rattle.nms_trades.specs.Answers.{in_order, number_of}
 use Rattle.nms_trades.specs.Files.{ending_of}
 use Rattle.nms_trades.specs.Lines.{causes_text}
+use Rattle.nms_trades.specs.Quoted.{is_unquoted}
+use Rattle.nms_trades.specs.Stretch.{is_own}
 use Rattle.nms_trades.specs.Sums.{Marked, sums_in}
 use Rattle.nms_trades.specs.declared.claims.Claims.{Claims}
 use Rattle.nms_trades.specs.declared.execution.Execution.{Execution}
 use Rattle.nms_trades.specs.declared.execution_file.Refusal.{Refusal}
+use Rattle.nms_trades.specs.declared.stretch.Stretch.{Stretch}
 use Rattle.nms_trades.specs.declared.trade_fault.TradeFault.TheVariants as fault
 
 -- no claim
@@ -51,7 +57,24 @@ refused_as number = record { number = number; fault = fault.BadPrice }
 abbrev pub numbered : Execution → ℕ → Execution
 numbered execution number = record execution { number = number }
 
+-- in symbol 1 participant 0 sets its state, quotes without prices and withdraws; no other symbol is quoted
+abbrev pub quoted_once : Tape
+quoted_once = change.State 0 1 Automated ∷ change.Quote 0 1 Automated None None ∷ change.Withdraw 0 ∷ []
+
+-- a shard from a change at 5 on, up to one at 9
+abbrev pub five_to_nine : Stretch
+five_to_nine = record { from = Some 5; until = Some 9 }
+
 pub record ExamplesHold : Type 0 where
+  pub a_state_is_no_quotation : is_unquoted quoted_once 1 1 ≡ true
+  pub one_without_prices_is : is_unquoted quoted_once 1 2 ≡ false
+  pub a_withdrawal_is_known : is_unquoted quoted_once 1 3 ≡ false
+  pub another_symbol_is_not_quoted : is_unquoted quoted_once 0 3 ≡ true
+  -- the change at a cut is in force at its own time, and before it if the changes of that time are left out
+  pub a_shard_begins_at_its_cut : is_own false five_to_nine 5 ≡ true
+  pub it_ends_before_the_next : is_own false five_to_nine 9 ≡ false
+  pub without_its_own_time_it_begins_later : is_own true five_to_nine 5 ≡ false
+  pub and_ends_later : is_own true five_to_nine 9 ≡ true
   -- 200 shares lose 0.02 dollar each, and the 200 that are left 0.01: 6 dollars
   pub both_bids : (execution : Execution)
       → sums_in (sold execution claims_nothing) 400 (first_bid ∷ second_bid ∷ [])

@@ -7,6 +7,7 @@ use Rattle.nms_board.specs.declared.row.Row.{Row}
 use Rattle.nms_trades.specs.Around.{flickers, goes_through_at, standing_over}
 use Rattle.nms_trades.specs.Bests.{best_at}
 use Rattle.nms_trades.specs.Judged.{IsFound}
+use Rattle.nms_trades.specs.Quoted.{answered_as, is_unquoted}
 use Rattle.nms_trades.specs.Track.{HasTrack}
 use Rattle.nms_trades.specs.declared.execution.Execution.{Execution}
 use Rattle.nms_trades.specs.declared.finding.Finding.{Finding}
@@ -17,6 +18,11 @@ use Rattle.nms_trades.specs.declared.track.Track.{Track}
 abbrev pub standing_in : Sizes → Tape → Execution → Standing
 standing_in sizes tape execution =
     standing_over (goes_through_at sizes tape execution.sym execution.millionths) execution.first execution.last
+
+-- its answer: a clean one was quoted on each version of its window, which it was if it was on the first; and another shard's is no finding
+abbrev pub answer_in : Sizes → Tape → Execution → Standing
+answer_in sizes tape execution =
+    answered_as execution.other (is_unquoted tape execution.sym execution.first) (standing_in sizes tape execution)
 
 -- whether a quotation that was traded through flickered: in some version from that in force one second before to its own
 abbrev pub has_flickered : Sizes → Tape → Execution → Side × Row → Bool
@@ -34,11 +40,17 @@ flickers_of sizes tape execution passed = if_timed execution.time (map (has_flic
 -- all that is found
 pub record IsJudged (sizes : Sizes) (tape : Tape) (execution : Execution) (finding : Finding) : Type 0 where
   pub own : IsFound sizes tape execution finding
-  pub standing : finding.standing ≡ standing_in sizes tape execution
+  pub standing : finding.standing ≡ answer_in sizes tape execution
   pub flickers : finding.flickers.items ≡ flickers_of sizes tape execution finding.passed.items
 
 -- the same but for flickering quotations, which were not looked for
 pub record IsStanding (sizes : Sizes) (tape : Tape) (execution : Execution) (finding : Finding) : Type 0 where
+  pub own : IsFound sizes tape execution finding
+  pub standing : finding.standing ≡ answer_in sizes tape execution
+  pub flickers : finding.flickers.items ≡ []
+
+-- the same before it is asked whether the symbol was quoted, and whether another shard judges it
+pub record IsWeighed (sizes : Sizes) (tape : Tape) (execution : Execution) (finding : Finding) : Type 0 where
   pub own : IsFound sizes tape execution finding
   pub standing : finding.standing ≡ standing_in sizes tape execution
   pub flickers : finding.flickers.items ≡ []

@@ -15,7 +15,9 @@ pub mod Found
 pub mod Judged
 pub mod Lines
 pub mod Parts
+pub mod Quoted
 pub mod Reading
+pub mod Stretch
 pub mod Sums
 pub mod Track
 pub mod Turns

@@ -27,15 +27,21 @@ use Rattle.nms_trades.specs.declared.standing.Standing.TheVariants as standing
 abbrev pub refusal_record : Refusal → Record
 refusal_record refusal = codes "REFUSED" ∷ decimal refusal.number ∷ decimal (column_of refusal.fault) ∷ code_of refusal.fault ∷ []
 
--- an execution that traded through nothing
-abbrev pub clean_record : Execution → Record
-clean_record execution = codes "CLEAN" ∷ execution.name.items ∷ decimal execution.version ∷ []
-
 -- the word of a standing
 abbrev pub standing_word : Standing → List ℕ
 standing_word standing.Clean = codes "CLEAN"
+standing_word standing.Unquoted = codes "NOQUOTE"
 standing_word standing.Perhaps = codes "PERHAPS"
 standing_word standing.Through = codes "THROUGH"
+standing_word standing.Other = codes "OTHER"
+
+-- an execution that traded through nothing
+abbrev pub quiet_record : Standing → Execution → Record
+quiet_record standing execution = standing_word standing ∷ execution.name.items ∷ decimal execution.version ∷ []
+
+-- one that another shard judges
+abbrev pub other_record : Execution → Record
+other_record execution = codes "OTHER" ∷ execution.name.items ∷ []
 
 -- whether a row is of the participant that executed
 abbrev pub is_own : Option ℕ → ℕ → Bool

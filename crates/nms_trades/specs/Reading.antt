@@ -40,6 +40,7 @@ when_of execution = record {
   last = execution.last;
   second_before = execution.second_before;
   time = execution.time;
+  other = execution.other;
 }
 
 -- a participant of the roster

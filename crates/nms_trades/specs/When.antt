@@ -1,13 +1,15 @@
 -- When an execution took place, and the versions that were in force then. This product's own rule.
-use Rattle.std.specs.Prelude.{ℕ, ◌≤◌, ◌+◌, ◌==◌, All, Bool, List, drop, length}
+use Rattle.std.specs.Prelude.{ℕ, ◌≤◌, ◌+◌, ◌==◌, All, Bool, false, List, drop, length}
 use Rattle.std.specs.Prelude.{nat_lt, slice_get, slice_index, IfSome, Option, Some, None, Result, Ok, Err}
-use Rattle.std.specs.Prelude.{if◌then◌else◌}
+use Rattle.std.specs.Prelude.{if◌then◌else◌, not, unwrap_or}
 use Rattle.nms_units.specs.Digits.{number_in}
 use Rattle.nms_times.specs.Clock.{earlier_by, later_by, time_reading}
 use Rattle.nms_times.specs.Times.{version_at, version_before}
 use Rattle.nms_times.specs.declared.rising.Rising.{Rising}
 use Rattle.nms_trades.specs.declared.clock.Clock.{Clock}
 use Rattle.nms_trades.specs.declared.clock.When.{When}
+use Rattle.nms_trades.specs.declared.stretch.Stretch.{Stretch}
+use Rattle.nms_trades.specs.Stretch.{is_own, whole_day}
 use Rattle.nms_trades.specs.declared.trade_fault.TradeFault.{TradeFault}
 use Rattle.nms_trades.specs.declared.trade_fault.TradeFault.TheVariants as fault
 
@@ -17,30 +19,36 @@ abbrev pub version_by : (before : Bool) → Rising → ℕ → ℕ
 version_by before rising t =
     if before then rising.before + version_before rising.times.now t else rising.before + version_at rising.times.now t
 
--- an execution at a time: its version, those of its window, and that of one second before
-abbrev pub timed : Clock → Rising → ℕ → When
-timed clock rising t = record {
+-- an execution at a time: its version, those of its window, and that of one second before; and whether another shard has its symbol then
+abbrev pub timed : Clock → Stretch → Rising → ℕ → When
+timed clock stretch rising t = record {
   version = version_by clock.before rising t;
   first = version_by clock.before rising (earlier_by clock.window t);
   last = version_by clock.before rising (later_by clock.window t);
   second_before = version_by clock.before rising (earlier_by 1000000000 t);
   time = Some t;
+  other = not (is_own clock.before stretch t);
 }
 
 -- an execution on a version, whose time is not known: that version alone
 abbrev pub untimed : ℕ → When
-untimed n = record { version = n; first = n; last = n; second_before = n; time = None }
+untimed n = record { version = n; first = n; last = n; second_before = n; time = None; other = false }
 
 -- the times of a symbol's changes, if the file of symbols has it
-abbrev pub among : Clock → ℕ → Option (Option Rising) → Result When TradeFault
-among clock t None = Err fault.NoChanges
-among clock t (Some None) = Err fault.NoChanges
-among clock t (Some (Some rising)) = Ok (timed clock rising t)
+abbrev pub among : Clock → Stretch → ℕ → Option (Option Rising) → Result When TradeFault
+among clock stretch t None = Err fault.NoChanges
+among clock stretch t (Some None) = Err fault.NoChanges
+among clock stretch t (Some (Some rising)) = Ok (timed clock stretch rising t)
+
+-- the part of the day that the changes have of a symbol; the whole day if none is known
+abbrev pub stretch_in : List Stretch → (sym : ℕ) → Stretch
+stretch_in stretches sym = unwrap_or (slice_get stretches sym) whole_day
 
 -- a time, if the changes have times
 abbrev pub at_time : Clock → (sym : ℕ) → Option ℕ → Result When TradeFault
 at_time clock sym None = Err fault.BadVersion
-at_time clock sym (Some t) = if clock.has_times then among clock t (slice_get clock.rising.items sym) else Err fault.NoTimes
+at_time clock sym (Some t) =
+    if clock.has_times then among clock (stretch_in clock.stretches.items sym) t (slice_get clock.rising.items sym) else Err fault.NoTimes
 
 -- a version, if the file has that many changes
 abbrev pub version_below : ℕ → Option ℕ → Result When TradeFault

@@ -1,8 +1,9 @@
 //! When an execution took place: versions that are found by their times: `specs/When`.
-ghost use Rattle.std.specs.Prelude.{◌≡◌, ◌≢◌, ◌≤◌, ◌+◌, IfErr, IfOk, IfSome, None, Some, drop, length, option_copied, slice_index};
+ghost use Rattle.std.specs.Prelude.{◌≡◌, ◌≢◌, ◌≤◌, ◌+◌, ℕ, IfErr, IfOk, IfSome, List, None, Some, drop, length, option_copied, slice_index};
 ghost use Rattle.nms_trades.specs.Files.{IsClockFault, IsTimingFault};
-ghost use Rattle.nms_trades.specs.When.{AreOfChanges, IsWithin, at_time, timed, version_by, when_in};
+ghost use Rattle.nms_trades.specs.When.{AreOfChanges, IsWithin, at_time, stretch_in, timed, version_by, when_in};
 
+use crate::stretch::{Stretch, read_stretch};
 use crate::trade_fault::TradeFault;
 use crate::trades_fault::TradesFault;
 use nms_lines::name_of_sym;
@@ -20,7 +21,7 @@ const SECOND: u64 = 1_000_000_000;
 pub struct Timing<'a> {
     /// The times, one for each change.
     pub times: &'a Times,
-    /// The text of the file of symbols, if the times rise within a symbol alone.
+    /// The text of the file of symbols, if the times rise within a symbol alone. Of a shard it also says which symbols are cut.
     pub symbols: Option<&'a [u8]>,
     /// Whether the changes of an execution's own time are left out.
     pub before: bool,
@@ -37,6 +38,8 @@ pub(crate) struct Clock<'a> {
     pub(crate) has_times: bool,
     /// The times of the changes of each symbol, by its place; all of them if they rise over all symbols.
     pub(crate) rising: Vec<Option<Rising<'a>>>,
+    /// The part of the day that the changes have of each symbol, by its place; the whole day of those that are not there.
+    pub(crate) stretches: Vec<Stretch>,
     /// Whether the changes of an execution's own time are left out.
     pub(crate) before: bool,
     /// The nanoseconds before and after an execution's time whose versions it is judged on too.
@@ -56,6 +59,8 @@ pub(crate) struct When {
     pub(crate) second_before: u64,
     /// The time, if the record has one.
     pub(crate) time: Option<TimeOfDay>,
+    /// Whether another shard has the changes of the symbol at that time.
+    pub(crate) other: bool,
 }
 
 impl Clock<'_> {
@@ -84,6 +89,7 @@ impl Clock<'_> {
                 last: version,
                 second_before: version,
                 time: None,
+                other: false,
             }),
         }
     }
@@ -106,15 +112,26 @@ impl Clock<'_> {
             return Err(TradeFault::NoChanges);
         }
         match &self.rising[place] {
-            Some(rising) => Ok(self.timed(rising, time)),
+            Some(rising) => Ok(self.timed(rising, self.stretch_in(place), time)),
             None => Err(TradeFault::NoChanges),
         }
     }
 
-    /// An execution at a time, among these times.
-    fn timed(&self, rising: &Rising<'_>, time: TimeOfDay) -> When
+    /// The part of the day that the changes have of the symbol at a place.
+    fn stretch_in(&self, place: usize) -> Stretch
+        ensures { result ≡ stretch_in self.now.stretches.items place }
+    {
+        if place < self.stretches.len() {
+            self.stretches[place]
+        } else {
+            Stretch::whole()
+        }
+    }
+
+    /// An execution at a time, among these times of a part of the day.
+    fn timed(&self, rising: &Rising<'_>, stretch: Stretch, time: TimeOfDay) -> When
         requires { rising.now.before + length rising.now.times.now ≤ self.now.changes }
-        ensures when { result ≡ timed self.now rising.now time }
+        ensures when { result ≡ timed self.now stretch rising.now time }
         ensures version { result.version ≤ self.now.changes }
         ensures first { result.first ≤ self.now.changes }
         ensures last { result.last ≤ self.now.changes }
@@ -128,6 +145,7 @@ impl Clock<'_> {
             last: version_by(self.before, rising, time.later_by(self.window)),
             second_before: version_by(self.before, rising, time.earlier_by(SECOND)),
             time: Some(time),
+            other: !stretch.is_own(self.before, time),
         }
     }
 }
@@ -172,6 +190,7 @@ pub(crate) fn clock_of<'a>(
             changes: changes as u64,
             has_times: false,
             rising: Vec::new(alloc),
+            stretches: Vec::new(alloc),
             before: false,
             window: 0,
         });
@@ -179,14 +198,18 @@ pub(crate) fn clock_of<'a>(
     if let Err(fault) = timing.times.check_len(changes) {
         return Err(TradesFault::Times(fault));
     }
-    let rising = match timing.symbols {
-        None => over_all(alloc, roster, timing.times)?,
-        Some(text) => by_symbol(alloc, roster, timing.times, text)?,
+    let (rising, stretches) = match timing.symbols {
+        None => (over_all(alloc, roster, timing.times)?, Vec::new(alloc)),
+        Some(text) => (
+            by_symbol(alloc, roster, timing.times, text)?,
+            stretches_of(alloc, roster, text)?,
+        ),
     };
     Ok(Clock {
         changes: changes as u64,
         has_times: true,
         rising,
+        stretches,
         before: timing.before,
         window: timing.window,
     })
@@ -230,6 +253,25 @@ fn by_symbol<'a>(
         let found = of_symbol(times, text, name.as_bytes())?;
         if all.push(found).is_err() {
             return Err(TradesFault::Show(ShowFault::NoMemory));
+        }
+    }
+    Ok(all)
+}
+
+/// The part of the day that the changes have of each symbol, as a file of symbols says.
+fn stretches_of(alloc: Global, roster: &Roster, text: &[u8]) -> Result<Vec<Stretch>, TradesFault>
+    ensures { (times : List ℕ) → IfErr result (IsTimingFault (Some text.now) times) }
+{
+    let mut all = Vec::new(alloc);
+    for place in 0..roster.syms() as u16 {
+        let name = name_of_sym(roster, Sym::new(place).unwrap());
+        if all.push(Stretch::whole()).is_err() {
+            return Err(TradesFault::Show(ShowFault::NoMemory));
+        }
+        if let Some(stretch) = all.last_mut()
+            && let Err(fault) = read_stretch(stretch, text, name.as_bytes())
+        {
+            return Err(TradesFault::Symbols(fault));
         }
     }
     Ok(all)

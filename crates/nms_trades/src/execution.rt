@@ -42,6 +42,8 @@ pub struct Execution {
     pub second_before: u64,
     /// The time of day, if the record has one.
     pub time: Option<TimeOfDay>,
+    /// Whether another shard has the changes of its symbol at that time, and judges it.
+    pub other: bool,
     /// Where it was executed; `None` off an exchange.
     pub part: Option<Part>,
     /// The exceptions that it claims.

@@ -4,13 +4,20 @@ use crate::claims::Claims;
 use nms_quote::{PartSet, Roster};
 
 /// The exceptions that a text claims: flags joined by `+`, none in an empty text. One that is repeated counts once.
+///
+/// After self-help no flag may be a participant's name too: orders join names by `+`, so `H=Z+P` could mean self-help against both.
 pub(crate) fn claims_in(text: &[u8], roster: &Roster) -> Option<Claims> {
     let mut claims = Claims::none();
     if text.is_empty() {
         return Some(claims);
     }
+    let mut has_names = false;
     for flag in text.split(|byte| *byte == b'+') {
+        if has_names && roster.find_part(flag).is_some() {
+            return None;
+        }
         claims = with_flag(claims, flag, roster)?;
+        has_names = has_names || flag.starts_with(b"H=");
     }
     Some(claims)
 }

@@ -8,7 +8,7 @@ ghost use Rattle.nms_quote.specs.Roster.{holds, sizes_of};
 ghost use Rattle.nms_quote.specs.declared.TheConstants.{MOST_CHANGES};
 ghost use Rattle.nms_rules.specs.Through.{is_through};
 ghost use Rattle.nms_trades.specs.Around.{own_standing};
-ghost use Rattle.nms_trades.specs.Found.{IsJudged, IsReady, IsStanding};
+ghost use Rattle.nms_trades.specs.Found.{IsJudged, IsReady, IsStanding, IsWeighed};
 ghost use Rattle.nms_trades.specs.Judged.{GoesAlong, IsFoundOn, whole_price};
 ghost use Rattle.nms_trades.specs.Reading.{IsOn};
 ghost use Rattle.nms_trades.specs.Turns.{AreAnswered, HaveTurns, IsAnswered};
@@ -19,6 +19,7 @@ use crate::finding::Finding;
 use crate::flickering::judge_flickers;
 use crate::limits::{is_crossed, is_through, rows_ranked, whole_price};
 use crate::order::{Turn, turns_of};
+use crate::quoted::answer_all;
 use crate::standing::Standing;
 use crate::track::Track;
 use crate::window::{bests_for, standing_in};
@@ -43,7 +44,7 @@ pub(crate) fn judge(
     requires ready { IsReady (sizes_of roster.now) changes.now bests.now execution.now }
     requires at { GoesAlong (sizes_of roster.now) changes.now board.old }
     ensures at { GoesAlong (sizes_of roster.now) changes.now board.new }
-    ensures found { IfOk result (IsStanding (sizes_of roster.now) changes.now execution.now) }
+    ensures found { IfOk result (IsWeighed (sizes_of roster.now) changes.now execution.now) }
 {
     match move_to(alloc, roster, changes, board, execution.version) {
         Ok(()) => {
@@ -170,7 +171,7 @@ pub fn judge_all(
     ensures found { IfOk result (λ answers. AreAnswered (IsJudged (sizes_of roster.now) changes.now) executions.now answers.items) }
     ensures places { IfOk result (λ answers. length answers.items ≡ length executions.now) }
 {
-    match judge_standings(alloc, roster, changes, executions) {
+    match judge_quoted(alloc, roster, changes, executions) {
         Ok(mut answers) => match judge_flickers(alloc, roster, changes, executions, &mut answers) {
             Ok(()) => Ok(answers),
             Err(fault) => Err(fault),
@@ -180,7 +181,7 @@ pub fn judge_all(
 }
 
 /// The same, but flickering quotations are not looked for.
-fn judge_standings(
+fn judge_quoted(
     alloc: Global,
     roster: &Roster,
     changes: &[Change],
@@ -190,6 +191,28 @@ fn judge_standings(
     requires few { length changes.now ≤ MOST_CHANGES }
     requires on { All (IsOn roster.now (length changes.now)) executions.now }
     ensures found { IfOk result (λ answers. AreAnswered (IsStanding (sizes_of roster.now) changes.now) executions.now answers.items) }
+    ensures places { IfOk result (λ answers. length answers.items ≡ length executions.now) }
+{
+    match judge_standings(alloc, roster, changes, executions) {
+        Ok(mut answers) => match answer_all(alloc, roster, changes, executions, &mut answers) {
+            Ok(()) => Ok(answers),
+            Err(_) => Err(BoardFault::NoMemory),
+        },
+        Err(fault) => Err(fault),
+    }
+}
+
+/// The same, before it is asked which symbols were quoted, and which executions another shard judges.
+fn judge_standings(
+    alloc: Global,
+    roster: &Roster,
+    changes: &[Change],
+    executions: &[Execution],
+) -> Result<Vec<Option<Finding>>, BoardFault>
+    requires held { All (λ change. holds (sizes_of roster.now) change ≡ true) changes.now }
+    requires few { length changes.now ≤ MOST_CHANGES }
+    requires on { All (IsOn roster.now (length changes.now)) executions.now }
+    ensures found { IfOk result (λ answers. AreAnswered (IsWeighed (sizes_of roster.now) changes.now) executions.now answers.items) }
     ensures places { IfOk result (λ answers. length answers.items ≡ length executions.now) }
 {
     let Ok(turns) = turns_of(alloc, executions) else {
@@ -247,7 +270,7 @@ fn judge_turns(
     requires places { length answers.old.items ≡ length executions.now }
     ensures places { length answers.new.items ≡ length executions.now }
     ensures answered { HaveTurns turns.now (length executions.now)
-        → OnOk result (AreAnswered (IsStanding (sizes_of roster.now) changes.now) executions.now answers.new.items) }
+        → OnOk result (AreAnswered (IsWeighed (sizes_of roster.now) changes.now) executions.now answers.new.items) }
 {
     for turn in turns {
         judge_turn(
@@ -277,7 +300,7 @@ fn judge_turn(
     ensures at { GoesAlong (sizes_of roster.now) changes.now board.new }
     ensures places { length answers.new.items ≡ length executions.now }
     ensures own { (execution : Execution) → slice_get executions.now turn.now.place ≡ Some execution
-        → OnOk result (IsAnswered (IsStanding (sizes_of roster.now) changes.now) execution (slice_get answers.new.items turn.now.place)) }
+        → OnOk result (IsAnswered (IsWeighed (sizes_of roster.now) changes.now) execution (slice_get answers.new.items turn.now.place)) }
     ensures others { (other : ℕ) → other ≢ turn.now.place → slice_get answers.new.items other ≡ slice_get answers.old.items other }
 {
     let place = turn.place;

@@ -21,9 +21,11 @@ mod money_through;
 mod object;
 mod order;
 mod parts;
+mod quoted;
 mod reading;
 mod showing;
 mod standing;
+mod stretch;
 mod table;
 mod tally;
 mod track;
@@ -42,7 +44,10 @@ pub use execution::{Deal, Execution};
 pub use execution_file::{Records, Refusal};
 pub use finding::Finding;
 pub use judging::judge_all;
-pub use laws::{a_whole_price_decides, a_window_is_all_or_none, worked_examples};
+pub use laws::{
+    a_clean_one_was_quoted, a_whole_price_decides, a_window_is_all_or_none, one_shard_judges,
+    worked_examples,
+};
 pub use lines::write_answers;
 pub use millionths::{MOST_MILLIONTHS, millionths_in, push_millionths};
 pub use money_through::{Sums, difference, is_helped, sums_of};

@@ -4,7 +4,7 @@ ghost use Rattle.std.specs.Fmt.{decimal};
 ghost use Rattle.nms_lines.specs.Text.{later_fields, text_of};
 ghost use Rattle.nms_trades.specs.Sums.{all_flicker};
 ghost use Rattle.nms_trades.specs.FinePrice.{fine_text};
-ghost use Rattle.nms_trades.specs.Lines.{all_causes, causes_text, clean_record, is_own, marks_of, next_word, quotation_fields};
+ghost use Rattle.nms_trades.specs.Lines.{all_causes, causes_text, is_own, marks_of, next_word, other_record, quiet_record, quotation_fields};
 ghost use Rattle.nms_trades.specs.Lines.{records_of_row, refusal_record, row_record, row_records, standing_word};
 ghost use Rattle.nms_trades.specs.Lines.{through_record, through_records};
 
@@ -31,14 +31,25 @@ pub(crate) fn append_refusal(out: &mut Vec<u8>, refusal: &Refusal) -> Result<(),
     end_record(out)
 }
 
-/// Appends that an execution traded through nothing.
-pub(crate) fn append_clean(out: &mut Vec<u8>, execution: &Execution) -> Result<(), AllocError>
-    ensures { OnOk result (out.new.items ≡ out.old.items ++ text_of (clean_record execution.now ∷ [])) }
+/// Appends that an execution traded through nothing: it is clean, or its symbol had not been quoted.
+pub(crate) fn append_quiet(
+    out: &mut Vec<u8>,
+    execution: &Execution,
+    standing: Standing,
+) -> Result<(), AllocError>
+    ensures { OnOk result (out.new.items ≡ out.old.items ++ text_of (quiet_record standing execution.now ∷ [])) }
 {
-    out.extend_from_slice(b"CLEAN")?;
+    append_head(out, execution, standing)?;
+    end_record(out)
+}
+
+/// Appends that another shard judges an execution.
+pub(crate) fn append_other(out: &mut Vec<u8>, execution: &Execution) -> Result<(), AllocError>
+    ensures { OnOk result (out.new.items ≡ out.old.items ++ text_of (other_record execution.now ∷ [])) }
+{
+    out.extend_from_slice(b"OTHER")?;
     out.push(b',')?;
     out.extend_from_slice(execution.name.as_slice())?;
-    push_number(out, execution.version)?;
     end_record(out)
 }
 
@@ -229,8 +240,10 @@ pub(crate) fn word_of_standing(standing: Standing) -> &'static str
 {
     match standing {
         Standing::Clean => "CLEAN",
+        Standing::Unquoted => "NOQUOTE",
         Standing::Perhaps => "PERHAPS",
         Standing::Through => "THROUGH",
+        Standing::Other => "OTHER",
     }
 }
 

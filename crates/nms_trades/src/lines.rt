@@ -11,9 +11,9 @@ ghost use Rattle.nms_trades.specs.Lines.{refusal_record};
 use crate::execution::Execution;
 use crate::execution_file::{Records, Refusal};
 use crate::finding::Finding;
-use crate::line::{append_clean, append_refusal, append_through};
+use crate::line::{append_other, append_quiet, append_refusal, append_through};
 use crate::money_through::sums_of;
-use crate::object::{write_clean, write_refusal, write_through};
+use crate::object::{write_other, write_quiet, write_refusal, write_through};
 use crate::standing::Standing;
 use crate::trades_fault::TradesFault;
 use nms_lines::write_text;
@@ -194,11 +194,16 @@ fn write_object_of<W: Write>(
     text: &mut Vec<u8>,
     answers: &mut W,
 ) -> Result<(), ShowFault> {
-    if finding.standing == Standing::Clean {
-        return write_clean(alloc, answers, execution);
+    match finding.standing {
+        Standing::Clean | Standing::Unquoted => {
+            write_quiet(alloc, answers, text, roster, execution, finding.standing)
+        }
+        Standing::Perhaps | Standing::Through => {
+            let sums = sums_of(execution, finding);
+            write_through(alloc, answers, text, roster, execution, finding, &sums)
+        }
+        Standing::Other => write_other(alloc, answers, execution),
     }
-    let sums = sums_of(execution, finding);
-    write_through(alloc, answers, text, roster, execution, finding, &sums)
 }
 
 /// Appends what is found of an execution.
@@ -211,7 +216,8 @@ fn append_finding(
     ensures { OnOk result (text.new.items ≡ text.old.items ++ text_of (found_records roster.now execution.now finding.now)) }
 {
     match finding.standing {
-        Standing::Clean => append_clean(text, execution),
+        Standing::Clean | Standing::Unquoted => append_quiet(text, execution, finding.standing),
+        Standing::Other => append_other(text, execution),
         Standing::Perhaps | Standing::Through => {
             let sums = sums_of(execution, finding);
             append_through(text, roster, execution, finding, &sums)

@@ -1,10 +1,10 @@
 //! The lines of one execution as JSON.
 ghost use Rattle.std.specs.Prelude.{◌≡◌, true};
-ghost use Rattle.nms_show.specs.Plain.{is_plain};
+ghost use Rattle.nms_show.specs.Plain.{is_own_plain, is_plain};
 ghost use Rattle.nms_show.specs.Safe.{IsSafe};
 ghost use Rattle.nms_show.specs.Written.{Writes};
 
-use crate::execution::Execution;
+use crate::execution::{Deal, Execution};
 use crate::execution_file::Refusal;
 use crate::finding::Finding;
 use crate::line::{append_causes, is_own};
@@ -13,7 +13,7 @@ use crate::money_through::{Sums, difference, is_helped};
 use crate::showing::show_object;
 use crate::standing::Standing;
 use nms_board::Row;
-use nms_lines::{name_of_part, word_of_side};
+use nms_lines::{name_of_part, name_of_sym, word_of_side};
 use nms_quote::{Roster, Side};
 use nms_show::{Item, ShowFault};
 use std::alloc::{AllocError, Global};
@@ -39,8 +39,78 @@ pub(crate) fn write_refusal<W: Write>(
     )
 }
 
-/// Writes that an execution traded through nothing.
-pub(crate) fn write_clean<W: Write>(
+/// Writes that an execution traded through nothing: it is clean, or its symbol had not been quoted.
+pub(crate) fn write_quiet<W: Write>(
+    alloc: Global,
+    answers: &mut W,
+    text: &mut Vec<u8>,
+    roster: &Roster,
+    execution: &Execution,
+    standing: Standing,
+) -> Result<(), ShowFault>
+    ensures { Writes IsSafe (W.contents answers.old) (W.contents answers.new) result }
+{
+    text.clear();
+    let Ok(cut) = append_own(text, execution) else {
+        return Err(ShowFault::NoMemory);
+    };
+    let (price, time) = text.split_at(cut.min(text.len()));
+    write_own(
+        alloc,
+        answers,
+        what_of(standing),
+        roster,
+        execution,
+        behind_comma(price),
+        time,
+    )
+}
+
+/// Writes what an execution that traded through nothing says itself, with these texts.
+fn write_own<'a, W: Write>(
+    alloc: Global,
+    answers: &mut W,
+    what: &'a str,
+    roster: &'a Roster,
+    execution: &'a Execution,
+    price: &'a [u8],
+    time: &'a [u8],
+) -> Result<(), ShowFault>
+    ensures { is_plain what.now ≡ true → Writes IsSafe (W.contents answers.old) (W.contents answers.new) result }
+{
+    show_object(
+        alloc,
+        answers,
+        &[
+            ("what", Item::Text(what)),
+            ("id", Item::Bytes(execution.name.as_slice())),
+            ("version", Item::Number(execution.version)),
+            ("record", Item::Number(execution.number)),
+            (
+                "symbol",
+                Item::Bytes(name_of_sym(roster, execution.sym).as_bytes()),
+            ),
+            ("price", Item::Bytes(price)),
+            ("executed", Item::Number(u64::from(execution.shares.get()))),
+            ("side", deal_item(execution)),
+            ("participant", part_item(roster, execution)),
+            ("time", time_item(time)),
+        ],
+    )
+}
+
+/// Appends the price of an execution after a comma, and the digits of its time, if it has one. Returns where these begin.
+fn append_own(text: &mut Vec<u8>, execution: &Execution) -> Result<usize, AllocError> {
+    push_millionths(text, execution.millionths)?;
+    let cut = text.len();
+    if let Some(time) = execution.time {
+        text.extend_from_slice(&time.text())?;
+    }
+    Ok(cut)
+}
+
+/// Writes that another shard judges an execution.
+pub(crate) fn write_other<W: Write>(
     alloc: Global,
     answers: &mut W,
     execution: &Execution,
@@ -51,11 +121,43 @@ pub(crate) fn write_clean<W: Write>(
         alloc,
         answers,
         &[
-            ("what", Item::Text("clean")),
+            ("what", Item::Text("other")),
             ("id", Item::Bytes(execution.name.as_slice())),
-            ("version", Item::Number(execution.version)),
+            ("record", Item::Number(execution.number)),
         ],
     )
+}
+
+/// Whether it bought or sold, as in its record; nothing if that does not say.
+fn deal_item(execution: &Execution) -> Item<'static>
+    ensures { is_own_plain result ≡ true }
+{
+    match execution.deal {
+        Some(Deal::Bought) => Item::Text("B"),
+        Some(Deal::Sold) => Item::Text("S"),
+        None => Item::Absent,
+    }
+}
+
+/// Where it was executed; nothing off an exchange.
+fn part_item<'a>(roster: &'a Roster, execution: &Execution) -> Item<'a>
+    ensures { is_own_plain result ≡ true }
+{
+    match execution.part {
+        Some(part) => Item::Bytes(name_of_part(roster, part).as_bytes()),
+        None => Item::Absent,
+    }
+}
+
+/// The digits of a time; nothing if there are none.
+fn time_item(digits: &[u8]) -> Item<'_>
+    ensures { is_own_plain result ≡ true }
+{
+    if digits.is_empty() {
+        Item::Absent
+    } else {
+        Item::Bytes(digits)
+    }
 }
 
 /// Writes that an execution traded through, and the rows that are left.
@@ -71,20 +173,20 @@ pub(crate) fn write_through<W: Write>(
     ensures { Writes IsSafe (W.contents answers.old) (W.contents answers.new) result }
 {
     text.clear();
-    let Ok(cut) = append_texts(text, execution, finding.crossed, sums) else {
+    let Ok(cuts) = append_texts(text, execution, finding.crossed, sums) else {
         return Err(ShowFault::NoMemory);
     };
-    let (worst, causes) = text.split_at(cut.min(text.len()));
-    let what = what_of(finding.standing);
-    write_head(
-        alloc,
-        answers,
-        what,
-        execution,
-        sums,
-        behind_comma(worst),
+    let (left, causes) = text.split_at(cuts.causes.min(text.len()));
+    let (left, time) = left.split_at(cuts.time.min(left.len()));
+    let (worst, price) = left.split_at(cuts.price.min(left.len()));
+    let texts = Texts {
+        worst: behind_comma(worst),
+        price: behind_comma(price),
+        time,
         causes,
-    )?;
+    };
+    let what = what_of(finding.standing);
+    write_head(alloc, answers, what, roster, execution, sums, &texts)?;
     write_rows(alloc, answers, text, roster, execution, finding)
 }
 
@@ -115,9 +217,28 @@ fn what_of(standing: Standing) -> &'static str
 {
     match standing {
         Standing::Clean => "clean",
+        Standing::Unquoted => "noquote",
         Standing::Perhaps => "perhaps",
         Standing::Through => "through",
+        Standing::Other => "other",
     }
+}
+
+/// The texts of an execution: the greatest difference, the price, the digits of its time, and the causes.
+#[derive(Clone, Copy)]
+struct Texts<'a> {
+    worst: &'a [u8],
+    price: &'a [u8],
+    time: &'a [u8],
+    causes: &'a [u8],
+}
+
+/// Where the later ones of these texts begin.
+#[derive(Clone, Copy)]
+struct Cuts {
+    price: usize,
+    time: usize,
+    causes: usize,
 }
 
 /// Writes that an execution traded through, with these texts.
@@ -125,10 +246,10 @@ fn write_head<'a, W: Write>(
     alloc: Global,
     answers: &mut W,
     what: &'a str,
+    roster: &'a Roster,
     execution: &'a Execution,
     sums: &Sums,
-    worst: &'a [u8],
-    causes: &'a [u8],
+    texts: &Texts<'a>,
 ) -> Result<(), ShowFault>
     ensures { is_plain what.now ≡ true → Writes IsSafe (W.contents answers.old) (W.contents answers.new) result }
 {
@@ -140,24 +261,40 @@ fn write_head<'a, W: Write>(
             ("id", Item::Bytes(execution.name.as_slice())),
             ("version", Item::Number(execution.version)),
             ("count", Item::Number(sums.count)),
-            ("worst", Item::Bytes(worst)),
+            ("worst", Item::Bytes(texts.worst)),
             ("shares", Item::Number(u64::from(sums.shares))),
-            ("cause", Item::Bytes(causes)),
+            ("cause", Item::Bytes(texts.causes)),
+            ("record", Item::Number(execution.number)),
+            (
+                "symbol",
+                Item::Bytes(name_of_sym(roster, execution.sym).as_bytes()),
+            ),
+            ("price", Item::Bytes(texts.price)),
+            ("executed", Item::Number(u64::from(execution.shares.get()))),
+            ("side", deal_item(execution)),
+            ("participant", part_item(roster, execution)),
+            ("time", time_item(texts.time)),
         ],
     )
 }
 
-/// Appends a comma, the greatest difference, and then the causes. Returns where the causes begin.
+/// Appends the greatest difference and the price, each after a comma, the digits of the time, and the causes.
 fn append_texts(
     text: &mut Vec<u8>,
     execution: &Execution,
     crossed: bool,
     sums: &Sums,
-) -> Result<usize, AllocError> {
+) -> Result<Cuts, AllocError> {
     push_millionths(text, sums.worst)?;
-    let cut = text.len();
+    let price = text.len();
+    let time = append_own(text, execution)?;
+    let causes = text.len();
     append_causes(text, execution, crossed, sums)?;
-    Ok(cut)
+    Ok(Cuts {
+        price,
+        time,
+        causes,
+    })
 }
 
 /// Writes a row that was traded through, if self-help does not take it out.

@@ -63,6 +63,7 @@ pub(crate) fn read_execution(
         last: when.last,
         second_before: when.second_before,
         time: when.time,
+        other: when.other,
         part,
         claims,
     })

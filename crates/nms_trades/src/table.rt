@@ -3,7 +3,7 @@ ghost use Rattle.std.specs.Prelude.{◌≡◌, ◌+◌, [], IfErr, IfOk, OnSome,
 ghost use Rattle.nms_show.specs.Plain.{is_own_plain, is_plain};
 ghost use Rattle.nms_show.specs.Safe.{IsSafe, own_text};
 ghost use Rattle.nms_show.specs.Written.{Writes};
-ghost use Rattle.nms_trades.specs.Counts.{is_found, is_perhaps, is_through, stands};
+ghost use Rattle.nms_trades.specs.Counts.{is_judged, is_noquote, is_other, is_perhaps, is_through, stands};
 ghost use Rattle.nms_trades.specs.Files.{IsWritingFault, is_begun};
 ghost use Rattle.nms_trades.specs.declared.trades.Layout.TheVariants as layout;
 
@@ -12,7 +12,7 @@ use crate::execution::Execution;
 use crate::execution_file::Records;
 use crate::finding::Finding;
 use crate::showing::{show_line, show_object, show_row};
-use crate::tally::{Count, HALF_HOURS, Tally};
+use crate::tally::{Amount, Count, HALF_HOURS, Tally};
 use crate::trades_fault::TradesFault;
 use nms_lines::{name_of_part, name_of_sym};
 use nms_quote::{Part, Roster, Sym};
@@ -51,6 +51,15 @@ pub fn write_table<W: Write>(
     }
 }
 
+/// The records that are not among the executions judged.
+#[derive(Clone, Copy)]
+struct Aside {
+    /// Those that are refused.
+    refused: u64,
+    /// Those that other shards judge.
+    others: u64,
+}
+
 /// The counts of executions, each with what is found of it. Those of all are the lengths of the lists.
 fn tally_of(
     alloc: Global,
@@ -59,9 +68,11 @@ fn tally_of(
     findings: &[Option<Finding>],
 ) -> Result<Tally, TradesFault>
     requires { length findings.now ≡ length executions.now }
-    ensures executions { IfOk result (λ tally. tally.all.executions ≡ length (filter is_found findings.now)) }
-    ensures perhaps { IfOk result (λ tally. tally.all.perhaps ≡ length (filter (stands is_perhaps) findings.now)) }
-    ensures through { IfOk result (λ tally. tally.all.through ≡ length (filter (stands is_through) findings.now)) }
+    ensures others { IfOk result (λ tally. tally.others ≡ length (filter (stands is_other) findings.now)) }
+    ensures executions { IfOk result (λ tally. tally.all.executions ≡ length (filter (stands is_judged) findings.now)) }
+    ensures unquoted { IfOk result (λ tally. tally.all.unquoted ≡ length (filter (stands is_noquote) findings.now)) }
+    ensures perhaps { IfOk result (λ tally. tally.all.perhaps.executions ≡ length (filter (stands is_perhaps) findings.now)) }
+    ensures through { IfOk result (λ tally. tally.all.through.executions ≡ length (filter (stands is_through) findings.now)) }
     ensures refused { IfErr result (IsWritingFault layout.Table) }
 {
     let Ok(mut tally) = Tally::none(alloc, roster.parts() + 1, roster.syms()) else {
@@ -79,9 +90,15 @@ fn tally_of(
 
 /// Counts an execution, if there is a finding of it. `None` comes only of sums that no number holds.
 fn count_one(tally: &mut Tally, execution: &Execution, answer: &Option<Finding>) -> Option<()>
-    ensures executions { OnSome result (tally.new.all.executions ≡ tally.old.all.executions + (if is_found answer.now then 1 else 0)) }
-    ensures perhaps { OnSome result (tally.new.all.perhaps ≡ tally.old.all.perhaps + (if stands is_perhaps answer.now then 1 else 0)) }
-    ensures through { OnSome result (tally.new.all.through ≡ tally.old.all.through + (if stands is_through answer.now then 1 else 0)) }
+    ensures others { OnSome result (tally.new.others ≡ tally.old.others + (if stands is_other answer.now then 1 else 0)) }
+    ensures executions { OnSome result (tally.new.all.executions
+        ≡ tally.old.all.executions + (if stands is_judged answer.now then 1 else 0)) }
+    ensures unquoted { OnSome result (tally.new.all.unquoted
+        ≡ tally.old.all.unquoted + (if stands is_noquote answer.now then 1 else 0)) }
+    ensures perhaps { OnSome result (tally.new.all.perhaps.executions
+        ≡ tally.old.all.perhaps.executions + (if stands is_perhaps answer.now then 1 else 0)) }
+    ensures through { OnSome result (tally.new.all.through.executions
+        ≡ tally.old.all.through.executions + (if stands is_through answer.now then 1 else 0)) }
 {
     match answer {
         Some(finding) => tally.add(execution, finding),
@@ -100,7 +117,11 @@ fn write_tally<W: Write>(
 ) -> Result<(), ShowFault>
     ensures { Writes IsSafe (W.contents answers.old) (W.contents answers.new) result }
 {
-    write_all(alloc, &tally.all, refused, form, answers)?;
+    let aside = Aside {
+        refused,
+        others: tally.others,
+    };
+    write_all(alloc, &tally.all, aside, form, answers)?;
     write_causes(alloc, tally, form, answers)?;
     write_places(alloc, roster, tally, form, answers)
 }
@@ -116,11 +137,18 @@ fn write_places<W: Write>(
     ensures { Writes IsSafe (W.contents answers.old) (W.contents answers.new) result }
 {
     write_head(form, "executed by", answers)?;
-    write_parts(alloc, roster, "executed", &tally.executed, form, answers)?;
+    write_parts(
+        alloc,
+        roster,
+        "executed",
+        &tally.places.executed,
+        form,
+        answers,
+    )?;
     write_head(form, "traded through", answers)?;
-    write_parts(alloc, roster, "passed", &tally.passed, form, answers)?;
-    write_symbols(alloc, roster, &tally.syms, form, answers)?;
-    write_half_hours(alloc, &tally.half_hours, form, answers)
+    write_parts(alloc, roster, "passed", &tally.places.passed, form, answers)?;
+    write_symbols(alloc, roster, &tally.places.syms, form, answers)?;
+    write_half_hours(alloc, &tally.places.half_hours, form, answers)
 }
 
 /// Writes the counts of causes.
@@ -135,7 +163,14 @@ fn write_causes<W: Write>(
     write_head(form, "cause", answers)?;
     for place in 0..CAUSES {
         let name = Item::Text(Cause::ALL[place].word());
-        write_count(alloc, "cause", name, &tally.causes[place], form, answers)?;
+        write_count(
+            alloc,
+            "cause",
+            name,
+            &tally.places.causes[place],
+            form,
+            answers,
+        )?;
     }
     Ok(())
 }
@@ -144,16 +179,14 @@ fn write_causes<W: Write>(
 fn write_all<W: Write>(
     alloc: Global,
     all: &Count,
-    refused: u64,
+    aside: Aside,
     form: Form,
     answers: &mut W,
 ) -> Result<(), ShowFault>
     ensures { Writes IsSafe (W.contents answers.old) (W.contents answers.new) result }
 {
-    let clean = clean_of(all);
-    let rate = rate_of(all);
     if form.is_json() {
-        return write_totals(alloc, all, refused, clean, rate, answers);
+        return write_totals(alloc, all, aside, answers);
     }
     show_line(
         answers,
@@ -161,31 +194,31 @@ fn write_all<W: Write>(
         &[
             Item::Number(all.executions),
             Item::Text(" executions = "),
-            Item::Number(clean),
+            Item::Number(clean_of(all)),
             Item::Text(" clean + "),
-            Item::Number(all.perhaps),
+            Item::Number(all.unquoted),
+            Item::Text(" not quoted + "),
+            Item::Number(all.perhaps.executions),
             Item::Text(" perhaps + "),
-            Item::Number(all.through),
-            Item::Text(" through, "),
-            Item::Number(all.open),
-            Item::Text(" of them without a cause; "),
-            Item::Number(refused),
-            Item::Text(" records refused"),
+            Item::Number(all.through.executions),
+            Item::Text(" through; "),
+            Item::Number(aside.refused),
+            Item::Text(" records refused, "),
+            Item::Number(aside.others),
+            Item::Text(" of other shards"),
         ],
     )?;
-    write_through(all, rate, form, answers)
+    write_amount("through: ", &all.through, all.executions, form, answers)?;
+    write_amount("perhaps: ", &all.perhaps, all.executions, form, answers)
 }
 
 /// Writes the counts of all as an object.
 fn write_totals<W: Write>(
     alloc: Global,
     all: &Count,
-    refused: u64,
-    clean: u64,
-    rate: Item<'_>,
+    aside: Aside,
     answers: &mut W,
 ) -> Result<(), ShowFault>
-    requires { own_text rate ≡ [] }
     ensures { Writes IsSafe (W.contents answers.old) (W.contents answers.new) result }
 {
     show_object(
@@ -194,56 +227,72 @@ fn write_totals<W: Write>(
         &[
             ("what", Item::Text("totals")),
             ("executions", Item::Number(all.executions)),
-            ("refused", Item::Number(refused)),
-            ("clean", Item::Number(clean)),
-            ("perhaps", Item::Number(all.perhaps)),
-            ("through", Item::Number(all.through)),
-            ("no_cause", Item::Number(all.open)),
-            ("per_10000", rate),
-            ("rows", Item::Number(all.rows)),
-            ("shares", Item::Number(all.shares)),
-            ("dollars", money_of(all.dollars)),
+            ("refused", Item::Number(aside.refused)),
+            ("other", Item::Number(aside.others)),
+            ("clean", Item::Number(clean_of(all))),
+            ("noquote", Item::Number(all.unquoted)),
+            ("perhaps", Item::Number(all.perhaps.executions)),
+            ("through", Item::Number(all.through.executions)),
+            ("no_cause", Item::Number(all.through.open)),
+            ("per_10000", rate_of(&all.through, all.executions)),
+            ("rows", Item::Number(all.through.rows)),
+            ("shares", Item::Number(all.through.shares)),
+            ("dollars", money_of(all.through.dollars)),
+            ("perhaps_no_cause", Item::Number(all.perhaps.open)),
+            ("perhaps_rows", Item::Number(all.perhaps.rows)),
+            ("perhaps_shares", Item::Number(all.perhaps.shares)),
+            ("perhaps_dollars", money_of(all.perhaps.dollars)),
         ],
     )
 }
 
-/// Writes how many traded through and how much, in a line.
-fn write_through<W: Write>(
-    all: &Count,
-    rate: Item<'_>,
+/// Writes, after a word, how many of these executions there are among all, and how much they traded through.
+fn write_amount<W: Write>(
+    word: &str,
+    amount: &Amount,
+    executions: u64,
     form: Form,
     answers: &mut W,
 ) -> Result<(), ShowFault>
-    requires { own_text rate ≡ [] }
-    ensures { Writes IsSafe (W.contents answers.old) (W.contents answers.new) result }
+    ensures { is_plain word.now ≡ true → Writes IsSafe (W.contents answers.old) (W.contents answers.new) result }
 {
+    if executions == 0 {
+        return show_line(
+            answers,
+            form,
+            &[Item::Text(word), Item::Text("no executions")],
+        );
+    }
     show_line(
         answers,
         form,
         &[
-            Item::Text("through: "),
-            rate,
+            Item::Text(word),
+            rate_of(amount, executions),
             Item::Text(" per 10,000 executions, "),
-            Item::Number(all.shares),
+            Item::Number(amount.open),
+            Item::Text(" without a cause, "),
+            Item::Number(amount.shares),
             Item::Text(" shares, "),
-            money_of(all.dollars),
+            money_of(amount.dollars),
             Item::Text(" dollars"),
         ],
     )
 }
 
-/// How many executions traded through nothing on any version of their windows.
+/// How many executions are clean: those that are none of the others.
 fn clean_of(all: &Count) -> u64 {
-    let rest = all.executions - all.through.min(all.executions);
-    rest - all.perhaps.min(rest)
+    let rest = all.executions - all.through.executions.min(all.executions);
+    let rest = rest - all.perhaps.executions.min(rest);
+    rest - all.unquoted.min(rest)
 }
 
-/// How many of 10,000 executions traded through, rounded down.
-fn rate_of(all: &Count) -> Item<'static>
+/// How many of 10,000 executions these are, rounded down.
+fn rate_of(amount: &Amount, executions: u64) -> Item<'static>
     ensures { own_text result ≡ [] }
 {
-    match all.through.checked_mul(10_000) {
-        Some(many) if all.executions > 0 => Item::Number(many / all.executions),
+    match amount.executions.checked_mul(10_000) {
+        Some(many) if executions > 0 => Item::Number(many / executions),
         Some(_) | None => Item::Absent,
     }
 }
@@ -272,6 +321,7 @@ fn write_head<W: Write>(form: Form, name: &str, answers: &mut W) -> Result<(), S
         &[
             column(Item::Strong(name), 18, false),
             column(Item::Strong("executions"), 10, true),
+            column(Item::Strong("noquote"), 8, true),
             column(Item::Strong("perhaps"), 8, true),
             column(Item::Strong("through"), 8, true),
             column(Item::Strong("no cause"), 8, true),
@@ -295,13 +345,14 @@ fn write_count<'a, W: Write>(
     ensures { is_plain what.now ≡ true → is_own_plain name.entry ≡ true
         → Writes IsSafe (W.contents answers.old) (W.contents answers.new) result }
 {
-    if count.executions == 0 && count.rows == 0 {
+    if count.is_empty() {
         return Ok(());
     }
     if form.is_json() {
         return write_count_object(alloc, what, name, count, answers);
     }
-    write_count_row(name, count, form, answers)
+    write_count_row(name, count, form, answers)?;
+    write_perhaps_row(&count.perhaps, form, answers)
 }
 
 /// Writes a count as an object.
@@ -322,13 +373,19 @@ fn write_count_object<'a, W: Write>(
             ("what", Item::Text(what)),
             ("name", name),
             ("executions", Item::Number(count.executions)),
-            ("perhaps", Item::Number(count.perhaps)),
-            ("through", Item::Number(count.through)),
-            ("no_cause", Item::Number(count.open)),
-            ("rows", Item::Number(count.rows)),
-            ("shares", Item::Number(count.shares)),
-            ("dollars", money_of(count.dollars)),
-            ("worst", money_of(i128::from(count.worst))),
+            ("noquote", Item::Number(count.unquoted)),
+            ("perhaps", Item::Number(count.perhaps.executions)),
+            ("through", Item::Number(count.through.executions)),
+            ("no_cause", Item::Number(count.through.open)),
+            ("rows", Item::Number(count.through.rows)),
+            ("shares", Item::Number(count.through.shares)),
+            ("dollars", money_of(count.through.dollars)),
+            ("worst", money_of(i128::from(count.through.worst))),
+            ("perhaps_no_cause", Item::Number(count.perhaps.open)),
+            ("perhaps_rows", Item::Number(count.perhaps.rows)),
+            ("perhaps_shares", Item::Number(count.perhaps.shares)),
+            ("perhaps_dollars", money_of(count.perhaps.dollars)),
+            ("perhaps_worst", money_of(i128::from(count.perhaps.worst))),
         ],
     )
 }
@@ -348,13 +405,43 @@ fn write_count_row<W: Write>(
         &[
             column(name, 18, false),
             column(Item::Number(count.executions), 10, true),
-            column(Item::Number(count.perhaps), 8, true),
-            column(Item::Number(count.through), 8, true),
-            column(Item::Number(count.open), 8, true),
-            column(Item::Number(count.rows), 8, true),
-            column(Item::Number(count.shares), 12, true),
-            column(money_of(count.dollars), 20, true),
-            column(money_of(i128::from(count.worst)), 16, true),
+            column(Item::Number(count.unquoted), 8, true),
+            column(Item::Number(count.perhaps.executions), 8, true),
+            column(Item::Number(count.through.executions), 8, true),
+            column(Item::Number(count.through.open), 8, true),
+            column(Item::Number(count.through.rows), 8, true),
+            column(Item::Number(count.through.shares), 12, true),
+            column(money_of(count.through.dollars), 20, true),
+            column(money_of(i128::from(count.through.worst)), 16, true),
+        ],
+    )
+}
+
+/// Writes the sums of those that perhaps traded through as a row below that of their count, if there are any.
+fn write_perhaps_row<W: Write>(
+    amount: &Amount,
+    form: Form,
+    answers: &mut W,
+) -> Result<(), ShowFault>
+    ensures { Writes IsSafe (W.contents answers.old) (W.contents answers.new) result }
+{
+    if amount.executions == 0 && amount.rows == 0 {
+        return Ok(());
+    }
+    show_row(
+        answers,
+        form,
+        &[
+            column(Item::Text("  of perhaps"), 18, false),
+            column(Item::Absent, 10, true),
+            column(Item::Absent, 8, true),
+            column(Item::Absent, 8, true),
+            column(Item::Absent, 8, true),
+            column(Item::Number(amount.open), 8, true),
+            column(Item::Number(amount.rows), 8, true),
+            column(Item::Number(amount.shares), 12, true),
+            column(money_of(amount.dollars), 20, true),
+            column(money_of(i128::from(amount.worst)), 16, true),
         ],
     )
 }
@@ -502,13 +589,16 @@ fn name_of_half_hour(place: u8) -> [u8; 5] {
     [b'0' + hour / 10, b'0' + hour % 10, b':', half, b'0']
 }
 
-/// The places of counts, those with the most shares first.
+/// The places of counts, those with the most shares through first; of as many, those with the most shares perhaps through.
 fn by_shares(alloc: Global, counts: &[Count]) -> Result<Vec<usize>, AllocError> {
     let mut order = Vec::with_capacity(alloc, counts.len())?;
     for place in 0..counts.len() {
         order.push(place)?;
     }
-    order.sort_by_key(|place| u64::MAX - counts.get(*place).map_or(0, |count| count.shares))?;
+    order.sort_by_key(|place| u64::MAX
+        - counts.get(*place).map_or(0, |count| count.perhaps.shares))?;
+    order.sort_by_key(|place| u64::MAX
+        - counts.get(*place).map_or(0, |count| count.through.shares))?;
     Ok(order)
 }
 

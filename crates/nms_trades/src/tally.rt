@@ -1,6 +1,6 @@
 //! How many executions traded through, and how much: of all, by cause, by participant, by symbol and by half hour.
 ghost use Rattle.std.specs.Prelude.{◌≡◌, ◌<◌, ◌+◌, IfOk, IfSome, OnSome};
-ghost use Rattle.nms_trades.specs.Counts.{is_perhaps, is_through, stands_once};
+ghost use Rattle.nms_trades.specs.Counts.{is_judged, is_noquote, is_other, is_perhaps, is_through, stands_once};
 
 use crate::cause::{CAUSES, Cause};
 use crate::execution::Execution;
@@ -16,16 +16,12 @@ pub(crate) const HALF_HOURS: usize = 48;
 /// The nanoseconds of one.
 const HALF_HOUR: u64 = 1_800_000_000_000;
 
-/// How many executions there were, and how much they traded through.
+/// How much some executions traded through.
 #[derive(Clone, Copy)]
-pub(crate) struct Count {
-    /// Executions.
+pub(crate) struct Amount {
+    /// How many executions they are.
     pub(crate) executions: u64,
-    /// Those that traded through on some versions of their windows, and not on others.
-    pub(crate) perhaps: u64,
-    /// Those that traded through.
-    pub(crate) through: u64,
-    /// Those of them to which no cause applies.
+    /// Those of them with rows left, to which no cause but self-help applies.
     pub(crate) open: u64,
     /// Rows that were traded through.
     pub(crate) rows: u64,
@@ -37,17 +33,13 @@ pub(crate) struct Count {
     pub(crate) worst: u64,
 }
 
-impl Count {
+impl Amount {
     /// Nothing.
-    pub(crate) fn none() -> Count
-        ensures executions { result.executions ≡ 0 }
-        ensures perhaps { result.perhaps ≡ 0 }
-        ensures through { result.through ≡ 0 }
+    fn none() -> Amount
+        ensures { result.executions ≡ 0 }
     {
-        Count {
+        Amount {
             executions: 0,
-            perhaps: 0,
-            through: 0,
             open: 0,
             rows: 0,
             shares: 0,
@@ -57,38 +49,92 @@ impl Count {
     }
 
     /// With one more execution.
+    fn with(self, is_open: bool, sums: &Sums) -> Option<Amount>
+        ensures { IfSome result (λ amount. amount.executions ≡ self.executions + 1) }
+    {
+        let mut amount = self;
+        amount.executions = amount.executions.checked_add(1)?;
+        if is_open {
+            amount.open = amount.open.checked_add(1)?;
+        }
+        amount.with_sums(sums)
+    }
+
+    /// With more rows.
+    fn with_sums(self, sums: &Sums) -> Option<Amount>
+        ensures { IfSome result (λ amount. amount.executions ≡ self.executions) }
+    {
+        let mut amount = self;
+        amount.rows = amount.rows.checked_add(sums.count)?;
+        amount.shares = amount.shares.checked_add(u64::from(sums.shares))?;
+        amount.dollars = amount.dollars.checked_add(sums.dollars)?;
+        amount.worst = amount.worst.max(sums.worst);
+        Some(amount)
+    }
+}
+
+/// How many executions there were, and how much they traded through.
+#[derive(Clone, Copy)]
+pub(crate) struct Count {
+    /// Executions.
+    pub(crate) executions: u64,
+    /// Those whose symbol had not been quoted.
+    pub(crate) unquoted: u64,
+    /// Those that traded through on some versions of their windows, and not on others.
+    pub(crate) perhaps: Amount,
+    /// Those that traded through.
+    pub(crate) through: Amount,
+}
+
+impl Count {
+    /// Nothing.
+    pub(crate) fn none() -> Count
+        ensures executions { result.executions ≡ 0 }
+        ensures unquoted { result.unquoted ≡ 0 }
+        ensures perhaps { result.perhaps.executions ≡ 0 }
+        ensures through { result.through.executions ≡ 0 }
+    {
+        Count {
+            executions: 0,
+            unquoted: 0,
+            perhaps: Amount::none(),
+            through: Amount::none(),
+        }
+    }
+
+    /// Whether there is nothing in it.
+    pub(crate) fn is_empty(&self) -> bool {
+        self.executions == 0 && self.through.rows == 0 && self.perhaps.rows == 0
+    }
+
+    /// With one more execution that is judged here.
     fn with(self, finding: &Finding, is_open: bool, sums: &Sums) -> Option<Count>
         ensures executions { IfSome result (λ count. count.executions ≡ self.executions + 1) }
-        ensures perhaps { IfSome result (λ count. count.perhaps ≡ self.perhaps + stands_once is_perhaps finding.now) }
-        ensures through { IfSome result (λ count. count.through ≡ self.through + stands_once is_through finding.now) }
+        ensures unquoted { IfSome result (λ count. count.unquoted ≡ self.unquoted + stands_once is_noquote finding.now) }
+        ensures perhaps { IfSome result (λ count. count.perhaps.executions
+            ≡ self.perhaps.executions + stands_once is_perhaps finding.now) }
+        ensures through { IfSome result (λ count. count.through.executions
+            ≡ self.through.executions + stands_once is_through finding.now) }
     {
         let mut count = self;
         count.executions = count.executions.checked_add(1)?;
         match finding.standing {
-            Standing::Clean => return Some(count),
-            Standing::Perhaps => {
-                count.perhaps = count.perhaps.checked_add(1)?;
-                return Some(count);
-            }
-            Standing::Through => count.through = count.through.checked_add(1)?,
+            Standing::Clean | Standing::Other => {}
+            Standing::Unquoted => count.unquoted = count.unquoted.checked_add(1)?,
+            Standing::Perhaps => count.perhaps = count.perhaps.with(is_open, sums)?,
+            Standing::Through => count.through = count.through.with(is_open, sums)?,
         }
-        if is_open {
-            count.open = count.open.checked_add(1)?;
-        }
-        count.with_sums(sums)
+        Some(count)
     }
 
-    /// With what was traded through.
-    fn with_sums(self, sums: &Sums) -> Option<Count>
-        ensures executions { IfSome result (λ count. count.executions ≡ self.executions) }
-        ensures perhaps { IfSome result (λ count. count.perhaps ≡ self.perhaps) }
-        ensures through { IfSome result (λ count. count.through ≡ self.through) }
-    {
+    /// With rows of an execution that stands so.
+    fn with_rows(self, standing: Standing, sums: &Sums) -> Option<Count> {
         let mut count = self;
-        count.rows = count.rows.checked_add(sums.count)?;
-        count.shares = count.shares.checked_add(u64::from(sums.shares))?;
-        count.dollars = count.dollars.checked_add(sums.dollars)?;
-        count.worst = count.worst.max(sums.worst);
+        match standing {
+            Standing::Clean | Standing::Unquoted | Standing::Other => {}
+            Standing::Perhaps => count.perhaps = count.perhaps.with_sums(sums)?,
+            Standing::Through => count.through = count.through.with_sums(sums)?,
+        }
         Some(count)
     }
 }
@@ -96,7 +142,15 @@ impl Count {
 /// The counts of all executions.
 #[derive(Drop)]
 pub(crate) struct Tally {
+    /// Those that other shards judge. They are in no other count.
+    pub(crate) others: u64,
     pub(crate) all: Count,
+    pub(crate) places: Places,
+}
+
+/// The same counts by what executions have in common.
+#[derive(Drop)]
+pub(crate) struct Places {
     /// By cause, in the order of `Cause::ALL`.
     pub(crate) causes: [Count; CAUSES],
     /// By participant that executed, and last off an exchange.
@@ -112,12 +166,62 @@ pub(crate) struct Tally {
 impl Tally {
     /// Nothing, for a number of participants and symbols.
     pub(crate) fn none(alloc: Global, parts: usize, syms: usize) -> Result<Tally, AllocError>
+        ensures others { IfOk result (λ tally. tally.others ≡ 0) }
         ensures executions { IfOk result (λ tally. tally.all.executions ≡ 0) }
-        ensures perhaps { IfOk result (λ tally. tally.all.perhaps ≡ 0) }
-        ensures through { IfOk result (λ tally. tally.all.through ≡ 0) }
+        ensures unquoted { IfOk result (λ tally. tally.all.unquoted ≡ 0) }
+        ensures perhaps { IfOk result (λ tally. tally.all.perhaps.executions ≡ 0) }
+        ensures through { IfOk result (λ tally. tally.all.through.executions ≡ 0) }
     {
         Ok(Tally {
+            others: 0,
             all: Count::none(),
+            places: Places::none(alloc, parts, syms)?,
+        })
+    }
+
+    /// Counts one more execution. `None` comes only of sums that no number holds.
+    pub(crate) fn add(&mut self, execution: &Execution, finding: &Finding) -> Option<()>
+        ensures others { OnSome result (self.new.others ≡ self.old.others + stands_once is_other finding.now) }
+        ensures executions { OnSome result (self.new.all.executions ≡ self.old.all.executions + stands_once is_judged finding.now) }
+        ensures unquoted { OnSome result (self.new.all.unquoted ≡ self.old.all.unquoted + stands_once is_noquote finding.now) }
+        ensures perhaps { OnSome result (self.new.all.perhaps.executions
+            ≡ self.old.all.perhaps.executions + stands_once is_perhaps finding.now) }
+        ensures through { OnSome result (self.new.all.through.executions
+            ≡ self.old.all.through.executions + stands_once is_through finding.now) }
+    {
+        match finding.standing {
+            Standing::Other => {
+                self.others = self.others.checked_add(1)?;
+                Some(())
+            }
+            Standing::Clean | Standing::Unquoted | Standing::Perhaps | Standing::Through => {
+                self.add_judged(execution, finding)
+            }
+        }
+    }
+
+    /// Counts one more execution that is judged here.
+    fn add_judged(&mut self, execution: &Execution, finding: &Finding) -> Option<()>
+        ensures others { OnSome result (self.new.others ≡ self.old.others) }
+        ensures executions { OnSome result (self.new.all.executions ≡ self.old.all.executions + 1) }
+        ensures unquoted { OnSome result (self.new.all.unquoted ≡ self.old.all.unquoted + stands_once is_noquote finding.now) }
+        ensures perhaps { OnSome result (self.new.all.perhaps.executions
+            ≡ self.old.all.perhaps.executions + stands_once is_perhaps finding.now) }
+        ensures through { OnSome result (self.new.all.through.executions
+            ≡ self.old.all.through.executions + stands_once is_through finding.now) }
+    {
+        let sums = sums_of(execution, finding);
+        let is_open = sums.count > 0 && !has_cause(execution, finding, &sums);
+        let all = self.all.with(finding, is_open, &sums)?;
+        self.all = all;
+        self.places.add(execution, finding, is_open, &sums)
+    }
+}
+
+impl Places {
+    /// Nothing, for a number of participants and symbols.
+    fn none(alloc: Global, parts: usize, syms: usize) -> Result<Places, AllocError> {
+        Ok(Places {
             causes: [Count::none(); CAUSES],
             executed: counts(alloc, parts)?,
             passed: counts(alloc, parts)?,
@@ -126,22 +230,8 @@ impl Tally {
         })
     }
 
-    /// Counts one more execution. `None` comes only of sums that no number holds.
-    pub(crate) fn add(&mut self, execution: &Execution, finding: &Finding) -> Option<()>
-        ensures executions { OnSome result (self.new.all.executions ≡ self.old.all.executions + 1) }
-        ensures perhaps { OnSome result (self.new.all.perhaps ≡ self.old.all.perhaps + stands_once is_perhaps finding.now) }
-        ensures through { OnSome result (self.new.all.through ≡ self.old.all.through + stands_once is_through finding.now) }
-    {
-        let sums = sums_of(execution, finding);
-        let is_open = sums.count > 0 && !has_cause(execution, finding, &sums);
-        let all = self.all.with(finding, is_open, &sums)?;
-        self.add_places(execution, finding, is_open, &sums)?;
-        self.all = all;
-        Some(())
-    }
-
-    /// Counts it for its participant, its symbol, its causes, and those that were traded through.
-    fn add_places(
+    /// Counts an execution for its participant, its symbol, its causes, and those that were traded through.
+    fn add(
         &mut self,
         execution: &Execution,
         finding: &Finding,
@@ -160,14 +250,11 @@ impl Tally {
             let half_hour = half_hour_of(time);
             add_to(&mut self.half_hours, half_hour, finding, is_open, sums)?;
         }
-        if finding.standing != Standing::Through {
-            return Some(());
-        }
         self.add_causes(execution, finding, is_open, sums)?;
         self.add_rows(execution, finding)
     }
 
-    /// Counts it for each cause that applies.
+    /// Counts it for each cause that applies, if it traded through.
     fn add_causes(
         &mut self,
         execution: &Execution,
@@ -175,6 +262,9 @@ impl Tally {
         is_open: bool,
         sums: &Sums,
     ) -> Option<()> {
+        if !passes_some(finding.standing) {
+            return Some(());
+        }
         for place in 0..CAUSES {
             if Cause::ALL[place].applies(
                 &execution.claims,
@@ -195,11 +285,19 @@ impl Tally {
             let row = &finding.passed[place].1;
             let own = sums_of_row(execution, row, left, finding.is_flickering(place));
             if let Some(count) = self.passed.get_mut(usize::from(row.part.get())) {
-                *count = count.with_sums(&own)?;
+                *count = count.with_rows(finding.standing, &own)?;
             }
             left -= own.shares;
         }
         Some(())
+    }
+}
+
+/// Whether an execution that stands so trades through, or perhaps does.
+fn passes_some(standing: Standing) -> bool {
+    match standing {
+        Standing::Clean | Standing::Unquoted | Standing::Other => false,
+        Standing::Perhaps | Standing::Through => true,
     }
 }
 

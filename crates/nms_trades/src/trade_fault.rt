@@ -25,7 +25,7 @@ pub enum TradeFault {
     Beyond,
     /// X10: the participant is neither empty nor on the roster.
     UnknownParticipant,
-    /// X11: a flag is none.
+    /// X11: a flag is none, names one who is not on the roster, or is a name itself after those of self-help.
     BadFlags,
     /// X12: a time stands in place of a version, and the changes have no times.
     NoTimes,

@@ -99,72 +99,82 @@ impl Plan {
     }
 }
 
-/// A board. It can go to another thread, and serves one call at a time: every method takes `&mut self`.
-pub struct Board(Box<raw::Board>);
+/// A board. It can go to another thread. Looks take `&self`, so threads that share a board may make them together; all
+/// else takes `&mut self`. So an `RwLock<Board>` lets many look at once.
+#[derive(Debug)]
+pub struct Board(raw::Board);
 
 // The library keeps no state besides the board, and lets it change threads if a move, a lock or a join orders them.
 unsafe impl Send for Board {}
+// Every method with `&self` is a look: the library only reads the board in it, and stores in a copy of the handle that the
+// call owns. That is tested (tests/readers.c), and not proved.
+unsafe impl Sync for Board {}
 
 impl Board {
     /// Opens a board from the text of a setup. Only this call takes memory of the library.
     pub fn open(setup: &str) -> Result<Board, Error> {
         // The declarations of this crate fit only one layout.
         assert_eq!(unsafe { raw::nms_abi() }, raw::ABI, "libnms.a is of another version than this crate");
-        let mut board = Box::new(raw::Board { mark: 0, at: null_mut() });
-        // A boxed handle keeps its place as long as the board lives.
-        must(unsafe { raw::nms_raw_open(setup.as_ptr(), setup.len(), &mut *board) })?;
-        Ok(Board(board))
+        let mut board = Board(raw::Board { mark: 0, at: null_mut() });
+        must(unsafe { raw::nms_raw_open(setup.as_ptr(), setup.len(), &mut board.0) })?;
+        Ok(board)
+    }
+
+    /// The handle's copy for one look, in which the library stores. It ends with the look, and is never closed.
+    fn look(&self) -> raw::Board {
+        let raw::Board { mark, at } = self.0;
+        raw::Board { mark, at }
     }
 
     /// The number of a participant: look it up once.
-    pub fn part(&mut self, name: &str) -> Result<u8, Error> {
+    pub fn part(&self, name: &str) -> Result<u8, Error> {
         let mut number = 0;
-        must(unsafe { raw::nms_raw_find_part(&mut *self.0, name.as_ptr(), name.len(), &mut number) })?;
+        must(unsafe { raw::nms_raw_find_part(&mut self.look(), name.as_ptr(), name.len(), &mut number) })?;
         Ok(number)
     }
 
     /// The number of a symbol: look it up once.
-    pub fn sym(&mut self, name: &str) -> Result<u16, Error> {
+    pub fn sym(&self, name: &str) -> Result<u16, Error> {
         let mut number = 0;
-        must(unsafe { raw::nms_raw_find_sym(&mut *self.0, name.as_ptr(), name.len(), &mut number) })?;
+        must(unsafe { raw::nms_raw_find_sym(&mut self.look(), name.as_ptr(), name.len(), &mut number) })?;
         Ok(number)
     }
 
     /// The name of a participant.
-    pub fn part_name(&mut self, part: u8) -> Result<String, Error> {
+    pub fn part_name(&self, part: u8) -> Result<String, Error> {
         let (mut text, mut bytes) = ([0; raw::NAME_ROOM], 0);
-        must(unsafe { raw::nms_raw_part_name(&mut *self.0, part, text.as_mut_ptr(), text.len(), &mut bytes) })?;
+        must(unsafe { raw::nms_raw_part_name(&mut self.look(), part, text.as_mut_ptr(), text.len(), &mut bytes) })?;
         Ok(String::from_utf8_lossy(&text[..bytes]).into_owned())
     }
 
     /// Applies one change.
     pub fn apply(&mut self, change: &Change) -> Result<(), Error> {
-        must(unsafe { raw::nms_raw_apply(&mut *self.0, change) })
+        must(unsafe { raw::nms_raw_apply(&mut self.0, change) })
     }
 
     /// Applies the change that a record says, as `Q,N,ABC,A,10.01,300,10.03,200`.
     pub fn apply_text(&mut self, record: &str) -> Result<(), Error> {
-        must(unsafe { raw::nms_raw_apply_text(&mut *self.0, record.as_ptr(), record.len()) })
+        must(unsafe { raw::nms_raw_apply_text(&mut self.0, record.as_ptr(), record.len()) })
     }
 
     /// The best bid and the best offer of a symbol. A row of size 0 is none.
-    pub fn best(&mut self, sym: u16) -> Result<Best, Error> {
+    pub fn best(&self, sym: u16) -> Result<Best, Error> {
         let mut best = Best::default();
-        must(unsafe { raw::nms_raw_best_of(&mut *self.0, sym, &mut best) })?;
+        must(unsafe { raw::nms_raw_best_of(&mut self.look(), sym, &mut best) })?;
         Ok(best)
     }
 
     /// The best lawful plan for an order.
     pub fn plan(&mut self, order: Order) -> Result<Plan, Error> {
         let mut plan = raw::Plan::default();
-        must(unsafe { raw::nms_raw_plan_order(&mut *self.0, &order.raw(), &mut plan) })?;
+        must(unsafe { raw::nms_raw_plan_order(&mut self.0, &order.raw(), &mut plan) })?;
         Ok(Plan { order, raw: plan })
     }
 
     /// Whether a plan is lawful and the best one for its order on this board: nothing if it is, else why not.
-    pub fn confirm(&mut self, plan: &Plan) -> Result<Option<Doubt>, Error> {
+    pub fn confirm(&self, plan: &Plan) -> Result<Option<Doubt>, Error> {
         let mut doubt = Doubt::default();
-        match unsafe { raw::nms_raw_confirm(&mut *self.0, &plan.order.raw(), &plan.raw, &mut doubt) } {
+        match unsafe { raw::nms_raw_confirm(&mut self.look(), &plan.order.raw(), &plan.raw, &mut doubt) } {
             raw::DOUBTED => Ok(Some(doubt)),
             code => must(code).map(|()| None),
         }
@@ -173,13 +183,13 @@ impl Board {
     /// The text of a plan with its certificate, as `nms_tool check` reads it.
     pub fn text(&mut self, plan: &Plan) -> Result<String, Error> {
         let (mut text, mut bytes) = (vec![0; raw::PLAN_TEXT_ROOM], 0);
-        must(unsafe { raw::nms_raw_plan_text(&mut *self.0, &plan.order.raw(), &plan.raw, text.as_mut_ptr(), text.len(), &mut bytes) })?;
+        must(unsafe { raw::nms_raw_plan_text(&mut self.0, &plan.order.raw(), &plan.raw, text.as_mut_ptr(), text.len(), &mut bytes) })?;
         Ok(String::from_utf8_lossy(&text[..bytes]).into_owned())
     }
 }
 
 impl Drop for Board {
     fn drop(&mut self) {
-        unsafe { raw::nms_raw_close(&mut *self.0) };
+        unsafe { raw::nms_raw_close(&mut self.0) };
     }
 }

@@ -3,6 +3,7 @@
 //!     cargo run --offline --manifest-path examples/rust/Cargo.toml -- examples/builtin.toml      prints examples/rust/trade.out
 
 use nms::{Board, Error, Order, OrderSide};
+use std::thread;
 
 fn trade(setup: &str) -> Result<(), Error> {
     let mut board = Board::open(setup)?;
@@ -27,6 +28,15 @@ fn trade(setup: &str) -> Result<(), Error> {
             println!("    {} {} at {}", board.part_name(leg.part)?, leg.shares, leg.price);
         }
     }
+
+    // Looks take `&self`, so two threads may make them at once; a change or a plan can't come between.
+    let shared = &board;
+    let (bid, offer) = thread::scope(|scope| {
+        let bid = scope.spawn(|| shared.best(abc).map(|it| it.bid.size));
+        let offer = scope.spawn(|| shared.best(abc).map(|it| it.offer.size));
+        (bid.join().expect("a look"), offer.join().expect("a look"))
+    });
+    println!("two threads look: {} bid, {} offered", bid?, offer?);
 
     // A plan of an older version is doubted, and so is an altered one.
     let mut plan = board.plan(Order::new(OrderSide::Buy, abc, 600, 100_100))?;

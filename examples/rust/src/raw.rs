@@ -14,6 +14,7 @@ pub const DOUBTED: u32 = 16;
 
 /// A handle. The library keeps a pointer in it, so it is neither `Clone` nor `Copy`.
 #[repr(C)]
+#[derive(Debug)]
 pub struct Board {
     pub mark: u64,
     pub at: *mut u8,

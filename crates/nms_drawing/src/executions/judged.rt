@@ -51,6 +51,7 @@ pub(crate) fn mark_of(execution: &Execution, finding: &Finding) -> Mark {
     Mark {
         number: execution.number,
         version: execution.version,
+        time: execution.time,
         millionths: execution.millionths,
         through: finding.standing == Standing::Through,
     }

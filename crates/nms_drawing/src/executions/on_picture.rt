@@ -19,8 +19,9 @@ use nms_trades::Timing;
 use std::alloc::{AllocError, Global};
 use std::io::{Read, Write};
 
-/// Draws a symbol's day as `draw_day` does, with the executions of a file in that symbol: each at its version and its price,
-/// those that traded through a protected quotation as crosses.
+/// Draws a symbol's day as `draw_day` does, with the executions of a file in that symbol: each at its price, and at its time or at
+/// its version if that is what the axis counts. Those that traded through a protected quotation are crosses. One that names a
+/// version has the time of that version.
 ///
 /// A fault of what was given leaves nothing written. `Refused` if a record of the executions is refused, else `Done`. It is not
 /// flushed.
@@ -75,7 +76,7 @@ fn draw_judged<W: Write>(
         (option_copied frame.now.times) (option_copied plan.entry)) }
     ensures unwritten { IfErr result (λ fault. is_begun fault ≡ false → W.contents answers.new ≡ W.contents answers.old) }
 {
-    let Ok(marks) = marks_of(alloc, judged, sym) else {
+    let Ok(marks) = marks_of(alloc, judged, frame, sym) else {
         return Err(DrawingFault::NoMemory);
     };
     match draw_day(
@@ -93,14 +94,23 @@ fn draw_judged<W: Write>(
     }
 }
 
-/// The executions in a symbol.
-fn marks_of(alloc: Global, judged: &Judged, sym: Sym) -> Result<Vec<Mark>, AllocError> {
+/// The executions in a symbol, but for those that another shard judges.
+fn marks_of(
+    alloc: Global,
+    judged: &Judged,
+    frame: &Frame<'_>,
+    sym: Sym,
+) -> Result<Vec<Mark>, AllocError> {
     let mut marks = Vec::new(alloc);
     for place in 0..judged.records.executions.len() {
         let execution = &judged.records.executions[place];
         if let Some(Some(finding)) = judged.findings.get(place) {
-            if execution.sym == sym {
-                marks.push(mark_of(execution, finding))?;
+            if execution.sym == sym && !execution.other {
+                let mark = mark_of(execution, finding);
+                marks.push(Mark {
+                    time: mark.time.or(frame.time_of(mark.version)),
+                    ..mark
+                })?;
             }
         }
     }

@@ -10,6 +10,7 @@ use super::escaped::Escaped;
 use super::judged::{Judged, judge_source, mark_of};
 use super::page_fault::PageFault;
 use super::parts::{dollars_of, mark, say, words_of};
+use crate::clock::clock_of;
 use crate::drawing_fault::DrawingFault;
 use crate::marks::Mark;
 use crate::moments::{Scene, scenes_of};
@@ -45,8 +46,7 @@ svg{width:100%;max-width:45em;height:auto}\n\
 
 /// The meanings of findings.
 const ABOUT: &str =
-    "<p>Each execution was judged on the version of the changes that its record names, or that was in force at its time (17 CFR 242.611(a)). \
-A protected bid above its price, or a protected offer below it, is traded through. An exception that is claimed is not checked.</p>";
+    " A protected bid above its price, or a protected offer below it, is traded through. An exception that is claimed is not checked.</p>";
 
 /// The sentence on an execution that traded through on some versions of its window.
 const PERHAPS: &str =
@@ -62,13 +62,17 @@ const ROWS: &str =
     "<table>\n<thead><tr><th>Side</th><th>Participant</th><th class=\"n\">Price</th><th class=\"n\">Displayed</th>\
 <th class=\"n\">Receipt</th><th class=\"n\">Better by</th><th></th></tr></thead>\n<tbody>";
 
-/// The names of the files, as the page shows them.
+/// The names of the files, and how versions are found by times, as the page shows them.
 #[derive(Clone, Copy)]
 pub struct Named<'a> {
     /// The name of the file of changes.
     pub changes: &'a [u8],
     /// The name of the file of executions.
     pub executions: &'a [u8],
+    /// Whether the changes of an execution's own time are left out, as `Timing` says.
+    pub before: bool,
+    /// The nanoseconds of the window, if one was given.
+    pub window: Option<u64>,
 }
 
 /// Judges the executions of a file as `judge_file` of `nms_trades` does, with the same answers, and also writes a page: the
@@ -216,6 +220,8 @@ fn write_rest<P: Write>(
 fn write_top<P: Write>(named: &Named<'_>, page: &mut P) -> Result<(), ShowFault> {
     mark(page, HEAD)?;
     write_files(named, page)?;
+    mark(page, "<p>")?;
+    write_way(named, page)?;
     mark(page, ABOUT)?;
     mark(page, "<h2>Counts and sums</h2>\n<pre>")
 }
@@ -244,6 +250,36 @@ fn write_files<P: Write>(named: &Named<'_>, page: &mut P) -> Result<(), ShowFaul
         ],
     )?;
     mark(page, "</p>")
+}
+
+/// Writes on which versions the executions were judged.
+fn write_way<P: Write>(named: &Named<'_>, page: &mut P) -> Result<(), ShowFault> {
+    let at = if named.before {
+        "before the changes of its time (--before)"
+    } else {
+        "at its time"
+    };
+    say(
+        page,
+        &[
+            Item::Text(
+                "Each execution was judged on the version of the changes that its record names, or that was in force ",
+            ),
+            Item::Text(at),
+            Item::Text(" (17 CFR 242.611(a))."),
+        ],
+    )?;
+    let Some(nanoseconds) = named.window else {
+        return Ok(());
+    };
+    say(
+        page,
+        &[
+            Item::Text(" One with a time was judged on every version within "),
+            Item::Number(nanoseconds),
+            Item::Text(" nanoseconds of it (--window)."),
+        ],
+    )
 }
 
 /// Writes the counts and sums of all.
@@ -295,8 +331,11 @@ fn flag_all(flagged: &mut Flagged, judged: &Judged) -> Result<(), AllocError> {
     for place in 0..judged.records.executions.len() {
         let execution = &judged.records.executions[place];
         if let Some(Some(finding)) = judged.findings.get(place) {
-            if finding.standing != Standing::Clean {
-                flag(flagged, place, (execution.sym, mark_of(execution, finding)))?;
+            match finding.standing {
+                Standing::Clean | Standing::Unquoted | Standing::Other => {}
+                Standing::Perhaps | Standing::Through => {
+                    flag(flagged, place, (execution.sym, mark_of(execution, finding)))?;
+                }
             }
         }
     }
@@ -433,6 +472,12 @@ fn write_deal<P: Write>(
         Some(part) => (", executed on ", name_of_part(roster, part)),
         None => (", executed off an exchange", ""),
     };
+    let none: &[u8] = &[];
+    let time = execution.time.map(|time| clock_of(time, 1));
+    let (at, time) = match &time {
+        Some(time) => (", at ", time.bytes()),
+        None => ("", none),
+    };
     say(
         page,
         &[
@@ -444,6 +489,8 @@ fn write_deal<P: Write>(
             Item::Text(name_of_sym(roster, execution.sym)),
             Item::Text(" at "),
             dollars_of(execution.millionths),
+            Item::Text(at),
+            Item::Bytes(time),
             Item::Text(", on version "),
             Item::Number(execution.version),
             Item::Text(on),

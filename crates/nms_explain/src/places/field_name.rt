@@ -49,6 +49,12 @@ pub(crate) enum FieldName {
     Says,
     /// The money of a cut.
     Value,
+    /// The name of an execution.
+    Id,
+    /// The version or the time of an execution.
+    When,
+    /// What an execution claims.
+    Flags,
 }
 
 impl FieldName {
@@ -79,6 +85,9 @@ impl FieldName {
             FieldName::Cost => "cost",
             FieldName::Says => "kind of cut",
             FieldName::Value => "value",
+            FieldName::Id => "id",
+            FieldName::When => "when",
+            FieldName::Flags => "flags",
         }
     }
 }

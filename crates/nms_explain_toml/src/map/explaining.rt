@@ -5,13 +5,14 @@ ghost use Rattle.nms_show.specs.Safe.{IsSafe};
 ghost use Rattle.nms_show.specs.Written.{Writes};
 ghost use Rattle.nms_explain_toml.specs.Documents.{IsDocument};
 
-use super::kind::{Kind, first_fault};
+use super::draft::Draft;
 use super::mending::mend;
 use super::telling::{Place, tell_fault, tell_no_toml, tell_summary};
+use super::words::wrong_word;
 use crate::told::Told;
 use nms_import::MapFault;
 use nms_show::{Ending, Form, ShowFault};
-use std::alloc::Global;
+use std::alloc::{AllocError, Global};
 use std::io::Write;
 use std::str;
 use toml::Table;
@@ -22,8 +23,9 @@ const MOST_TOLD: u64 = 100;
 /// Prints why a mapping is refused: at most 100 of its faults, each with its line, table, key, value and what is expected; or
 /// that there is none. It ends with `SetupRefused` if there is a fault.
 ///
-/// Each fault that was found is mended in a copy of the document, and the copy is read again for the next one. A text that is
-/// no TOML document has one fault, M1, at the place where the parser stopped.
+/// Each key that is not known or absent is a fault, each value that is not allowed, and of a list each word. A fault that was
+/// found is mended in the document, and this is read again for the next one; the first is that of `import`. A text that is no
+/// TOML document has one fault, M1, at the place where the parser stopped.
 ///
 /// Errors: `WriteFault` if `answers` refuses, `NoMemory` if out of memory. A first part of the text may have been written. What is
 /// written is safe to show on a terminal.
@@ -77,17 +79,28 @@ fn tell_document<W: Write>(
     ensures ending { IfOk result (λ ending. (ending ≡ Ending.Done) ⊎ (ending ≡ Ending.SetupRefused)) }
     ensures safe { Writes IsSafe (W.contents answers.old) (W.contents answers.new) result }
 {
-    let mut document = document;
-    let kind = Kind::of(&document);
+    let mut draft = Draft::new(told.alloc, document);
+    tell_draft(told, &mut draft, answers)
+}
+
+/// Prints the faults that are left in a draft. It owns none, so its exits drop nothing of it.
+fn tell_draft<W: Write>(
+    told: Told<'_>,
+    draft: &mut Draft,
+    answers: &mut W,
+) -> Result<Ending, ShowFault>
+    ensures ending { IfOk result (λ ending. (ending ≡ Ending.Done) ⊎ (ending ≡ Ending.SetupRefused)) }
+    ensures safe { Writes IsSafe (W.contents answers.old) (W.contents answers.new) result }
+{
     let mut last = None;
     for faults in 0..MOST_TOLD {
-        match tell_next(told, kind, &mut document, &last, answers)? {
-            Next::Told(fault) => last = Some(fault),
+        match tell_next(told, draft, &last, answers)? {
+            Next::Told(spot) => last = Some(spot),
             Next::Faultless => return tell_sum(told, faults, answers),
             Next::Again => return tell_refused(told, faults, false, answers),
         }
     }
-    let more = first_fault(told.alloc, kind, &document).is_some();
+    let more = draft.next_fault(told.alloc).is_some();
     tell_refused(told, MOST_TOLD, more, answers)
 }
 
@@ -97,36 +110,87 @@ enum Next {
     /// There is none.
     Faultless,
     /// It was reported and mended.
-    Told(MapFault),
-    /// It is at the place of the one before, or has no place: it can't be mended, and is reported once.
+    Told(Spot),
+    /// It is at the spot of the one before, or has none: it can't be mended, and is reported once.
     Again,
+}
+
+/// Where a fault was: the table, the key, and the place of the word in its list.
+#[derive(Drop)]
+struct Spot {
+    table: &'static str,
+    key: String,
+    word: Option<usize>,
 }
 
 /// Prints the next fault of a document, and mends it.
 #[tactic(auto, using(nms_show::proofs::Offered::nothing_added, nms_show::proofs::Offered::no_part_added, nms_show::proofs::Offered::whole_part))]
 fn tell_next<W: Write>(
     told: Told<'_>,
-    kind: Kind,
-    document: &mut Table,
-    last: &Option<MapFault>,
+    draft: &mut Draft,
+    last: &Option<Spot>,
     answers: &mut W,
 ) -> Result<Next, ShowFault>
     ensures safe { Writes IsSafe (W.contents answers.old) (W.contents answers.new) result }
 {
-    let fault = match first_fault(told.alloc, kind, document) {
-        None => return Ok(Next::Faultless),
-        Some(MapFault::NoMemory) => return Err(ShowFault::NoMemory),
-        Some(fault) => fault,
+    match draft.next_fault(told.alloc) {
+        None => Ok(Next::Faultless),
+        Some(MapFault::NoMemory) => Err(ShowFault::NoMemory),
+        Some(fault) => tell_found(told, draft, &fault, last, answers),
+    }
+}
+
+/// Prints a fault of a document that has a spot, and mends it.
+#[tactic(auto, using(nms_show::proofs::Offered::nothing_added, nms_show::proofs::Offered::no_part_added, nms_show::proofs::Offered::whole_part))]
+fn tell_found<W: Write>(
+    told: Told<'_>,
+    draft: &mut Draft,
+    fault: &MapFault,
+    last: &Option<Spot>,
+    answers: &mut W,
+) -> Result<Next, ShowFault>
+    ensures safe { Writes IsSafe (W.contents answers.old) (W.contents answers.new) result }
+{
+    let Some(place) = draft.place_of(fault) else {
+        return Ok(Next::Again);
     };
-    let place = match Place::of(&fault) {
-        Some(place) if !is_at(last, &place) => place,
-        Some(_) | None => return Ok(Next::Again),
-    };
-    tell_fault(told, document, &fault, &place, answers)?;
-    match mend(told.alloc, kind, document, &fault, &place) {
-        Ok(()) => Ok(Next::Told(fault)),
+    let word = word_of(draft, fault, &place);
+    if is_at(last, &place, word) {
+        return Ok(Next::Again);
+    }
+    tell_fault(told, draft, fault, &place, word, answers)?;
+    match mended(told.alloc, draft, fault, &place, word) {
+        Ok(spot) => Ok(Next::Told(spot)),
         Err(_) => Err(ShowFault::NoMemory),
     }
+}
+
+/// The place of the word in a list that a fault is about, if it is about one.
+fn word_of(draft: &Draft, fault: &MapFault, place: &Place<'_>) -> Option<usize> {
+    match fault {
+        MapFault::BadValue { .. } => wrong_word(draft.kind, &draft.document, place),
+        MapFault::Unknown { .. }
+        | MapFault::Missing { .. }
+        | MapFault::NotToml { .. }
+        | MapFault::NoColumn { .. }
+        | MapFault::NoMemory => None,
+    }
+}
+
+/// Mends a fault, and says where it was.
+fn mended(
+    alloc: Global,
+    draft: &mut Draft,
+    fault: &MapFault,
+    place: &Place<'_>,
+    word: Option<usize>,
+) -> Result<Spot, AllocError> {
+    mend(alloc, draft, fault, place, word)?;
+    Ok(Spot {
+        table: place.table,
+        key: String::from_str(alloc, place.key)?,
+        word,
+    })
 }
 
 /// Prints how many faults were reported before none was left, and ends.
@@ -155,13 +219,12 @@ fn tell_refused<W: Write>(
     Ok(Ending::SetupRefused)
 }
 
-/// Whether an earlier fault is of the same table and key.
-fn is_at(last: &Option<MapFault>, place: &Place<'_>) -> bool {
-    let Some(last) = last else {
-        return false;
-    };
-    match Place::of(last) {
-        Some(before) => before.table == place.table && before.key == place.key,
+/// Whether a fault is at the spot of the one before.
+fn is_at(last: &Option<Spot>, place: &Place<'_>, word: Option<usize>) -> bool {
+    match last {
+        Some(last) => {
+            last.table == place.table && last.key.as_str() == place.key && last.word == word
+        }
         None => false,
     }
 }

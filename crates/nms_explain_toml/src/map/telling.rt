@@ -5,11 +5,14 @@ ghost use Rattle.nms_show.specs.Plain.{is_own_plain, is_plain};
 ghost use Rattle.nms_show.specs.Safe.{IsSafe};
 ghost use Rattle.nms_show.specs.Written.{Writes};
 
+use super::draft::Draft;
 use super::nearest::nearest_known;
 use crate::marked::{Marked, mark_at};
 use crate::marking::{write_finding, write_marked};
 use crate::named::locate_named;
+use crate::setup::element_in;
 use crate::told::Told;
+use crate::toml_line::value_in;
 use nms_import::MapFault;
 use nms_show::{
     Ending, Form, Item, ShowFault, item_of, words_before, write_plain_line, write_plain_object,
@@ -110,23 +113,30 @@ pub(crate) fn tell_no_toml<'a, W: Write>(
     Ok(Ending::SetupRefused)
 }
 
-/// Prints a fault of a document.
+/// Prints a fault of a document: of the word at that place of a list, if it is about one.
 pub(crate) fn tell_fault<'a, W: Write>(
     told: Told<'a>,
-    document: &'a Table,
+    draft: &'a Draft,
     fault: &'a MapFault,
     place: &Place<'a>,
+    word: Option<usize>,
     answers: &mut W,
 ) -> Result<(), ShowFault>
     ensures safe { Writes IsSafe (W.contents answers.old) (W.contents answers.new) result }
 {
-    let Ok(meant) = meant_at(told.alloc, document, fault, place) else {
+    let Ok(meant) = meant_at(told.alloc, &draft.document, fault, place) else {
         return Err(ShowFault::NoMemory);
     };
-    let at_key = locate_named(told.text, place.table.as_bytes(), place.key.as_bytes());
+    let table = draft.written("", place.table);
+    let at_key = located(
+        told.text,
+        table,
+        draft.written(place.table, place.key),
+        word,
+    );
     let refusal = Refusal {
         file: told.file,
-        marked: part_at(fault, at_key, marked_table(told.text, place.table)),
+        marked: part_at(fault, at_key, marked_table(told.text, table)),
         code: fault.code(),
         sentence: sentence_of(fault),
         table: Some(place.table),
@@ -136,6 +146,26 @@ pub(crate) fn tell_fault<'a, W: Write>(
         meant,
     };
     tell_refusal(told.alloc, told.form, &refusal, answers)
+}
+
+/// Where a key with its value stands, or the word at that place of the list there.
+fn located<'a>(text: &'a [u8], table: &str, key: &str, word: Option<usize>) -> Option<Marked<'a>> {
+    let at_key = locate_named(text, table.as_bytes(), key.as_bytes())?;
+    let at_word = match word {
+        Some(word) => word_in(text, at_key, word),
+        None => None,
+    };
+    Some(at_word.unwrap_or(at_key))
+}
+
+/// Where the word at that place of a list stands, which begins where the value does that is marked.
+fn word_in<'a>(text: &'a [u8], at_key: Marked<'a>, word: usize) -> Option<Marked<'a>> {
+    let begins = at_key.before.checked_add(at_key.pair.start)?;
+    let at = begins.checked_add(element_in(text.get(begins..)?, word)?)?;
+    let marked = mark_at(text, at, text.len());
+    let start = marked.pair.start;
+    let end = start.checked_add(value_in(marked.value()).len())?;
+    Some(marked.at(start, end))
 }
 
 /// The key that was meant by one that is not known.

@@ -7,6 +7,8 @@ ghost use Rattle.nms_explain_toml.specs.Ended.{ending_at, ending_of};
 
 use super::findings::{faults_at, tell_finding};
 use super::hints::text_hint;
+use super::locating::{Lines, lines_of};
+use super::report::Report;
 use super::sentences::sentence_of;
 use super::telling::{Refusal, Summary, tell_refusal, tell_summary};
 use crate::marked::mark_at;
@@ -105,8 +107,36 @@ fn tell_no_toml<'a, W: Write>(
 }
 
 /// Reports all faults of a document.
+#[tactic(auto, using(nms_show::proofs::Offered::no_part_added))]
 fn tell_document<W: Write>(
     told: Told<'_>,
+    document: &Table,
+    found: &[Finding],
+    answers: &mut W,
+) -> Result<Ending, ShowFault>
+    ensures ending { IfOk result (λ ending. ending ≡ ending_of (length found.now)) }
+    ensures safe { Writes IsSafe (W.contents answers.old) (W.contents answers.new) result }
+{
+    match lines_of(told.alloc, told.text) {
+        Ok(lines) => tell_placed(reported(told, &lines), document, found, answers),
+        Err(_) => Err(ShowFault::NoMemory),
+    }
+}
+
+/// What the report of each fault needs, with the lines of the text.
+fn reported<'a>(told: Told<'a>, lines: &'a Lines) -> Report<'a> {
+    Report {
+        alloc: told.alloc,
+        form: told.form,
+        file: told.file,
+        text: told.text,
+        lines,
+    }
+}
+
+/// As `tell_document`, given the lines of the text.
+fn tell_placed<W: Write>(
+    told: Report<'_>,
     document: &Table,
     found: &[Finding],
     answers: &mut W,
@@ -125,7 +155,7 @@ fn tell_document<W: Write>(
 
 /// Reports the faults that were found, and their sum.
 fn tell_findings<W: Write>(
-    told: Told<'_>,
+    told: Report<'_>,
     document: &Table,
     found: &[Finding],
     answers: &mut W,

@@ -8,10 +8,10 @@ use super::expected::{expected_at, keys_expected};
 use super::hints::value_hint;
 use super::locating::{locate_key, locate_table, row_of};
 use super::nearest::{nearest_known, nearest_other};
+use super::report::Report;
 use super::sentences::sentence_of;
 use super::telling::{Refusal, tell_refusal};
 use crate::marked::{Marked, mark_at};
-use crate::told::Told;
 use nms_fees::SetupFault;
 use nms_setup_places::{
     Choices, Finding, KnownKey, SetupArray, SetupTable, Spot, name_in, rows_at,
@@ -35,7 +35,7 @@ pub(crate) fn faults_at(document: &Table, finding: &Finding) -> usize {
 /// Reports a finding, up to that many of its faults.
 #[tactic(auto, using(nms_show::proofs::Offered::nothing_added))]
 pub(crate) fn tell_finding<W: Write>(
-    told: Told<'_>,
+    told: Report<'_>,
     choices: Choices,
     document: &Table,
     finding: &Finding,
@@ -58,7 +58,7 @@ pub(crate) fn tell_finding<W: Write>(
 /// Reports the fault of a key that may stand in a table.
 #[tactic(auto, using(nms_show::proofs::Offered::nothing_added, nms_show::proofs::Offered::no_part_added))]
 fn tell_key<W: Write>(
-    told: Told<'_>,
+    told: Report<'_>,
     choices: Choices,
     document: &Table,
     finding: &Finding,
@@ -83,7 +83,7 @@ fn tell_key<W: Write>(
 /// Reports that a key is absent, and which similar key the table has.
 #[tactic(auto, using(nms_show::proofs::Offered::no_part_added))]
 fn tell_absent<'a, W: Write>(
-    told: Told<'a>,
+    told: Report<'a>,
     document: &'a Table,
     table: SetupTable,
     members: &'a Table,
@@ -99,7 +99,7 @@ fn tell_absent<'a, W: Write>(
     let fault = SetupFault::Missing;
     let refusal = Refusal {
         file: told.file,
-        marked: marked_table(told.text, table),
+        marked: marked_table(told, table),
         fault,
         sentence: sentence_of(fault),
         table: Some(table),
@@ -128,7 +128,7 @@ fn absent_hint(
 /// Reports the fault of a key's value.
 #[tactic(auto, using(nms_show::proofs::Offered::nothing_added))]
 fn tell_value<'a, W: Write>(
-    told: Told<'a>,
+    told: Report<'a>,
     document: &'a Table,
     finding: &Finding,
     members: &'a Table,
@@ -142,10 +142,10 @@ fn tell_value<'a, W: Write>(
     let Some(value) = members.get(key.text()) else {
         return Ok(());
     };
-    let at_key = locate_key(told.text, table, key.text().as_bytes());
+    let at_key = locate_key(told.lines, told.text, table, key.text().as_bytes());
     let refusal = Refusal {
         file: told.file,
-        marked: at_key.unwrap_or(marked_table(told.text, table)),
+        marked: at_key.unwrap_or(marked_table(told, table)),
         fault: finding.fault,
         sentence: sentence_of(finding.fault),
         table: Some(table),
@@ -190,7 +190,7 @@ fn counted_at(fault: SetupFault, value: &Value) -> Option<usize> {
 /// Reports each key that may not stand in a table, up to that many.
 #[tactic(auto, using(nms_show::proofs::Offered::nothing_added))]
 fn tell_others<W: Write>(
-    told: Told<'_>,
+    told: Report<'_>,
     document: &Table,
     table: SetupTable,
     room: usize,
@@ -217,7 +217,7 @@ fn tell_others<W: Write>(
 /// Reports one key that may not stand in a table, with the nearest known key.
 #[tactic(auto, using(nms_show::proofs::Offered::no_part_added))]
 fn tell_other<'a, W: Write>(
-    told: Told<'a>,
+    told: Report<'a>,
     document: &'a Table,
     table: SetupTable,
     members: &'a Table,
@@ -229,9 +229,9 @@ fn tell_other<'a, W: Write>(
     let Ok(hint) = other_hint(told.alloc, table, members, key) else {
         return Err(ShowFault::NoMemory);
     };
-    let marked = match locate_key(told.text, table, key.as_bytes()) {
+    let marked = match locate_key(told.lines, told.text, table, key.as_bytes()) {
         Some(marked) => marked.at_key(),
-        None => marked_table(told.text, table),
+        None => marked_table(told, table),
     };
     let fault = SetupFault::UnknownKey;
     let refusal = Refusal {
@@ -267,13 +267,13 @@ fn other_hint(
 
 /// Reports an element of an array that is no table.
 fn tell_element<'a, W: Write>(
-    told: Told<'a>,
+    told: Report<'a>,
     finding: &Finding,
     answers: &mut W,
 ) -> Result<(), ShowFault>
     ensures safe { Writes IsSafe (W.contents answers.old) (W.contents answers.new) result }
 {
-    let marked = marked_table(told.text, finding.table);
+    let marked = marked_table(told, finding.table);
     let refusal = Refusal {
         file: told.file,
         marked,
@@ -292,7 +292,7 @@ fn tell_element<'a, W: Write>(
 /// Reports a name that an earlier element of the array has.
 #[tactic(auto, using(nms_show::proofs::Offered::no_part_added))]
 fn tell_again<'a, W: Write>(
-    told: Told<'a>,
+    told: Report<'a>,
     document: &'a Table,
     finding: &Finding,
     first: usize,
@@ -308,11 +308,11 @@ fn tell_again<'a, W: Write>(
     let Ok(expected) = format!(in alloc; "a name of its own: number {place} has it too") else {
         return Err(ShowFault::NoMemory);
     };
-    let at_key = locate_key(told.text, finding.table, b"name");
+    let at_key = locate_key(told.lines, told.text, finding.table, b"name");
     let name = row_name(document, finding.table);
     let refusal = Refusal {
         file: told.file,
-        marked: at_key.unwrap_or(marked_table(told.text, finding.table)),
+        marked: at_key.unwrap_or(marked_table(told, finding.table)),
         fault: finding.fault,
         sentence: "a name that stands twice",
         table: Some(finding.table),
@@ -329,16 +329,16 @@ fn tell_again<'a, W: Write>(
 }
 
 /// The line to report for a table: its first line, or that of its array's key, or the text's first.
-fn marked_table(text: &[u8], table: SetupTable) -> Marked<'_> {
-    let first = mark_at(text, 0, 0);
+fn marked_table<'a>(told: Report<'a>, table: SetupTable) -> Marked<'a> {
+    let first = mark_at(told.text, 0, 0);
     let Some((array, _)) = row_of(table) else {
         return first;
     };
-    if let Some(marked) = locate_table(text, table) {
+    if let Some(marked) = locate_table(told.lines, told.text, table) {
         return marked;
     }
     let key = array.key().text().as_bytes();
-    locate_key(text, SetupTable::Top, key).unwrap_or(first)
+    locate_key(told.lines, told.text, SetupTable::Top, key).unwrap_or(first)
 }
 
 /// The keys at a place of a document, if that is a table.

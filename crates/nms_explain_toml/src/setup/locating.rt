@@ -1,24 +1,112 @@
 //! Where a table and a key stand in a setup's text. This does not find all that TOML allows: not a key with escapes, nor one
-//! below a header with points.
+//! below a header with points. The text is walked once, for the lines that have a header or a key; then each place is looked
+//! for among these.
 ghost use Rattle.std.specs.Prelude.{◌≡◌, ◌+◌, ◌-◌, ◌^◌, ◌<◌, ◌≤◌, IfSome, length};
 ghost use Rattle.nms_explain_toml.specs.Lines.{IsIn};
 ghost use Rattle.nms_explain_toml.specs.Marking.{IsOf};
 
 use super::in_braces::{element_in, key_in};
+use crate::blanks::trim_start;
 use crate::line_start::LineStart;
 use crate::marked::{Marked, line_from, mark_at};
-use crate::toml_line::{Pair, header_in, value_in};
+use crate::toml_line::{Pair, header_in, key_at, names_key, value_in};
 use nms_setup_places::{SetupArray, SetupTable};
+use std::alloc::{AllocError, Global};
 
-/// Where a key stands in a table. For a table at a key of the top, this is its header.
-pub(crate) fn locate_key<'a>(text: &'a [u8], table: SetupTable, key: &[u8]) -> Option<Marked<'a>>
+/// The lines of a setup's text that have a header or a key, in order.
+#[derive(Drop)]
+pub(crate) struct Lines {
+    all: Vec<Entry>,
+}
+
+/// A line with a header or a key.
+#[derive(Clone, Copy)]
+struct Entry {
+    at: Reached,
+    /// How many bytes it has, without its end.
+    long: usize,
+    /// The table that begins with it, if one does.
+    begins: Option<SetupTable>,
+}
+
+/// The lines of a text that have a header or a key.
+pub(crate) fn lines_of(alloc: Global, text: &[u8]) -> Result<Lines, AllocError> {
+    let mut all = Vec::new(alloc);
+    match add_lines(text, &mut all) {
+        Ok(()) => Ok(Lines { all }),
+        Err(fault) => Err(fault),
+    }
+}
+
+/// Adds the lines that have a header or a key.
+fn add_lines(text: &[u8], all: &mut Vec<Entry>) -> Result<(), AllocError> {
+    let mut reached = Reached::top();
+    'lines: loop {
+        let line = line_from(text, reached.start.bytes);
+        let entered = reached.entering(line);
+        if reached.start.nest.is_outer() && has_words(line) {
+            all.push(Entry {
+                at: reached,
+                long: line.len(),
+                begins: if entered.table == reached.table {
+                    None
+                } else {
+                    entered.table
+                },
+            })?;
+        }
+        if text.len() - reached.start.bytes == line.len() {
+            return Ok(());
+        }
+        reached = entered.after(line);
+    }
+}
+
+/// Whether a line has more than white space and a comment.
+fn has_words(line: &[u8]) -> bool {
+    match trim_start(line).first() {
+        Some(first) => *first != b'#',
+        None => false,
+    }
+}
+
+impl Entry {
+    /// The line; none if it is not of that text.
+    fn line(self, text: &[u8]) -> Option<&[u8]>
+        ensures { IfSome result (λ line. self.at.start.bytes + length line.now ≤ length text.now) }
+    {
+        let start = self.at.start.bytes;
+        if start > text.len() || self.long > text.len() - start {
+            return None;
+        }
+        let rest = &text[start..];
+        Some(&rest[..self.long])
+    }
+
+    /// A key of a table, if the line has it.
+    fn key_of<'a>(self, text: &'a [u8], table: SetupTable, key: &[u8]) -> Option<Marked<'a>>
+        ensures within { IfSome result (λ marked. marked.before + marked.pair.start ≤ length text.now) }
+        ensures of_text { IfSome result (IsOf text.now) }
+    {
+        let line = self.line(text)?;
+        self.at.key_of(text, line, table, key)
+    }
+}
+
+/// Where a key stands in a table. For a table at a key of the top, or of an element of an array, this is its header.
+pub(crate) fn locate_key<'a>(
+    lines: &Lines,
+    text: &'a [u8],
+    table: SetupTable,
+    key: &[u8],
+) -> Option<Marked<'a>>
     ensures { IfSome result (IsOf text.now) }
 {
-    if let Some(marked) = locate_line(text, table, key) {
+    if let Some(marked) = locate_line(lines, text, table, key) {
         return Some(marked);
     }
     let (array, place) = row_of(table)?;
-    let begins = locate_element(text, array, place)?;
+    let begins = locate_element(lines, text, array, place)?;
     let (before, pair) = key_in(&text[begins..], key)?;
     Some(mark_from(text, begins + before, pair))
 }
@@ -34,61 +122,59 @@ fn mark_from(text: &[u8], place: usize, pair: Pair) -> Marked<'_>
 }
 
 /// The line of a table that has a key.
-fn locate_line<'a>(text: &'a [u8], table: SetupTable, key: &[u8]) -> Option<Marked<'a>>
+fn locate_line<'a>(
+    lines: &Lines,
+    text: &'a [u8],
+    table: SetupTable,
+    key: &[u8],
+) -> Option<Marked<'a>>
     ensures within { IfSome result (λ marked. marked.before + marked.pair.start ≤ length text.now) }
     ensures of_text { IfSome result (IsOf text.now) }
 {
-    let mut reached = Reached::top();
-    'lines: loop {
-        let line = line_from(text, reached.start.bytes);
-        if let Some(marked) = reached.key_of(text, line, table, key) {
+    for entry in &lines.all {
+        if let Some(marked) = entry.key_of(text, table, key) {
             return Some(marked);
         }
-        if text.len() - reached.start.bytes == line.len() {
-            return None;
-        }
-        reached = reached.entering(line).after(line);
     }
+    None
 }
 
 /// Where a table begins: its header, or its element in an array in brackets.
-pub(crate) fn locate_table(text: &[u8], table: SetupTable) -> Option<Marked<'_>>
+pub(crate) fn locate_table<'a>(
+    lines: &Lines,
+    text: &'a [u8],
+    table: SetupTable,
+) -> Option<Marked<'a>>
     ensures { IfSome result (IsOf text.now) }
 {
-    if let Some(marked) = locate_header(text, table) {
+    if let Some(marked) = locate_header(lines, text, table) {
         return Some(marked);
     }
     let (array, place) = row_of(table)?;
-    let begins = locate_element(text, array, place)?;
+    let begins = locate_element(lines, text, array, place)?;
     let at = mark_at(text, begins, text.len());
     let start = at.pair.start;
     Some(at.at(start, start + value_in(at.value()).len()))
 }
 
 /// The header of a table.
-fn locate_header(text: &[u8], table: SetupTable) -> Option<Marked<'_>>
+fn locate_header<'a>(lines: &Lines, text: &'a [u8], table: SetupTable) -> Option<Marked<'a>>
     ensures { IfSome result (IsOf text.now) }
 {
-    let mut reached = Reached::top();
-    'lines: loop {
-        let line = line_from(text, reached.start.bytes);
-        let entered = reached.entering(line);
-        if entered.table != reached.table && entered.table == Some(table) {
-            return Some(reached.start.mark(text).whole());
+    for entry in &lines.all {
+        if entry.begins == Some(table) {
+            return Some(entry.at.start.mark(text).whole());
         }
-        if text.len() - reached.start.bytes == line.len() {
-            return None;
-        }
-        reached = entered.after(line);
     }
+    None
 }
 
 /// Where an element of an array in brackets begins: how many bytes of the text stand before it.
-fn locate_element(text: &[u8], array: SetupArray, place: usize) -> Option<usize>
+fn locate_element(lines: &Lines, text: &[u8], array: SetupArray, place: usize) -> Option<usize>
     ensures { IfSome result (λ begins. begins ≤ length text.now) }
 {
     let key = array.key().text().as_bytes();
-    let marked = locate_line(text, SetupTable::Top, key)?;
+    let marked = locate_line(lines, text, SetupTable::Top, key)?;
     let begins = marked.before + marked.pair.start;
     Some(begins + element_in(&text[begins..], place)?)
 }
@@ -145,9 +231,28 @@ impl Reached {
         if !self.start.nest.is_outer() {
             return None;
         }
+        if self.is_header_of(line, table, key) {
+            return Some(self.start.mark(text).whole());
+        }
         let is_in = self.table == Some(table);
         let is_top = table == SetupTable::Top;
         self.start.key_of(text, line, is_in, is_top, key)
+    }
+
+    /// Whether this line is the header of a table that is a key of an element of an array, as `[participant.name]`: it is the
+    /// key of the last element that began before it.
+    fn is_header_of(self, line: &[u8], table: SetupTable, key: &[u8]) -> bool {
+        let (array, began) = match table {
+            SetupTable::Top => return false,
+            SetupTable::Participant(place) => {
+                (SetupArray::Participant, is_next(place, self.participants))
+            }
+            SetupTable::Symbol(place) => (SetupArray::Symbol, is_next(place, self.symbols)),
+        };
+        match header_in(line) {
+            Some((name, _)) => began && is_within(name, array.key().text().as_bytes(), key),
+            None => false,
+        }
     }
 
     /// In the table of this line, if it is a header.
@@ -205,4 +310,18 @@ impl Reached {
         }
         reached
     }
+}
+
+/// Whether one more than a place is that many.
+fn is_next(place: usize, count: usize) -> bool {
+    count > 0 && count - 1 == place
+}
+
+/// Whether the name in a header is that of a table, a point, and a key, or begins so.
+fn is_within(name: &[u8], table: &[u8], key: &[u8]) -> bool {
+    let Some((first, rest)) = key_at(name) else {
+        return false;
+    };
+    let after = trim_start(rest);
+    first == table && after.starts_with(b".") && names_key(trim_start(&after[1..]), key)
 }

@@ -21,4 +21,4 @@ Exit statuses:
   6  an input record, a plan or a length was refused
   7  files were imported, and the counts or the times say that something is wrong
 
-What each code means, and what to do about it, stands in docs/ERRORS.md of the repository; `explain` tells it too.";
+`nms_review explain code CODE` prints what a code means and what to do about it. docs/ERRORS.md has all of them.";

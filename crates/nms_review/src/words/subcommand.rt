@@ -47,6 +47,12 @@ pub(crate) enum Kind {
     Setup,
     /// A mapping of a vendor's files.
     Map,
+    /// A file of executions.
+    Executions,
+    /// A file of times.
+    Times,
+    /// A code, in the place of the file.
+    Code,
 }
 
 /// A word or an option of a subcommand, with its explanation in the help.
@@ -79,8 +85,17 @@ pub(crate) enum WordForm {
 }
 
 /// The words that name a kind of file.
-pub(crate) static KINDS: [&'static str; 7] = [
-    "script", "changes", "orders", "feed", "plan", "setup", "map",
+pub(crate) static KINDS: [&'static str; 10] = [
+    "script",
+    "changes",
+    "orders",
+    "feed",
+    "plan",
+    "setup",
+    "map",
+    "executions",
+    "times",
+    "code",
 ];
 
 const CHANGES: Word = Word {
@@ -113,7 +128,7 @@ const SYMBOLS: Word = Word {
     form: WordForm::Valued("FILE"),
 };
 
-static EXPLAIN: [Word; 5] = [
+static EXPLAIN: [Word; 7] = [
     Word {
         name: "KIND",
         help: "What the file is",
@@ -121,13 +136,23 @@ static EXPLAIN: [Word; 5] = [
     },
     Word {
         name: "FILE",
-        help: "The file to explain",
+        help: "The file to explain; after `code` the code, as X12",
         form: WordForm::Needed,
     },
     Word {
         name: "feed",
         help: "Of a feed: its letter, A if it is not given",
         form: WordForm::Valued("LETTER"),
+    },
+    Word {
+        name: "times",
+        help: "Of executions: the file of the changes' times, to find versions by time",
+        form: WordForm::Valued("FILE"),
+    },
+    Word {
+        name: "symbols",
+        help: "Of executions: the file of symbols that an import wrote, with --times",
+        form: WordForm::Valued("FILE"),
     },
     SETUP,
     JSON,
@@ -220,7 +245,7 @@ static DRAW: [Word; 10] = [
     },
     Word {
         name: "trades",
-        help: "The file of executions, which are drawn at their versions",
+        help: "The file of executions, drawn at their versions; with --times at their times",
         form: WordForm::Valued("EXECUTIONS"),
     },
     Word {
@@ -394,7 +419,7 @@ impl Sub {
     pub(crate) fn about(self) -> &'static str {
         match self {
             Sub::Explain =>
-                "Says of each refused record, or of a setup, where it went wrong and what to do",
+                "Says of each refused record, of a setup or a code, what is wrong and what to do",
             Sub::Tape => "Writes the changes that a script takes, as a file of changes",
             Sub::At => "Shows a version: a symbol's report, or all symbols in a table",
             Sub::Opening => "Writes a short file of changes that shows what a version shows",
@@ -446,6 +471,9 @@ impl Kind {
             "plan" => Some(Kind::Plan),
             "setup" => Some(Kind::Setup),
             "map" => Some(Kind::Map),
+            "executions" => Some(Kind::Executions),
+            "times" => Some(Kind::Times),
+            "code" => Some(Kind::Code),
             _ => None,
         }
     }

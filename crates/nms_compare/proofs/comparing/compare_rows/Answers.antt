@@ -4,7 +4,8 @@ use Rattle.std.proofs.Common.{append_assoc, length-append}
 use Rattle.std.proofs.lemmas.List.{append-nil}
 use Rattle.csv.specs.Records.{fields_of}
 use Rattle.nms_lines.specs.Layout.{Record}
-use Rattle.nms_import.specs.Rows.{RowsFrom}
+use Rattle.nms_import.specs.Rows.{RowsFrom, unread}
+use Rattle.nms_import.specs.declared.row_source.RowSource.{RowSource}
 use Rattle.nms_compare.specs.Compared.{rows_in}
 use Rattle.nms_compare.proofs.CountFacts.{counts_more}
 use Rattle.nms_compare.proofs.comparing.compare_rows.Goals as goal
@@ -16,7 +17,7 @@ loop-done-init g c = (
   c.in_ok-walk.ensures.walks,
   λ config bytes seen reads. (
     [],
-    subst (λ (rows : List Record). RowsFrom {R = g.row.R.Denot} config g.R.Read.remaining c.args.reader.now bytes rows)
+    subst (λ (rows : List Record). RowsFrom {R = RowSource g.row.R.Denot} config (unread g.R.Read.remaining) c.args.reader.now bytes rows)
         (sym (append-nil seen)) reads,
     c.none-counts.ensures,
     ap rows_in c.none-counts.ensures,
@@ -42,7 +43,7 @@ loop-done-preserved g c = (
       let row = fields_of c.next_row.new.row in
       let found = c.in_ok-next_row.ensures.found config bytes (seen ++ had.0) had.1 (ap (λ (b : Bool). Ok b) is_found) in (
         had.0 ++ row ∷ [],
-        subst (λ (rows : List Record). RowsFrom {R = g.row.R.Denot} config g.R.Read.remaining c.next_row.new.reader bytes rows)
+        subst (λ (rows : List Record). RowsFrom {R = RowSource g.row.R.Denot} config (unread g.R.Read.remaining) c.next_row.new.reader bytes rows)
             (append_assoc seen had.0 (row ∷ [])) found,
         counts_more c.args.vendor.now c.args.roster.now c.args.changes.now c.args.keys.now had.0 row c.loop-done.counts
             c.in_ok-found.found c.count.new.self had.2 c.in_ok-found.ensures.found c.count.ensures.counted,

@@ -3,18 +3,22 @@ use Rattle.std.proofs.Common.{ℕ, ◌≡◌, ◌+◌, ◌++◌, List, Option, l
 use Rattle.std.specs.Io.KnownBytes.{Appends}
 use Rattle.csv.specs.declared.parser.Config.{Config}
 use Rattle.nms_lines.specs.Layout.{Record}
-use Rattle.nms_import.specs.Imported.{accepted, changes_in, imported_changes, one_sided, rows_in, written_times}
-use Rattle.nms_import.specs.Rows.{RowsFrom}
+use Rattle.nms_import.specs.Imported.{accepted, changes_given, changes_in, given_from, last_of, one_sided, rows_in, times_given}
+use Rattle.nms_import.specs.Rows.{RowsFrom, unread}
 use Rattle.nms_import.proofs.importing.import_rows.Given as goal
 
--- the rows read so far were written and counted
+-- the rows read so far were written, counted and noted
 abbrev pub invariant-loop-done : goal.invariant-loop-done
 invariant-loop-done g l = (rows_in l.tally ≡ l.done)
-    × ((config : Config) (bytes : Option (List ℕ)) (seen : List Record) → RowsFrom config g.R.Read.remaining l.fn.reader bytes seen
-    → (rows : List Record) × RowsFrom config g.R.Read.remaining l.reader bytes (seen ++ rows)
-    × Appends (g.C.Write.contents l.fn.changes) (g.C.Write.contents l.changes) (imported_changes l.columns l.meanings l.roster rows)
+    × ((config : Config) (bytes : Option (List ℕ)) (seen : List Record) → RowsFrom config (unread g.R.Read.remaining) l.fn.reader bytes seen
+    → (rows : List Record) × RowsFrom config (unread g.R.Read.remaining) l.reader bytes (seen ++ rows)
+    × Appends (g.C.Write.contents l.fn.changes) (g.C.Write.contents l.changes)
+    (changes_given l.roster (given_from l.columns l.meanings l.roster l.fn.notes.time (rows_in l.fn.tally) rows))
     × Appends (g.T.Write.contents l.fn.times) (g.T.Write.contents l.times)
-    (written_times l.numbers l.columns l.meanings l.roster (rows_in l.fn.tally) rows)
+    (times_given l.numbers (given_from l.columns l.meanings l.roster l.fn.notes.time (rows_in l.fn.tally) rows))
     × (rows_in l.tally ≡ rows_in l.fn.tally + length rows)
     × (changes_in l.tally ≡ changes_in l.fn.tally + length (accepted l.columns l.meanings l.roster rows))
-    × (l.tally.halves ≡ l.fn.tally.halves + one_sided l.columns l.meanings l.roster rows))
+    × (l.tally.halves ≡ l.fn.tally.halves + one_sided l.columns l.meanings l.roster rows)
+    × (l.notes.time ≡ last_of l.columns l.meanings l.roster l.fn.notes.time rows)
+    × (l.notes.changes
+    ≡ l.fn.notes.changes + length (given_from l.columns l.meanings l.roster l.fn.notes.time (rows_in l.fn.tally) rows)))

@@ -12,4 +12,5 @@ returns-in-Err-clause-kind c =
     (c.both-units.ensures.document c.prices_of-prices.ensures.kind c.size_of-size.ensures.kind)
     (c.both-texts.ensures.document
     (c.both-named.ensures.document c.names_of-names.ensures.kind c.symbols_of-symbols.ensures.kind)
-    (c.both-said.ensures.document c.states_of-states.ensures.kind c.skips_of-skips.ensures.kind))
+    (c.both-said.ensures.document c.states_of-states.ensures.kind
+    (c.both-refusals.ensures.document c.skips_of-skips.ensures.kind c.withdraws_of-withdraws.ensures.kind)))

@@ -1,6 +1,8 @@
 -- `next_row`: clause `found`, by `stands_more`.
 use Rattle.std.proofs.Common.{◌≡◌, true, ◌∙◌, inl}
 use Rattle.csv.specs.Records.{fields_of}
+use Rattle.nms_import.specs.Rows.{unread}
+use Rattle.nms_import.specs.declared.row_source.RowSource.{RowSource}
 use Rattle.nms_import.proofs.RowFacts.{stands_more}
 use Rattle.nms_import.proofs.rows.next_row.Goals as goal
 
@@ -13,6 +15,6 @@ returns-in-Ok-clause-found g c = λ config bytes seen reads found.
       ready = inl (c.in-Ok.ensures.ready reads.plain);
       flexible = c.in-Ok.ensures.flexible ∙ reads.flexible;
       configured = read.2 ∙ reads.configured;
-      stands = stands_more {R = g.row.R.Denot} config g.R.Read.remaining c.args.reader.now c.read_byte_record.new.self bytes seen
-          (fields_of c.read_byte_record.new.row) reads.configured reads.stands read;
+      stands = stands_more {R = RowSource g.row.R.Denot} config (unread g.R.Read.remaining) c.args.reader.now
+          c.read_byte_record-next.new.self bytes seen (fields_of c.read_byte_record-next.new.row) reads.configured reads.stands read;
     }

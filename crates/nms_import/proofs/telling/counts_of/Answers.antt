@@ -3,4 +3,4 @@ use Rattle.std.proofs.Common.{refl}
 use Rattle.nms_import.proofs.telling.counts_of.Goals as goal
 
 pub returns : goal.returns
-returns c = rw c.halves_are.ensures refl
+returns c = rw (c.halves_are.ensures, c.kept_are.ensures) refl

@@ -4,7 +4,8 @@ use Rattle.std.proofs.Common.{append_assoc, length-append}
 use Rattle.std.proofs.lemmas.List.{append-nil}
 use Rattle.csv.specs.Records.{fields_of}
 use Rattle.nms_lines.specs.Layout.{Record}
-use Rattle.nms_import.specs.Rows.{RowsFrom}
+use Rattle.nms_import.specs.Rows.{RowsFrom, unread}
+use Rattle.nms_import.specs.declared.row_source.RowSource.{RowSource}
 use Rattle.nms_import_trades.specs.Executions.{rows_in}
 use Rattle.nms_import_trades.proofs.RecordFacts.{counted_on, none_written, written_on}
 use Rattle.nms_import_trades.proofs.importing.import_trades.Goals as goal
@@ -14,7 +15,7 @@ loop-done-init g c = (
   sym c.in-Some.ensures.rows,
   λ config bytes seen reads. (
     [],
-    subst (λ (rows : List Record). RowsFrom {R = g.row.R.Denot} config g.R.Read.remaining c.args.reader.now bytes rows)
+    subst (λ (rows : List Record). RowsFrom {R = RowSource g.row.R.Denot} config (unread g.R.Read.remaining) c.args.reader.now bytes rows)
         (sym (append-nil seen)) reads,
     none_written (g.W.Write.contents c.args.executions.now),
     omega arith,
@@ -42,7 +43,7 @@ loop-done-preserved g c = (
       let numbered : c.loop-done.done + 1 ≡ rows_in c.args.tally.now + 1 + length had.0 =
       omega (arith, c.loop-done.invariant.0, had.3) in (
         had.0 ++ row ∷ [],
-        subst (λ (rows : List Record). RowsFrom {R = g.row.R.Denot} config g.R.Read.remaining c.next_row.new.reader bytes rows)
+        subst (λ (rows : List Record). RowsFrom {R = RowSource g.row.R.Denot} config (unread g.R.Read.remaining) c.next_row.new.reader bytes rows)
             (append_assoc seen had.0 (row ∷ [])) found,
         written_on c.args.columns.now c.args.meanings.now c.args.roster.now (rows_in c.args.tally.now + 1) (c.loop-done.done + 1) had.0 row
             (g.W.Write.contents c.args.executions.now) (g.W.Write.contents c.loop-done.executions)

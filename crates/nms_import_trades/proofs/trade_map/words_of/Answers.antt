@@ -12,4 +12,5 @@ returns-in-Err-clause-kind c =
     (c.both-front.ensures.document c.claims_of-flags.ensures.kind c.words-bought.ensures.kind)
     (c.both-rest.ensures.document
     (c.both-middle.ensures.document c.words-sold.ensures.kind c.words-neither.ensures.kind)
-    (c.both-back.ensures.document c.words-marked.ensures.kind c.words-unmarked.ensures.kind))
+    (c.both-back.ensures.document (c.both-marks.ensures.document c.words-marked.ensures.kind c.words-unmarked.ensures.kind)
+    c.kept_of-kept.ensures.kind))

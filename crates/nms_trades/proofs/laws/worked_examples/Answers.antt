@@ -8,6 +8,14 @@ use Rattle.nms_trades.proofs.laws.worked_examples.Goals as goal
 pub returns : goal.returns
 unfolding has_part in_order cost_of
 returns c = record {
+  a_state_is_no_quotation = refl;
+  one_without_prices_is = refl;
+  a_withdrawal_is_known = refl;
+  another_symbol_is_not_quoted = refl;
+  a_shard_begins_at_its_cut = refl;
+  it_ends_before_the_next = refl;
+  without_its_own_time_it_begins_later = refl;
+  and_ends_later = refl;
   both_bids = λ execution. refl;
   many_shares = λ execution. refl;
   one_is_helped = λ execution. refl;

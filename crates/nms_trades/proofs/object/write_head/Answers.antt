@@ -3,4 +3,4 @@ use Rattle.std.proofs.Common.{refl}
 use Rattle.nms_trades.proofs.object.write_head.Goals as goal
 
 pub returns : goal.returns
-returns g c = λ own. c.show_object.ensures (rw own refl)
+returns g c = λ own. c.show_object.ensures (rw (own, c.deal_item.ensures, c.part_item.ensures, c.time_item.ensures) refl)

@@ -1,7 +1,7 @@
 -- `tally_of`: one answer more was counted, by `counted`.
 use Rattle.std.proofs.Common.{ℕ, ◌≡◌, ◌+◌, ◌<◌, ◌∙◌, Bool, List, Option, ap, filter, get_or, if◌then◌else◌, length, sym, take}
 use Rattle.std.proofs.lemmas.List.Filters.{length-filter_more}
-use Rattle.nms_trades.specs.Counts.{is_found, is_perhaps, is_through, stands}
+use Rattle.nms_trades.specs.Counts.{is_judged, is_noquote, is_other, is_perhaps, is_through, stands}
 use Rattle.nms_trades.specs.declared.finding.Finding.{Finding}
 use Rattle.nms_trades.proofs.table.tally_of.Goals as goal
 
@@ -20,15 +20,19 @@ loop-answer-preserved c =
     let findings = c.args.findings.now in
     let at = c.loop-answer.answer-index in
     let answer = c.answer-item.result in
-    let was = c.loop-answer.tally.all in
-    let now = c.count_one.new.tally.all in
+    let was = c.loop-answer.tally in
+    let now = c.count_one.new.tally in
     let below = c.loop-answer-test.true in
+    let is = c.answer-item.is in
+    let more = c.in-Some.ensures in
     record {
       place = ap (λ n. n + 1) had.place;
-      executions = counted is_found findings at answer was.executions now.executions below c.answer-item.is had.executions
-          c.in-Some.ensures.executions;
-      perhaps = counted (stands is_perhaps) findings at answer was.perhaps now.perhaps below c.answer-item.is had.perhaps
-          c.in-Some.ensures.perhaps;
-      through = counted (stands is_through) findings at answer was.through now.through below c.answer-item.is had.through
-          c.in-Some.ensures.through;
+      others = counted (stands is_other) findings at answer was.others now.others below is had.others more.others;
+      executions = counted (stands is_judged) findings at answer was.all.executions now.all.executions below is had.executions
+          more.executions;
+      unquoted = counted (stands is_noquote) findings at answer was.all.unquoted now.all.unquoted below is had.unquoted more.unquoted;
+      perhaps = counted (stands is_perhaps) findings at answer was.all.perhaps.executions now.all.perhaps.executions below is had.perhaps
+          more.perhaps;
+      through = counted (stands is_through) findings at answer was.all.through.executions now.all.through.executions below is had.through
+          more.through;
     }

@@ -14,6 +14,7 @@ returns g c = λ name.
       c.column-7.ensures,
       c.column-8.ensures,
       c.column-9.ensures,
+      c.column-10.ensures,
       c.money_of.ensures,
       c.money_of-2.ensures,
       name,

@@ -24,5 +24,6 @@ returns g c = λ own.
       c.column-7.ensures,
       c.column-8.ensures,
       c.column-9.ensures,
+      c.column-10.ensures,
       own,
     ) refl))

@@ -4,4 +4,4 @@ use Rattle.nms_trades.proofs.table.write_totals.Goals as goal
 
 pub returns : goal.returns
 returns g c =
-    c.show_object.ensures (rw (c.requires, c.money_of.ensures) refl)
+    c.show_object.ensures (rw (c.rate_of.ensures, c.money_of.ensures, c.money_of-2.ensures) refl)

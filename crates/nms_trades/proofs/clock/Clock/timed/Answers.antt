@@ -11,7 +11,8 @@ returns-clause-window c =
     let rising = c.args.rising.now in
     let time = c.args.time in
     let valid : is_clock time ≡ true = search rules in
-    let within = timed_within clock rising time c.versions_rise_with_time.ensures.at c.versions_rise_with_time.ensures.before valid in
+    let within = timed_within clock c.args.stretch rising time c.versions_rise_with_time.ensures.at
+    c.versions_rise_with_time.ensures.before valid in
     let own : c.version_by.result ≡ version_by clock.before rising time = c.version_by.ensures.version in
     let first : c.version_by-2.result ≡ version_by clock.before rising (earlier_by clock.window time) =
     c.version_by-2.ensures.version ∙ ap (version_by clock.before rising) c.earlier_by.ensures in

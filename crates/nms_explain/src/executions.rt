@@ -1,0 +1,273 @@
+//! The refused records of a file of executions, explained.
+ghost use Rattle.std.specs.Prelude.{◌≡◌, ◌<◌, ◌+◌, ◌-◌, ◌≤◌, ◌^◌, IfOk, length, true};
+ghost use Rattle.nms_explain.specs.Counted.{ending_by};
+ghost use Rattle.nms_show.specs.Plain.{is_own_plain};
+ghost use Rattle.nms_show.specs.Safe.{IsSafe};
+ghost use Rattle.nms_show.specs.Written.{Writes};
+
+use crate::changes::{TOO_LONG, quote_at};
+use crate::execution_code::ExecutionCode;
+use crate::explain_fault::ExplainFault;
+use crate::hints::hint_of_kind;
+use crate::places::{FieldPlace, text_at};
+use crate::record_source::{RecordSource, RecordText, next_record, open_source, record_of};
+use crate::refusal::{Refusal, tell_refusal};
+use crate::refusal_code::RefusalCode;
+use crate::span::{Span, open_quote, span_of};
+use crate::tally::{tell_count, tell_counts};
+use nms_lines::{ByteRecord, Reader};
+use nms_show::{Ending, Form, Item};
+use std::alloc::Global;
+use std::io::{Read, Write};
+
+/// How many fields an execution has.
+const FIELDS: usize = 9;
+
+/// An execution that is refused.
+#[derive(Clone, Copy)]
+pub struct RefusedExecution {
+    /// The number of its record, from 1. A blank line is no record.
+    pub number: u64,
+    /// Why it is refused.
+    pub code: ExecutionCode,
+}
+
+/// What the caller asks for.
+#[derive(Clone, Copy)]
+struct Asked<'a> {
+    alloc: Global,
+    file: &'a str,
+    refused: &'a [RefusedExecution],
+    form: Form,
+}
+
+/// Reports each refused execution of a text, given which are refused, in the order of their records: with its line, its column,
+/// its field and what is expected there. It ends with `Refused` if there is one.
+///
+/// The answers are not flushed. A fault leaves what was reported before. What is written is safe to show on a terminal.
+pub fn explain_executions<W: Write>(
+    alloc: Global,
+    file: &str,
+    text: &[u8],
+    refused: &[RefusedExecution],
+    form: Form,
+    answers: &mut W,
+) -> Result<Ending, ExplainFault>
+    ensures ending { IfOk result (λ ending. ending ≡ ending_by (length refused.now)) }
+    ensures safe { Writes IsSafe (W.contents answers.old) (W.contents answers.new) result }
+{
+    let asked = Asked {
+        alloc,
+        file,
+        refused,
+        form,
+    };
+    let mut reader = open_source(alloc, text);
+    let mut row = ByteRecord::new(alloc);
+    explain_text(&asked, &mut reader, &mut row, answers)
+}
+
+/// As `explain_executions`, for the text of a reader. It owns neither the reader nor the record, so its exits drop nothing.
+fn explain_text<R: Read, W: Write>(
+    asked: &Asked<'_>,
+    reader: &mut Reader<RecordSource<R>>,
+    row: &mut ByteRecord,
+    answers: &mut W,
+) -> Result<Ending, ExplainFault>
+    ensures ending { IfOk result (λ ending. ending ≡ ending_by (length asked.now.refused.now)) }
+    ensures safe { Writes IsSafe (W.contents answers.old) (W.contents answers.new) result }
+{
+    let records = explain_records(asked, reader, row, answers)?;
+    tell_sum(asked, records, answers)?;
+    if asked.refused.is_empty() {
+        Ok(Ending::Done)
+    } else {
+        Ok(Ending::Refused)
+    }
+}
+
+/// Reports each refused record that a reader gives. Returns how many records there are.
+fn explain_records<R: Read, W: Write>(
+    asked: &Asked<'_>,
+    reader: &mut Reader<RecordSource<R>>,
+    row: &mut ByteRecord,
+    answers: &mut W,
+) -> Result<u64, ExplainFault>
+    ensures safe { Writes IsSafe (W.contents answers.old) (W.contents answers.new) result }
+{
+    let mut told = 0;
+    for turn in 0..u64::MAX {
+        match next_record(reader, row) {
+            Ok(true) => told = explain_record(asked, reader, row, turn + 1, told, answers)?,
+            Ok(false) => return Ok(turn),
+            Err(fault) => return Err(ExplainFault::Record(fault)),
+        }
+    }
+    Err(TOO_LONG)
+}
+
+/// Reports the record of a number if it is the next that is refused, after that many. Returns how many were reported then.
+#[tactic(auto, using(nms_show::proofs::Offered::nothing_added))]
+fn explain_record<R: Read, W: Write>(
+    asked: &Asked<'_>,
+    reader: &Reader<RecordSource<R>>,
+    row: &ByteRecord,
+    number: u64,
+    told: usize,
+    answers: &mut W,
+) -> Result<usize, ExplainFault>
+    ensures safe { Writes IsSafe (W.contents answers.old) (W.contents answers.new) result }
+{
+    if told >= asked.refused.len() || asked.refused[told].number != number {
+        return Ok(told);
+    }
+    tell_code(
+        asked,
+        reader,
+        row,
+        number,
+        asked.refused[told].code,
+        answers,
+    )?;
+    Ok(told + 1)
+}
+
+/// Reports a refused record by its number.
+#[tactic(auto, using(nms_show::proofs::Offered::no_part_added))]
+fn tell_code<R: Read, W: Write>(
+    asked: &Asked<'_>,
+    reader: &Reader<RecordSource<R>>,
+    row: &ByteRecord,
+    number: u64,
+    code: ExecutionCode,
+    answers: &mut W,
+) -> Result<(), ExplainFault>
+    ensures safe { Writes IsSafe (W.contents answers.old) (W.contents answers.new) result }
+{
+    let Some(record) = record_of(reader) else {
+        return Err(TOO_LONG);
+    };
+    let refusal = refusal_of(asked, record, number, row, code);
+    let Some(point) = refusal.point() else {
+        return Err(TOO_LONG);
+    };
+    tell_refusal(asked.alloc, asked.form, &refusal, point, answers).map_err(ExplainFault::Show)
+}
+
+/// The report on a refused record.
+fn refusal_of<'a>(
+    asked: &Asked<'a>,
+    record: RecordText<'a>,
+    number: u64,
+    row: &'a ByteRecord,
+    code: ExecutionCode,
+) -> Refusal<'a>
+    ensures found { is_own_plain result.found ≡ true }
+{
+    let RecordText { text, line } = record;
+    let field = code.field();
+    let hint = if code == ExecutionCode::UnknownKind {
+        hint_of_kind(number, text)
+    } else {
+        ""
+    };
+    Refusal {
+        file: asked.file,
+        number,
+        line,
+        text,
+        span: span_at(text, row, field),
+        code: RefusalCode::Execution(code),
+        field,
+        found: found_at(row, field),
+        expected: code.expected(),
+        hint,
+        remedy: code.remedy(),
+        quote: quote_at(text, line),
+    }
+}
+
+/// Where the field stands; if their number is wrong, the quote that opens a field over a line end, the fields past the ninth or
+/// the comma before them, or the end of the record.
+fn span_at(text: &[u8], row: &ByteRecord, field: Option<FieldPlace>) -> Span {
+    if let Some(at) = field {
+        return span_of(text, at.place);
+    }
+    if let Some(start) = open_quote(text) {
+        return Span {
+            start,
+            end: start + 1,
+        };
+    }
+    let end = text.len();
+    if row.len() <= FIELDS {
+        return Span { start: end, end };
+    }
+    let start = span_of(text, FIELDS).start;
+    if start == end && end > 0 {
+        return Span {
+            start: end - 1,
+            end,
+        };
+    }
+    Span { start, end }
+}
+
+/// What stands at a field; the number of fields if none is wrong.
+fn found_at<'a>(row: &'a ByteRecord, field: Option<FieldPlace>) -> Item<'a>
+    ensures { is_own_plain result ≡ true }
+{
+    match field {
+        Some(at) => Item::Bytes(text_at(row, at.place)),
+        None => Item::Number(row.len() as u64),
+    }
+}
+
+/// Reports how many records there are, and how many are refused by each code.
+fn tell_sum<W: Write>(asked: &Asked<'_>, records: u64, answers: &mut W) -> Result<(), ExplainFault>
+    ensures safe { Writes IsSafe (W.contents answers.old) (W.contents answers.new) result }
+{
+    let Asked {
+        alloc,
+        file,
+        form,
+        refused,
+    } = *asked;
+    let all = refused.len() as u64;
+    match tell_counts(alloc, file, form, records, all, answers) {
+        Ok(()) => tell_codes(asked, answers),
+        Err(fault) => Err(ExplainFault::Show(fault)),
+    }
+}
+
+/// Reports how many are refused by each code.
+fn tell_codes<W: Write>(asked: &Asked<'_>, answers: &mut W) -> Result<(), ExplainFault>
+    ensures safe { Writes IsSafe (W.contents answers.old) (W.contents answers.new) result }
+{
+    let Asked {
+        alloc,
+        file,
+        form,
+        refused,
+    } = *asked;
+    for code in ExecutionCode::ALL {
+        let count = count_of(refused, code);
+        tell_count(
+            alloc,
+            file,
+            form,
+            RefusalCode::Execution(code),
+            count,
+            answers,
+        )?;
+    }
+    Ok(())
+}
+
+/// How many are refused by a code.
+fn count_of(refused: &[RefusedExecution], code: ExecutionCode) -> u64 {
+    refused
+        .iter()
+        .filter(|refusal| refusal.code == code)
+        .count() as u64
+}

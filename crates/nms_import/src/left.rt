@@ -1,0 +1,27 @@
+//! How many refused rows withdrew what stood before.
+ghost use Rattle.std.specs.Prelude.{◌≡◌, ◌+◌, IfSome};
+
+use crate::noting::Notes;
+use crate::tally::Sums;
+
+/// How many refused rows withdrew what their participant showed, and how many did not.
+#[derive(Clone, Copy)]
+pub struct Left {
+    /// After these the participant shows nothing of the symbol until its next row that is read.
+    pub withdrawn: u64,
+    /// After these a quotation that stood before may stand on: the row names no participant and symbol of the roster, its
+    /// symbol had ended, or the mapping keeps it.
+    pub kept: u64,
+}
+
+impl Left {
+    /// By the sums of the rows, and the changes that were noted of them. `None` comes only of notes of other rows.
+    pub fn of(sums: &Sums, notes: &Notes) -> Option<Left>
+        ensures withdrawn { IfSome result (λ left. notes.now.changes ≡ sums.now.changes + left.withdrawn) }
+        ensures all { IfSome result (λ left. sums.now.refused ≡ left.withdrawn + left.kept) }
+    {
+        let withdrawn = notes.changes().checked_sub(sums.changes)?;
+        let kept = sums.refused.checked_sub(withdrawn)?;
+        Some(Left { withdrawn, kept })
+    }
+}

@@ -1,0 +1,255 @@
+//! A source that passes a file's bytes on as they come, and knows the line on which the row being read begins.
+//!
+//! It keeps the bytes that it passed on last. In a file without carriage returns the reader of rows counts lines well, but for
+//! blank lines before a row. So only where one of the two is are lines counted again, and each byte once.
+ghost use Rattle.std.specs.Prelude.{◌≡◌};
+ghost use Rattle.std.specs.Io.{ReadsAtMost};
+ghost use Rattle.std.specs.Io.KnownBytes.{ReadConsumes};
+
+use memchr::{memchr, memchr_iter};
+use std::alloc::{AllocError, Global};
+use std::cell::Cell;
+use std::io;
+use std::io::Read;
+
+/// What may begin a text without being part of its first row.
+const MARK: [u8; 3] = [0xEF, 0xBB, 0xBF];
+
+/// How far the lines of a file were counted. A line feed ends a line, and so does a carriage return, with the line feed
+/// after it if there is one.
+#[derive(Clone, Copy)]
+struct LineCount {
+    /// The line of the next byte, from 1.
+    line: u64,
+    after_return: bool,
+}
+
+impl LineCount {
+    /// After a text, which may have carriage returns if the file has; none if there are more lines than a number counts.
+    fn after(self, text: &[u8], has_returns: bool) -> Option<LineCount> {
+        if has_returns {
+            return self.after_returns(text);
+        }
+        let feeds = memchr_iter(b'\n', text).count() as u64;
+        Some(LineCount {
+            line: self.line.checked_add(feeds)?,
+            after_return: false,
+        })
+    }
+
+    /// As `after`, for a text with carriage returns.
+    fn after_returns(self, text: &[u8]) -> Option<LineCount> {
+        let mut count = self;
+        for byte in text {
+            if *byte == b'\r' || *byte == b'\n' && !count.after_return {
+                count.line = count.line.checked_add(1)?;
+            }
+            count.after_return = *byte == b'\r';
+        }
+        Some(count)
+    }
+}
+
+/// The bytes passed on last, and the lines before them.
+#[derive(Drop)]
+struct RowLines {
+    last: Vec<u8>,
+    /// How many bytes were passed on before those.
+    passed: u64,
+    /// A place among the kept bytes, and the lines before it.
+    counted: Cell<usize>,
+    lines: Cell<LineCount>,
+    /// Whether a carriage return was passed on.
+    has_returns: bool,
+    /// How many bytes at the start of the file are those of the mark.
+    marked: usize,
+    /// The line of the row being read, if it begins before the kept bytes.
+    begun: Option<u64>,
+    /// How many bytes were passed on up to the end of the row before: the owner of the reader sets it.
+    ended: Cell<u64>,
+}
+
+impl RowLines {
+    /// Of a file of which nothing was read yet.
+    fn new(alloc: Global) -> RowLines {
+        RowLines {
+            last: Vec::new(alloc),
+            passed: 0,
+            counted: Cell::new(0),
+            lines: Cell::new(LineCount {
+                line: 1,
+                after_return: false,
+            }),
+            has_returns: false,
+            marked: 0,
+            begun: None,
+            ended: Cell::new(0),
+        }
+    }
+
+    /// The line on which the row that was read last begins, given the line on which the row before it ended, by line feeds.
+    /// It is 0 if there are more lines than a number counts.
+    fn line(&self, by_feeds: u64) -> u64 {
+        if self.follows_at_once() {
+            by_feeds
+        } else {
+            self.line_begun().unwrap_or(0)
+        }
+    }
+
+    /// Whether the row begins just after the one before it, in a file without carriage returns.
+    fn follows_at_once(&self) -> bool {
+        let ended = self.ended.get();
+        if self.has_returns || ended == 0 || ended < self.passed {
+            return false;
+        }
+        match self.last.get((ended - self.passed) as usize) {
+            Some(byte) => *byte != b'\n',
+            None => false,
+        }
+    }
+
+    /// The line of the row being read, if one of its bytes was passed on.
+    fn line_begun(&self) -> Option<u64> {
+        let ended = self.ended.get();
+        if ended == 0 && 0 < self.marked && self.marked < MARK.len() {
+            // A part of the mark is no mark, but the first row's.
+            return Some(1);
+        }
+        let from = if self.passed <= ended {
+            (ended - self.passed) as usize
+        } else if self.begun.is_some() {
+            return self.begun;
+        } else {
+            0
+        };
+        let start = self.start_from(from)?;
+        Some(self.count_to(start)?.line)
+    }
+
+    /// Counts the lines up to a place among the kept bytes. They are not counted again.
+    fn count_to(&self, place: usize) -> Option<LineCount> {
+        let more = self.last.get(self.counted.get()..place)?;
+        let lines = self.lines.get().after(more, self.has_returns)?;
+        self.counted.set(place);
+        self.lines.set(lines);
+        Some(lines)
+    }
+
+    /// The place among the kept bytes of the first that belongs to a row, from a place on. Line ends between rows and the
+    /// mark belong to none.
+    fn start_from(&self, from: usize) -> Option<usize> {
+        let mark = MARK.len() as u64;
+        let from = if self.marked == MARK.len() && self.passed < mark {
+            from.max((mark - self.passed) as usize)
+        } else {
+            from
+        };
+        for at in from..self.last.len() {
+            if self.last[at] != b'\n' && self.last[at] != b'\r' {
+                return Some(at);
+            }
+        }
+        None
+    }
+
+    /// Counts the kept bytes and forgets them, because more are requested; none if there are more bytes or lines than a
+    /// number counts.
+    fn forget(&mut self) -> Option<()> {
+        self.begun = self.line_begun();
+        self.count_to(self.last.len())?;
+        self.passed = self.passed.checked_add(self.last.len() as u64)?;
+        self.counted.set(0);
+        self.last.clear();
+        Some(())
+    }
+
+    /// Keeps bytes, for which there is room.
+    fn keep(&mut self, bytes: &[u8]) -> Result<(), AllocError> {
+        self.has_returns = self.has_returns || memchr(b'\r', bytes).is_some();
+        self.note_mark(bytes);
+        self.last.extend_from_slice(bytes)
+    }
+
+    /// Notes which of the next bytes of the file are of the mark: the reader of rows asks for those one by one.
+    fn note_mark(&mut self, bytes: &[u8]) {
+        if self.marked >= MARK.len() || self.passed != self.marked as u64 {
+            return;
+        }
+        for byte in bytes {
+            if self.marked >= MARK.len() || *byte != MARK[self.marked] {
+                break;
+            }
+            self.marked += 1;
+        }
+        if self.marked == MARK.len() {
+            self.begun = None;
+        }
+    }
+}
+
+/// A source of rows, with the line on which the row being read begins.
+#[derive(Drop)]
+pub struct RowSource<R> {
+    source: R,
+    lines: RowLines,
+    is_out_of_memory: bool,
+}
+
+impl<R> RowSource<R> {
+    /// Over a source, of which nothing was read yet.
+    pub(crate) fn new(alloc: Global, source: R) -> RowSource<R>
+        ensures { result.source ≡ source }
+    {
+        RowSource {
+            source,
+            lines: RowLines::new(alloc),
+            is_out_of_memory: false,
+        }
+    }
+
+    /// The line on which the row that was read last begins, given the line on which the one before it ended, by line feeds.
+    pub(crate) fn line(&self, by_feeds: u64) -> u64 {
+        self.lines.line(by_feeds)
+    }
+
+    /// The source itself.
+    pub fn into_source(self) -> R {
+        self.source
+    }
+
+    /// The next row begins after that many bytes.
+    pub(crate) fn begin_row(&self, ended: u64) {
+        self.lines.ended.set(ended);
+    }
+
+    /// Whether there was no memory for the bytes passed on.
+    pub(crate) fn is_out_of_memory(&self) -> bool {
+        self.is_out_of_memory
+    }
+}
+
+impl<R: Read> Read for RowSource<R> {
+    ghost use Rattle.nms_import.specs.Rows.{unread};
+
+    ghost remaining = { unread R.remaining };
+
+    fn read(&mut self, buf: &mut [u8]) -> io::Result<usize>
+        ensures bound { ReadsAtMost result buf.new }
+        ensures bytes { ReadConsumes (unread R.remaining self.old) (unread R.remaining self.new) result buf.new }
+    {
+        if self.lines.forget().is_none() {
+            // No source has that many bytes.
+            return Err(io::Error::from(io::ErrorKind::InvalidData));
+        }
+        if self.lines.last.reserve(buf.len()).is_err() {
+            self.is_out_of_memory = true;
+            return Err(io::Error::from(io::ErrorKind::OutOfMemory));
+        }
+        let count = self.source.read(buf)?;
+        if self.lines.keep(&buf[..count]).is_err() {
+            self.is_out_of_memory = true;
+        }
+        Ok(count)
+    }
+}

@@ -1,0 +1,165 @@
+//! How a run reports what happens, and how the process learns that it may end.
+use crate::report::Dropped;
+use crate::text::Text;
+use crossbeam_queue::ArrayQueue;
+use std::alloc::{AllocError, Global};
+use std::io::Write;
+use std::sync::atomic::{AtomicBool, AtomicU64, Ordering};
+use std::sync::{OnceLock, Wait};
+use std::thread;
+use std::thread::Parker;
+use std::time::Duration;
+
+/// How many reports may wait to be printed; further ones are dropped and counted. This product's own rule.
+const MOST_WAITING: usize = 64;
+/// Room behind them for what is never dropped: that the run serves, the ends of 8 feeds and 255 clients, and of the tape; and
+/// for reports that several threads make at once.
+const MOST_KEPT: usize = 384;
+/// How often the process looks whether all is printed and all threads have ended, and how long it rests between two looks, in
+/// milliseconds: a second in all. This product's own rule.
+const LOOKS: u32 = 200;
+
+const REST: u64 = 5;
+
+/// The lines that a run prints on standard error, and its exit status. One thread prints: no other waits for standard error.
+/// Another waits for the status, and ends the process at most a second later, whatever does not end by then.
+#[derive(Drop)]
+pub struct Teller {
+    waiting: ArrayQueue<Text>,
+    /// The line of the fault that ends the run. It is set without waiting, by any thread.
+    fault: OnceLock<Text>,
+    /// How many lines were to be printed, and how many were.
+    told: AtomicU64,
+    printed: AtomicU64,
+    /// How many reports were dropped since the last one that was printed.
+    dropped: AtomicU64,
+    /// Wakes the thread that prints.
+    bell: Parker,
+    status: OnceLock<u8>,
+    /// All threads of the run have ended.
+    is_over: AtomicBool,
+    /// Wakes the thread that waits for the status.
+    end_bell: Parker,
+}
+
+impl Teller {
+    /// With nothing to be printed, and no status.
+    pub fn new(alloc: Global) -> Result<Self, AllocError> {
+        Ok(Teller {
+            waiting: ArrayQueue::new(alloc, MOST_WAITING + MOST_KEPT)?,
+            fault: OnceLock::new(),
+            told: AtomicU64::new(0),
+            printed: AtomicU64::new(0),
+            dropped: AtomicU64::new(0),
+            bell: Parker::new(),
+            status: OnceLock::new(),
+            is_over: AtomicBool::new(false),
+            end_bell: Parker::new(),
+        })
+    }
+
+    /// Prints a report soon. If as many wait as may, it is dropped and counted.
+    pub(crate) fn tell<R: Wait>(&self, rt: &R, report: Text) {
+        if self.waiting.len(rt) < MOST_WAITING {
+            self.keep(rt, report);
+        } else {
+            self.dropped.fetch_add(1, Ordering::SeqCst);
+        }
+    }
+
+    /// Prints a report soon, one of the few that are never dropped.
+    pub fn keep<R: Wait>(&self, rt: &R, report: Text) {
+        self.told.fetch_add(1, Ordering::SeqCst);
+        if self.waiting.push(rt, report).is_err() {
+            self.dropped.fetch_add(1, Ordering::SeqCst);
+            self.printed.fetch_add(1, Ordering::SeqCst);
+        }
+        self.bell.unpark();
+    }
+
+    /// Prints the line of the fault that ends the run, and gives the process its status. Only the first call counts.
+    pub fn fail(&self, status: u8, line: Text) {
+        self.told.fetch_add(1, Ordering::SeqCst);
+        if self.fault.try_set(line).is_err() {
+            self.printed.fetch_add(1, Ordering::SeqCst);
+        }
+        self.bell.unpark();
+        self.set_status(status);
+    }
+
+    /// All threads of the run have ended. The status is that of its fault, if there was one.
+    pub fn end(&self, status: u8) {
+        self.is_over.store(true, Ordering::SeqCst);
+        self.set_status(status);
+    }
+
+    /// Gives the process its status, unless it has one.
+    fn set_status(&self, status: u8) {
+        let _first = self.status.try_set(status);
+        self.end_bell.unpark();
+    }
+
+    /// Prints the reports as they come, for as long as the process runs.
+    pub fn print_all<R: Wait>(&self, rt: &R, host: &HostRuntime) {
+        let mut errors = host.stderr();
+        let mut is_fault_printed = false;
+        for _ in rt.forever() {
+            // The fault comes first: the process ends a second after it.
+            if !is_fault_printed && let Some(line) = self.fault.get() {
+                is_fault_printed = true;
+                self.print(&mut errors, line);
+                continue;
+            }
+            if let Some(report) = self.waiting.pop(rt) {
+                self.print(&mut errors, &report);
+                self.print_dropped(&mut errors);
+                continue;
+            }
+            self.bell.park(rt);
+        }
+        unreachable!()
+    }
+
+    /// Prints a line.
+    fn print<W: Write>(&self, errors: &mut W, line: &Text) {
+        line.print(errors);
+        self.printed.fetch_add(1, Ordering::SeqCst);
+    }
+
+    /// Prints how many reports were dropped, if any were.
+    fn print_dropped<W: Write>(&self, errors: &mut W) {
+        let dropped = self.dropped.swap(0, Ordering::SeqCst);
+        if dropped > 0 {
+            Text::of(Dropped(dropped)).print(errors);
+        }
+    }
+
+    /// Waits until the run has a status, and returns it. All lines were printed and all threads have ended by then, or a second
+    /// has passed since.
+    pub fn wait_for_end<R: Wait>(&self, rt: &R, host: &HostRuntime) -> u8 {
+        for _ in rt.forever() {
+            if let Some(status) = self.status.get() {
+                self.give_grace(host);
+                return *status;
+            }
+            self.end_bell.park(rt);
+        }
+        unreachable!()
+    }
+
+    /// Waits until all lines are printed and all threads have ended, for a second at most.
+    fn give_grace(&self, host: &HostRuntime) {
+        for _ in 0..LOOKS {
+            if self.is_over.load(Ordering::SeqCst) && self.is_all_printed() {
+                return;
+            }
+            thread::sleep(host, Duration::from_millis(REST));
+        }
+    }
+
+    /// Whether all lines are printed. The printed ones are read first: none was printed before it was told.
+    fn is_all_printed(&self) -> bool {
+        let printed = self.printed.load(Ordering::SeqCst);
+        self.told.load(Ordering::SeqCst) == printed
+    }
+}

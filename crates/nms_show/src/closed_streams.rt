@@ -1,0 +1,26 @@
+//! The standard streams of a process that was started with some of them closed.
+use std::fs::OpenOptions;
+use std::io;
+use std::os::fd::{AsRawFd, IntoRawFd};
+
+/// How many standard streams there are: 0 is input, 1 output, 2 errors.
+const STANDARD: i32 = 3;
+
+/// Opens `/dev/null` for each standard stream that is closed, and leaves it open to the end of the process. A program calls it
+/// before it opens anything. A file that is opened takes the first free number: without this it would be taken for the stream,
+/// and messages or answers would be written into it.
+///
+/// An error is that of opening `/dev/null`. What was opened before stays open.
+pub fn open_closed_streams(host: &HostRuntime) -> io::Result<()> {
+    for _ in 0..STANDARD {
+        let file = OpenOptions::new()
+            .read(true)
+            .write(true)
+            .open(host, "/dev/null")?;
+        if file.as_raw_fd() >= STANDARD {
+            return Ok(());
+        }
+        let _left_open = file.into_raw_fd();
+    }
+    Ok(())
+}

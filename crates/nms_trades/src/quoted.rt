@@ -1,0 +1,111 @@
+//! Which executions are of a symbol that nobody had quoted yet, and which another shard judges: `specs/Quoted`.
+ghost use Rattle.std.specs.Prelude.{◌≡◌, ◌≢◌, ℕ, All, IfOk, OnOk, Some, length, replicate, slice_get, true};
+ghost use Rattle.nms_quote.specs.Roster.{sizes_of};
+ghost use Rattle.nms_trades.specs.Found.{IsStanding, IsWeighed};
+ghost use Rattle.nms_trades.specs.Quoted.{AreFirsts, IsNotedFirst, is_quotation};
+ghost use Rattle.nms_trades.specs.Reading.{IsOn};
+ghost use Rattle.nms_trades.specs.Turns.{AreAnswered, IsAnswered};
+
+use crate::execution::Execution;
+use crate::finding::Finding;
+use nms_quote::{Change, Roster};
+use std::alloc::{AllocError, Global};
+
+/// Sets the answer of each finding. The changes are gone over once.
+pub(crate) fn answer_all(
+    alloc: Global,
+    roster: &Roster,
+    changes: &[Change],
+    executions: &[Execution],
+    findings: &mut Vec<Option<Finding>>,
+) -> Result<(), AllocError>
+    requires on { All (IsOn roster.now (length changes.now)) executions.now }
+    requires places { length findings.old.items ≡ length executions.now }
+    requires found { AreAnswered (IsWeighed (sizes_of roster.now) changes.now) executions.now findings.old.items }
+    ensures places { length findings.new.items ≡ length findings.old.items }
+    ensures found { OnOk result (AreAnswered (IsStanding (sizes_of roster.now) changes.now) executions.now findings.new.items) }
+{
+    let firsts = firsts_of(alloc, roster.syms(), changes)?;
+    for place in 0..executions.len() {
+        answer_one(
+            roster,
+            changes,
+            &firsts,
+            &executions[place],
+            &mut findings[place],
+        );
+    }
+    Ok(())
+}
+
+/// Sets the answer of a finding.
+fn answer_one(
+    roster: &Roster,
+    changes: &[Change],
+    firsts: &[u64],
+    execution: &Execution,
+    answer: &mut Option<Finding>,
+)
+    requires on { IsOn roster.now (length changes.now) execution.now }
+    requires count { length firsts.now ≡ length roster.now.syms }
+    requires firsts { AreFirsts changes.now (length changes.now) firsts.now }
+    requires found { IsAnswered (IsWeighed (sizes_of roster.now) changes.now) execution.now (Some answer.old) }
+    ensures { IsAnswered (IsStanding (sizes_of roster.now) changes.now) execution.now (Some answer.new) }
+{
+    // The clauses alone speak of the roster and the changes.
+    let _ = roster;
+    let _ = changes;
+    let place = usize::from(execution.sym.get());
+    let unquoted = execution.first <= firsts[place];
+    if let Some(finding) = answer {
+        finding.standing = finding.standing.answered(execution.other, unquoted);
+    }
+}
+
+/// Of each of a number of symbols, by its place, how many changes come before its first quotation: all of them if it has none.
+fn firsts_of(alloc: Global, syms: usize, changes: &[Change]) -> Result<Vec<u64>, AllocError>
+    ensures count { IfOk result (λ firsts. length firsts.items ≡ syms) }
+    ensures firsts { IfOk result (λ firsts. AreFirsts changes.now (length changes.now) firsts.items) }
+{
+    let mut firsts = numbers(alloc, syms, changes.len() as u64)?;
+    let mut place = 0;
+    for change in changes {
+        note_quotation(&mut firsts, change, place);
+        place += 1;
+    }
+    Ok(firsts)
+}
+
+/// One number several times.
+fn numbers(alloc: Global, count: usize, number: u64) -> Result<Vec<u64>, AllocError>
+    ensures { IfOk result (λ numbers. numbers.items ≡ replicate count number) }
+{
+    let mut numbers = Vec::with_capacity(alloc, count)?;
+    for _ in 0..count {
+        numbers.push(number)?;
+    }
+    Ok(numbers)
+}
+
+/// Notes the change at a place, if it is a quotation: for its symbol, unless an earlier one is noted.
+fn note_quotation(firsts: &mut Vec<u64>, change: &Change, place: u64)
+    ensures count { length firsts.new.items ≡ length firsts.old.items }
+    ensures each { (sym : ℕ) → IsNotedFirst (is_quotation sym change.now) place (slice_get firsts.old.items sym)
+        (slice_get firsts.new.items sym) }
+{
+    match *change {
+        Change::Quote { sym, .. } => note_first(firsts, usize::from(sym.get()), place),
+        Change::State { .. } | Change::Withdraw { .. } | Change::Lot { .. } => {}
+    }
+}
+
+/// Notes a quotation of the symbol at a place, unless an earlier one is noted.
+fn note_first(firsts: &mut Vec<u64>, at: usize, place: u64)
+    ensures count { length firsts.new.items ≡ length firsts.old.items }
+    ensures own { IsNotedFirst true place (slice_get firsts.old.items at) (slice_get firsts.new.items at) }
+    ensures others { (other : ℕ) → other ≢ at → slice_get firsts.new.items other ≡ slice_get firsts.old.items other }
+{
+    if at < firsts.len() && place < firsts[at] {
+        firsts[at] = place;
+    }
+}
