@@ -2,7 +2,7 @@
 use std::alloc::{AllocError, Global};
 
 /// How many hints there are.
-const HINTS: usize = 4096;
+const HINTS: usize = 8192;
 
 /// A place for each name that is tried before any other. A hint may be wrong: two names may share one, and an unknown
 /// name has one. So the caller compares the name at the place.
@@ -40,5 +40,5 @@ impl Hints {
 
 /// The place of a name's hint: the name as a number, spread over the hints by the golden ratio.
 fn slot_of(word: u64) -> usize {
-    (word.wrapping_mul(0x9e37_79b9_7f4a_7c15) >> 52) as usize
+    (word.wrapping_mul(0x9e37_79b9_7f4a_7c15) >> 51) as usize
 }

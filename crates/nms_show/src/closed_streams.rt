@@ -10,12 +10,13 @@ const STANDARD: i32 = 3;
 /// before it opens anything. A file that is opened takes the first free number: without this it would be taken for the stream,
 /// and messages or answers would be written into it.
 ///
+/// It is opened to read only. So a closed input is empty, and writing to a closed output still fails.
+///
 /// An error is that of opening `/dev/null`. What was opened before stays open.
 pub fn open_closed_streams(host: &HostRuntime) -> io::Result<()> {
     for _ in 0..STANDARD {
         let file = OpenOptions::new()
             .read(true)
-            .write(true)
             .open(host, "/dev/null")?;
         if file.as_raw_fd() >= STANDARD {
             return Ok(());
