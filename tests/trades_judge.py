@@ -141,7 +141,7 @@ class Times:
     def __init__(self, chance, by_symbol=False):
         self.by_symbol, self.all, self.spans, self.cuts = by_symbol, [], {}, {}
         self.before, self.alone = chance.random() < 0.3, by_symbol and chance.random() < 0.15
-        self.window = chance.choice([None, None, 0, 1, 5_000_000, 400_000_000, SECOND, 3600 * SECOND, DAY])
+        self.window = chance.choice([None, None, 0, 1, 5_000_000, 400_000_000, SECOND, 60 * SECOND])
 
     def sorted(self, pairs):
         """The changes in the order of a file of these times. By symbol no change is of all symbols, and one symbol may have none."""

@@ -20,6 +20,10 @@ const CHANGES: usize = 0;
 
 const EXECUTIONS: usize = 1;
 
+/// The longest window, in nanoseconds: a minute. An execution may look at each change of its symbol's best prices in its
+/// window, so longer ones would take hours on a day. This product's own rule.
+const LONGEST_WINDOW: u64 = 60_000_000_000;
+
 /// Judges a file of executions. The words are tested first, then times are read; both files are opened before either is read.
 pub(crate) fn serve_trades<T, W: Write>(
     rt: &T,
@@ -120,16 +124,18 @@ fn window_of(request: &Request<'_>) -> Result<u64, Fault> {
     };
     nanoseconds_in(word).ok_or(Fault::usage(
         About::Nothing,
-        "--window takes nanoseconds, as a number of at most 15 digits",
+        "--window takes nanoseconds, at most 60000000000 (a minute)",
     ))
 }
 
-/// A number of 1 to 15 digits.
+/// A number of digits that is at most the longest window.
 fn nanoseconds_in(word: &str) -> Option<u64> {
-    if word.len() <= 15 && word.bytes().all(|byte| byte.is_ascii_digit()) {
-        word.parse::<u64>().ok()
-    } else {
-        None
+    if !word.bytes().all(|byte| byte.is_ascii_digit()) {
+        return None;
+    }
+    match word.parse::<u64>() {
+        Ok(nanoseconds) if nanoseconds <= LONGEST_WINDOW => Some(nanoseconds),
+        Ok(_) | Err(_) => None,
     }
 }
 
