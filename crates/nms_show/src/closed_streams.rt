@@ -15,9 +15,7 @@ const STANDARD: i32 = 3;
 /// An error is that of opening `/dev/null`. What was opened before stays open.
 pub fn open_closed_streams(host: &HostRuntime) -> io::Result<()> {
     for _ in 0..STANDARD {
-        let file = OpenOptions::new()
-            .read(true)
-            .open(host, "/dev/null")?;
+        let file = OpenOptions::new().read(true).open(host, "/dev/null")?;
         if file.as_raw_fd() >= STANDARD {
             return Ok(());
         }
