@@ -105,15 +105,13 @@ fn tell_own<W: Write>(
 {
     let mut is_told = false;
     for own in CODES {
-        if own.text() == code {
-            let words = CodeWords {
-                code: own.text(),
-                sentence: own.sentence(),
-                remedy: own.remedy(),
-            };
-            tell_words(alloc, words, form, answers)?;
-            is_told = true;
-        }
+        let words = CodeWords {
+            code: own.text(),
+            sentence: own.sentence(),
+            remedy: own.remedy(),
+        };
+        let is_it = tell_named(alloc, words, code, form, answers)?;
+        is_told = is_told || is_it;
     }
     Ok(is_told)
 }
@@ -129,15 +127,13 @@ fn tell_executions<W: Write>(
 {
     let mut is_told = false;
     for own in ExecutionCode::ALL {
-        if own.text() == code {
-            let words = CodeWords {
-                code: own.text(),
-                sentence: own.sentence(),
-                remedy: own.remedy(),
-            };
-            tell_words(alloc, words, form, answers)?;
-            is_told = true;
-        }
+        let words = CodeWords {
+            code: own.text(),
+            sentence: own.sentence(),
+            remedy: own.remedy(),
+        };
+        let is_it = tell_named(alloc, words, code, form, answers)?;
+        is_told = is_told || is_it;
     }
     Ok(is_told)
 }
@@ -153,12 +149,27 @@ fn tell_others<W: Write>(
 {
     let mut is_told = false;
     for words in OTHERS.iter() {
-        if words.code == code {
-            tell_words(alloc, *words, form, answers)?;
-            is_told = true;
-        }
+        let is_it = tell_named(alloc, *words, code, form, answers)?;
+        is_told = is_told || is_it;
     }
     Ok(is_told)
+}
+
+/// Prints a code if it is the one that is asked for. Returns whether it is.
+fn tell_named<W: Write>(
+    alloc: Global,
+    words: CodeWords,
+    code: &str,
+    form: Form,
+    answers: &mut W,
+) -> Result<bool, ShowFault>
+    ensures safe { Writes IsSafe (W.contents answers.old) (W.contents answers.new) result }
+{
+    if words.code != code {
+        return Ok(false);
+    }
+    tell_words(alloc, words, form, answers)?;
+    Ok(true)
 }
 
 /// Prints a code with its sentence, and what to do about it.

@@ -131,12 +131,12 @@ fn tell_fall<W: Write>(asked: &Asked<'_>, number: u64, answers: &mut W) -> Resul
 }
 
 /// Writes the place of a line, the line, what is expected there and what to do.
-fn tell_line<W: Write>(
-    asked: &Asked<'_>,
+fn tell_line<'x, W: Write>(
+    asked: &Asked<'x>,
     code: Code,
     number: u64,
-    line: &[u8],
-    expected: &str,
+    line: &'x [u8],
+    expected: &'x str,
     answers: &mut W,
 ) -> Result<(), ShowFault>
     ensures safe { Writes IsSafe (W.contents answers.old) (W.contents answers.new) result }
