@@ -34,6 +34,7 @@ struct Asked<'a> {
 /// that of the line above it (H2), at most 100 of them. It ends with `Refused` if there is one.
 ///
 /// The answers are not flushed. A fault leaves what was reported before. What is written is safe to show on a terminal.
+#[tactic(auto, using(nms_show::proofs::Offered::no_part_added))]
 pub fn explain_times<W: Write>(
     alloc: Global,
     file: &str,
@@ -99,16 +100,36 @@ fn explain_falls<W: Write>(
 fn tell_falls<W: Write>(asked: &Asked<'_>, times: &Times, answers: &mut W) -> Result<u64, ShowFault>
     ensures safe { Writes IsSafe (W.contents answers.old) (W.contents answers.new) result }
 {
-    let mut falls: u64 = 0;
+    let mut falls = 0;
     for before in 1..times.len() as u64 {
-        if falls_after(times, before) {
-            falls += 1;
-            if falls <= MOST_TOLD {
-                tell_fall(asked, before + 1, answers)?;
-            }
-        }
+        falls = tell_fall_after(asked, times, before, falls, answers)?;
     }
     Ok(falls)
+}
+
+/// Reports the time after a version if it is before that of the version, and 100 falls were not reported yet. Returns how many
+/// falls there are then, of `falls` before.
+#[tactic(auto, using(nms_show::proofs::Offered::nothing_added))]
+fn tell_fall_after<W: Write>(
+    asked: &Asked<'_>,
+    times: &Times,
+    before: u64,
+    falls: u64,
+    answers: &mut W,
+) -> Result<u64, ShowFault>
+    requires few { falls < before }
+    requires within { before + 1 < 2 ^ 64 }
+    ensures few { IfOk result (λ falls. falls < before + 1) }
+    ensures safe { Writes IsSafe (W.contents answers.old) (W.contents answers.new) result }
+{
+    if !falls_after(times, before) {
+        return Ok(falls);
+    }
+    if falls >= MOST_TOLD {
+        return Ok(falls + 1);
+    }
+    tell_fall(asked, before + 1, answers)?;
+    Ok(falls + 1)
 }
 
 /// Whether the time after a version is before the time of that version.
