@@ -9,7 +9,7 @@ use super::in_braces::{element_in, key_in};
 use crate::blanks::trim_start;
 use crate::line_start::LineStart;
 use crate::marked::{Marked, line_from, mark_at};
-use crate::toml_line::{Pair, header_in, key_at, names_key, value_in};
+use crate::toml_line::{Pair, header_in, key_at, value_in};
 use nms_setup_places::{SetupArray, SetupTable};
 use std::alloc::{AllocError, Global};
 
@@ -323,5 +323,13 @@ fn is_within(name: &[u8], table: &[u8], key: &[u8]) -> bool {
         return false;
     };
     let after = trim_start(rest);
-    first == table && after.starts_with(b".") && names_key(trim_start(&after[1..]), key)
+    first == table && after.starts_with(b".") && begins_with(trim_start(&after[1..]), key)
+}
+
+/// Whether a text begins with a key.
+fn begins_with(text: &[u8], key: &[u8]) -> bool {
+    match key_at(text) {
+        Some((first, _)) => first == key,
+        None => false,
+    }
 }
