@@ -202,7 +202,7 @@ pub(crate) fn clock_of<'a>(
         None => (over_all(alloc, roster, timing.times)?, Vec::new(alloc)),
         Some(text) => (
             by_symbol(alloc, roster, timing.times, text)?,
-            stretches_of(alloc, roster, text)?,
+            stretches_of(alloc, roster, timing.times, text)?,
         ),
     };
     Ok(Clock {
@@ -259,9 +259,16 @@ fn by_symbol<'a>(
 }
 
 /// The part of the day that the changes have of each symbol, as a file of symbols says.
-fn stretches_of(alloc: Global, roster: &Roster, text: &[u8]) -> Result<Vec<Stretch>, TradesFault>
-    ensures { (times : List ℕ) → IfErr result (IsTimingFault (Some text.now) times) }
+fn stretches_of(
+    alloc: Global,
+    roster: &Roster,
+    times: &Times,
+    text: &[u8],
+) -> Result<Vec<Stretch>, TradesFault>
+    ensures { IfErr result (IsTimingFault (Some text.now) times.now) }
 {
+    // Only the clause speaks of the times.
+    let _ = times;
     let mut all = Vec::new(alloc);
     for place in 0..roster.syms() as u16 {
         let name = name_of_sym(roster, Sym::new(place).unwrap());
