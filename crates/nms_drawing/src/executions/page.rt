@@ -334,7 +334,7 @@ fn flag_all(flagged: &mut Flagged, judged: &Judged) -> Result<(), AllocError> {
             match finding.standing {
                 Standing::Clean | Standing::Unquoted | Standing::Other => {}
                 Standing::Perhaps | Standing::Through => {
-                    flag(flagged, place, (execution.sym, mark_of(execution, finding)))?;
+                    flag(flagged, place, execution, finding)?;
                 }
             }
         }
@@ -343,10 +343,17 @@ fn flag_all(flagged: &mut Flagged, judged: &Judged) -> Result<(), AllocError> {
 }
 
 /// Adds the execution of a place: it is shown if there is room for it, and else counted.
-fn flag(flagged: &mut Flagged, place: usize, marked: (Sym, Mark)) -> Result<(), AllocError> {
+fn flag(
+    flagged: &mut Flagged,
+    place: usize,
+    execution: &Execution,
+    finding: &Finding,
+) -> Result<(), AllocError> {
     if flagged.places.len() < MOST_SHOWN {
         flagged.places.push(place)?;
-        flagged.marks.push(marked)?;
+        flagged
+            .marks
+            .push((execution.sym, mark_of(execution, finding)))?;
         return Ok(());
     }
     match flagged.more.checked_add(1) {
@@ -472,12 +479,6 @@ fn write_deal<P: Write>(
         Some(part) => (", executed on ", name_of_part(roster, part)),
         None => (", executed off an exchange", ""),
     };
-    let none: &[u8] = &[];
-    let time = execution.time.map(|time| clock_of(time, 1));
-    let (at, time) = match &time {
-        Some(time) => (", at ", time.bytes()),
-        None => ("", none),
-    };
     say(
         page,
         &[
@@ -489,8 +490,12 @@ fn write_deal<P: Write>(
             Item::Text(name_of_sym(roster, execution.sym)),
             Item::Text(" at "),
             dollars_of(execution.millionths),
-            Item::Text(at),
-            Item::Bytes(time),
+        ],
+    )?;
+    write_time(execution, page)?;
+    say(
+        page,
+        &[
             Item::Text(", on version "),
             Item::Number(execution.version),
             Item::Text(on),
@@ -498,6 +503,15 @@ fn write_deal<P: Write>(
             Item::Text("."),
         ],
     )
+}
+
+/// Writes an execution's own time, if it has one.
+fn write_time<P: Write>(execution: &Execution, page: &mut P) -> Result<(), ShowFault> {
+    let Some(time) = execution.time else {
+        return Ok(());
+    };
+    let text = clock_of(time, 1);
+    say(page, &[Item::Text(", at "), Item::Bytes(text.bytes())])
 }
 
 /// Writes the exceptions that apply.

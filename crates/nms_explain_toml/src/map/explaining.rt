@@ -158,10 +158,27 @@ fn tell_found<W: Write>(
     if is_at(last, &place, word) {
         return Ok(Next::Again);
     }
-    tell_fault(told, draft, fault, &place, word, answers)?;
+    tell_placed(told, &*draft, &*fault, word, answers)?;
     match mended(told.alloc, draft, fault, &place, word) {
         Ok(spot) => Ok(Next::Told(spot)),
         Err(_) => Err(ShowFault::NoMemory),
+    }
+}
+
+/// Prints a fault of a document that has a place.
+#[tactic(auto, using(nms_show::proofs::Offered::nothing_added))]
+fn tell_placed<'a, W: Write>(
+    told: Told<'a>,
+    draft: &'a Draft,
+    fault: &'a MapFault,
+    word: Option<usize>,
+    answers: &mut W,
+) -> Result<(), ShowFault>
+    ensures safe { Writes IsSafe (W.contents answers.old) (W.contents answers.new) result }
+{
+    match draft.place_of(fault) {
+        Some(place) => tell_fault(told, draft, fault, &place, word, answers),
+        None => Ok(()),
     }
 }
 
