@@ -122,11 +122,17 @@ def command(case):
     return Call([bytes_of(it) for it in words.splitlines()], int(status), answers, errors, **given)
 
 
+def program_of(name):
+    """The path of a program: in the folder that `./gate quick` names, or where the gate has built it."""
+    folder = os.environ.get("NMS_PROGRAMS")
+    return f"{folder}/{name}" if folder else f"{TOP}/crates/{name}/out/{name}"
+
+
 def programs(given, *names):
-    """The programs that the words of a call name, and for each that they leave out the one in crates/."""
+    """The programs that the words of a call name, and for each that they leave out the one of its name."""
     if len(given) > len(names) or any(it.startswith("-") for it in given):
         sys.exit(f"usage: {sys.argv[0]} [{' ['.join(names)}{']' * len(names)}")
-    found = [*map(os.path.realpath, given), *(f"{TOP}/crates/{it}/out/{it}" for it in names[len(given) :])]
+    found = [*map(os.path.realpath, given), *map(program_of, names[len(given) :])]
     for path in found:
         if not os.path.isfile(path):
             sys.exit(f"{path} is not there: it has to be built first")
