@@ -12,6 +12,8 @@ TOP = os.path.dirname(TESTS)
 EXAMPLES = os.path.join(TOP, "examples")
 # Seconds that a call may take.
 MOST = 60
+# What a program without proofs says of itself at each run (build/unproved.py).
+UNPROVED = re.compile(rb"\Anms_\w+: UNPROVED: [^\n]*\n")
 
 
 def read(*path):
@@ -59,6 +61,7 @@ class Call:
             came = [ran.returncode]
             for path, to in ((answers, self.answers_to), (errors, self.errors_to)):
                 came.append(b"" if to else open_bytes(path))
+            came[2] = UNPROVED.sub(b"", came[2])
             # No call alters a file that it was given.
             kept = [(it, open_bytes(os.path.join(room, it)), text) for it, text in self.files.items() if isinstance(text, bytes)]
         for what, one, other in zip(("standard output", "standard error", "status"), (*came[1:], came[0]), (*self.wanted[1:], self.wanted[0])):
