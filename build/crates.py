@@ -93,7 +93,7 @@ def wholes_of(names):
 
 def toolchain_sum():
     """The checksum of the toolchain's command, as the launchers note it."""
-    words = ["bash", "-c", f'. "{TOP}/build/sums"; toolchain_sum']
+    words = ["bash", "-c", '. "$1"; toolchain_sum', "sums", f"{TOP}/build/sums"]
     return subprocess.run(words, stdout=subprocess.PIPE, check=True, text=True).stdout.strip()
 
 

@@ -147,6 +147,8 @@ class Prover:
 
     def libraries(self, names):
         """Has `rt ci` give the folder these libraries: what it kept, or else what it proves now."""
+        if not names:
+            return
         crates.furnish(self.room, names)
         print(f"the {len(names)} libraries below, by rt ci: some seconds, or minutes if they are not proved yet", flush=True)
         status, said = crates.ci(self.room)

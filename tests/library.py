@@ -122,7 +122,14 @@ class Library:
         size = os.path.getsize(self.shared) if os.path.exists(self.shared) else 0
         check(f"the shared object has less than {MOST_BYTES} bytes", 0 < size < MOST_BYTES, size)
         with open(f"{TOP}/include/nms.h", encoding="utf-8") as file:
-            declared = set(re.findall(r"^uint32_t (nms_\w+)\(", file.read(), re.M))
+            header = file.read()
+        declared = set(re.findall(r"^uint32_t (nms_\w+)\(", header, re.M))
+        if tool("readelf"):
+            soname = "libnms.so." + re.search(r"^#define NMS_ABI (\d+)", header, re.M)[1]
+            _, said = run([tool("readelf"), "-d", self.shared])
+            check("the shared object's own name has the number of the layout", f"soname: [{soname}]" in said, said)
+        else:
+            skip("the shared object's own name", "readelf")
         nm = tool("nm", "llvm-nm")
         if not nm:
             skip("the names of the library", "nm")
