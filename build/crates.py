@@ -18,6 +18,7 @@ proved and built again by each build and each gate.
 `build/times` has each crate's processor seconds, as measured on one machine, and the megabytes of its library.
 """
 import contextlib
+import ctypes
 import functools
 import importlib.machinery
 import importlib.util
@@ -45,6 +46,8 @@ EMPTY_CONTRACTS = 1.2
 SILENCE = 30
 # The verdicts of proofs in this clone: of each the sum of what the crate stands on, that of the toolchain, the crate and the line.
 VERDICTS = f"{TOP}/build/out/verdicts"
+# The call by which a process asks for a signal when its parent ends (prctl).
+PR_SET_PDEATHSIG = 1
 # The programs beside the library.
 PROGRAMS = ("nms_examples", "nms_review", "nms_serve", "nms_tool")
 
@@ -152,8 +155,10 @@ def furnished(room, names, wanted):
 
 
 def ci(room, hear=lambda line: None, wait=lambda: None):
-    """Runs `rt ci` in a folder, and gives its status and what it printed. Each line is heard, and each long silence."""
-    how = {"stdin": subprocess.DEVNULL, "stdout": subprocess.PIPE, "stderr": subprocess.STDOUT, "text": True, "errors": "replace"}
+    """Runs `rt ci` in a folder, and gives its status and what it printed. Each line is heard, and each long silence. It ends when
+    this process does, however that ends."""
+    how = {"preexec_fn": lambda: ctypes.CDLL(None).prctl(PR_SET_PDEATHSIG, signal.SIGTERM)}
+    how |= {"stdin": subprocess.DEVNULL, "stdout": subprocess.PIPE, "stderr": subprocess.STDOUT, "text": True, "errors": "replace"}
     environment = {**os.environ, "RT_JOBS": os.environ.get("RT_JOBS") or str(lanes())}
     lines, said = queue.Queue(), []
     with subprocess.Popen(["rt", "ci"], cwd=room, env=environment, **how) as ran:
