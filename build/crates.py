@@ -1,53 +1,67 @@
 #!/usr/bin/env python3
-"""Proves and builds a program, or the library for other languages, and the crates below it, side by side, and reports on
-standard error how far it is.
+"""Proves and builds a program, or the library for other languages, by the toolchain's `rt ci`, and reports on standard error how
+far it is.
 
-    build/crates.py NAME             builds nms_tool, nms_review or nms_c
+    build/crates.py NAME             builds nms_tool, nms_review, nms_serve, nms_examples or nms_c
     build/crates.py --expect NAME    prints what a build takes, and builds nothing
-    build/crates.py --last NAME      builds NAME alone, over the libraries that `rt ci` left
+    build/crates.py --note LOG       notes what `rt ci` proved in this repository and left there. LOG is what it printed, and
+                                     standard input what build/sums printed before
 
-Of `nms_c`, a static library, it makes `libnms.a`: the proved archive with the toolchain's object through which it calls
-the C library's malloc, realloc and free. Of that archive it links `libnms.so`, by the toolchain's own linker.
+`rt ci` runs in a folder of its own, on copies of the crates of which NAME is built. So each crate is held to the verdict that
+the gate holds it to. What was proved is kept on this machine, by the checksums of all that it rests on. So of a build and a
+gate, in any clones, the second takes from there what the first has proved, and an interrupt loses only what was under way.
 
-Each crate is checked and built from nothing, and its library keeps what it states and no proofs, as `rt ci` does it. A
-check over such libraries is cheaper than one over those of `rt lib`, the more so the more crates lie below. They stand in
-`crates/NAME/out/built`, apart from those of `rt`, since each fits only the very libraries that it was built over. What is
-built from the same sources is not built again. A library comes to its place once it is whole, so an interrupt loses only
-what was under way.
+Of `nms_c` it makes `libnms.a`: the proved archive with the toolchain's object through which it calls the C library's malloc,
+realloc and free. Of that archive it links `libnms.so`, by the toolchain's own linker. `rt ci` keeps no archive, so it is
+proved and built again by each build and each gate.
 
-`build/times` has each crate's processor seconds, as measured on one machine, the jobs that are cheapest for it, and the
-megabytes of its library. What this build took is written to `crates/NAME/out/times`.
+`build/times` has each crate's processor seconds, as measured on one machine, and the megabytes of its library.
 """
 import contextlib
+import ctypes
 import functools
-import heapq
+import importlib.machinery
+import importlib.util
 import os
+import queue
 import re
 import shutil
 import signal
 import subprocess
 import sys
+import tempfile
+import threading
 import time
-import uuid
 
 sys.dont_write_bytecode = True
 
 TOP = os.path.dirname(os.path.dirname(os.path.realpath(__file__)))
 # Memory that a check of the largest crate takes, with some room.
 LANE_BYTES = 4_000_000_000
-# The crate that is built as a static library. `rt ci` keeps no archive, so the gate's part `library` proves and builds it by
-# this program. That is why crates.txt has it as an ordinary library: its proof in `rt ci` costs half then.
+# The crate that is built as a static library. crates.txt has it as an ordinary one, since its proof in `rt ci` costs half then.
 ARCHIVE = "nms_c"
+# What `rt ci` adds to the seconds of build/times: it looks for contracts that no call can meet.
+EMPTY_CONTRACTS = 1.2
 # The longest silence, in seconds.
 SILENCE = 30
+# The verdicts of proofs in this clone: of each the sum of what the crate stands on, that of the toolchain, the crate and the line.
+VERDICTS = f"{TOP}/build/out/verdicts"
+# The call by which a process asks for a signal when its parent ends (prctl).
+PR_SET_PDEATHSIG = 1
+# The programs beside the library.
+PROGRAMS = ("nms_examples", "nms_review", "nms_serve", "nms_tool")
+
+
+def lines_of_crates():
+    """The line of each crate in crates.txt."""
+    with open(f"{TOP}/crates.txt", encoding="utf-8") as file:
+        return {re.match(r"\w+", it)[0]: it for it in file if re.match(r"\w", it)}
 
 
 def listed():
     """The crates of this repository that each crate of crates.txt names."""
-    with open(f"{TOP}/crates.txt", encoding="utf-8") as file:
-        lines = [line for line in file if re.match(r"\w", line)]
-    names = {re.match(r"\w+", line)[0]: line for line in lines}
-    return {name: [it for it in line.partition(":")[2].split() if it in names] for name, line in names.items()}
+    lines = lines_of_crates()
+    return {name: [it for it in line.partition(":")[2].split() if it in lines] for name, line in lines.items()}
 
 
 def below(crates, name):
@@ -70,31 +84,37 @@ def lanes():
     return max(1, min((3 * processors() + 3) // 4, int(free // LANE_BYTES)))
 
 
+def sums(*names):
+    """The two checksums of each crate by build/sums: its own, and that of all that it stands on."""
+    ran = subprocess.run([f"{TOP}/build/sums", *names], stdout=subprocess.PIPE, check=True, text=True)
+    return {name: (own, whole) for name, own, whole in map(str.split, ran.stdout.splitlines())}
+
+
+def wholes_of(names):
+    return {name: whole for name, (_, whole) in sums(*names).items()}
+
+
+def toolchain_sum():
+    """The checksum of the toolchain's command, as the launchers note it."""
+    words = ["bash", "-c", '. "$1"; toolchain_sum', "sums", f"{TOP}/build/sums"]
+    return subprocess.run(words, stdout=subprocess.PIPE, check=True, text=True).stdout.strip()
+
+
 class Plan:
-    """What is built, in which order, and what it takes by build/times."""
+    """What is built, and what it takes by build/times if nothing of it is kept."""
 
     def __init__(self, program):
         self.program, self.crates = program, listed()
         self.all = [*below(self.crates, program), program]
         with open(f"{TOP}/build/times", encoding="utf-8") as file:
             rows = [line.split() for line in file if re.match(r"\w", line)]
-        self.times = {name: (float(seconds), int(jobs), int(size)) for name, seconds, jobs, size in rows}
+        self.times = {name: (float(seconds), int(size)) for name, seconds, size in rows}
 
     def seconds(self, name):
-        return self.times.get(name, (60.0, 1, 100))[0]
+        return EMPTY_CONTRACTS * self.times.get(name, (60.0, 100))[0]
 
-    def jobs(self, name):
-        return self.times.get(name, (60.0, 1, 100))[1]
-
-    def granted(self, name, idle, at_once):
-        """The jobs that a crate gets when that many of `at_once` places are free: those that pay for it. If there are more than
-        two places, a job more than that may run for a while, since a long crate with a job fewer would be late by more than that
-        costs."""
-        shared = 1 if at_once > 2 else 0
-        return max(1, min(self.jobs(name), idle + shared))
-
-    def megabytes(self):
-        return sum(self.times.get(name, (60.0, 1, 100))[2] for name in self.all)
+    def gigabytes(self):
+        return sum(self.times.get(name, (60.0, 100))[1] for name in self.all) / 1000
 
     def processor(self):
         """Seconds of processor of the whole."""
@@ -102,88 +122,137 @@ class Plan:
 
     @functools.cache
     def chain(self, name):
-        """The seconds of the longest chain of crates from this one up."""
-        return self.seconds(name) + max((self.chain(it) for it in self.all if name in self.crates[it]), default=0)
+        """The seconds of the longest chain of crates from the lowest to this one."""
+        return self.seconds(name) + max(map(self.chain, self.crates[name]), default=0)
 
-    def ready(self, left, done):
-        """Those of the crates that are left whose lower crates are done, the longest chain first."""
-        found = [it for it in left if all(low in done for low in self.crates[it])]
-        return sorted(found, key=self.chain, reverse=True)
-
-    def minutes(self, at_once, scale=1.0):
-        """How long the build takes with `at_once` jobs at a time, if each crate takes `scale` times the seconds of build/times."""
-        left, done, running, now = [*self.all], set(), [], 0.0
-        while left or running:
-            for name in self.ready(left, done):
-                idle = at_once - sum(jobs for _, _, jobs in running)
-                if idle < 1:
-                    break
-                jobs = self.granted(name, idle, at_once)
-                left.remove(name)
-                # Two jobs take two thirds of the time, and four take four ninths.
-                heapq.heappush(running, (now + scale * self.seconds(name) / jobs**0.6, name, jobs))
-            now, name, _ = heapq.heappop(running)
-            done.add(name)
-        return now / 60
-
-    def expects(self, at_once, scale=1.0):
+    def expects(self, at_once):
         """What a build takes, in words."""
         many = "one processor" if processors() == 1 else f"{processors()} processors"
-        return f"about {self.minutes(at_once, scale):.0f} minutes on {many} ({scale * self.processor() / 60:.0f} minutes of processor)"
+        minutes = max(self.chain(self.program), self.processor() / at_once) / 60
+        return f"about {minutes:.0f} minutes on {many} ({self.processor() / 60:.0f} minutes of processor)"
+
+
+def furnish(room, names):
+    """Puts some crates into a folder that is a repository, with all that `rt ci` reads of them but the edits: it finds a proof
+    without them."""
+    os.makedirs(f"{room}/.git", exist_ok=True)
+    shutil.copy(f"{TOP}/HANDLES", room)
+    with open(f"{room}/crates.txt", "a", encoding="utf-8") as file:
+        file.writelines(line for name, line in lines_of_crates().items() if name in names)
+    for name in names:
+        folder = f"{TOP}/crates/{name}"
+        unread = lambda at, _, folder=folder: {"out", "must-fail", "wrong"} if at == folder else ()
+        shutil.copytree(folder, f"{room}/crates/{name}", ignore=unread)
+
+
+def furnished(room, names, wanted):
+    """Furnishes a folder with crates, and gives the sum of what each wanted one stands on: that of the copies."""
+    wholes = wholes_of(wanted)
+    furnish(room, names)
+    if wholes_of(wanted) != wholes:
+        sys.exit("a source changed while the crates were copied: start it again")
+    return wholes
+
+
+def ci(room, hear=lambda line: None, wait=lambda: None):
+    """Runs `rt ci` in a folder, and gives its status and what it printed. Each line is heard, and each long silence. It ends when
+    this process does, however that ends."""
+    how = {"preexec_fn": lambda: ctypes.CDLL(None).prctl(PR_SET_PDEATHSIG, signal.SIGTERM)}
+    how |= {"stdin": subprocess.DEVNULL, "stdout": subprocess.PIPE, "stderr": subprocess.STDOUT, "text": True, "errors": "replace"}
+    environment = {**os.environ, "RT_JOBS": os.environ.get("RT_JOBS") or str(lanes())}
+    lines, said = queue.Queue(), []
+    with subprocess.Popen(["rt", "ci"], cwd=room, env=environment, **how) as ran:
+        threading.Thread(target=lambda: [*map(lines.put, ran.stdout), lines.put(None)], daemon=True).start()
+        try:
+            while True:
+                try:
+                    line = lines.get(timeout=SILENCE)
+                except queue.Empty:
+                    wait()
+                    continue
+                if line is None:
+                    break
+                said.append(line)
+                hear(line)
+        finally:
+            ran.terminate()
+    return ran.returncode, "".join(said)
+
+
+def verdicts(said):
+    """The verdict of each crate that `rt ci` proved, by what it printed: the last line of the prover's report."""
+    found = {}
+    for name, report in re.findall(r"^== (\w+)\n((?:(?!== ).*\n)*?)rt: \1 proved$", said, re.M):
+        lines = re.findall(r"^logic=proved .*$", report, re.M)
+        if lines:
+            found[name] = lines[-1]
+    return found
+
+
+def note(found, wholes):
+    """Notes verdicts, each with the sum of what its crate stands on. Each line is one write, so that two builds mix none."""
+    os.makedirs(os.path.dirname(VERDICTS), exist_ok=True)
+    kit = toolchain_sum()
+    with open(VERDICTS, "a", encoding="utf-8") as file:
+        file.write("".join(f"{wholes[name]} {kit} {name} {line}\n" for name, line in found.items()))
+
+
+def note_built(file, whole):
+    """Notes beside a file of what it was built, and by which toolchain: the launchers run it while both are the same."""
+    with open(f"{file}.built_of", "w", encoding="ascii") as to:
+        to.write(f"{whole} {toolchain_sum()}\n")
+
+
+def loaded(path):
+    """A module of the toolchain that has no ending."""
+    name = os.path.basename(path)
+    spec = importlib.util.spec_from_loader(name, importlib.machinery.SourceFileLoader(name, path))
+    module = importlib.util.module_from_spec(spec)
+    spec.loader.exec_module(module)
+    return module
 
 
 class Toolchain:
-    """The toolchain that `rt` belongs to: its compiler, and the words by which its command `rt` calls it."""
+    """The toolchain that `rt` belongs to, with its command `rt` as a module."""
 
-    def __init__(self, built="built"):
-        self.built = built
+    def __init__(self):
         page = subprocess.run(["rt", "doc"], stdout=subprocess.PIPE, check=True, text=True).stdout.split()[0]
         self.folder = os.path.dirname(page)
-        sys.path.insert(0, f"{self.folder}/bin")
-        import rtlib
-
-        self.rtlib = rtlib
-        # A crate's stamp is asked for by each crate above it.
-        rtlib.Crate.stamp = functools.cache(rtlib.Crate.stamp)
+        self.rt = loaded(f"{self.folder}/bin/rt")
+        self.rtlib = self.rt.rtlib
         self.known = {}
 
     def crate(self, name):
         folder = f"{TOP}/crates/{name}"
         if folder not in self.known:
             self.known[folder] = self.rtlib.Crate(folder, TOP, self.known)
-            for it in self.known.values():
-                it.rlib = f"{it.folder}/out/{self.built}/{it.name}.rlib"
-                it.is_static = it.name == ARCHIVE
         return self.known[folder]
 
-    def build(self, name, jobs, to):
-        """The command that proves a crate from nothing and builds it."""
-        crate = self.crate(name)
-        words = crate.words(["--jobs", str(jobs)], keeps=False)
-        if crate.is_program or crate.is_static:
-            words += ["--toolchain", f"{self.folder}/toolchain", "--backend", "llvm"]
-        else:
-            words += ["--statements"]
-        return [self.rtlib.RATTLE, "build", *words, "-o", to]
-
-    def link(self, made, to):
-        """Links a program that was built."""
-        words = ["--target", "x86_64-unknown-linux-gnu", "--toolchain", f"{self.folder}/toolchain", "-o", to, made]
-        libraries = [f"{self.folder}/c/{it}" for it in ("libos_c.a", "liblibc_c.a")]
-        subprocess.run([f"{self.folder}/bin/rattle-link", *words, *libraries], check=True)
+    def prove_archive(self, room, to):
+        """Proves the library's crate over the libraries of a folder, held to the verdict that `rt ci` holds a crate to, and
+        builds its archive. Gives whether it is proved, and the report."""
+        # (its first call is for the main thread)
+        self.rtlib.guarded()
+        self.rt.Crate.allowed = self.rt.handles_of(room)
+        crate = next(it for it in self.rt.crates_of(room) if it.name == ARCHIVE)
+        crate.is_static = True
+        words = [*crate.words(["--jobs", "1"], keeps=False), "--toolchain", f"{self.folder}/toolchain", "--backend", "llvm", "-o", to]
+        with tempfile.TemporaryFile("w+", errors="replace") as crate.out:
+            status = crate.prove(["build", *words])
+            crate.out.seek(0)
+            return status == 0, crate.out.read()
 
     def join(self, made, out):
         """Makes `libnms.a` of an archive that was built, and `libnms.so` of that. Returns whether there is a `libnms.so`."""
         tools, archive, shared = f"{self.folder}/toolchain/bin", f"{out}/libnms.a", f"{out}/libnms.so"
-        shutil.copy(made, f"{made}.new")
         room = os.path.dirname(made)
         subprocess.run([f"{tools}/llvm-ar", "x", f"{self.folder}/c/liblibc_c.a"], cwd=room, check=True)
         objects = sorted(it for it in os.listdir(room) if it.endswith(".o"))
-        subprocess.run([f"{tools}/llvm-ar", "rcs", f"{made}.new", *objects], cwd=room, check=True)
+        subprocess.run([f"{tools}/llvm-ar", "rcs", made, *objects], cwd=room, check=True)
         # It gives its callers the functions of nms.h, and needs only the C library when it is loaded.
         with open(f"{room}/exports", "w", encoding="ascii") as file:
             file.write("{ global: nms_*; local: *; };\n")
-        words = ["-shared", "-soname", "libnms.so", "-z", "defs", "--version-script", "exports", "--whole-archive", f"{made}.new"]
+        words = ["-shared", "-soname", soname(), "-z", "defs", "--version-script", "exports", "--whole-archive", made]
         # A division of 128 bits is in the compiler's own library, which every linker of C adds by itself.
         words += ["--no-whole-archive", *(f"{self.folder}/toolchain/lib/{it}" for it in ("libgcc.a", "libc.so.6")), "-o", "libnms.so"]
         with contextlib.suppress(FileNotFoundError):
@@ -193,180 +262,136 @@ class Toolchain:
         except OSError:
             linked = False
         if linked:
-            os.replace(f"{room}/libnms.so", shared)
-        os.replace(f"{made}.new", archive)
+            place(f"{room}/libnms.so", shared)
+        place(made, archive)
         return linked
 
 
-class Stamps:
-    """Of what each library was built: its sources, and which libraries below. Each building has a number of its own."""
+def soname():
+    """The name by which a program finds the shared object: its number is that of the layout, so none loads another layout."""
+    with open(f"{TOP}/include/nms.h", encoding="utf-8") as file:
+        return "libnms.so." + re.search(r"^#define NMS_ABI (\d+)", file.read(), re.M)[1]
 
-    def __init__(self, plan, tools):
-        self.plan, self.tools = plan, tools
 
-    def read(self, name):
-        """The number of a library that is there, and of what it was built; None if there is none."""
-        try:
-            with open(f"{TOP}/crates/{name}/out/built/stamp", encoding="utf-8") as file:
-                number, _, of = file.read().partition("\n")
-                return number, of
-        except FileNotFoundError:
-            return None
-
-    def wanted(self, name):
-        """Of what a library would be built now; None if one below is not there."""
-        found = [(low, self.read(low)) for low in below(self.plan.crates, name)]
-        if not all(stamp for _, stamp in found):
-            return None
-        return "\n".join([self.tools.crate(name).stamp(), *(f"{low} {stamp[0]}" for low, stamp in found)])
-
-    def is_built(self, name):
-        stamp = self.read(name)
-        return stamp is not None and stamp[1] == self.wanted(name)
-
-    def write(self, name, folder):
-        with open(f"{folder}/stamp", "w", encoding="utf-8") as file:
-            file.write(f"{uuid.uuid4()}\n{self.wanted(name)}")
+def place(made, to):
+    """Brings a file that was built to its place, whole: one that runs there goes on. What was noted of the earlier one goes first."""
+    with contextlib.suppress(FileNotFoundError):
+        os.remove(f"{to}.built_of")
+    shutil.copy(made, f"{to}.new")
+    os.replace(f"{to}.new", to)
 
 
 class Build:
-    def __init__(self, plan, last=False):
-        self.plan, self.lanes, self.tools = plan, lanes(), Toolchain("rlib" if last else "built")
-        self.out = f"{TOP}/crates/{plan.program}/out"
-        self.stamps = Stamps(plan, self.tools)
-        self.left, self.done, self.running, self.failed, self.took = [], [], {}, False, []
-        for name in plan.all:
-            is_built = name != plan.program and not {*plan.crates[name]} & {*self.left} and (last or self.stamps.is_built(name))
-            (self.done if is_built else self.left).append(name)
-        self.spoke = self.began = time.monotonic()
+    def __init__(self, plan):
+        self.plan, self.out, self.done, self.report = plan, f"{TOP}/crates/{plan.program}/out", [], []
+        self.began = time.monotonic()
 
     def tell(self, text):
         print(f"{self.plan.program}: {text}", file=sys.stderr, flush=True)
-        self.spoke = time.monotonic()
-
-    def jobs(self):
-        return sum(jobs for _, _, jobs, _ in self.running.values())
 
     def share(self):
-        return f"{100 * sum(map(self.plan.seconds, self.done)) / self.plan.processor():.0f} of 100"
-
-    def made(self, name):
-        """Where a crate is built, before it moves to its place."""
-        crate = self.tools.crate(name)
-        return f"{TOP}/crates/{name}/out/made/{name}" + (".o" if crate.is_program else ".a" if crate.is_static else ".rlib")
-
-    def start(self, name):
-        """Starts the proof of a crate."""
-        to = self.made(name)
-        shutil.rmtree(os.path.dirname(to), ignore_errors=True)
-        os.makedirs(os.path.dirname(to))
-        report = open(f"{self.out}/{name}.report", "w+", encoding="utf-8", errors="replace")
-        jobs = self.plan.granted(name, self.lanes - self.jobs(), self.lanes)
-        how = {"stdin": subprocess.DEVNULL, "stdout": report, "stderr": subprocess.STDOUT}
-        process = subprocess.Popen(self.tools.build(name, jobs, to), cwd=f"{TOP}/crates/{name}", **how)
-        self.running[process.pid] = name, report, jobs, process
-
-    def place(self, name):
-        """Brings what was built to its place."""
-        crate, to = self.tools.crate(name), self.made(name)
-        made = os.path.dirname(to)
-        if crate.is_program:
-            self.tools.link(to, f"{self.out}/{name}")
-            shutil.rmtree(made)
-        elif crate.is_static:
-            if not self.tools.join(to, self.out):
-                self.tell("libnms.so was not made: the toolchain has no linker that could make it")
-            shutil.rmtree(made)
-        else:
-            self.stamps.write(name, made)
-            shutil.rmtree(os.path.dirname(crate.rlib), ignore_errors=True)
-            os.rename(made, os.path.dirname(crate.rlib))
-
-    def size(self, name):
-        """The megabytes of a library."""
-        paths = [f"{folder}/{it}" for folder, _, files in os.walk(f"{TOP}/crates/{name}/out/built") for it in files]
-        return round(sum(map(os.path.getsize, paths)) / 1_000_000)
-
-    def end(self, pid, status, used):
-        """Takes the result of a crate's proof."""
-        name, report, jobs, process = self.running.pop(pid)
-        process.returncode = status
-        if status:
-            self.failed = True
-            report.seek(0)
-            self.tell(f"{name} FAILED (status {status}); its report:")
-            sys.stderr.write(report.read())
-        else:
-            self.place(name)
-            self.done.append(name)
-            self.took.append(f"{name} {used:.0f} {jobs} {self.size(name)}\n")
-            self.tell(f"{name} proved: {self.share()} done")
-            if len(self.took) == 1 and self.left:
-                self.tell(f"as fast as here, all {len(self.plan.all)} crates take {self.plan.expects(self.lanes, used / self.plan.seconds(name))}")
-        report.close()
-        os.remove(report.name)
+        return f"{100 * sum(map(self.plan.seconds, self.done)) / self.plan.processor():.0f} of 100 done"
 
     def wait(self):
-        """Waits for a proof to end, and reports that it goes on if that takes long."""
-        while True:
-            pid, status, used = os.wait4(-1, os.WNOHANG)
-            if pid in self.running:
-                return self.end(pid, os.waitstatus_to_exitcode(status), used.ru_utime + used.ru_stime)
-            if time.monotonic() - self.spoke > SILENCE:
-                names = ", ".join(it[0] for it in self.running.values())
-                self.tell(f"{self.share()} done after {(time.monotonic() - self.began) / 60:.1f} minutes; proving {names}")
-            time.sleep(0.1)
+        left = len(self.plan.all) - len(self.done)
+        self.tell(f"{self.share()} after {(time.monotonic() - self.began) / 60:.1f} minutes; {left} crates are left")
 
-    def run(self):
-        """Builds all that is left, and returns whether it was proved."""
-        room = self.plan.megabytes() / 1000
+    def hear(self, line):
+        """Takes a line of `rt ci`, and passes on what it says of a crate; of one that is not proved also its report."""
+        found = re.fullmatch(r"rt: (\w+) (proved|is kept)\b.*\n?", line)
+        if line.startswith("== "):
+            self.report = []
+        elif found:
+            self.done.append(found[1])
+            self.tell(f"{found[1]} {found[2]}: {self.share()}")
+        elif line.startswith("rt: "):
+            if "NOT PROVED" in line:
+                sys.stderr.write("".join(self.report))
+                self.report = []
+            if not re.match(r"rt: (ok;|\w+ ran)", line):
+                self.tell(line[4:].rstrip("\n"))
+        else:
+            self.report.append(line)
+
+    def run(self, room):
+        """Proves and builds in a folder, and returns whether all was proved."""
+        name, wanted = self.plan.program, self.plan.all
+        wholes = furnished(room, [it for it in wanted if it != ARCHIVE], wanted)
         self.tell(
-            f"proving and building {len(self.left)} crates of {len(self.plan.all)}; all of them take {room:.1f} GB of disk, and on the"
-            f" machine of docs/GATE.md {self.plan.expects(self.lanes)}"
+            f"proving and building {len(wanted)} crates, those that are not kept on this machine: all of them take"
+            f" {self.plan.gigabytes():.1f} GB of disk, and on the machine of docs/GATE.md {self.plan.expects(lanes())}"
         )
-        while self.running or (self.left and not self.failed):
-            for name in self.plan.ready(self.left, self.done) * (not self.failed):
-                if self.jobs() < self.lanes:
-                    self.left.remove(name)
-                    self.start(name)
-            self.wait()
-        with open(f"{self.out}/times", "w", encoding="utf-8") as file:
-            file.writelines(self.took)
-        return not self.failed
+        status, said = ci(room, self.hear, self.wait)
+        note(verdicts(said), wholes)
+        if status == 0 and name == ARCHIVE:
+            return self.archive(room, wholes)
+        if status == 0:
+            place(f"{room}/crates/{name}/out/{name}", f"{self.out}/{name}")
+            note_built(f"{self.out}/{name}", wholes[name])
+        return status == 0
 
-    def stop(self):
-        """Ends what is under way."""
-        for name, report, _, process in self.running.values():
-            process.kill()
-            process.wait()
-            os.remove(report.name)
-            shutil.rmtree(os.path.dirname(self.made(name)), ignore_errors=True)
+    def archive(self, room, wholes):
+        """Proves and builds the library in a folder that has those below it, and returns whether it was proved."""
+        furnish(room, [ARCHIVE])
+        if wholes_of(wholes) != wholes:
+            self.tell("a source changed meanwhile: start it again; what is proved is kept")
+            return False
+        tools = Toolchain()
+        with tempfile.TemporaryDirectory(prefix="archive-", dir=f"{room}/.git") as folder:
+            is_proved, report = tools.prove_archive(room, f"{folder}/libnms.a")
+            if not is_proved:
+                sys.stderr.write(report)
+                self.tell(f"{ARCHIVE} NOT PROVED")
+                return False
+            self.hear(f"rt: {ARCHIVE} proved\n")
+            if not tools.join(f"{folder}/libnms.a", self.out):
+                self.tell("libnms.so was not made: the toolchain has no linker that could make it")
+        note({"libnms.a": re.findall(r"^logic=proved .*$", report, re.M)[-1]}, {"libnms.a": wholes[ARCHIVE]})
+        note_built(f"{self.out}/libnms.a", wholes[ARCHIVE])
+        return True
+
+
+def note_gate(log, before):
+    """Notes what `rt ci` proved in this repository, and beside each program of what it was built, as a first build does. `before` are the
+    sums before it ran: a crate whose sources changed meanwhile is left out."""
+    found = sums()
+    same = {name: whole for name, (own, whole) in found.items() if f"{name} {own} {whole}" in before.splitlines()}
+    with open(log, encoding="utf-8", errors="replace") as file:
+        note({name: line for name, line in verdicts(file.read()).items() if name in same}, same)
+    for name in PROGRAMS:
+        program = f"{TOP}/crates/{name}/out/{name}"
+        if name in same and os.path.isfile(program):
+            note_built(program, same[name])
+
+
+def sweep():
+    """Removes the folders of builds that were killed."""
+    for room in os.listdir(tempfile.gettempdir()):
+        of = re.fullmatch(r"nms-build-(\d+)-\w+", room)
+        if of and not os.path.exists(f"/proc/{of[1]}"):
+            shutil.rmtree(f"{tempfile.gettempdir()}/{room}", ignore_errors=True)
 
 
 def main(words):
-    if len(words) == 2 and words[0] == "--expect":
-        plan = Plan(words[1])
-        print(f"{len(plan.all)} crates, {plan.expects(lanes())}, {plan.megabytes() / 1000:.1f} GB of disk")
+    if len(words) == 2 and words[0] == "--note":
+        note_gate(words[1], sys.stdin.read())
         return 0
-    last = words[:1] == ["--last"]
-    if len(words) != 1 + last or words[-1] not in listed():
+    if not words or words[-1] not in listed() or words[:-1] not in ([], ["--expect"]):
         sys.exit(__doc__)
     plan = Plan(words[-1])
-    out = f"{TOP}/crates/{plan.program}/out"
-    os.makedirs(out, exist_ok=True)
-    for file in os.listdir(out) if last else ():
-        # What the launcher noted is of another build.
-        if file.endswith(".built_of"):
-            os.remove(f"{out}/{file}")
+    if words[:-1]:
+        print(f"{len(plan.all)} crates, {plan.expects(lanes())}, {plan.gigabytes():.1f} GB of disk; seconds if this machine keeps their proofs")
+        return 0
+    os.makedirs(f"{TOP}/crates/{plan.program}/out", exist_ok=True)
     signal.signal(signal.SIGTERM, lambda *_: sys.exit(1))
-    build = Build(plan, last)
+    sweep()
+    build = Build(plan)
     try:
-        return 0 if build.run() else 1
+        with tempfile.TemporaryDirectory(prefix=f"nms-build-{os.getpid()}-") as room:
+            return 0 if build.run(room) else 1
     except KeyboardInterrupt:
-        build.tell("interrupted; what is built stays built")
+        build.tell("interrupted; what is proved is kept")
         return 1
-    finally:
-        build.stop()
 
 
 if __name__ == "__main__":

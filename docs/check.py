@@ -34,6 +34,9 @@ LIMITS = (("MOST_RECORDS", "records of a script"), ("MOST_CHANGES", "changes of 
 DRAWINGS = "tests/review/drawing.cases"
 DAY = "command a day with a locked and two crossed stretches, and a plan where it was made"
 SPAN = re.compile(r"`([^`]+)`")
+# The files of a release, which build/release makes: a tree may have none.
+RELEASED = {"release", "release/x86_64-linux"}
+RELEASED |= {f"release/x86_64-linux/{it}" for it in "PROVED SHA256SUMS libnms.a libnms.so nms_examples nms_review nms_serve nms_tool".split()}
 CELLS = 0
 CODE = re.compile(r"\b([A-Z])(\d{1,2})\b")
 
@@ -157,7 +160,7 @@ def has_path(page, path):
     for place in places:
         whole = os.path.normpath(place + path)
         pattern = re.escape(whole).replace(r"\*", "[^/]*") + r"(\.antt|\.rt)?"
-        if whole in FILES or whole in FOLDERS or f"{whole}.antt" in FILES:
+        if whole in FILES or whole in FOLDERS or whole in RELEASED or f"{whole}.antt" in FILES:
             return True
         if "*" in whole and any(re.fullmatch(pattern, it) for it in FILES):
             return True
@@ -194,7 +197,7 @@ def check_names():
         text = prose(page)
         for span in SPAN.findall(text):
             named(page, span)
-        for word in re.findall(r"\b((?:examples|crates|docs|bench|build|tests|include)/[\w./-]+)", "\n".join(re.findall(r"^    .*", text, re.M))):
+        for word in re.findall(r"\b((?:examples|crates|docs|bench|build|tests|include|release)/[\w./-]+)", "\n".join(re.findall(r"^    .*", text, re.M))):
             check(has_path(page, word) or "/out" in word, page, f"no file `{word}`")
         for span, crate in re.findall(r"`([A-Za-z_][\w:]*)`(?: and `\w+`)? of `(nms_\w+)`", text):
             if crate in TREE:

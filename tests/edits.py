@@ -147,17 +147,13 @@ class Prover:
 
     def libraries(self, names):
         """Has `rt ci` give the folder these libraries: what it kept, or else what it proves now."""
-        os.makedirs(f"{self.room}/.git")
-        shutil.copy(f"{TOP}/HANDLES", self.room)
-        with open(f"{TOP}/crates.txt", encoding="utf-8") as lines, open(f"{self.room}/crates.txt", "w", encoding="utf-8") as to:
-            to.writelines(it for it in lines if re.match(r"\w*", it)[0] in names)
-        for name in names:
-            self.copy(name, f"{self.room}/crates/{name}")
+        if not names:
+            return
+        crates.furnish(self.room, names)
         print(f"the {len(names)} libraries below, by rt ci: some seconds, or minutes if they are not proved yet", flush=True)
-        how = {"cwd": self.room, "env": {**os.environ, "RT_JOBS": str(lanes())}, "stdin": subprocess.DEVNULL, "stderr": subprocess.STDOUT}
-        ran = subprocess.run(["rt", "ci"], stdout=subprocess.PIPE, text=True, errors="replace", check=False, **how)
-        if ran.returncode:
-            sys.exit(f"{ran.stdout}the libraries are not proved, so no edit was tried\n0 passed, 1 failed")
+        status, said = crates.ci(self.room)
+        if status:
+            sys.exit(f"{said}the libraries are not proved, so no edit was tried\n0 passed, 1 failed")
 
     def copy(self, name, to):
         """Copies the sources, definitions and proofs of a crate."""

@@ -16,7 +16,7 @@ from concurrent.futures import ProcessPoolExecutor
 
 import traced
 from refuse import ALWAYS, OFFERS, PLAN, STATUS, setup
-from stored import TOP, programs
+from stored import TOP, program_of, programs
 from trials import Lacking, Several, Trial, Wrong, jobs, run
 
 SCRIPT = "Q,N,ABC,A,9.99,300,10.01,200\nQ,P,ABC,A,9.99,500,10.02,100\nT\nP\nS,P,ABC,H\nF\nN,0,ABC\nL,0\nE,0,ABC,10.02\n" \
@@ -101,7 +101,7 @@ class Caller(Call):
 
     def __init__(self, crate, name, given, over=0):
         super().__init__(f"{crate}: {name}", [], "", given=given)
-        self.program, self.over = f"{TOP}/crates/{crate}/out/{crate}", over
+        self.program, self.over = program_of(crate), over
 
     def run(self, program, room, plan=traced.Plan(), given=None):
         return super().run(self.program, room, plan, given)

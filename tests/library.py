@@ -5,7 +5,7 @@ looks that run together, a hostile caller, and its answers beside the program's.
     tests/library.py PROGRAM        PROGRAM is nms_tool, which the gate has built
     NMS_OUT=FOLDER tests/library.py PROGRAM      takes libnms.a and libnms.so from there, and builds nothing
 
-It builds the archive over the libraries that `rt ci` left. What needs a compiler or a tool that this machine lacks is skipped,
+It builds the library as `./nms_lib --build` does. What needs a compiler or a tool that this machine lacks is skipped,
 and named in a line; with CI=true a skip is a failure. It writes a line for each difference, and last `N passed, M failed`, or
 `N passed, M failed, K skipped`.
 """
@@ -107,7 +107,7 @@ class Library:
     def make(self):
         """Builds the archive and the shared object, unless they are given."""
         if "NMS_OUT" not in os.environ:
-            status, said = run([sys.executable, f"{TOP}/build/crates.py", "--last", "nms_c"])
+            status, said = run([f"{TOP}/nms_lib", "--build"])
             if not check("the library is built", status == 0, said[-1500:]):
                 return False
         there = [os.path.exists(it) for it in (self.archive, self.shared)]
@@ -122,7 +122,14 @@ class Library:
         size = os.path.getsize(self.shared) if os.path.exists(self.shared) else 0
         check(f"the shared object has less than {MOST_BYTES} bytes", 0 < size < MOST_BYTES, size)
         with open(f"{TOP}/include/nms.h", encoding="utf-8") as file:
-            declared = set(re.findall(r"^uint32_t (nms_\w+)\(", file.read(), re.M))
+            header = file.read()
+        declared = set(re.findall(r"^uint32_t (nms_\w+)\(", header, re.M))
+        if tool("readelf"):
+            soname = "libnms.so." + re.search(r"^#define NMS_ABI (\d+)", header, re.M)[1]
+            _, said = run([tool("readelf"), "-d", self.shared])
+            check("the shared object's own name has the number of the layout", f"soname: [{soname}]" in said, said)
+        else:
+            skip("the shared object's own name", "readelf")
         nm = tool("nm", "llvm-nm")
         if not nm:
             skip("the names of the library", "nm")

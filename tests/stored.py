@@ -12,6 +12,8 @@ TOP = os.path.dirname(TESTS)
 EXAMPLES = os.path.join(TOP, "examples")
 # Seconds that a call may take.
 MOST = 60
+# What a program without proofs says of itself at each run (build/unproved.py).
+UNPROVED = re.compile(rb"\Anms_\w+: UNPROVED: [^\n]*\n")
 
 
 def read(*path):
@@ -59,6 +61,7 @@ class Call:
             came = [ran.returncode]
             for path, to in ((answers, self.answers_to), (errors, self.errors_to)):
                 came.append(b"" if to else open_bytes(path))
+            came[2] = UNPROVED.sub(b"", came[2])
             # No call alters a file that it was given.
             kept = [(it, open_bytes(os.path.join(room, it)), text) for it, text in self.files.items() if isinstance(text, bytes)]
         for what, one, other in zip(("standard output", "standard error", "status"), (*came[1:], came[0]), (*self.wanted[1:], self.wanted[0])):
@@ -122,11 +125,17 @@ def command(case):
     return Call([bytes_of(it) for it in words.splitlines()], int(status), answers, errors, **given)
 
 
+def program_of(name):
+    """The path of a program: in the folder that `./gate quick` names, or where the gate has built it."""
+    folder = os.environ.get("NMS_PROGRAMS")
+    return f"{folder}/{name}" if folder else f"{TOP}/crates/{name}/out/{name}"
+
+
 def programs(given, *names):
-    """The programs that the words of a call name, and for each that they leave out the one in crates/."""
+    """The programs that the words of a call name, and for each that they leave out the one of its name."""
     if len(given) > len(names) or any(it.startswith("-") for it in given):
         sys.exit(f"usage: {sys.argv[0]} [{' ['.join(names)}{']' * len(names)}")
-    found = [*map(os.path.realpath, given), *(f"{TOP}/crates/{it}/out/{it}" for it in names[len(given) :])]
+    found = [*map(os.path.realpath, given), *map(program_of, names[len(given) :])]
     for path in found:
         if not os.path.isfile(path):
             sys.exit(f"{path} is not there: it has to be built first")
