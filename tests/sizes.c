@@ -87,6 +87,10 @@ int main(int count, char **words)
     char *setup = text_of(words[1], &bytes);
 
     holds(nms_abi() == NMS_ABI, "the library is of this header's layout");
+    {
+        char text[NMS_CODE_TEXT_ROOM];
+        holds(nms_version(text, sizeof text, &bytes) == NMS_OK && strcmp(text, NMS_VERSION) == 0, "the library is of this header's version");
+    }
     holds(nms_open(setup, bytes, &board) == NMS_OK, "the setup opens");
 
     /* nms_place: an element of an array of tables, a name that comes twice, and a text that is no document. */
