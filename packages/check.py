@@ -160,13 +160,13 @@ class Tried:
         check(f"{what}: it skips {most_skipped}", len(skipped) == most_skipped == ended(said)[2], skipped)
         print(f"{what}: {said.rstrip().splitlines()[-1]}")
 
-    def install(self):
+    def install(self, prefix):
         self.does("the tar unpacks", f"tar -xzf {self.name}.tar.gz")
-        self.does("install.sh installs", f"{self.name}/install.sh --prefix '/opt/a place'", lambda status, said: status == 0 and "/opt/a place/bin/nms_selftest" in said)
+        self.does(f"install.sh installs below {prefix}", f"{self.name}/install.sh --prefix '{prefix}'", lambda status, said: status == 0 and f"{prefix}/bin/nms_selftest" in said)
 
     def bare(self):
         """A system with nothing but the usual commands."""
-        self.install()
+        self.install("/opt/a place")
         self.selftest("nms_selftest in a bare root", "'/opt/a place/bin/nms_selftest'", 4)
         self.refused()
         self.removed()
@@ -222,10 +222,10 @@ class Tried:
 
     def full(self, lacks):
         """A developer's system."""
-        self.install()
-        self.selftest("nms_selftest with compilers", "'/opt/a place/bin/nms_selftest'", len({"gcc", "g++", "pkg-config", "python3", "cargo"} & lacks))
-        self.does("what is there is what is listed", "cd '/opt/a place' && find . ! -type d ! -name INSTALLED | sed 's:^./::' | LC_ALL=C sort | cmp - share/nms/INSTALLED")
-        place = "'/opt/a place'"
+        self.install("/opt/nms")
+        self.selftest("nms_selftest with compilers", "/opt/nms/bin/nms_selftest", len({"gcc", "g++", "pkg-config", "python3", "cargo"} & lacks))
+        self.does("what is there is what is listed", "cd /opt/nms && find . ! -type d ! -name INSTALLED | sed 's:^./::' | LC_ALL=C sort | cmp - share/nms/INSTALLED")
+        place = "/opt/nms"
         self.cmake(place, lacks)
         self.page(place, lacks)
         self.pip(place, lacks)
@@ -253,7 +253,7 @@ class Tried:
 
     def page(self, place, lacks):
         """Follows the installed CALLING.md word for word, in a folder with a copy of the examples."""
-        with open(f"{self.root.folder}/opt/a place/share/doc/nms/docs/CALLING.md", encoding="utf-8") as file:
+        with open(f"{self.root.folder}{place}/share/doc/nms/docs/CALLING.md", encoding="utf-8") as file:
             parts = re.findall(r"^## (.*)\n\n((?:    .*\n)+)\nmust give `([^`]*)`", file.read(), re.M)
         check("the installed CALLING.md has a part for each language", len(parts) == 5, [it[0] for it in parts])
         for name, commands, wanted in parts:
@@ -270,7 +270,7 @@ class Tried:
         wheel = os.path.basename(self.made.wheel)
         use = f"cp {place}/share/nms/examples/python/worked.py /tmp && cd /tmp && $PYTHON worked.py {place}/share/nms/examples/builtin.toml | cmp - {place}/share/nms/examples/python/worked.out"
         self.does("the wheel, unpacked by Python", f"python3 -m zipfile -e {wheel} /tmp/site && PYTHON='env PYTHONPATH=/tmp/site python3' && {use}")
-        counts = "cd /tmp && PYTHONPATH=/tmp/site python3 /root/wrapper.py '/opt/a place/share/nms/examples/builtin.toml'"
+        counts = "cd /tmp && PYTHONPATH=/tmp/site python3 /root/wrapper.py /opt/nms/share/nms/examples/builtin.toml"
         said = self.does("the tests of the package in Python, on the wheel", counts, lambda status, said: status == 0 and ended(said)[1] == 0)
         if not self.lacking("nms.arrays", lacks, "python3-numpy"):
             check("they have those of nms.arrays", ended(said)[0] > 100, said)
@@ -286,7 +286,7 @@ class Tried:
         manifest = '[package]\nname = "own"\nversion = "0.1.0"\nedition = "2021"\n[dependencies]\nnms = %s\n'
         run_it = f"cargo run -q --offline -- {place}/share/nms/examples/builtin.toml | cmp - {place}/share/nms/rust/nms/examples/trade.out"
         found = f"export NMS_LIB_DIR={place}/lib LD_LIBRARY_PATH={place}/lib"
-        by_path = manifest % "{ path = \"/opt/a place/share/nms/rust/nms\" }"
+        by_path = manifest % "{ path = \"/opt/nms/share/nms/rust/nms\" }"
         self.does("a program by the installed crate", f"{program} && printf %s {shlex.quote(by_path)} >Cargo.toml && {found} && {run_it}")
         self.does("a program that finds no library", f"cd /tmp/own && cargo clean -q && cargo build -q --offline", lambda status, said: status != 0 and "NMS_LIB_DIR" in said)
         for name in ("nms-sys", "nms"):
@@ -300,14 +300,14 @@ class Tried:
 
     def debian(self, lacks):
         deb = os.path.basename(self.made.deb)
-        self.does("--uninstall before the package", "'/opt/a place/share/nms/install.sh' --uninstall && [ ! -e '/opt/a place' ]")
+        self.does("--uninstall before the package", "/opt/nms/share/nms/install.sh --uninstall && find /opt/nms", lambda status, said: status == 1 and "No such file" in said)
         self.does("dpkg installs the package", f"find / -xdev -path /proc -prune -o ! -type d -print | LC_ALL=C sort >/tmp/before; dpkg -i {deb} && dpkg -s nms", lambda status, said: status == 0 and "No licence is granted" in said)
         self.selftest("nms_selftest of the package", "nms_selftest", len({"gcc", "g++", "pkg-config", "python3", "cargo"} & lacks))
         if not self.lacking("callers by the system's folders", lacks, "gcc", "pkg-config"):
             self.does("a caller by the system's folders", "cd /usr/share/nms && gcc examples/c/board.c $(pkg-config --cflags --libs nms) -o /tmp/board && /tmp/board examples/builtin.toml | cmp - examples/c/board.out")
         if not self.lacking("Python by the system's folders", lacks, "python3"):
             self.does("Python by the system's folders", "cd /usr/share/nms && python3 examples/python/worked.py examples/builtin.toml | cmp - examples/python/worked.out")
-        left = "dpkg -r nms && find / -xdev -path /proc -prune -o ! -type d -print | LC_ALL=C sort | comm -13 /tmp/before - | grep -v '^/var/lib/dpkg\\|^/var/cache\\|^/tmp\\|^/etc/ld.so.cache' || :"
+        left = "dpkg -r nms && find / -xdev -path /proc -prune -o ! -type d -print | LC_ALL=C sort | comm -13 /tmp/before - | grep -v '^/var/\\|^/tmp/\\|^/etc/ld.so.cache' || :"
         self.does("dpkg removes the package whole", left, lambda status, said: status == 0 and said.splitlines()[-1].startswith("Removing nms"))
 
 

@@ -105,7 +105,7 @@ def read_help(program, word, text):
             raise Unknown(f"a list at no place for it: {part[:80]!r}")
         elif title.endswith(":") and lines:
             it.sections.append(Section(title[:-1], lines))
-        elif title and not title.startswith(" "):
+        elif not any(line.startswith(" ") for line in (title, *lines)):
             it.sections.append(Section("", [title, *lines]))
         elif part:
             raise Unknown(f"lines of no section: {part[:80]!r}")

@@ -68,13 +68,20 @@ class Root:
             if os.path.islink(f"/{it}"):
                 os.makedirs(f"{folder}/usr/{it}", exist_ok=True)
                 os.symlink(os.readlink(f"/{it}"), f"{folder}/{it}")
-        for it in ("proc", "dev", "tmp", "home", "etc", "root", "var/lib/dpkg/info", "var/lib/dpkg/updates", "var/lib/dpkg/triggers"):
+        for it in ("proc", "dev", "tmp", "home", "etc", "root", "var/log", *(f"var/lib/dpkg/{it}" for it in ("info", "updates", "triggers"))):
             os.makedirs(f"{folder}/{it}", exist_ok=True)
         for it in ("tmp", "home"):
             os.chmod(f"{folder}/{it}", 0o1777)
         for path in subprocess.run(["dpkg-query", "--listfiles", *self.names], stdout=subprocess.PIPE, check=True, text=True).stdout.split("\n"):
             if path.startswith("/") and not LEFT_OUT.match(path):
                 self.copy(path)
+        # Names that packages give their files when they are installed, as cc for gcc: each file names one in its second line.
+        for name in os.listdir("/var/lib/dpkg/alternatives"):
+            with open(f"/var/lib/dpkg/alternatives/{name}", encoding="utf-8") as file:
+                link = file.read().split("\n")[1]
+            if os.path.lexists(self.folder + os.path.realpath(link)):
+                self.copy(link)
+                self.copy(f"/etc/alternatives/{name}")
         self.know()
 
     def copy(self, path):

@@ -50,9 +50,10 @@ known() {
 
 if [ -n "$remove" ]; then
     [ -f "$list" ] || fail "there is no $list, so this script installed nothing there"
-    { cat "$list" && echo share/nms/INSTALLED; } >"${TMPDIR:-/tmp}/nms-installed.$$"
-    take <"${TMPDIR:-/tmp}/nms-installed.$$"
-    rm -f "${TMPDIR:-/tmp}/nms-installed.$$"
+    files=$(cat "$list")
+    # Python leaves what it compiled next to its package.
+    rm -rf "$to/share/nms/python/nms/__pycache__"
+    printf '%s\n' "$files" share/nms/INSTALLED | take
     known
     echo "removed from $to"
     exit 0
