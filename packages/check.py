@@ -1,7 +1,7 @@
 #!/usr/bin/env python3
 """The gate's part `packages`: makes each package twice, installs it in a bare root, and uses it there as a stranger would.
 
-    packages/check.py           packages of what this repository built, as crates/*/out has it
+    packages/check.py           packages of what this repository built, as crates/*/out has it, or the folder NMS_PROGRAMS
     packages/check.py FOLDER    packages of released files
 
 The roots are made of this machine's Debian packages, and what runs in them sees neither this repository nor a network. A test
@@ -45,8 +45,9 @@ def skip(what, lacks):
 
 
 def built():
-    """Where a build leaves each file that is released."""
-    return {name: f"{TOP}/crates/{'nms_c' if name.startswith('lib') else name}/out/{name}" for name in RELEASED}
+    """Where each file is that is released: in the folder NMS_PROGRAMS, or where a build leaves it."""
+    folder = os.environ.get("NMS_PROGRAMS")
+    return {name: f"{folder or f'{TOP}/crates/' + ('nms_c' if name.startswith('lib') else name) + '/out'}/{name}" for name in RELEASED}
 
 
 def gathered(folder):
@@ -169,6 +170,8 @@ class Tried:
         self.install("/opt/a place")
         self.selftest("nms_selftest in a bare root", "'/opt/a place/bin/nms_selftest'", 4)
         self.refused()
+        if self.root.run("command -v mount >/dev/null")[0] == 0:
+            self.stopped()
         self.removed()
         self.other_users()
         self.systems()
@@ -182,6 +185,12 @@ class Tried:
         self.does("it installed nothing", "[ ! -e /opt/hurt ] && rm -r hurt")
         self.does("nms_selftest finds an altered file", "cd /opt/a*/share/nms && cp -r '/opt/a place' /opt/b && printf x >>/opt/b/include/nms.h && /opt/b/bin/nms_selftest; status=$?; rm -r /opt/b; exit $status",
                   lambda status, said: status == 1 and "include/nms.h" in said and ended(said)[1] == 1)
+
+    def stopped(self):
+        """An install that a full disk ends says so, and --uninstall then leaves nothing of it."""
+        small = f"mkdir -p /opt/small && mount -t tmpfs -o size=500k none /opt/small && cp {self.name}/install.sh /tmp/ && cd /root"
+        script = f"{small} && {self.name}/install.sh --prefix /opt/small || echo status $?\n/tmp/install.sh --uninstall --prefix /opt/small; find /opt/small -mindepth 1"
+        self.does("an install on a full disk", script, lambda status, said: status == 0 and "o space left" in said and "status 1" in said and said.endswith("removed from /opt/small\n"))
 
     def removed(self):
         """A second install takes the place of the first, and --uninstall leaves what is another's."""
@@ -391,10 +400,8 @@ def tried(made, room):
     Tried(made, root).full({it for it in MORE if not packages.has(it)} | ({"cargo"} if not root.rust else set()))
 
 
-def main(words):
-    if len(words) > 1 or not (shutil.which("git") and shutil.which("objdump")):
-        sys.exit(__doc__)
-    check("rust/nms-sys is what nms.h says", run([f"{HERE}/nms_sys.py", "--compare"])[0] == 0)
+def all_of(words):
+    """Makes and tries the packages of what is built, or of a folder."""
     with tempfile.TemporaryDirectory(prefix="nms-packages-") as room:
         folder = os.path.realpath(words[0]) if words else f"{room}/files"
         if not words:
@@ -406,6 +413,20 @@ def main(words):
             helped(made)
             paged(made)
             tried(made, room)
+
+
+def main(words):
+    if len(words) > 1 or words[:1] == ["--help"]:
+        sys.exit(__doc__)
+    status, said = run([f"{HERE}/nms_sys.py", "--compare"])
+    check("rust/nms-sys is what nms.h says", status == 0, said)
+    lacks = [it for it in ("git", "objdump") if not shutil.which(it)]
+    if not lacks and run(["git", "-C", TOP, "rev-parse", "HEAD"])[0] != 0:
+        lacks = ["commit of this repository"]
+    if lacks:
+        skip("each package", " and no ".join(lacks))
+    else:
+        all_of(words)
     print(f"{Count.passed} passed, {Count.failed} failed" + (f", {Count.skipped} skipped" if Count.skipped else ""))
     return 1 if Count.failed else 0
 

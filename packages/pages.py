@@ -16,7 +16,7 @@ PICTURES = ("docs/day.svg",)
 EDITS = (
     ("README.md", r"(?<=^## Commands\n\n)(?:    .*\n)+\n.*\n", "    nms_tool < examples/sweep.script    the main job\n    nms_selftest                        whether this installation works\n\n"
      "Commands of these pages run in a folder with a copy of `share/nms/examples` of the installation.\n"),
-    ("README.md", r"^\| (?:Toolchain|Memory, disk|To install) \|.*\n", ""),
+    ("README.md", r"^\| (?:Toolchain|Memory, disk) \|.*\n", ""),
     ("README.md", r"^\| take the code over \|.*\n", ""),
     ("README.md", r"`\./nms_lib`, then `[^`]*`", "`gcc YOURS.c $(pkg-config --cflags --libs nms)`"),
     ("docs/CALLING.md", r"(?<=^## The library\n\n)    \./nms_lib\n\n.*\n", "[INSTALL.md](INSTALL.md) says where the library, its header and its files for `pkg-config` and CMake are.\n"),
@@ -31,7 +31,7 @@ EDITS = (
     ("docs/(IMPORT|REVIEW|SERVING).md", r"^The first call .*\n\n", ""),
     ("docs/INSTALL.md", r"^## To make the packages\n(?s:.*?)(?=^## |\Z)", ""),
     ("examples/README.md", r"^Run each command at the top of the repository\.", "Run each command in a folder with a copy of this folder, named `examples`."),
-    ("examples/README.md", r"^`tests/check\.py` runs each row\. .*\n", "`nms_selftest` runs each row. [docs/CALLING.md](../docs/CALLING.md) has the callers in `c/`, `cpp/`, `rust/` and `python/`.\n"),
+    ("examples/README.md", r"^`tests/check\.py` runs each row\. .*\n", "`nms_selftest` runs each row. [docs/CALLING.md](../docs/CALLING.md) has the callers in `c/`, `cpp/` and `python/`.\n"),
     (r"(?!CHANGELOG).*", r"\./(nms_(?:tool|review|serve))\b", r"\1"),
 )
 # Words of which an installation has nothing.

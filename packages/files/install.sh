@@ -36,7 +36,7 @@ prefix=${prefix%/} to=$destdir${prefix%/} list=$destdir${prefix%/}/share/nms/INS
 take() {
     while IFS= read -r file; do
         case $file in /* | *..*) continue ;; esac
-        rm -f "$to/$file"
+        rm -f "$to/$file" "$to/$file".nms-[0-9]*
         echo "$file"
     done | sed -n 's:/[^/]*$::p' | sort -ur | while IFS= read -r folder; do
         while [ "$folder" != . ] && rmdir "$to/$folder" 2>/dev/null; do folder=$(dirname "$folder"); done
@@ -73,20 +73,20 @@ files=$({ sed 's/^[0-9a-f]*  //' share/nms/SHA256SUMS && echo share/nms/SHA256SU
 mkdir -p "$to/share/nms"
 old=$(cat "$list" 2>/dev/null) || old=''
 # If this is interrupted, the list has what was there before and what may be there now, so --uninstall removes both.
-printf '%s\n' "$old" "$files" share/nms/install.sh | sed '/^$/d' | LC_ALL=C sort -u >"$list.$$"
-mv -f "$list.$$" "$list"
+printf '%s\n' "$old" "$files" share/nms/install.sh | sed '/^$/d' | LC_ALL=C sort -u >"$list.nms-$$"
+mv -f "$list.nms-$$" "$list"
 # put FROM TO: a file gets its name when it is whole, so a program that runs goes on with the old one.
 put() {
     mkdir -p "$(dirname "$2")"
-    cp -P "$1" "$2.$$"
-    if [ ! -h "$1" ]; then if [ -x "$1" ]; then chmod 755 "$2.$$"; else chmod 644 "$2.$$"; fi; fi
-    mv -fT "$2.$$" "$2"
+    cp -P "$1" "$2.nms-$$" || { rm -f "$2.nms-$$" && return 1; }
+    if [ ! -h "$1" ]; then if [ -x "$1" ]; then chmod 755 "$2.nms-$$"; else chmod 644 "$2.nms-$$"; fi; fi
+    mv -fT "$2.nms-$$" "$2"
 }
 printf '%s\n' "$files" | while IFS= read -r file; do put "$file" "$to/$file"; done
 put install.sh "$to/share/nms/install.sh"
-printf '%s\n' "$files" share/nms/install.sh | LC_ALL=C sort >"$list.$$"
+printf '%s\n' "$files" share/nms/install.sh | LC_ALL=C sort >"$list.nms-$$"
 # What an older version had and this one has not.
-printf '%s\n' "$old" | sed '/^$/d' | LC_ALL=C sort | LC_ALL=C comm -23 - "$list.$$" | take
-mv -f "$list.$$" "$list"
+printf '%s\n' "$old" | sed '/^$/d' | LC_ALL=C sort | LC_ALL=C comm -23 - "$list.nms-$$" | take
+mv -f "$list.nms-$$" "$list"
 known
 echo "installed in $to; $to/bin/nms_selftest tests it"
