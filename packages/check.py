@@ -309,7 +309,7 @@ class Tried:
 
     def debian(self, lacks):
         deb = os.path.basename(self.made.deb)
-        self.does("--uninstall before the package", "/opt/nms/share/nms/install.sh --uninstall && find /opt/nms", lambda status, said: status == 1 and "No such file" in said)
+        self.does("--uninstall before the package", "/opt/nms/share/nms/install.sh --uninstall && find /opt/nms -mindepth 1", lambda status, said: (status, said) == (0, "removed from /opt/nms\n"))
         self.does("dpkg installs the package", f"find / -xdev -path /proc -prune -o ! -type d -print | LC_ALL=C sort >/tmp/before; dpkg -i {deb} && dpkg -s nms", lambda status, said: status == 0 and "No licence is granted" in said)
         self.selftest("nms_selftest of the package", "nms_selftest", len({"gcc", "g++", "pkg-config", "python3", "cargo"} & lacks))
         if not self.lacking("callers by the system's folders", lacks, "gcc", "pkg-config"):
@@ -317,7 +317,7 @@ class Tried:
         if not self.lacking("Python by the system's folders", lacks, "python3"):
             self.does("Python by the system's folders", "cd /usr/share/nms && python3 examples/python/worked.py examples/builtin.toml | cmp - examples/python/worked.out")
         left = "dpkg -r nms && find / -xdev -path /proc -prune -o ! -type d -print | LC_ALL=C sort | comm -13 /tmp/before - | grep -v '^/var/\\|^/tmp/\\|^/etc/ld.so.cache' || :"
-        self.does("dpkg removes the package whole", left, lambda status, said: status == 0 and said.splitlines()[-1].startswith("Removing nms"))
+        self.does("dpkg removes the package whole", left, lambda status, said: status == 0 and "Removing nms" in said and not re.search("^/", said, re.M))
 
 
 def helped(made):
